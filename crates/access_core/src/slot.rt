@@ -1,6 +1,5 @@
 //! One slot, and the answer to a command on it.
-ghost use Rattle.std.specs.Prelude.{◌≡◌, ◌⊎◌, ℕ, [], List, IsTrue, true};
-ghost use Rattle.est_text.specs.Identifiers.{is_identifier};
+ghost use Rattle.std.specs.Prelude.{◌≡◌, ◌⊎◌, ℕ, [], List, true};
 ghost use Rattle.est_kernel.specs.Term.{Term};
 ghost use Rattle.rbac_policy.specs.declared.commands.Entry.{Entry};
 ghost use Rattle.rbac_policy.specs.StandsFor.{StandsFor};
@@ -291,7 +290,6 @@ impl Slot {
     }
 
     fn load(&mut self, stamp: Stamp, main: &str, text: &str) -> Reply
-        requires { IsTrue (is_identifier main.now) }
         ensures number { self.new.number ≡ self.old.number }
         ensures step { ByRules (occupied self.old.journal ▸ accept) (Loads stamp main.now text.now)
             self.old.journal result self.new.journal }

@@ -123,8 +123,8 @@ counted_same f g bs (every d p) h = same_watch (test_words d.test) (counted f p)
 counted_same f g bs (trap t p) h = one_more (counted f p) (counted g p) (counted_same f g (a_trap t ∷ bs) p h)
 counted_same f g bs (signal ns p) h = one_more (counted f p) (counted g p)
     (counted_same f g (signals ns ∷ bs) p
-    (agree_rest f g (record { act = binds ns; round = bs }) (occurrences (signals ns ∷ bs) p) h))
-counted_same f g bs (run m rs) h = h (record { act = runs m rs; round = bs }) (0, omega arith, refl) m refl
+    (agree_rest f g (record { act = binds ns; around = bs }) (occurrences (signals ns ∷ bs) p) h))
+counted_same f g bs (run m rs) h = h (record { act = runs m rs; around = bs }) (0, omega arith, refl) m refl
 counted_same f g bs (seq p q) h = same_sum (counted f p) (counted f q) (counted g p) (counted g q)
     (counted_same f g bs p (agree_left f g (occurrences bs p) (occurrences bs q) h))
     (counted_same f g bs q (agree_right f g (occurrences bs p) (occurrences bs q) h))

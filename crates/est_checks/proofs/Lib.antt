@@ -1,4 +1,5 @@
 pub mod Barring
+pub mod Chains
 pub mod Deciding
 pub mod Declaring
 pub mod Emitting

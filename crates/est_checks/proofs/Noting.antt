@@ -375,8 +375,8 @@ pub noted_along : (ps : List Program) (em : List ℕ → List ℕ → Bool) (t :
 noted_along ps em t ks k [] s is are room = nothing_more (is_noted t k s)
 noted_along ps em t ks k (o ∷ os) s is are room =
     let next = noted_after ps em t ks k o in
-    noted_along ps em t ks next os s is are (room_kept t k.row next.row (act_length ps em t ks k o.round o.act) room)
-    ∙ ap (λ b. b || list_any (emits_here ps em s) os) (names_act ps em t ks k o.round o.act s is are room)
+    noted_along ps em t ks next os s is are (room_kept t k.row next.row (act_length ps em t ks k o.around o.act) room)
+    ∙ ap (λ b. b || list_any (emits_here ps em s) os) (names_act ps em t ks k o.around o.act s is are room)
     ∙ or_assoc (is_noted t k s) (emits_here ps em s o) (list_any (emits_here ps em s) os)
 
 -- ---- the steps of the code

@@ -53,7 +53,7 @@ same_by ps f g s (runs m rs) h = same_in_run f g s rs (program_named ps m) (h m 
 
 pub same_here : (ps : List Program) (f g : List ℕ → List ℕ → Bool) (s : List ℕ) (o : Occurrence)
     → SayTheSame ps f g o.act → emits_here ps f s o ≡ emits_here ps g s o
-same_here ps f g s o h = ap (λ b. not (is_local o.round s) && b) (same_by ps f g s o.act h)
+same_here ps f g s o h = ap (λ b. not (is_local o.around s) && b) (same_by ps f g s o.act h)
 
 pub same_any : {X : Type 0} (f g : X → Bool) (xs : List X) → ((x : X) → Contains xs x → f x ≡ g x)
     → list_any f xs ≡ list_any g xs

@@ -30,7 +30,7 @@ three_tests false true false d o = refl
 three_tests false false true d o = refl
 three_tests false false false d o = refl
 
--- the first unbound name, among those that no place round the run declares
+-- the first unbound name, among those that no place around the run declares
 first_open : (p : Program) (bs : List Binder) (rs : List RenamingTree) (ds : List Declared)
     → option_map (λ (d : Declared). d.name) (find (λ (d : Declared). is_unbound p bs rs d.name) ds)
     ≡ find (λ n. not (is_renamed rs n))

@@ -1,32 +1,38 @@
 -- A library has one first fault, or none.
 use mathlib.Core.Path.{fun_ext}
-use Rattle.std.proofs.Common.{◌≡◌, ℕ, inl, inr, List, [], Bool, ◌&&◌, Option, Some, None, option_map, Contains, refl}
-use Rattle.std.proofs.Common.{ap, sym, ◌∙◌, subst, arith}
+use Rattle.std.proofs.Common.{◌≡◌, ℕ, ◌⊎◌, inl, inr, List, [], Bool, true, ◌&&◌, Option, Some}
+use Rattle.std.proofs.Common.{None, option_map}
+use Rattle.std.proofs.Common.{Contains, refl, ap, sym, ◌∙◌, subst, arith}
 use Rattle.std.proofs.lemmas.Bool.{cases_lt}
-use Rattle.std.proofs.lemmas.Option.{slice_get-get_or}
+use Rattle.std.proofs.lemmas.Option.{none-some, slice_get-get_or}
 use Rattle.std.specs.List.{find, slice_get}
-use Rattle.std.specs.Option.{option_or}
 use Rattle.std.specs.Str.{bytes_eq}
+use Rattle.refusal_rules.specs.Rules.{Unless, Refuses, Passes}
 use Rattle.est_syntax.specs.Tree.{RenamingTree}
+use Rattle.est_text.specs.Identifiers.{is_identifier}
+use Rattle.est_checks.specs.BadRenamings.{bad_renaming_at}
 use Rattle.est_checks.specs.Counting.{AreCounts}
+use Rattle.est_checks.specs.Duplicates.{first_duplicate}
 use Rattle.est_checks.specs.Emissions.{AreEmissions, emits_here, first_refused, is_refused, is_refused_in_run}
 use Rattle.est_checks.specs.Emissions.{refused_act, refused_in_run}
-use Rattle.est_checks.specs.FirstFaults.{Else, ByLimits, ByNames, ByRuns, IsFirstFault, IsFirstRecursion, recursive_run}
+use Rattle.est_checks.specs.FirstFaults.{Check, IsFirstFault, IsFirstRefused, IsLimitPassed}
 use Rattle.est_checks.specs.FirstFaults.{limit_passed_by}
-use Rattle.est_checks.specs.LinkFaults.{fault_before_order, fault_behind_order, lawless_number}
-use Rattle.est_checks.specs.Duplicates.{first_duplicate}
 use Rattle.est_modules.specs.Modules.{Program, program_named, first_in_bodies}
 use Rattle.est_modules.specs.Occurrences.{Binder, Act, emits, tests, exits, binds, runs, Occurrence, occurrences}
 use Rattle.est_modules.specs.Occurrences.{first_of}
 use Rattle.est_modules.specs.ModuleOrders.{run_rows}
 use Rattle.est_modules.specs.Renamings.{renamed}
-use Rattle.est_checks.specs.BadRenamings.{bad_renaming_at}
 use Rattle.est_checks.specs.MissingModules.{first_missing, missing_at}
+use Rattle.est_checks.specs.LinkFaults.{lawless_number}
 use Rattle.est_checks.specs.UnknownNames.{unknown_at}
+use Rattle.est_checks.specs.RecursiveRuns.{IsFirstRecursion, RunsItself}
+use Rattle.est_checks.specs.declared.fault.Limit.{Limit}
 use Rattle.est_checks.specs.declared.fault.LinkFault.{LinkFault}
-use Rattle.est_checks.specs.declared.fault.LinkFault.TheVariants.{DuplicateName, UnknownModule, BadRename, UnknownName}
-use Rattle.est_checks.specs.declared.fault.LinkFault.TheVariants.{EmitInput, Semantics, TooLarge}
+use Rattle.est_checks.specs.declared.fault.LinkFault.TheVariants.{DuplicateName, UnknownModule, RecursiveRun, BadRename}
+use Rattle.est_checks.specs.declared.fault.LinkFault.TheVariants.{UnknownName, EmitInput, Semantics, TooLarge}
 use Rattle.est_modules.specs.declared.head.Declared.{Declared}
+use Rattle.est_checks.proofs.Chains.{none_placed}
+use Rattle.est_checks.proofs.Finding.{all_pass}
 use Rattle.est_checks.proofs.Filling.{counted_same}
 use Rattle.est_modules.proofs.Descending.{by_modules}
 use Rattle.est_modules.proofs.Standing.{first_none, found_place}
@@ -34,20 +40,23 @@ use Rattle.est_checks.proofs.RunsThere.{run_is_there}
 use Rattle.est_modules.proofs.Ordering.{IsRunOf}
 use Rattle.est_checks.proofs.Sending.{same_any, same_here}
 use Rattle.est_checks.proofs.RunsThere.{none_missing}
-use Rattle.est_modules.proofs.Testing.{map_none, or_none_parts, same_bytes, found_passes}
+use Rattle.est_modules.proofs.Testing.{some_same, same_bytes, found_passes}
 use Rattle.est_modules.specs.PlaceOrders.{NoneIsRecursive}
 
 -- ---- recursion
 
-one_recursion : (rows : List (List ℕ)) (a b : Option ℕ) → IsFirstRecursion rows a → IsFirstRecursion rows b → a ≡ b
-one_recursion rows None None h k = refl
-one_recursion rows None (Some j) h k = absurd (h j k.recursive)
-one_recursion rows (Some i) None h k = absurd (k i h.recursive)
-one_recursion rows (Some i) (Some j) h k = elim (cases_lt i j) [
-  | inl before ↦ absurd (k.first i before h.recursive)
-  | inr behind ↦ (elim (cases_lt j i) [
-    | inl later ↦ absurd (h.first j later k.recursive)
-    | inr same ↦ ap Some (omega (arith, behind, same))
+one_recursion : (ps : List Program) (a b : Option (List ℕ)) → IsFirstRecursion ps a → IsFirstRecursion ps b → a ≡ b
+one_recursion ps None None h k = refl
+one_recursion ps None (Some n) h k = absurd (h n k.recursive)
+one_recursion ps (Some m) None h k = absurd (k m h.recursive)
+one_recursion ps (Some m) (Some n) h k = elim (cases_lt h.place k.place) [
+  | inl before ↦ absurd (k.first h.place h.home before h.there (subst (RunsItself ps) (sym h.name) h.recursive))
+  | inr past ↦ (elim (cases_lt k.place h.place) [
+    | inl later ↦ absurd (h.first k.place k.home later k.there (subst (RunsItself ps) (sym k.name) k.recursive))
+    | inr there ↦
+        let place : h.place ≡ k.place = omega (arith, past, there) in
+        let home : h.home ≡ k.home = some_same h.home k.home (sym h.there ∙ ap (slice_get ps) place ∙ k.there) in
+        ap Some (sym h.name ∙ ap (λ (p : Program). p.name) home ∙ k.name)
   ])
 ]
 
@@ -95,15 +104,14 @@ same_refused : (ps : List Program) (f g : List ℕ → List ℕ → Bool)
     → ((m : List ℕ) (q : Program) → program_named ps m ≡ Some q → (s : List ℕ) → f m s ≡ g m s)
     → first_refused ps f ≡ first_refused ps g
 same_refused ps f g h = ap (λ (k : Program → Occurrence → Option (List ℕ)). first_in_bodies k ps)
-    (fun_ext (λ p. fun_ext (λ o. same_act ps f g h p o.round o.act)))
+    (fun_ext (λ p. fun_ext (λ o. same_act ps f g h p o.around o.act)))
 
-same_behind : (ps : List Program) (main : List ℕ) (f g : List ℕ → List ℕ → Bool) → NoneIsRecursive (run_rows ps)
-    → AreEmissions ps f → AreEmissions ps g → fault_behind_order ps main f ≡ fault_behind_order ps main g
-same_behind ps main f g none f_is g_is =
-    ap (λ (r : Option (List ℕ)). option_or (option_map BadRename (first_in_bodies (bad_renaming_at ps) ps))
-    (option_or (option_map UnknownName (first_in_bodies (unknown_at ps) ps))
-    (option_or (option_map EmitInput r) (option_map Semantics (lawless_number (program_named ps main))))))
-    (same_refused ps f g (one_emission ps f g none f_is g_is))
+one_refused : (ps : List Program) → NoneIsRecursive (run_rows ps) → (x y : Option (List ℕ)) → IsFirstRefused ps x
+    → IsFirstRefused ps y → x ≡ y
+one_refused ps none x y h k =
+    sym h.is
+    ∙ same_refused ps h.emitted k.emitted (one_emission ps h.emitted k.emitted none h.emissions k.emissions)
+    ∙ k.is
 
 -- ---- numbers of statements
 
@@ -135,46 +143,71 @@ same_limits ps main f g none there f_is g_is None found = refl
 same_limits ps main f g none there f_is g_is (Some p) found =
     ap (limit_passed_by (Some p)) (one_count ps f g none there f_is g_is main p found)
 
+one_limit : (ps : List Program) (main : List ℕ) → NoneIsRecursive (run_rows ps) → first_missing ps main ≡ None
+    → (x y : Option Limit) → IsLimitPassed ps main x → IsLimitPassed ps main y → x ≡ y
+one_limit ps main none there x y h k =
+    sym h.is
+    ∙ same_limits ps main h.counts k.counts none (none_missing ps main there) h.are k.are (program_named ps main) refl
+    ∙ k.is
+
 -- ---- one check after another
 
-one_else : (o : Option LinkFault) (next after : Option LinkFault → Type 0) (a b : Option LinkFault) → Else o next a
-    → Else o after b → (o ≡ None → next a → after b → a ≡ b) → a ≡ b
-one_else None next after a b h k rest = rest refl h k
-one_else (Some fault) next after a b h k rest = h ∙ sym k
+-- where a check finds one thing, and those after it have one first fault, there is one
+one_check : {Found : Type 0} (fault : Found → LinkFault) (Is : Option Found → Type 0)
+    → ((x y : Option Found) → Is x → Is y → x ≡ y) → {Next After : Type 0} (a b : Option LinkFault)
+    → (Is None → Next → After → a ≡ b)
+    → Refuses (Check fault Is) (λ f. a ≡ Some f) ⊎ Passes (Check fault Is) Next
+    → Refuses (Check fault Is) (λ f. b ≡ Some f) ⊎ Passes (Check fault Is) After → a ≡ b
+one_check fault Is one a b next (inl x) (inl y) =
+    let found : x.given.0 ≡ y.given.0 = some_same x.given.0 y.given.0
+    (one (Some x.given.0) (Some y.given.0) x.given.2 y.given.2) in
+    x.answered ∙ ap Some (x.given.1 ∙ ap fault found ∙ sym y.given.1) ∙ sym y.answered
+one_check fault Is one a b next (inl x) (inr y) =
+    absurd (none-some x.given.0 (one None (Some x.given.0) y.passed x.given.2))
+one_check fault Is one a b next (inr x) (inl y) =
+    absurd (none-some y.given.0 (one None (Some y.given.0) x.passed y.given.2))
+one_check fault Is one a b next (inr x) (inr y) = next x.passed x.next y.next
 
-by_limits : (ps : List Program) (main : List ℕ) → NoneIsRecursive (run_rows ps) → first_missing ps main ≡ None
-    → (a b : Option LinkFault) → ByLimits ps main a → ByLimits ps main b → a ≡ b
-by_limits ps main none there a b h k =
-    h.is ∙ ap (option_map TooLarge)
-    (same_limits ps main h.counts k.counts none (none_missing ps main there) h.are k.are
-    (program_named ps main) refl) ∙ sym k.is
+-- the same of a check that finds what a function answers
+one_test : {Found : Type 0} (fault : Found → LinkFault) (o : Option Found) {Next After : Type 0}
+    (a b : Option LinkFault) → (o ≡ None → Next → After → a ≡ b)
+    → Refuses (Check fault (λ found. o ≡ found)) (λ f. a ≡ Some f) ⊎ Passes (Check fault (λ found. o ≡ found)) Next
+    → Refuses (Check fault (λ found. o ≡ found)) (λ f. b ≡ Some f) ⊎ Passes (Check fault (λ found. o ≡ found)) After
+    → a ≡ b
+one_test fault o a b next = one_check fault (λ found. o ≡ found) (λ x y h k. sym h ∙ k) a b next
 
-by_names : (ps : List Program) (main : List ℕ) → NoneIsRecursive (run_rows ps) → first_missing ps main ≡ None
-    → (a b : Option LinkFault) → ByNames ps main a → ByNames ps main b → a ≡ b
-by_names ps main none there a b h k =
-    one_else (fault_behind_order ps main h.emitted) (ByLimits ps main) (ByLimits ps main) a b h.is
-    (subst (λ o. Else o (ByLimits ps main) b) (same_behind ps main k.emitted h.emitted none k.emissions h.emissions)
-    k.is)
-    (λ e. by_limits ps main none there a b)
+-- the same of a check that asks for a fact
+one_fact : {fault : LinkFault} {Fact : Type 0} {Next After : Type 0} (a b : Option LinkFault)
+    → (Next → After → a ≡ b)
+    → Refuses (Unless Fact fault) (λ f. a ≡ Some f) ⊎ Passes (Unless Fact fault) Next
+    → Refuses (Unless Fact fault) (λ f. b ≡ Some f) ⊎ Passes (Unless Fact fault) After → a ≡ b
+one_fact a b next (inl x) (inl y) = x.answered ∙ ap Some (x.given.0 ∙ sym y.given.0) ∙ sym y.answered
+one_fact a b next (inl x) (inr y) = absurd (x.given.1 y.passed)
+one_fact a b next (inr x) (inl y) = absurd (y.given.1 x.passed)
+one_fact a b next (inr x) (inr y) = next x.next y.next
 
-by_runs : (ps : List Program) (main : List ℕ) → first_missing ps main ≡ None → (a b : Option LinkFault)
-    → ByRuns ps main a → ByRuns ps main b → a ≡ b
-by_runs ps main there a b h k =
-    let same = one_recursion (run_rows ps) k.place h.place k.first h.first in
-    one_else (option_map (recursive_run ps) h.place) (ByNames ps main) (ByNames ps main) a b h.is
-    (subst (λ o. Else (option_map (recursive_run ps) o) (ByNames ps main) b) same k.is)
-    (λ e. by_names ps main (subst (IsFirstRecursion (run_rows ps)) (map_none (recursive_run ps) h.place e) h.first)
-    there a b)
+-- ---- all checks
 
--- where none is missing before the order, main and each module that is run are there
-pub all_there : (ps : List Program) (main : List ℕ) → fault_before_order ps main ≡ None → first_missing ps main ≡ None
-all_there ps main h = map_none UnknownModule (first_missing ps main)
-    (or_none_parts (option_map DuplicateName (first_duplicate ps))
-    (option_map UnknownModule (first_missing ps main)) h).1
+-- where no check has a fault, the name of the main module is an identifier
+pub main_identifier : (ps : List Program) (main : List ℕ) → IsFirstFault ps main None → is_identifier main ≡ true
+main_identifier ps main h = (all_pass ps main h).1.0
+
+-- and the main module and each that is run are there
+pub all_there : (ps : List Program) (main : List ℕ) → IsFirstFault ps main None → first_missing ps main ≡ None
+all_there ps main h = (all_pass ps main h).1.1.0
 
 -- a library has one first fault, or none
 pub one_first_fault : (ps : List Program) (main : List ℕ) → (a b : Option LinkFault) → IsFirstFault ps main a
     → IsFirstFault ps main b → a ≡ b
-one_first_fault ps main a b h k =
-    one_else (fault_before_order ps main) (ByRuns ps main) (ByRuns ps main) a b h k
-    (λ e. by_runs ps main (all_there ps main e) a b)
+one_first_fault ps main a b =
+    one_test DuplicateName (first_duplicate ps) a b
+    (λ distinct. one_fact a b
+    (one_test UnknownModule (first_missing ps main) a b
+    (λ there. one_check RecursiveRun (IsFirstRecursion ps) (one_recursion ps) a b
+    (λ none. one_test BadRename (first_in_bodies (bad_renaming_at ps) ps) a b
+    (λ renamed. one_test UnknownName (first_in_bodies (unknown_at ps) ps) a b
+    (λ known. one_check EmitInput (IsFirstRefused ps) (one_refused ps (none_placed ps distinct none)) a b
+    (λ accepted. one_test Semantics (lawless_number (program_named ps main)) a b
+    (λ lawful. one_check TooLarge (IsLimitPassed ps main)
+    (one_limit ps main (none_placed ps distinct none) there) a b
+    (λ within h k. h ∙ sym k)))))))))

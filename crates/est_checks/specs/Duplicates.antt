@@ -34,7 +34,7 @@ redeclared_in p = option_or (redeclared [] (map (λ (d : Declared). d.name) p.in
 abbrev pub duplicate_of : List (List ℕ) → Program → Option (List ℕ)
 duplicate_of seen p = if stands_in seen p.name then Some p.name else redeclared_in p
 
--- the first of these in modules, behind modules of names seen before
+-- the first of these in modules, after modules of names seen before
 abbrev pub duplicate_after : List (List ℕ) → List Program → Option (List ℕ)
 duplicate_after seen [] = None
 duplicate_after seen (p ∷ ps) = option_or (duplicate_of seen p) (duplicate_after (seen ++ p.name ∷ []) ps)

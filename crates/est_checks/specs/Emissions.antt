@@ -12,7 +12,7 @@ use Rattle.est_modules.specs.Modules.{is_input}
 use Rattle.est_modules.specs.declared.head.Declared.{Declared}
 use Rattle.est_checks.specs.declared.emission.Emission.{Emission}
 
--- a run binds to a name of the caller an interface name that the module that is run emits
+-- the module that is run emits an interface name that means this name of the caller
 abbrev pub emits_in_run : (List ℕ → List ℕ → Bool) → List ℕ → List RenamingTree → Option Program → Bool
 emits_in_run emitted s rs None = false
 emits_in_run emitted s rs (Some q) =
@@ -26,7 +26,7 @@ emits_by ps emitted s _ = false
 
 -- an act emits the name where no local signal hides it
 abbrev pub emits_here : List Program → (List ℕ → List ℕ → Bool) → List ℕ → Occurrence → Bool
-emits_here ps emitted s o = not (is_local o.round s) && emits_by ps emitted s o.act
+emits_here ps emitted s o = not (is_local o.around s) && emits_by ps emitted s o.act
 
 -- what a module emits of the signals that its callers see: what an act of its body emits so
 abbrev pub IsEmitted : List Program → (List ℕ → List ℕ → Bool) → Program → Type 0
@@ -62,7 +62,7 @@ refused_act ps emitted p bs (runs m rs) = refused_in_run emitted p bs rs m (prog
 
 -- the same of an occurrence
 abbrev pub refused_at : List Program → (List ℕ → List ℕ → Bool) → Program → Occurrence → Option (List ℕ)
-refused_at ps emitted p o = refused_act ps emitted p o.round o.act
+refused_at ps emitted p o = refused_act ps emitted p o.around o.act
 
 -- the first in a library
 abbrev pub first_refused : List Program → (List ℕ → List ℕ → Bool) → Option (List ℕ)

@@ -1,36 +1,36 @@
--- The first fault of a library, by all its checks in their order, and what a library without a fault is linked to (this
--- project's own form).
-use Rattle.std.specs.Prelude.{◌≡◌, ℕ, nat_lt, Bool, List, [], length, map, get_or, if◌then◌else◌, Option, Some, None}
-use Rattle.std.specs.Prelude.{option_map, Result, Ok, Err, ◌⊎◌}
+-- The first fault of a library: its checks in their order, and the answer by them (this project's own form).
+use Rattle.std.specs.Prelude.{◌≡◌, ℕ, nat_lt, Bool, List, length, if◌then◌else◌, Option, Some, None, Result}
+use Rattle.std.specs.Prelude.{Ok, Err, ◌⊎◌, IsTrue}
+use Rattle.refusal_rules.specs.Rules.{Rule, Rules, Unless, accept, ◌▸◌, Answers}
+use Rattle.est_text.specs.Identifiers.{is_identifier}
+use Rattle.est_checks.specs.BadRenamings.{bad_renaming_at}
 use Rattle.est_checks.specs.Counting.{AreCounts}
-use Rattle.est_checks.specs.Emissions.{AreEmissions}
-use Rattle.est_checks.specs.LinkFaults.{fault_before_order, fault_behind_order}
-use Rattle.est_modules.specs.Modules.{Program, program_named}
-use Rattle.est_modules.specs.ModuleOrders.{run_rows}
+use Rattle.est_checks.specs.Duplicates.{first_duplicate}
+use Rattle.est_checks.specs.Emissions.{AreEmissions, first_refused}
+use Rattle.est_checks.specs.LinkFaults.{lawless_number}
+use Rattle.est_checks.specs.MissingModules.{first_missing}
+use Rattle.est_checks.specs.RecursiveRuns.{IsFirstRecursion}
+use Rattle.est_checks.specs.UnknownNames.{unknown_at}
+use Rattle.est_modules.specs.Modules.{Program, program_named, first_in_bodies}
 use Rattle.est_kernel.specs.declared.limits.TheConstants.{MOST_STATEMENTS}
 use Rattle.est_checks.specs.declared.fault.Limit.{Limit}
 use Rattle.est_checks.specs.declared.fault.Limit.TheVariants.{Signals, Relations, Statements}
 use Rattle.est_checks.specs.declared.fault.LinkFault.{LinkFault}
-use Rattle.est_checks.specs.declared.fault.LinkFault.TheVariants.{RecursiveRun, TooLarge, Memory}
+use Rattle.est_checks.specs.declared.fault.LinkFault.TheVariants.{DuplicateName, MisnamedMain, UnknownModule}
+use Rattle.est_checks.specs.declared.fault.LinkFault.TheVariants.{RecursiveRun, BadRename, UnknownName, EmitInput}
+use Rattle.est_checks.specs.declared.fault.LinkFault.TheVariants.{Semantics, TooLarge, Memory}
 use Rattle.est_kernel.specs.declared.interface.TheConstants.{MOST_SIGNALS}
 use Rattle.est_relations.specs.declared.relations.TheConstants.{MOST_RELATIONS}
-use Rattle.est_modules.specs.PlaceOrders.{NoneIsRecursive, IsFirstRecursive}
 
--- what is found is the fault of this check; where it has none, it is found by the next
-abbrev pub Else : Option LinkFault → (Option LinkFault → Type 0) → Option LinkFault → Type 0
-Else None next found = next found
-Else (Some fault) next found = found ≡ Some fault
+-- ---- what checks find
 
--- the place of the first module from which a chain of runs leads back to it, or that there is none
-abbrev pub IsFirstRecursion : List (List ℕ) → Option ℕ → Type 0
-IsFirstRecursion rows None = NoneIsRecursive rows
-IsFirstRecursion rows (Some place) = IsFirstRecursive rows place
+-- the name of the first input, or `tick`, that is emitted, by what each module emits; or that there is none
+pub record IsFirstRefused (ps : List Program) (name : Option (List ℕ)) : Type 0 where
+  pub emitted : List ℕ → List ℕ → Bool
+  pub emissions : AreEmissions ps emitted
+  pub is : first_refused ps emitted ≡ name
 
--- the fault of the module at a place that is recursive
-abbrev pub recursive_run : List Program → ℕ → LinkFault
-recursive_run ps place = RecursiveRun (get_or (map (λ (p : Program). p.name) ps) place [])
-
--- the first limit that a main module of so many signals, relations and statements passes
+-- the first limit that a main module with these numbers of signals, relations and statements passes
 abbrev pub limit_passed : (signals relations statements : ℕ) → Option Limit
 limit_passed signals relations statements =
     if nat_lt MOST_SIGNALS signals then Some Signals else (
@@ -42,27 +42,42 @@ abbrev pub limit_passed_by : Option Program → ℕ → Option Limit
 limit_passed_by None statements = None
 limit_passed_by (Some p) statements = limit_passed (length p.interface) (length p.relations) statements
 
--- the last check: limits of the main module, by the numbers of statements that the modules have
-pub record ByLimits (ps : List Program) (main : List ℕ) (found : Option LinkFault) : Type 0 where
+-- that limit, by the numbers of statements that the modules have, or that it passes none
+pub record IsLimitPassed (ps : List Program) (main : List ℕ) (limit : Option Limit) : Type 0 where
   pub counts : List ℕ → ℕ
   pub are : AreCounts ps counts
-  pub is : found ≡ option_map TooLarge (limit_passed_by (program_named ps main) (counts main))
+  pub is : limit_passed_by (program_named ps main) (counts main) ≡ limit
 
--- the checks from that of renamings on, by what each module emits
-pub record ByNames (ps : List Program) (main : List ℕ) (found : Option LinkFault) : Type 0 where
-  pub emitted : List ℕ → List ℕ → Bool
-  pub emissions : AreEmissions ps emitted
-  pub is : Else (fault_behind_order ps main emitted) (ByLimits ps main) found
+-- ---- the checks
 
--- the checks from that of recursive runs on
-pub record ByRuns (ps : List Program) (main : List ℕ) (found : Option LinkFault) : Type 0 where
-  pub place : Option ℕ
-  pub first : IsFirstRecursion (run_rows ps) place
-  pub is : Else (option_map (recursive_run ps) place) (ByNames ps main) found
+-- a check: where it finds something, it refuses with the fault that names this; else it lets pass
+abbrev pub Check : {Found : Type 0} → (Found → LinkFault) → (Option Found → Type 0) → Rule LinkFault
+Check {Found = Found} fault Finding = record {
+  refuses = λ given. (found : Found) × (given ≡ fault found) × Finding (Some found);
+  passes = Finding None;
+}
+
+-- the checks of a library with this main module, in their order
+abbrev pub checks : List Program → (main : List ℕ) → Rules LinkFault
+checks ps main =
+    Check DuplicateName (λ name. first_duplicate ps ≡ name)
+    ▸ Unless (IsTrue (is_identifier main)) MisnamedMain
+    ▸ Check UnknownModule (λ name. first_missing ps main ≡ name)
+    ▸ Check RecursiveRun (IsFirstRecursion ps)
+    ▸ Check BadRename (λ name. first_in_bodies (bad_renaming_at ps) ps ≡ name)
+    ▸ Check UnknownName (λ name. first_in_bodies (unknown_at ps) ps ≡ name)
+    ▸ Check EmitInput (IsFirstRefused ps)
+    ▸ Check Semantics (λ number. lawless_number (program_named ps main) ≡ number)
+    ▸ Check TooLarge (IsLimitPassed ps main)
+    ▸ accept
+
+-- the answer by checks: the fault of the first that refuses, or none where each lets pass
+abbrev pub IsFirstOf : Rules LinkFault → Option LinkFault → Type 0
+IsFirstOf rules found = Answers rules (λ fault. found ≡ Some fault) (found ≡ None)
 
 -- the first fault of a library with this main module, or that no check has one
-abbrev pub IsFirstFault : List Program → List ℕ → Option LinkFault → Type 0
-IsFirstFault ps main found = Else (fault_before_order ps main) (ByRuns ps main) found
+abbrev pub IsFirstFault : List Program → (main : List ℕ) → Option LinkFault → Type 0
+IsFirstFault ps main found = IsFirstOf (checks ps main) found
 
 -- the answer is that of checks: no fault is found where it is Ok, and else this one; or memory was refused, which no
 -- definition foresees

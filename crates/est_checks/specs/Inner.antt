@@ -4,3 +4,4 @@ pub mod Noted
 pub mod Numbers
 pub mod Recursion
 pub mod Sent
+pub mod Stages

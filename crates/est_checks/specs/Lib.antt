@@ -8,5 +8,6 @@ pub mod Inner
 pub mod LawlessRelations
 pub mod LinkFaults
 pub mod MissingModules
+pub mod RecursiveRuns
 pub mod UnknownNames
 pub mod Unseen

@@ -38,4 +38,4 @@ unknown_act ps p bs (runs m rs) = unknown_in_run p bs rs (program_named ps m)
 
 -- the same of an occurrence
 abbrev pub unknown_at : List Program → Program → Occurrence → Option (List ℕ)
-unknown_at ps p o = unknown_act ps p o.round o.act
+unknown_at ps p o = unknown_act ps p o.around o.act

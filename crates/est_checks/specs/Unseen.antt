@@ -1,4 +1,5 @@
--- Names of modules that are run which are not visible outermost in the module that runs them (this project's own form).
+-- For each module that a module M runs: the interface names that M itself does not declare, `tick` aside (this
+-- project's own form).
 use Rattle.std.specs.Prelude.{ℕ, List, [], Bool, not, ◌||◌, map, filter, Option, Some, None}
 use Rattle.est_modules.specs.Modules.{Program, program_named}
 use Rattle.est_modules.specs.Visible.{is_tick}

@@ -1,5 +1,5 @@
 //! Which interface names the modules emit that a module runs, and that are inputs of it.
-ghost use Rattle.std.specs.Prelude.{◌≡◌, ℕ, List, [], ◌&&◌, ◌||◌, filter, map, IfOk, OnOk};
+ghost use Rattle.std.specs.Prelude.{◌≡◌, ℕ, List, [], ◌&&◌, ◌||◌, filter, map, IfOk};
 ghost use Rattle.est_checks.specs.Barred.{barred_by};
 ghost use Rattle.est_checks.specs.Emissions.{emitted_of};
 ghost use Rattle.est_modules.specs.Modules.{is_input, program_of};
@@ -7,12 +7,13 @@ ghost use Rattle.est_modules.specs.NameSets.{has};
 ghost use Rattle.est_modules.specs.OpenNames.{AreKept};
 ghost use Rattle.est_modules.specs.Visible.{is_tick};
 
-use crate::emission::{Emission, is_emitted};
+use crate::emission::Emission;
+use crate::run_emissions::sent_by;
+use crate::run_names::{Choice, kept_of};
 use est_modules::head::{Declared, Head, head_named};
-use est_modules::module_order::places_run;
 use est_modules::name_set::NameSet;
 use est_modules::name_table::NameTable;
-use est_modules::open_names::{Kept, keep};
+use est_modules::open_names::Kept;
 use est_modules::relations::is_input_kind;
 use est_modules::visibility::is_tick;
 use est_text::identifier::Identifier;
@@ -32,8 +33,29 @@ fn inputs_of<'a>(alloc: Global, interface: &'a [Declared]) -> Result<NameSet<'a>
     Ok(names)
 }
 
-/// The names of an interface that are in the set, or `tick`, and that its module emits.
+/// The names of an interface that are inputs, or `tick`, and that its module emits.
 fn barred_names(
+    alloc: Global,
+    inputs: &NameSet<'_>,
+    emitted: &NameSet<'_>,
+    interface: &[Declared],
+) -> Result<Vec<Identifier>, AllocError>
+    ensures { IfOk result (λ barred. barred.items ≡ filter (λ n. (has inputs.now n || is_tick n) &&
+        has emitted.now n) (map (λ d. d.name) interface.now)) }
+{
+    let mut barred = Vec::new(alloc);
+    for declared in interface {
+        if (inputs.contains(&declared.name) || is_tick(&declared.name))
+            && emitted.contains(&declared.name)
+        {
+            barred.push(declared.name)?;
+        }
+    }
+    Ok(barred)
+}
+
+/// The same of a module, by what the table says that it emits.
+fn barred_in(
     alloc: Global,
     inputs: &NameSet<'_>,
     table: &[Emission],
@@ -43,57 +65,44 @@ fn barred_names(
     ensures { IfOk result (λ barred. barred.items ≡ filter (λ n. (has inputs.now n || is_tick n) &&
         emitted_of table.now name.now n) (map (λ d. d.name) interface.now)) }
 {
-    let mut barred = Vec::new(alloc);
-    for declared in interface {
-        if (inputs.contains(&declared.name) || is_tick(&declared.name))
-            && is_emitted(table, name, &declared.name)
-        {
-            barred.push(declared.name)?;
-        }
-    }
+    let emitted = sent_by(alloc, table, name)?;
+    let barred = barred_names(alloc, inputs, &emitted, interface)?;
     Ok(barred)
 }
 
-/// The same of the module of a name.
-fn barred_run(
-    alloc: Global,
-    inputs: &NameSet<'_>,
-    heads: &[Head<'_>],
-    table: &[Emission],
-    name: &Identifier,
-) -> Result<Vec<Identifier>, AllocError>
-    ensures { IfOk result (λ barred. barred.items ≡ barred_by (map program_of heads.now)
-        (emitted_of table.now) (has inputs.now) name.now) }
-{
-    match head_named(heads, name) {
-        Some(run) => barred_names(alloc, inputs, table, name, &run.interface),
-        None => Ok(Vec::new(alloc)),
+/// Of a module that is run, the interface names that it emits and that are inputs of the module
+/// that runs it, or `tick`.
+#[derive(Clone, Copy)]
+struct Barred<'a, 'b> {
+    /// The modules of the library.
+    heads: &'a [Head<'a>],
+    /// What each emits.
+    table: &'a [Emission],
+    /// The inputs of the module that runs them.
+    inputs: &'a NameSet<'b>,
+}
+
+impl Choice for Barred<'_, '_> {
+    ghost use Rattle.std.specs.Prelude.{map};
+    ghost use Rattle.est_modules.specs.Modules.{program_of};
+    ghost use Rattle.est_modules.specs.NameSets.{has};
+    ghost use Rattle.est_checks.specs.Barred.{barred_by};
+    ghost use Rattle.est_checks.specs.Emissions.{emitted_of};
+
+    ghost chosen = { λ c. barred_by (map program_of c.heads.now) (emitted_of c.table.now)
+        (has c.inputs.now) };
+
+    fn choose(&self, alloc: Global, name: &Identifier) -> Result<Vec<Identifier>, AllocError> {
+        match head_named(self.heads, name) {
+            Some(run) => barred_in(alloc, self.inputs, self.table, name, &run.interface),
+            None => Ok(Vec::new(alloc)),
+        }
     }
 }
 
-/// Keeps those of the module of a name.
-fn add_barred(
-    alloc: Global,
-    inputs: &NameSet<'_>,
-    heads: &[Head<'_>],
-    table: &[Emission],
-    numbers: &NameTable<'_>,
-    kept: &mut Vec<Kept>,
-    name: &Identifier,
-) -> Result<(), AllocError>
-    requires { AreKept numbers.now (barred_by (map program_of heads.now) (emitted_of table.now)
-        (has inputs.now)) kept.old.items }
-    ensures { OnOk result (AreKept numbers.now (barred_by (map program_of heads.now)
-        (emitted_of table.now) (has inputs.now)) kept.new.items) }
-{
-    let names = barred_run(alloc, inputs, heads, table, name)?;
-    keep(kept, alloc, numbers, name, &names)?;
-    Ok(())
-}
-
 /// The modules that a module runs, each with its interface names that it emits and that are inputs
-/// of the module that runs it, or `tick`. So only these are looked at where such a module is run: a
-/// `signal` round the run has to declare them, or a renaming to name them.
+/// of the module that runs it, or `tick`. Only these are looked at where such a module is run: a
+/// `signal` around the run has to declare them, or a renaming to name them.
 ///
 /// # Errors
 ///
@@ -103,23 +112,17 @@ pub fn barred_of<'a>(
     numbers: &NameTable<'_>,
     heads: &'a [Head<'a>],
     home: &Head<'_>,
-    table: &[Emission],
+    table: &'a [Emission],
 ) -> Result<Vec<Kept>, AllocError>
     ensures { IfOk result (λ kept. AreKept numbers.now (barred_by (map program_of heads.now)
         (emitted_of table.now) (is_input (program_of home.now).interface)) kept.items) }
 {
     let inputs = inputs_of(alloc, &home.interface)?;
-    let places = places_run(alloc, &*heads, home)?;
-    let mut met = NameSet::new(alloc);
-    let mut kept = Vec::new(alloc);
-    for place in &places {
-        if let Some(run) = heads.get(*place) {
-            if met.insert(&run.name)? {
-                add_barred(
-                    alloc, &inputs, &*heads, table, numbers, &mut kept, &run.name,
-                )?;
-            }
-        }
-    }
+    let choice = Barred {
+        heads: &*heads,
+        table: &*table,
+        inputs: &inputs,
+    };
+    let kept = kept_of(&choice, alloc, numbers, &*heads, home)?;
     Ok(kept)
 }

@@ -107,8 +107,8 @@ fn is_named(heads: &[Head<'_>], name: &Identifier) -> bool
     heads.iter().any(|head| head.name.is(name))
 }
 
-/// The name of a module that stands behind one of its name; else the first signal of it that is
-/// declared a second time.
+/// The module's name, if an earlier module has it; else the first of its signals that is declared
+/// twice.
 #[tactic(auto, using(est_modules::proofs::Lists::any_map))]
 fn duplicate_of<'a>(
     alloc: Global,

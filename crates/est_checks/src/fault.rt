@@ -19,6 +19,8 @@ pub enum LinkFault {
     /// A module of a name that another has before it; a signal that is declared a second time, or
     /// is `tick`.
     DuplicateName(Identifier),
+    /// The name of the main module is no identifier, so no module has it.
+    MisnamedMain,
     /// The main module, or one that is run, isn't there.
     UnknownModule(Identifier),
     /// A chain of runs leads from this module back to it.

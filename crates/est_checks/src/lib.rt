@@ -6,6 +6,7 @@
 //! is the first; `laws`, that there is only one.
 #![tactic(auto)]
 
+pub mod around_order;
 pub mod bad_renamings;
 mod barred_names;
 pub mod duplicates;
@@ -19,8 +20,8 @@ mod limits;
 pub mod missing_modules;
 pub mod module_emissions;
 pub mod place_check;
-pub mod round_order;
 pub mod run_emissions;
+mod run_names;
 pub mod statement_count;
 pub mod unknown_names;
 pub mod unseen_names;

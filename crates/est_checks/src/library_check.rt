@@ -1,16 +1,17 @@
 //! All checks of a library, in their order.
 ghost use Rattle.std.specs.Prelude.{◌≡◌, None, IfOk, IfErr, OnOk, map};
 ghost use Rattle.est_checks.specs.Duplicates.{first_duplicate};
-ghost use Rattle.est_checks.specs.FirstFaults.{ByNames, ByRuns, Finds, IsFirstFault};
+ghost use Rattle.est_checks.specs.FirstFaults.{Finds, IsFirstFault, IsFirstOf};
 ghost use Rattle.est_checks.specs.Inner.Recursion.{IsOrderFault};
+ghost use Rattle.est_checks.specs.Inner.Stages.{name_checks, run_checks};
 ghost use Rattle.est_modules.specs.Modules.{program_of};
 ghost use Rattle.est_modules.specs.ModuleOrders.{IsOrderOf, run_rows};
 ghost use Rattle.est_modules.specs.PlaceOrders.{NoneIsRecursive};
 
+use crate::around_order::{check_before_order, fault_after_order};
 use crate::fault::LinkFault;
 use crate::limits::check_limits;
 use crate::module_emissions::emissions_along;
-use crate::round_order::{fault_before_order, fault_behind_order};
 use est_modules::head::Head;
 use est_modules::module_order::{name_at, order_heads};
 use est_modules::name_table::numbered;
@@ -41,11 +42,11 @@ fn check_names<'a>(
 ) -> Result<(), LinkFault>
     requires order { IsOrderOf (map program_of heads.now) order.now }
     requires distinct { first_duplicate (map program_of heads.now) ≡ None }
-    ensures { Finds (ByNames (map program_of heads.now) main.now) result }
+    ensures { Finds (IsFirstOf (name_checks (map program_of heads.now) main.now)) result }
 {
     let names = numbered(alloc, &*heads)?;
     let table = emissions_along(alloc, &names, &*heads, order.places())?;
-    match fault_behind_order(alloc, &names, &*heads, main, &table)? {
+    match fault_after_order(alloc, &names, &*heads, main, &table)? {
         Some(fault) => Err(fault),
         None => check_limits(alloc, heads, order, main),
     }
@@ -59,15 +60,15 @@ fn check_runs<'a>(
 ) -> Result<Order, LinkFault>
     requires { first_duplicate (map program_of heads.now) ≡ None }
     ensures order { IfOk result (λ order. IsOrderOf (map program_of heads.now) order) }
-    ensures found { Finds (ByRuns (map program_of heads.now) main.now) result }
+    ensures found { Finds (IsFirstOf (run_checks (map program_of heads.now) main.now)) result }
 {
     let order = order_of(alloc, &*heads)?;
     check_names(alloc, &*heads, &order, main)?;
     Ok(order)
 }
 
-/// All checks of a library in their order: the order of its modules, each after those that it runs,
-/// exactly where no check has a fault.
+/// All checks of a library in their order: the name of its main module, and the order of its
+/// modules, each after those that it runs, exactly where no check has a fault.
 ///
 /// # Errors
 ///
@@ -75,13 +76,13 @@ fn check_runs<'a>(
 pub fn check_library<'a>(
     alloc: Global,
     heads: &'a [Head<'a>],
-    main: &Identifier,
-) -> Result<Order, LinkFault>
-    ensures order { IfOk result (λ order. IsOrderOf (map program_of heads.now) order) }
+    main: &str,
+) -> Result<(Identifier, Order), LinkFault>
+    ensures name { IfOk result (λ checked. checked.0 ≡ main.now) }
+    ensures order { IfOk result (λ checked. IsOrderOf (map program_of heads.now) checked.1) }
     ensures found { Finds (IsFirstFault (map program_of heads.now) main.now) result }
 {
-    match fault_before_order(alloc, &*heads, main)? {
-        Some(fault) => Err(fault),
-        None => check_runs(alloc, &*heads, main),
-    }
+    let main = check_before_order(alloc, &*heads, main)?;
+    let order = check_runs(alloc, &*heads, &main)?;
+    Ok((main, order))
 }

@@ -1,7 +1,8 @@
 //! The limits of a main module, asked before any run is replaced.
 ghost use Rattle.std.specs.Prelude.{◌≡◌, ℕ, IfOk, map, option_map};
 ghost use Rattle.est_checks.specs.Counting.{IsWithinLimit};
-ghost use Rattle.est_checks.specs.FirstFaults.{ByLimits, Finds, limit_passed, limit_passed_by};
+ghost use Rattle.est_checks.specs.FirstFaults.{Finds, limit_passed, limit_passed_by};
+ghost use Rattle.est_checks.specs.Inner.Stages.{IsLimitFault};
 ghost use Rattle.est_modules.specs.Modules.{program_of};
 ghost use Rattle.est_modules.specs.ModuleOrders.{IsOrderOf};
 
@@ -15,8 +16,8 @@ use est_relations::relations::MOST_RELATIONS;
 use est_text::identifier::Identifier;
 use std::alloc::{AllocError, Global};
 
-/// The first limit that a main module of so many signals, relations and statements passes; it has
-/// too many statements where there is no number of them.
+/// The first limit that a main module with these numbers of signals, relations and statements
+/// passes; it has too many statements where there is no number of them.
 fn limit_passed(signals: usize, relations: usize, statements: Option<u16>) -> Option<Limit>
     ensures { (whole : ℕ) → IsWithinLimit whole statements
         → result ≡ limit_passed signals relations whole }
@@ -63,7 +64,7 @@ pub fn check_limits(
     main: &Identifier,
 ) -> Result<(), LinkFault>
     requires { IsOrderOf (map program_of heads.now) order.now }
-    ensures { Finds (ByLimits (map program_of heads.now) main.now) result }
+    ensures { Finds (IsLimitFault (map program_of heads.now) main.now) result }
 {
     let statements = count_statements(alloc, heads, order, main)?;
     match limit_passed_by(alloc, head_named(heads, main), statements)? {

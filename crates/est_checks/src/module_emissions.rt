@@ -214,7 +214,7 @@ fn note_emission(seen: &mut Notes, scope: &Scope<'_>, signal: &Identifier) -> Re
     ensures { (ps : List Program) (em : List ℕ → List ℕ → Bool) (t : NameTable) (ks : List Kept)
         → OnOk result (noted_of seen.new ≡ noted_after ps em t ks (noted_of seen.old) (record {
           act = emits signal.now;
-          round = binders_of scope.now;
+          around = binders_of scope.now;
         })) }
 {
     add_outer(&mut seen.others, scope, signal)?;

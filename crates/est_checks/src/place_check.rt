@@ -43,7 +43,7 @@ pub trait Check {
     ) -> Result<Option<Identifier>, AllocError>
         requires { IsOpen (fits self.now) (binders_of scope.now) kept.now }
         ensures { IfOk result (λ name. name ≡ fault self.now (program_of home.now) (record
-            { act = act_of act.now; round = binders_of scope.now })) };
+            { act = act_of act.now; around = binders_of scope.now })) };
 }
 
 /// Keeps the first fault that a check finds in a module.

@@ -1,5 +1,5 @@
 //! Which interface names the modules emit that a module runs.
-ghost use Rattle.std.specs.Prelude.{◌≡◌, ℕ, List, filter, map, IfOk, OnOk};
+ghost use Rattle.std.specs.Prelude.{◌≡◌, ℕ, List, filter, map, IfOk};
 ghost use Rattle.est_checks.specs.Emissions.{emitted_of};
 ghost use Rattle.est_checks.specs.Inner.Emitted.{sent_by};
 ghost use Rattle.est_modules.specs.Modules.{program_of};
@@ -7,16 +7,16 @@ ghost use Rattle.est_modules.specs.NameSets.{has};
 ghost use Rattle.est_modules.specs.OpenNames.{AreKept};
 
 use crate::emission::Emission;
+use crate::run_names::{Choice, kept_of};
 use est_modules::head::{Declared, Head, head_named};
-use est_modules::module_order::places_run;
 use est_modules::name_set::NameSet;
 use est_modules::name_table::NameTable;
-use est_modules::open_names::{Kept, keep};
+use est_modules::open_names::Kept;
 use est_text::identifier::Identifier;
 use std::alloc::{AllocError, Global};
 
 /// The signals that a module emits, as the table says.
-fn sent_by<'a>(
+pub fn sent_by<'a>(
     alloc: Global,
     table: &'a [Emission],
     name: &Identifier,
@@ -85,23 +85,26 @@ pub fn emitted_run(
     }
 }
 
-/// Keeps the interface names that the module of a name emits.
-fn add_sent(
-    alloc: Global,
-    names: &NameTable<'_>,
-    heads: &[Head<'_>],
-    table: &[Emission],
-    kept: &mut Vec<Kept>,
-    name: &Identifier,
-) -> Result<(), AllocError>
-    requires { AreKept names.now (sent_by (map program_of heads.now) (emitted_of table.now))
-        kept.old.items }
-    ensures { OnOk result (AreKept names.now (sent_by (map program_of heads.now)
-        (emitted_of table.now)) kept.new.items) }
-{
-    let sent = emitted_run(alloc, heads, table, name)?;
-    keep(kept, alloc, names, name, &sent)?;
-    Ok(())
+/// Of a module that is run, the interface names that it emits.
+#[derive(Clone, Copy)]
+struct Emitted<'a> {
+    /// The modules of the library.
+    heads: &'a [Head<'a>],
+    /// What each emits.
+    table: &'a [Emission],
+}
+
+impl Choice for Emitted<'_> {
+    ghost use Rattle.std.specs.Prelude.{map};
+    ghost use Rattle.est_modules.specs.Modules.{program_of};
+    ghost use Rattle.est_checks.specs.Emissions.{emitted_of};
+    ghost use Rattle.est_checks.specs.Inner.Emitted.{sent_by};
+
+    ghost chosen = { λ c. sent_by (map program_of c.heads.now) (emitted_of c.table.now) };
+
+    fn choose(&self, alloc: Global, name: &Identifier) -> Result<Vec<Identifier>, AllocError> {
+        emitted_run(alloc, self.heads, self.table, name)
+    }
 }
 
 /// The modules that a module runs, each with its interface names that it emits.
@@ -114,20 +117,14 @@ pub fn sent_of<'a>(
     names: &NameTable<'_>,
     heads: &'a [Head<'a>],
     home: &Head<'_>,
-    table: &[Emission],
+    table: &'a [Emission],
 ) -> Result<Vec<Kept>, AllocError>
     ensures { IfOk result (λ kept. AreKept names.now (sent_by (map program_of heads.now)
         (emitted_of table.now)) kept.items) }
 {
-    let places = places_run(alloc, &*heads, home)?;
-    let mut met = NameSet::new(alloc);
-    let mut kept = Vec::new(alloc);
-    for place in &places {
-        if let Some(run) = heads.get(*place) {
-            if met.insert(&run.name)? {
-                add_sent(alloc, names, &*heads, table, &mut kept, &run.name)?;
-            }
-        }
-    }
-    Ok(kept)
+    let choice = Emitted {
+        heads: &*heads,
+        table: &*table,
+    };
+    kept_of(&choice, alloc, names, &*heads, home)
 }

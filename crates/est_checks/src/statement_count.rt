@@ -2,8 +2,8 @@
 //! replaced: chains of runs that double the number at each step cost no more than their texts, and
 //! the numbers end at one more than may be.
 //!
-//! The functions call each other once for each unit that is open, of which the reader lets at most
-//! 128 be so at once. A run is no call: its module was counted before.
+//! Recursion is at most one call for each open unit, and at most 128 units are open. A `run` is no
+//! call: its module was counted before.
 ghost use Rattle.std.specs.Prelude.{◌≡◌, ℕ, ◌+◌, ◌<◌, ◌≤◌, List, Some, length, map, min, slice_get};
 ghost use Rattle.std.specs.Prelude.{IfOk};
 ghost use Rattle.est_syntax.specs.Views.{test_view, unit_view, branches_view};

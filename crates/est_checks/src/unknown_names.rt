@@ -68,7 +68,7 @@ fn unbound_name(
 }
 
 /// The first interface name of a module that is run which is neither renamed nor visible. Only
-/// names that neither the module that runs it nor a `signal` round the run declares are looked at,
+/// names that neither the module that runs it nor a `signal` around the run declares are looked at,
 /// if they were kept.
 fn unbound_in(
     heads: &[Head<'_>],

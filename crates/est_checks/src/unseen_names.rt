@@ -1,16 +1,17 @@
-//! Which interface names of the modules that a module runs are not visible outermost in it.
-ghost use Rattle.std.specs.Prelude.{◌≡◌, ℕ, List, [], ◌||◌, filter, not, map, IfOk, OnOk};
+//! For each module that a module M runs: the interface names that M itself does not declare, `tick`
+//! aside.
+ghost use Rattle.std.specs.Prelude.{◌≡◌, ℕ, List, [], ◌||◌, filter, not, map, IfOk};
 ghost use Rattle.est_modules.specs.Modules.{program_of, is_declared};
 ghost use Rattle.est_modules.specs.NameSets.{has};
 ghost use Rattle.est_modules.specs.OpenNames.{AreKept};
 ghost use Rattle.est_checks.specs.Unseen.{unseen_by};
 ghost use Rattle.est_modules.specs.Visible.{is_tick};
 
+use crate::run_names::{Choice, kept_of};
 use est_modules::head::{Declared, Head, head_named};
-use est_modules::module_order::places_run;
 use est_modules::name_set::NameSet;
 use est_modules::name_table::NameTable;
-use est_modules::open_names::{Kept, keep};
+use est_modules::open_names::Kept;
 use est_modules::visibility::is_tick;
 use est_text::identifier::Identifier;
 use std::alloc::{AllocError, Global};
@@ -44,45 +45,35 @@ fn unseen_names(
     Ok(left)
 }
 
-/// The same of the module of a name.
-fn unseen_run(
-    alloc: Global,
-    names: &NameSet<'_>,
-    heads: &[Head<'_>],
-    name: &Identifier,
-) -> Result<Vec<Identifier>, AllocError>
-    ensures { IfOk result (λ left. left.items ≡ unseen_by (map program_of heads.now) (has names.now)
-        name.now) }
-{
-    match head_named(heads, name) {
-        Some(run) => unseen_names(alloc, names, &run.interface),
-        None => Ok(Vec::new(alloc)),
+/// Of a module that is run, the interface names that the module which runs it does not declare,
+/// `tick` aside.
+#[derive(Clone, Copy)]
+struct Unseen<'a, 'b> {
+    /// The modules of the library.
+    heads: &'a [Head<'a>],
+    /// The interface names of the module that runs them.
+    names: &'a NameSet<'b>,
+}
+
+impl Choice for Unseen<'_, '_> {
+    ghost use Rattle.std.specs.Prelude.{map};
+    ghost use Rattle.est_modules.specs.Modules.{program_of};
+    ghost use Rattle.est_modules.specs.NameSets.{has};
+    ghost use Rattle.est_checks.specs.Unseen.{unseen_by};
+
+    ghost chosen = { λ c. unseen_by (map program_of c.heads.now) (has c.names.now) };
+
+    fn choose(&self, alloc: Global, name: &Identifier) -> Result<Vec<Identifier>, AllocError> {
+        match head_named(self.heads, name) {
+            Some(run) => unseen_names(alloc, self.names, &run.interface),
+            None => Ok(Vec::new(alloc)),
+        }
     }
 }
 
-/// Keeps those of the module of a name.
-fn add_unseen(
-    alloc: Global,
-    table: &NameTable<'_>,
-    names: &NameSet<'_>,
-    heads: &[Head<'_>],
-    kept: &mut Vec<Kept>,
-    name: &Identifier,
-) -> Result<(), AllocError>
-    requires { AreKept table.now (unseen_by (map program_of heads.now) (has names.now))
-        kept.old.items }
-    ensures { OnOk result (AreKept table.now (unseen_by (map program_of heads.now)
-        (has names.now)) kept.new.items) }
-{
-    let left = unseen_run(alloc, names, heads, name)?;
-    keep(kept, alloc, table, name, &left)?;
-    Ok(())
-}
-
-/// The modules that a module runs, each with its interface names that are not visible outermost
-/// there: neither in the interface of the module that runs it nor `tick`. So only these are looked
-/// at where such a module is run: a `signal` round the run has to declare them, or a renaming to
-/// name them.
+/// For each module that a module runs: the interface names that the module that runs it does not
+/// declare, `tick` aside. Only these are looked at where such a module is run: a `signal` around
+/// the run has to declare them, or a renaming to name them.
 ///
 /// # Errors
 ///
@@ -97,15 +88,10 @@ pub fn unseen_of<'a>(
         (is_declared (program_of home.now).interface)) kept.items) }
 {
     let names = names_of(alloc, &home.interface)?;
-    let places = places_run(alloc, &*heads, home)?;
-    let mut met = NameSet::new(alloc);
-    let mut kept = Vec::new(alloc);
-    for place in &places {
-        if let Some(run) = heads.get(*place) {
-            if met.insert(&run.name)? {
-                add_unseen(alloc, table, &names, &*heads, &mut kept, &run.name)?;
-            }
-        }
-    }
+    let choice = Unseen {
+        heads: &*heads,
+        names: &names,
+    };
+    let kept = kept_of(&choice, alloc, table, &*heads, home)?;
     Ok(kept)
 }

@@ -8,7 +8,7 @@ use Rattle.est_kernel.specs.Term.{Name, outer, inner, Query, tick, of, negated, 
 use Rattle.est_kernel.proofs.Tests.{each_implies}
 use Rattle.est_reduce.specs.Bodies.{Body, nothing, pause, halt, emit, sustain, exit, await, present, suspend, abort}
 use Rattle.est_reduce.specs.Bodies.{weak_abort, repeat, repeat_each, every, trap, signal, seq, par}
-use Rattle.est_link.specs.Linking.{bound, bound_name, bound_query, bound_queries, emitted}
+use Rattle.est_link.specs.Linking.{body_in_run, signal_in_run, query_in_run, queries_in_run, emitted}
 use Rattle.est_link.specs.Bodies.{MayEmit, MayAsk, IsThere, IsBody, AreBindings}
 
 more_there : (m l k : ℕ) (s : Name) → IsThere m l s → IsThere m (l + k) s
@@ -23,13 +23,13 @@ more_sent m may l k (outer i) a = a
 more_sent m may l k (inner j) a = omega (arith, a)
 
 name_bound : (n : ℕ) (may : ℕ → Type 0) (m : ℕ) (callers : ℕ → Type 0) (k : ℕ) (qs : List Query)
-    → AreBindings n may m callers k qs → (l : ℕ) (s : Name) → IsThere n l s → MayAsk m (k + l) (bound_name qs k s)
+    → AreBindings n may m callers k qs → (l : ℕ) (s : Name) → IsThere n l s → MayAsk m (k + l) (signal_in_run qs k s)
 name_bound n may m callers k qs b l (outer i) a = more_asked m k l (get_or qs i tick) (b.asked i a)
 name_bound n may m callers k qs b l (inner j) a = omega (arith, a)
 
 mutual
   asked_bound : (n : ℕ) (may : ℕ → Type 0) (m : ℕ) (callers : ℕ → Type 0) (k : ℕ) (qs : List Query)
-      → AreBindings n may m callers k qs → (l : ℕ) (q : Query) → MayAsk n l q → MayAsk m (k + l) (bound_query qs k q)
+      → AreBindings n may m callers k qs → (l : ℕ) (q : Query) → MayAsk n l q → MayAsk m (k + l) (query_in_run qs k q)
   asked_bound n may m callers k qs b l tick a = tt
   asked_bound n may m callers k qs b l (of s) a = name_bound n may m callers k qs b l s a
   asked_bound n may m callers k qs b l (negated t) a = asked_bound n may m callers k qs b l t a
@@ -38,21 +38,21 @@ mutual
 
   all_asked_bound : (n : ℕ) (may : ℕ → Type 0) (m : ℕ) (callers : ℕ → Type 0) (k : ℕ) (qs : List Query)
       → AreBindings n may m callers k qs → (l : ℕ) (ts : Queries) → EachSignalOfAll (IsThere n l) ts
-      → EachSignalOfAll (IsThere m (k + l)) (bound_queries qs k ts)
+      → EachSignalOfAll (IsThere m (k + l)) (queries_in_run qs k ts)
   all_asked_bound n may m callers k qs b l (last t) a = asked_bound n may m callers k qs b l t a
   all_asked_bound n may m callers k qs b l (more t ts) a =
       (asked_bound n may m callers k qs b l t a.0, all_asked_bound n may m callers k qs b l ts a.1)
 
 sent_bound : (n : ℕ) (may : ℕ → Type 0) (m : ℕ) (callers : ℕ → Type 0) (k : ℕ) (qs : List Query)
     → AreBindings n may m callers k qs → (l : ℕ) (s : Name) → MayEmit n may l s
-    → MayEmit m callers (k + l) (emitted (bound_name qs k s))
+    → MayEmit m callers (k + l) (emitted (signal_in_run qs k s))
 sent_bound n may m callers k qs b l (outer i) a = more_sent m callers k l (emitted (get_or qs i tick))
     (b.sent i a.0 a.1)
 sent_bound n may m callers k qs b l (inner j) a = omega (arith, a)
 
 pub bound_body : (n : ℕ) (may : ℕ → Type 0) (m : ℕ) (callers : ℕ → Type 0) (k : ℕ) (qs : List Query)
     → AreBindings n may m callers k qs → (t l : ℕ) (f : Body) → IsBody n may t l f
-    → IsBody m callers t (k + l) (bound qs k f)
+    → IsBody m callers t (k + l) (body_in_run qs k f)
 bound_body n may m callers k qs b t l nothing h = tt
 bound_body n may m callers k qs b t l pause h = tt
 bound_body n may m callers k qs b t l halt h = tt
@@ -78,7 +78,7 @@ bound_body n may m callers k qs b t l (every now s p) h =
     (asked_bound n may m callers k qs b l s h.0, bound_body n may m callers k qs b t l p h.1)
 bound_body n may m callers k qs b t l (trap p) h = bound_body n may m callers k qs b (t + 1) l p h
 bound_body n may m callers k qs b t l (signal j p) h =
-    let P : ℕ → Type 0 = λ x. IsBody m callers t x (bound qs k p) in
+    let P : ℕ → Type 0 = λ x. IsBody m callers t x (body_in_run qs k p) in
     let e : k + (l + j) ≡ k + l + j = omega arith in
     subst P e (bound_body n may m callers k qs b t (l + j) p h)
 bound_body n may m callers k qs b t l (seq p q) h =
@@ -90,9 +90,10 @@ bound_body n may m callers k qs b t l (par p q) h =
 
 -- a test of the code, so bound
 abbrev pub test_bound : List Query → ℕ → BoundTest → Query
-test_bound qs k t = bound_query qs k (query_view t)
+test_bound qs k t = query_in_run qs k (query_view t)
 
 pub listed_bound : (qs : List Query) (k : ℕ) (q : Query) (ts : List BoundTest)
-    → bound_queries qs k (queries_of q (map query_view ts)) ≡ queries_of (bound_query qs k q) (map (test_bound qs k) ts)
+    → queries_in_run qs k (queries_of q (map query_view ts))
+    ≡ queries_of (query_in_run qs k q) (map (test_bound qs k) ts)
 listed_bound qs k q [] = refl
-listed_bound qs k q (t ∷ ts) = ap (more (bound_query qs k q)) (listed_bound qs k (query_view t) ts)
+listed_bound qs k q (t ∷ ts) = ap (more (query_in_run qs k q)) (listed_bound qs k (query_view t) ts)

@@ -5,10 +5,13 @@ use Rattle.std.proofs.lemmas.Bool.{false≢true}
 use Rattle.std.specs.List.{list_any, AllByRecursion}
 use Rattle.est_modules.specs.Derived as derived
 use Rattle.est_modules.specs.Derived.{Derived}
-use Rattle.est_link.specs.Bodies.{MayEmit, IsBody, IsSent, AllRuns, HasSoundNames}
+use Rattle.est_checks.specs.RecursiveRuns.{HasRun}
+use Rattle.est_link.specs.Bodies.{MayEmit, IsBody, IsSent, HasSoundNames}
+use Rattle.est_link.specs.Inner.AllRuns.{AllRuns}
 use Rattle.est_checks.specs.Emissions.{refused_at, is_refused, emits_by}
 use Rattle.est_link.specs.Inner.Tables.{AreMade, none, next, IsMade, has_body, bodies_of, body_linked}
-use Rattle.est_link.specs.Linking.{linked, bound, interface_bound, interface_run, locals_round, signal_at, emitted}
+use Rattle.est_link.specs.Linking.{linked, body_in_run, interface_bound, interface_run, locals_around, signal_at}
+use Rattle.est_link.specs.Linking.{emitted}
 use Rattle.est_modules.specs.Modules.{Program, program_named}
 use Rattle.est_modules.specs.Occurrences.{Binder, signals, a_trap, emits, runs, Occurrence, tested, occurrences}
 use Rattle.est_modules.specs.Occurrences.{first_of}
@@ -19,10 +22,10 @@ use Rattle.std.specs.Str.{bytes_eq}
 use Rattle.est_syntax.specs.Tree.{RenamingTree}
 use Rattle.est_link.proofs.Binding.{bound_body}
 use Rattle.est_link.proofs.Made.{kept, new_last, last_body, old_or_last}
-use Rattle.est_link.proofs.Naming.{IsFine, test_at, traps_round, trap_within, sent_at, run_bindings}
+use Rattle.est_link.proofs.Naming.{IsFine, test_at, traps_around, trap_within, sent_at, run_bindings}
 use Rattle.est_modules.proofs.Testing.{or_left, or_right, and_both, not_true, same_bytes, equal_bytes, or_none_parts}
 use Rattle.est_modules.proofs.Testing.{all_parts}
-use Rattle.est_link.proofs.RunModules.{more_runs}
+use Rattle.est_link.proofs.RunModules.{from_runs}
 use Rattle.est_reduce.specs.Bodies.{Body, nothing, pause, halt, emit, sustain, exit, await, present, suspend, abort}
 use Rattle.est_reduce.specs.Bodies.{weak_abort, repeat, repeat_each, every, trap, signal, seq, par}
 
@@ -59,21 +62,21 @@ emission_here local sent others h e = or_left (not local && sent) others
 
 pub all_fine : (ps : List Program) (em : List ℕ → List ℕ → Bool) (p : Program) (os : List Occurrence)
     → first_of (unknown_at ps p) os ≡ None → first_of (refused_at ps em p) os ≡ None
-    → ((s : List ℕ) → list_any (λ (o : Occurrence). not (is_local o.round s) && emits_by ps em s o.act) os ≡ true
+    → ((s : List ℕ) → list_any (λ (o : Occurrence). not (is_local o.around s) && emits_by ps em s o.act) os ≡ true
     → em p.name s ≡ true) → AllByRecursion (IsFine ps em p) os
 all_fine ps em p [] known accepted sent = tt
 all_fine ps em p (o ∷ os) known accepted sent =
     let unknown = or_none_parts (unknown_at ps p o) (first_of (unknown_at ps p) os) known in
     let refused = or_none_parts (refused_at ps em p o) (first_of (refused_at ps em p) os) accepted in
-    let later = λ (s : List ℕ). list_any (λ (o : Occurrence). not (is_local o.round s) && emits_by ps em s o.act) os
+    let later = λ (s : List ℕ). list_any (λ (o : Occurrence). not (is_local o.around s) && emits_by ps em s o.act) os
     in (
       record {
         known = unknown.0;
         accepted = refused.0;
-        sent = λ s h e. sent s (emission_here (is_local o.round s) (emits_by ps em s o.act) (later s) h e);
+        sent = λ s h e. sent s (emission_here (is_local o.around s) (emits_by ps em s o.act) (later s) h e);
       },
       all_fine ps em p os unknown.1 refused.1
-          (λ s h. sent s (or_right (not (is_local o.round s) && emits_by ps em s o.act) (later s) h)),
+          (λ s h. sent s (or_right (not (is_local o.around s) && emits_by ps em s o.act) (later s) h)),
     )
 
 -- ---- a statement
@@ -88,8 +91,8 @@ accepted_name true s h = cc
 accepted_name false s h = refl
 
 fine_emission : (ps : List Program) (em : List ℕ → List ℕ → Bool) (p : Program) (bs : List Binder) (s : List ℕ)
-    → IsFine ps em p (record { act = emits s; round = bs })
-    → MayEmit (length p.interface) (IsSent em p) (locals_round bs) (emitted (signal_at p bs s))
+    → IsFine ps em p (record { act = emits s; around = bs })
+    → MayEmit (length p.interface) (IsSent em p) (locals_around bs) (emitted (signal_at p bs s))
 fine_emission ps em p bs s fine = sent_at em p bs s (known_name (is_visible p bs s) s fine.known)
     (accepted_name (is_refused p bs s) s fine.accepted) (λ h. fine.sent s h (equal_bytes s))
 
@@ -100,26 +103,26 @@ IsSound em (Some q) f = IsBody (length q.interface) (IsSent em q) 0 0 f
 
 run_bound : (ps : List Program) (em : List ℕ → List ℕ → Bool) (p : Program) (bs : List Binder) (m : List ℕ)
     (rs : List RenamingTree) (o : Option Program) (f : Body) → program_named ps m ≡ o
-    → IsFine ps em p (record { act = runs m rs; round = bs }) → IsSound em o f
-    → IsBody (length p.interface) (IsSent em p) (traps_round bs) (locals_round bs)
-    (bound (interface_bound p bs rs (interface_run o)) (locals_round bs) f)
+    → IsFine ps em p (record { act = runs m rs; around = bs }) → IsSound em o f
+    → IsBody (length p.interface) (IsSent em p) (traps_around bs) (locals_around bs)
+    (body_in_run (interface_bound p bs rs (interface_run o)) (locals_around bs) f)
 run_bound ps em p bs m rs None f found fine sound =
-    subst (λ x. IsBody (length p.interface) (IsSent em p) (traps_round bs) (locals_round bs)
-    (bound (interface_bound p bs rs []) (locals_round bs) x)) (sym sound) tt
+    subst (λ x. IsBody (length p.interface) (IsSent em p) (traps_around bs) (locals_around bs)
+    (body_in_run (interface_bound p bs rs []) (locals_around bs) x)) (sym sound) tt
 run_bound ps em p bs m rs (Some q) f found fine sound =
-    let e : locals_round bs + 0 ≡ locals_round bs = omega arith in
-    let none : 0 + traps_round bs ≡ traps_round bs = omega arith in
-    subst (λ l. IsBody (length p.interface) (IsSent em p) (traps_round bs) l
-    (bound (interface_bound p bs rs q.interface) (locals_round bs) f)) e
-    (bound_body (length q.interface) (IsSent em q) (length p.interface) (IsSent em p) (locals_round bs)
-    (interface_bound p bs rs q.interface) (run_bindings ps em p bs m rs q found fine) (traps_round bs) 0 f
+    let e : locals_around bs + 0 ≡ locals_around bs = omega arith in
+    let none : 0 + traps_around bs ≡ traps_around bs = omega arith in
+    subst (λ l. IsBody (length p.interface) (IsSent em p) (traps_around bs) l
+    (body_in_run (interface_bound p bs rs q.interface) (locals_around bs) f)) e
+    (bound_body (length q.interface) (IsSent em q) (length p.interface) (IsSent em p) (locals_around bs)
+    (interface_bound p bs rs q.interface) (run_bindings ps em p bs m rs q found fine) (traps_around bs) 0 f
     (subst (λ t. IsBody (length q.interface) (IsSent em q) t 0 f) none
-    (more_traps (length q.interface) (IsSent em q) (traps_round bs) 0 0 f sound)))
+    (more_traps (length q.interface) (IsSent em q) (traps_around bs) 0 0 f sound)))
 
 pub linked_bound : (ps : List Program) (em : List ℕ → List ℕ → Bool) (p : Program) (b : List ℕ → Body)
     (bs : List Binder) (d : Derived) → AllByRecursion (IsFine ps em p) (occurrences bs d)
     → AllRuns (λ m. IsSound em (program_named ps m) (b m)) d
-    → IsBody (length p.interface) (IsSent em p) (traps_round bs) (locals_round bs) (linked ps b p bs d)
+    → IsBody (length p.interface) (IsSent em p) (traps_around bs) (locals_around bs) (linked ps b p bs d)
 linked_bound ps em p b bs derived.missing h r = tt
 linked_bound ps em p b bs derived.nothing h r = tt
 linked_bound ps em p b bs derived.pause h r = tt
@@ -129,8 +132,8 @@ linked_bound ps em p b bs (derived.sustain s) h r = fine_emission ps em p bs s h
 linked_bound ps em p b bs (derived.exit t) h r = trap_within bs t (known_name (is_trap bs t) t h.0.known)
 linked_bound ps em p b bs (derived.await d) h r = test_at p bs d.test
 linked_bound ps em p b bs (derived.present s q e) h r =
-    let behind = all_parts (IsFine ps em p) (tested bs s) (occurrences bs q ++ occurrences bs e) h in
-    let parts = all_parts (IsFine ps em p) (occurrences bs q) (occurrences bs e) behind.1 in
+    let rest = all_parts (IsFine ps em p) (tested bs s) (occurrences bs q ++ occurrences bs e) h in
+    let parts = all_parts (IsFine ps em p) (occurrences bs q) (occurrences bs e) rest.1 in
     (test_at p bs s, linked_bound ps em p b bs q parts.0 r.0, linked_bound ps em p b bs e parts.1 r.1)
 linked_bound ps em p b bs (derived.suspend q d) h r = (
   test_at p bs d.test,
@@ -197,8 +200,8 @@ last_sound ps em es e m names before absent is made =
     ∙ ap (λ n. body_linked ps (bodies_of es) (program_named ps n)) same in
     subst (IsSound em (program_named ps m)) (sym body)
     (sound_linked ps em (bodies_of es) m (program_named ps m) refl names
-    (λ p found. more_runs (λ n. has_body es n ≡ true) (λ n. IsSound em (program_named ps n) (bodies_of es n)) before
-    p.body (made.ready p (ap (program_named ps) same ∙ found))))
+    (λ p found. from_runs ps (λ n. IsSound em (program_named ps n) (bodies_of es n)) m p found
+    (λ n run. before n (made.ready n (subst (λ k. HasRun ps k n) (sym same) run)))))
 
 -- each name of each body of a table is bound
 pub made_sound : (ps : List Program) (em : List ℕ → List ℕ → Bool) (es : List Linked) → AreMade ps es

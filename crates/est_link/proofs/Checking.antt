@@ -1,10 +1,9 @@
 -- A library of which no check has a fault.
 use Rattle.std.proofs.Common.{◌≡◌, ℕ, zero, suc, ◌≤◌, List, [], ◌∷◌, ◌++◌, length, map, nat_lt, Bool, true, false}
-use Rattle.std.proofs.Common.{if◌then◌else◌, Option, Some, None, option_map, refl, ap, sym, ◌∙◌}
+use Rattle.std.proofs.Common.{if◌then◌else◌, Option, Some, None, refl, ap, sym, ◌∙◌}
 use Rattle.std.proofs.lemmas.Bool.{ltb-false}
 use Rattle.std.proofs.lemmas.Option.{none-some}
 use Rattle.std.specs.List.{slice_get}
-use Rattle.std.specs.Option.{option_or}
 use Rattle.std.specs.Str.{bytes_eq}
 use Rattle.est_kernel.specs.declared.interface.TheConstants.{MOST_SIGNALS}
 use Rattle.est_link.specs.Bodies.{HasSoundNames}
@@ -12,42 +11,25 @@ use Rattle.est_checks.specs.Duplicates.{redeclared, redeclared_in, redeclared_at
 use Rattle.est_checks.specs.Duplicates.{first_duplicate}
 use Rattle.est_modules.specs.Visible.{stands_in}
 use Rattle.est_checks.specs.Emissions.{AreEmissions, first_refused, refused_at}
-use Rattle.est_checks.specs.FirstFaults.{Else, ByLimits, ByNames, ByRuns, IsFirstFault, recursive_run, limit_passed}
-use Rattle.est_checks.specs.FirstFaults.{limit_passed_by}
+use Rattle.est_checks.specs.FirstFaults.{IsFirstFault, limit_passed, limit_passed_by}
 use Rattle.est_kernel.specs.declared.limits.TheConstants.{MOST_STATEMENTS}
 use Rattle.est_link.specs.Inner.Checked.{IsChecked, IsSoundMain}
-use Rattle.est_checks.specs.LinkFaults.{fault_before_order, fault_behind_order, lawless_number}
+use Rattle.est_checks.specs.LinkFaults.{lawless_number}
 use Rattle.est_modules.specs.Modules.{Program, program_named, first_in_bodies}
 use Rattle.est_modules.specs.Occurrences.{Occurrence, occurrences, first_of}
-use Rattle.est_checks.specs.BadRenamings.{bad_renaming_at}
-use Rattle.est_checks.specs.MissingModules.{first_missing}
 use Rattle.est_checks.specs.UnknownNames.{unknown_at}
 use Rattle.est_checks.specs.declared.fault.Limit.{Limit}
 use Rattle.est_checks.specs.declared.fault.Limit.TheVariants.{Signals, Relations, Statements}
-use Rattle.est_checks.specs.declared.fault.LinkFault.{LinkFault}
-use Rattle.est_checks.specs.declared.fault.LinkFault.TheVariants.{DuplicateName, UnknownModule, BadRename, UnknownName}
-use Rattle.est_checks.specs.declared.fault.LinkFault.TheVariants.{EmitInput, Semantics, TooLarge}
 use Rattle.est_modules.specs.declared.head.Declared.{Declared}
+use Rattle.est_checks.proofs.Finding.{all_pass}
+use Rattle.est_checks.proofs.Uniqueness.{all_there}
 use Rattle.est_link.proofs.Distinct.{kept_name}
 use Rattle.est_modules.proofs.Standing.{first_none, found_place}
 use Rattle.est_link.proofs.Taking.{no_main}
-use Rattle.est_modules.proofs.Testing.{some_same, map_none, or_none_parts}
+use Rattle.est_modules.proofs.Testing.{some_same, or_none_parts}
 use Rattle.est_relations.specs.declared.relations.TheConstants.{MOST_RELATIONS}
 
--- where nothing is found, this check has no fault, and the next finds nothing
-pub else_none : (o : Option LinkFault) (next : Option LinkFault → Type 0) → Else o next None → (o ≡ None) × next None
-else_none None next h = (refl, h)
-else_none (Some fault) next h = absurd (none-some fault h)
-
 -- ---- names
-
-four_none : (a b c d : Option LinkFault) → option_or a (option_or b (option_or c d)) ≡ None
-    → (b ≡ None) × (c ≡ None) × (d ≡ None)
-four_none a b c d h =
-    let one = or_none_parts a (option_or b (option_or c d)) h in
-    let two = or_none_parts b (option_or c d) one.1 in
-    let three = or_none_parts c d two.1 in
-    (two.0, three.0, three.1)
 
 -- a check without a fault in all bodies has none in a module that is named
 none_in : (f : Program → Occurrence → Option (List ℕ)) (ps : List Program) → first_in_bodies f ps ≡ None
@@ -108,45 +90,21 @@ sound_main ps main n distinct lawful small p found =
 
 -- ---- all checks
 
-by_limits : (ps : List Program) (main : List ℕ) → first_duplicate ps ≡ None → first_missing ps main ≡ None
-    → (em : List ℕ → List ℕ → Bool) → AreEmissions ps em → fault_behind_order ps main em ≡ None → ByLimits ps main None
-    → IsChecked ps main
-by_limits ps main distinct there em are behind limits =
-    let none = four_none
-    (option_map BadRename (first_in_bodies (bad_renaming_at ps) ps))
-    (option_map UnknownName (first_in_bodies (unknown_at ps) ps))
-    (option_map EmitInput (first_refused ps em))
-    (option_map Semantics (lawless_number (program_named ps main))) behind in
-    let small = map_none TooLarge (limit_passed_by (program_named ps main) (limits.counts main)) (sym limits.is) in
-    record {
-      distinct = distinct;
-      there = there;
-      emitted = em;
-      names = sound_names ps em are (map_none UnknownName (first_in_bodies (unknown_at ps) ps) none.0)
-          (map_none EmitInput (first_refused ps em) none.1);
-      home = sound_main ps main (limits.counts main) distinct
-          (map_none Semantics (lawless_number (program_named ps main)) none.2) small;
-    }
-
-by_names : (ps : List Program) (main : List ℕ) → first_duplicate ps ≡ None → first_missing ps main ≡ None
-    → ByNames ps main None → IsChecked ps main
-by_names ps main distinct there h =
-    let parts = else_none (fault_behind_order ps main h.emitted) (ByLimits ps main) h.is in
-    by_limits ps main distinct there h.emitted h.emissions parts.0 parts.1
-
-by_runs : (ps : List Program) (main : List ℕ) → first_duplicate ps ≡ None → first_missing ps main ≡ None
-    → ByRuns ps main None → IsChecked ps main
-by_runs ps main distinct there h =
-    by_names ps main distinct there (else_none (option_map (recursive_run ps) h.place) (ByNames ps main) h.is).1
-
 -- a library without a fault is sound
 pub is_checked : (ps : List Program) (main : List ℕ) → IsFirstFault ps main None → IsChecked ps main
 is_checked ps main h =
-    let parts = else_none (fault_before_order ps main) (ByRuns ps main) h in
-    let none = or_none_parts (option_map DuplicateName (first_duplicate ps))
-    (option_map UnknownModule (first_missing ps main)) parts.0 in
-    by_runs ps main (map_none DuplicateName (first_duplicate ps) none.0)
-    (map_none UnknownModule (first_missing ps main) none.1) parts.1
+    let from_order = (all_pass ps main h).1.1 in
+    let from_emissions = from_order.1.1.1 in
+    let refused = from_emissions.0 in
+    let limit = from_emissions.1.1.0 in
+    let distinct = (all_pass ps main h).0 in
+    record {
+      distinct = distinct;
+      there = all_there ps main h;
+      emitted = refused.emitted;
+      names = sound_names ps refused.emitted refused.emissions from_order.1.1.0 refused.is;
+      home = sound_main ps main (limit.counts main) distinct from_emissions.1.0 limit.is;
+    }
 
 -- the main module of such a library is there
 pub main_stands : (ps : List Program) (main : List ℕ) → IsFirstFault ps main None → program_named ps main ≡ None → ⊥

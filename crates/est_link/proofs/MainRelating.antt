@@ -9,7 +9,8 @@ use Rattle.est_kernel.specs.Interfaces.{can_be_offered, offerable, is_named}
 use Rattle.est_kernel.specs.declared.interface.Declaration.{Declaration}
 use Rattle.est_checks.specs.Duplicates.{redeclared}
 use Rattle.est_modules.specs.Visible.{stands_in}
-use Rattle.est_link.specs.MainModule.{AreRelations, IsRelation, declaration_of, declarations_of, kernel_kind, place_of}
+use Rattle.est_link.specs.MainModule.{AreRelations, IsRelation, declaration_of, declarations_of, kernel_kind}
+use Rattle.est_link.specs.MainModule.{member_place}
 use Rattle.est_modules.specs.Modules.{is_offerable}
 use Rattle.est_checks.specs.LawlessRelations.{is_past_offers, is_lawless, first_lawless}
 use Rattle.est_modules.specs.Modules.{Program, is_offered_kind}
@@ -107,7 +108,7 @@ named_same (d ∷ ds) n = ap (λ b. bytes_eq d.name n || b) (named_same ds n)
 -- the place of the name of a signal that may be offered is that of such a one
 offer_at_place : (seen : List (List ℕ)) (ds : List Declared) (n : List ℕ)
     → redeclared seen (map (λ (d : Declared). d.name) ds) ≡ None → has_offer ds n ≡ true
-    → offerable (map declaration_of ds) (place_of (map declaration_of ds) n) ≡ true
+    → offerable (map declaration_of ds) (member_place (map declaration_of ds) n) ≡ true
 offer_at_place seen [] n h is = absurd (false≢true is)
 offer_at_place seen (d ∷ ds) n h is =
     let parts = kept_name (is_tick d.name || stands_in seen d.name) d.name
@@ -128,7 +129,7 @@ offer_at_place seen (d ∷ ds) n h is =
 
 members_within : (ds : List Declared) (ns : List (List ℕ)) → redeclared [] (map (λ (d : Declared). d.name) ds)
     ≡ None → is_past_offers ds ns ≡ false
-    → list_all (offerable (map declaration_of ds)) (map (place_of (map declaration_of ds)) ns) ≡ true
+    → list_all (offerable (map declaration_of ds)) (map (member_place (map declaration_of ds)) ns) ≡ true
 members_within ds [] distinct h = refl
 members_within ds (n ∷ ns) distinct h =
     let parts = or_parts (not (is_offerable ds n)) (is_past_offers ds ns) h in

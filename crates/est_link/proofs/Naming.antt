@@ -16,7 +16,7 @@ use Rattle.est_checks.specs.Emissions.{emits_in_run}
 use Rattle.est_modules.specs.Renamings.{renamed, callers_name, is_renamed}
 use Rattle.est_modules.specs.Modules.{is_input}
 use Rattle.est_link.specs.Linking as linking
-use Rattle.est_link.specs.Linking.{signal_at, locals_round, trap_at, of_interface, of_list, emitted, interface_bound}
+use Rattle.est_link.specs.Linking.{signal_at, locals_around, trap_at, of_interface, of_list, emitted, interface_bound}
 use Rattle.est_modules.specs.Modules.{Program, program_named, is_declared, is_input_kind}
 use Rattle.est_modules.specs.Occurrences.{Binder, signals, a_trap, runs, Occurrence}
 use Rattle.est_modules.specs.Visible.{is_local, is_trap, is_visible, is_among}
@@ -45,35 +45,35 @@ of_list_asked n l k (Some i) q h a = omega (arith, h i refl)
 
 -- each name means something that may be asked
 pub asked_at : (p : Program) (bs : List Binder) (s : List ℕ)
-    → MayAsk (length p.interface) (locals_round bs) (signal_at p bs s)
+    → MayAsk (length p.interface) (locals_around bs) (signal_at p bs s)
 asked_at p [] s = of_interface_asked (length p.interface) (position (λ (d : Declared). bytes_eq d.name s) p.interface)
     (λ i e. (position-Some (λ (d : Declared). bytes_eq d.name s) p.interface i nobody e).0)
-asked_at p (signals ns ∷ bs) s = of_list_asked (length p.interface) (locals_round bs) (length (ns.first ∷ ns.later))
+asked_at p (signals ns ∷ bs) s = of_list_asked (length p.interface) (locals_around bs) (length (ns.first ∷ ns.later))
     (position (λ n. bytes_eq n s) (ns.first ∷ ns.later)) (signal_at p bs s)
     (λ i e. (position-Some (λ n. bytes_eq n s) (ns.first ∷ ns.later) i [] e).0) (asked_at p bs s)
 asked_at p (a_trap t ∷ bs) s = asked_at p bs s
 
 -- each test asks what may be asked
 pub test_at : (p : Program) (bs : List Binder) (t : TestTree)
-    → MayAsk (length p.interface) (locals_round bs) (linking.asked_at p bs t)
-test_at p bs t = test_each (IsThere (length p.interface) (locals_round bs)) (signal_at p bs) (asked_at p bs) t
+    → MayAsk (length p.interface) (locals_around bs) (linking.asked_at p bs t)
+test_at p bs t = test_each (IsThere (length p.interface) (locals_around bs)) (signal_at p bs) (asked_at p bs) t
 
 -- ---- traps
 
--- how many traps lie round a place
-abbrev pub traps_round : List Binder → ℕ
-traps_round [] = 0
-traps_round (signals ns ∷ bs) = traps_round bs
-traps_round (a_trap t ∷ bs) = traps_round bs + 1
+-- how many traps lie around a place
+abbrev pub traps_around : List Binder → ℕ
+traps_around [] = 0
+traps_around (signals ns ∷ bs) = traps_around bs
+traps_around (a_trap t ∷ bs) = traps_around bs + 1
 
 here_or_out : (b c : Bool) (k t : ℕ) → (c ≡ true → k < t) → (b || c) ≡ true → (if b then 0 else k + 1) < t + 1
 here_or_out true c k t rest h = omega arith
 here_or_out false c k t rest h = omega (arith, rest h)
 
-pub trap_within : (bs : List Binder) (t : List ℕ) → is_trap bs t ≡ true → trap_at bs t < traps_round bs
+pub trap_within : (bs : List Binder) (t : List ℕ) → is_trap bs t ≡ true → trap_at bs t < traps_around bs
 trap_within [] t h = absurd (false≢true h)
 trap_within (signals ns ∷ bs) t h = trap_within bs t h
-trap_within (a_trap u ∷ bs) t h = here_or_out (bytes_eq u t) (is_trap bs t) (trap_at bs t) (traps_round bs)
+trap_within (a_trap u ∷ bs) t h = here_or_out (bytes_eq u t) (is_trap bs t) (trap_at bs t) (traps_around bs)
     (trap_within bs t) h
 
 -- ---- what is emitted
@@ -86,10 +86,10 @@ list_sent n may l k (Some i) q b c within none rest h = omega (arith, within i r
 
 -- a local signal
 pub local_sent : (may : ℕ → Type 0) (p : Program) (bs : List Binder) (s : List ℕ) → is_local bs s ≡ true
-    → MayEmit (length p.interface) may (locals_round bs) (emitted (signal_at p bs s))
+    → MayEmit (length p.interface) may (locals_around bs) (emitted (signal_at p bs s))
 local_sent may p [] s h = absurd (false≢true h)
 local_sent may p (signals ns ∷ bs) s h =
-    list_sent (length p.interface) may (locals_round bs) (length (ns.first ∷ ns.later))
+    list_sent (length p.interface) may (locals_around bs) (length (ns.first ∷ ns.later))
     (position (λ n. bytes_eq n s) (ns.first ∷ ns.later)) (signal_at p bs s) (is_among ns s) (is_local bs s)
     (λ i e. (position-Some (λ n. bytes_eq n s) (ns.first ∷ ns.later) i [] e).0)
     (λ e. no_place (λ n. bytes_eq n s) (ns.first ∷ ns.later) e)
@@ -103,7 +103,7 @@ pub global_at : (p : Program) (bs : List Binder) (s : List ℕ) → is_local bs 
 global_at p [] s h = refl
 global_at p (signals ns ∷ bs) s h =
     let parts = or_parts (is_among ns s) (is_local bs s) h in
-    ap (λ o. of_list o (locals_round bs) (signal_at p bs s))
+    ap (λ o. of_list o (locals_around bs) (signal_at p bs s))
     (none_has_place (λ n. bytes_eq n s) (ns.first ∷ ns.later) parts.0) ∙ global_at p bs s parts.1
 global_at p (a_trap t ∷ bs) s h = global_at p bs s h
 
@@ -132,27 +132,27 @@ place_sent em p s (Some i) at_i declared inputs sent l = (
 
 global_sent : (em : List ℕ → List ℕ → Bool) (p : Program) (bs : List Binder) (s : List ℕ) → is_local bs s ≡ false
     → is_visible p bs s ≡ true → is_refused p bs s ≡ false → em p.name s ≡ true
-    → MayEmit (length p.interface) (IsSent em p) (locals_round bs) (emitted (signal_at p bs s))
+    → MayEmit (length p.interface) (IsSent em p) (locals_around bs) (emitted (signal_at p bs s))
 global_sent em p bs s h visible accepted sent =
     let parts = no_input p bs s h accepted in
     let known : (is_declared p.interface s || bytes_eq s (codes "tick")) ≡ true =
     or_other (is_local bs s) _ h visible in
     let declared : is_declared p.interface s ≡ true = or_first (is_declared p.interface s)
     (bytes_eq s (codes "tick")) parts.1 known in
-    subst (λ q. MayEmit (length p.interface) (IsSent em p) (locals_round bs) (emitted q)) (sym (global_at p bs s h))
+    subst (λ q. MayEmit (length p.interface) (IsSent em p) (locals_around bs) (emitted q)) (sym (global_at p bs s h))
     (place_sent em p s (position (λ (d : Declared). bytes_eq d.name s) p.interface) refl declared parts.0 sent
-    (locals_round bs))
+    (locals_around bs))
 
 by_place : (em : List ℕ → List ℕ → Bool) (p : Program) (bs : List Binder) (s : List ℕ) (b : Bool) → is_local bs s ≡ b
     → is_visible p bs s ≡ true → is_refused p bs s ≡ false → (is_local bs s ≡ false → em p.name s ≡ true)
-    → MayEmit (length p.interface) (IsSent em p) (locals_round bs) (emitted (signal_at p bs s))
+    → MayEmit (length p.interface) (IsSent em p) (locals_around bs) (emitted (signal_at p bs s))
 by_place em p bs s true h visible accepted sent = local_sent (IsSent em p) p bs s h
 by_place em p bs s false h visible accepted sent = global_sent em p bs s h visible accepted (sent h)
 
 -- a name that is visible and accepted may be emitted
 pub sent_at : (em : List ℕ → List ℕ → Bool) (p : Program) (bs : List Binder) (s : List ℕ) → is_visible p bs s ≡ true
     → is_refused p bs s ≡ false → (is_local bs s ≡ false → em p.name s ≡ true)
-    → MayEmit (length p.interface) (IsSent em p) (locals_round bs) (emitted (signal_at p bs s))
+    → MayEmit (length p.interface) (IsSent em p) (locals_around bs) (emitted (signal_at p bs s))
 sent_at em p bs s = by_place em p bs s (is_local bs s) refl
 
 -- ---- what a run binds
@@ -177,15 +177,15 @@ renamed_accepted em p bs rs m s h sent = and_other (em m s) (is_refused p bs (re
 
 -- what is known of an occurrence without faults
 pub record IsFine (ps : List Program) (em : List ℕ → List ℕ → Bool) (p : Program) (o : Occurrence) : Type 0 where
-  pub known : unknown_act ps p o.round o.act ≡ None
-  pub accepted : refused_act ps em p o.round o.act ≡ None
-  pub sent : (s : List ℕ) → is_local o.round s ≡ false → emits_by ps em s o.act ≡ true → em p.name s ≡ true
+  pub known : unknown_act ps p o.around o.act ≡ None
+  pub accepted : refused_act ps em p o.around o.act ≡ None
+  pub sent : (s : List ℕ) → is_local o.around s ≡ false → emits_by ps em s o.act ≡ true → em p.name s ≡ true
 
 run_sent : (ps : List Program) (em : List ℕ → List ℕ → Bool) (p : Program) (bs : List Binder) (m : List ℕ)
     (rs : List RenamingTree) (q : Program) → program_named ps m ≡ Some q
-    → IsFine ps em p (record { act = runs m rs; round = bs }) → (i : ℕ) (d : Declared)
+    → IsFine ps em p (record { act = runs m rs; around = bs }) → (i : ℕ) (d : Declared)
     → slice_get q.interface i ≡ Some d → em q.name d.name ≡ true
-    → MayEmit (length p.interface) (IsSent em p) (locals_round bs) (emitted (signal_at p bs (renamed rs d.name)))
+    → MayEmit (length p.interface) (IsSent em p) (locals_around bs) (emitted (signal_at p bs (renamed rs d.name)))
 run_sent ps em p bs m rs q found fine i d there sent =
     let same : q.name ≡ m = same_bytes q.name m (found_passes (λ (p : Program). bytes_eq p.name m) ps q found) in
     let known = or_none_parts (unknown_renaming p bs rs) _ (sym (ap (unknown_in_run p bs rs) found) ∙ fine.known) in
@@ -211,16 +211,16 @@ bound_at p bs rs ds i lt = get_or-map (λ (d : Declared). signal_at p bs (rename
 -- what the interface of the module that is run stands for
 pub run_bindings : (ps : List Program) (em : List ℕ → List ℕ → Bool) (p : Program) (bs : List Binder) (m : List ℕ)
     (rs : List RenamingTree) (q : Program) → program_named ps m ≡ Some q
-    → IsFine ps em p (record { act = runs m rs; round = bs })
-    → AreBindings (length q.interface) (IsSent em q) (length p.interface) (IsSent em p) (locals_round bs)
+    → IsFine ps em p (record { act = runs m rs; around = bs })
+    → AreBindings (length q.interface) (IsSent em q) (length p.interface) (IsSent em p) (locals_around bs)
     (interface_bound p bs rs q.interface)
 run_bindings ps em p bs m rs q found fine =
     record {
-      asked = λ i lt. subst (MayAsk (length p.interface) (locals_round bs)) (sym (bound_at p bs rs q.interface i lt))
+      asked = λ i lt. subst (MayAsk (length p.interface) (locals_around bs)) (sym (bound_at p bs rs q.interface i lt))
           (asked_at p bs (renamed rs (get_or q.interface i nobody).name));
       sent = λ i lt may.
           let there = slice_get-get_or q.interface i nobody lt in
-          subst (λ x. MayEmit (length p.interface) (IsSent em p) (locals_round bs) (emitted x))
+          subst (λ x. MayEmit (length p.interface) (IsSent em p) (locals_around bs) (emitted x))
           (sym (bound_at p bs rs q.interface i lt))
           (run_sent ps em p bs m rs q found fine i (get_or q.interface i nobody) there
           (may (get_or q.interface i nobody) there).0);

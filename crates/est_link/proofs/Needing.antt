@@ -1,6 +1,6 @@
 -- The modules that main runs, in an order.
 use Rattle.std.proofs.Common.{◌≡◌, ℕ, ◌+◌, ◌<◌, inl, inr, List, [], ◌∷◌, ◌++◌, length, take, get_or, slice_index}
-use Rattle.std.proofs.Common.{slice_index_or, true, false, if◌then◌else◌, Some, None, Contains, refl, ap, sym, ◌∙◌}
+use Rattle.std.proofs.Common.{slice_index_or, true, false, Some, None, Contains, refl, ap, sym, ◌∙◌}
 use Rattle.std.proofs.Common.{subst, arith}
 use Rattle.std.proofs.lemmas.Bool.{cases_lt}
 use Rattle.std.proofs.lemmas.Option.{slice_get_within, slice_get-get_or, get_or_from_slice_get}
@@ -8,18 +8,14 @@ use Rattle.std.proofs.lemmas.List.{get_or-map, length-append, get_or_append_left
 use Rattle.std.proofs.Math.ListN.{get_or-eq_default}
 use Rattle.std.proofs.Math.Seq.{get_or-append_seam, take-append_seam}
 use Rattle.std.proofs.lemmas.List.Elements.{Contains-append_left, Contains-append_right, Contains-append_cases}
-use Rattle.std.proofs.lemmas.List.Elements.{Contains-push}
 use Rattle.std.proofs.lemmas.List.Folds.{list_any-append}
 use Rattle.std.specs.List.{slice_get}
 use Rattle.std.specs.Str.{bytes_eq}
-use Rattle.est_link.specs.Bodies.{AllRuns, AreBottomUp, is_listed}
-use Rattle.est_modules.specs.Derived.{Derived, missing, nothing, pause, halt, emit, sustain, exit, await, present}
-use Rattle.est_modules.specs.Derived.{suspend, abort, weak_abort, repeat, repeat_each, every, trap, signal, run, seq}
-use Rattle.est_modules.specs.Derived.{par}
 use Rattle.est_checks.specs.Duplicates.{first_duplicate}
-use Rattle.est_link.specs.Inner.Needs.{IsClosed, IsClosedFrom, HasFront}
+use Rattle.est_checks.specs.RecursiveRuns.{HasRun}
+use Rattle.est_link.specs.Inner.Needs.{AreBottomUp, IsClosed, IsClosedFrom, HasFront, is_listed}
 use Rattle.est_modules.specs.Modules.{Program, program_named, first_in_bodies}
-use Rattle.est_modules.specs.Occurrences.{Binder, signals, a_trap, runs, Occurrence, occurrences, first_of, tested}
+use Rattle.est_modules.specs.Occurrences.{runs, Occurrence, occurrences, first_of}
 use Rattle.est_modules.specs.ModuleOrders.{IsOrderOf, run_rows, places_run}
 use Rattle.est_checks.specs.MissingModules.{missing_at}
 use Rattle.est_modules.proofs.Ordering.{IsRunOf, run_is_run}
@@ -29,49 +25,6 @@ use Rattle.est_modules.proofs.OrderPlaces.{each_stands, places_are_there}
 use Rattle.est_modules.proofs.Standing.{first_none, found_place}
 use Rattle.est_checks.proofs.OneName.{first_of_name}
 use Rattle.est_checks.proofs.RunsThere.{run_is_there}
-
--- ---- what a statement runs stands among its occurrences
-
-pub runs_among : (P : List ℕ → Type 0) (bs : List Binder) (d : Derived)
-    → ((o : Occurrence) → Contains (occurrences bs d) o → (m : List ℕ) → IsRunOf o.act m → P m) → AllRuns P d
-runs_among P bs missing h = tt
-runs_among P bs nothing h = tt
-runs_among P bs pause h = tt
-runs_among P bs halt h = tt
-runs_among P bs (emit s) h = tt
-runs_among P bs (sustain s) h = tt
-runs_among P bs (exit t) h = tt
-runs_among P bs (await d) h = tt
-runs_among P bs (present s p q) h = (
-  runs_among P bs p
-      (λ o x. h o
-      (Contains-append_right (tested bs s) (occurrences bs p ++ occurrences bs q) o
-      (Contains-append_left (occurrences bs p) (occurrences bs q) o x))),
-  runs_among P bs q
-      (λ o x. h o
-      (Contains-append_right (tested bs s) (occurrences bs p ++ occurrences bs q) o
-      (Contains-append_right (occurrences bs p) (occurrences bs q) o x))),
-)
-runs_among P bs (suspend p d) h = runs_among P bs p (λ o x. h o (Contains-append_left (occurrences bs p) _ o x))
-runs_among P bs (abort p d) h = runs_among P bs p (λ o x. h o (Contains-append_left (occurrences bs p) _ o x))
-runs_among P bs (weak_abort p d) h = runs_among P bs p (λ o x. h o (Contains-append_left (occurrences bs p) _ o x))
-runs_among P bs (repeat p) h = runs_among P bs p h
-runs_among P bs (repeat_each p s) h = runs_among P bs p (λ o x. h o (Contains-append_left (occurrences bs p) _ o x))
-runs_among P bs (every d p) h =
-    runs_among P bs p (λ o x. h o (Contains-append_right (tested bs d.test) (occurrences bs p) o x))
-runs_among P bs (trap t p) h = runs_among P (a_trap t ∷ bs) p h
-runs_among P bs (signal ns p) h = runs_among P (signals ns ∷ bs) p
-    (λ o x. h o (Contains-append_right (_ ∷ []) (occurrences (signals ns ∷ bs) p) o x))
-runs_among P bs (run m rs) h = h (record { act = runs m rs; round = bs })
-    (Contains-push [] (record { act = runs m rs; round = bs })) m refl
-runs_among P bs (seq p q) h = (
-  runs_among P bs p (λ o x. h o (Contains-append_left (occurrences bs p) (occurrences bs q) o x)),
-  runs_among P bs q (λ o x. h o (Contains-append_right (occurrences bs p) (occurrences bs q) o x)),
-)
-runs_among P bs (par p q) h = (
-  runs_among P bs p (λ o x. h o (Contains-append_left (occurrences bs p) (occurrences bs q) o x)),
-  runs_among P bs q (λ o x. h o (Contains-append_right (occurrences bs p) (occurrences bs q) o x)),
-)
 
 -- ---- the set of what main runs
 
@@ -150,30 +103,29 @@ run_listed ps order set names k p up closed there front lt has at o stands m is_
     (sym (same_bytes found.0.name m (found_passes (λ (p : Program). bytes_eq p.name m) ps found.0 found.1)))
     ∙ listed
 
-pub next_ready : (ps : List Program) (order set : List ℕ) (names : List (List ℕ)) (k : ℕ) (p : Program)
-    → IsOrderOf ps order → IsClosed ps set → first_in_bodies (missing_at ps) ps ≡ None → HasFront ps set order k names
-    → k < length order → Contains set (slice_index order k) → slice_get ps (slice_index order k) ≡ Some p
-    → AllRuns (λ n. is_listed names n ≡ true) p.body
-next_ready ps order set names k p up closed there front lt has at =
-    runs_among (λ n. is_listed names n ≡ true) [] p.body
-    (run_listed ps order set names k p up closed there front lt has at)
+next_ready : (ps : List Program) (order set : List ℕ) (names : List (List ℕ)) (k : ℕ) (p : Program) → IsOrderOf ps order
+    → IsClosed ps set → first_in_bodies (missing_at ps) ps ≡ None → HasFront ps set order k names → k < length order
+    → Contains set (slice_index order k) → slice_get ps (slice_index order k) ≡ Some p
+    → program_named ps p.name ≡ Some p → (n : List ℕ) → HasRun ps p.name n → is_listed names n ≡ true
+next_ready ps order set names k p up closed there front lt has at named n run =
+    let home : run.home ≡ p = some_same run.home p (sym run.there ∙ named) in
+    let place : Occurrence = record { act = runs n run.renamings; around = run.around } in
+    run_listed ps order set names k p up closed there front lt has at place
+    (subst (λ (q : Program). Contains (occurrences [] q.body) place) home run.stands) n refl
 
 bottom_up_more : (ps : List Program) (names : List (List ℕ)) (m : List ℕ) → AreBottomUp ps names
-    → ((p : Program) → program_named ps m ≡ Some p → AllRuns (λ n. is_listed names n ≡ true) p.body)
-    → AreBottomUp ps (names ++ m ∷ [])
-bottom_up_more ps names m up ready i lt p found = elim (cases_lt i (length names)) [
+    → ((n : List ℕ) → HasRun ps m n → is_listed names n ≡ true) → AreBottomUp ps (names ++ m ∷ [])
+bottom_up_more ps names m up ready i lt n run = elim (cases_lt i (length names)) [
   | inl before ↦
-      subst (λ ns. AllRuns (λ n. is_listed ns n ≡ true) p.body)
-      (sym (take-append-le i names (m ∷ []) (omega (arith, before))))
-      (up i before p (ap (program_named ps) (sym (get_or_append_left names (m ∷ []) [] i before)) ∙ found))
-  | inr behind ↦
-      let last : i ≡ length names = omega (arith, behind, lt, length-append names (m ∷ [])) in
+      ap (λ ns. is_listed ns n) (take-append-le i names (m ∷ []) (omega (arith, before)))
+      ∙ up i before n (subst (λ k. HasRun ps k n) (get_or_append_left names (m ∷ []) [] i before) run)
+  | inr past ↦
+      let last : i ≡ length names = omega (arith, past, lt, length-append names (m ∷ [])) in
       let name : get_or (names ++ m ∷ []) i [] ≡ m = ap (λ j. get_or (names ++ m ∷ []) j []) last
       ∙ get_or-append_seam names m [] [] in
       let front : take i (names ++ m ∷ []) ≡ names = ap (λ j. take j (names ++ m ∷ [])) last
       ∙ take-append_seam names (m ∷ []) in
-      subst (λ ns. AllRuns (λ n. is_listed ns n ≡ true) p.body) (sym front)
-      (ready p (ap (program_named ps) (sym name) ∙ found))
+      ap (λ ns. is_listed ns n) front ∙ ready n (subst (λ k. HasRun ps k n) name run)
 ]
 
 -- the names with one more
@@ -182,10 +134,9 @@ pub next_name : (ps : List Program) (order set : List ℕ) (names : List (List �
     → AreBottomUp ps names → HasFront ps set order k names → k < length order → Contains set (slice_index order k)
     → slice_get ps (slice_index order k) ≡ Some p → AreBottomUp ps (names ++ p.name ∷ [])
 next_name ps order set names k p up closed distinct there names_up front lt has at =
-    bottom_up_more ps names p.name names_up (λ q found.
-    let same : p ≡ q = some_same p q (sym (first_of_name [] ps distinct (slice_index order k) p at) ∙ found) in
-    subst (λ (r : Program). AllRuns (λ n. is_listed names n ≡ true) r.body) same
-    (next_ready ps order set names k p up closed there front lt has at))
+    let named = first_of_name [] ps distinct (slice_index order k) p at in
+    bottom_up_more ps names p.name names_up
+    (λ n run. next_ready ps order set names k p up closed there front lt has at named n run)
 
 pub next_front : (ps : List Program) (order set : List ℕ) (names : List (List ℕ)) (k : ℕ) (p : Program)
     → HasFront ps set order k names → slice_get ps (slice_index order k) ≡ Some p
@@ -193,8 +144,8 @@ pub next_front : (ps : List Program) (order set : List ℕ) (names : List (List 
 next_front ps order set names k p front at i lt has q here = elim (cases_lt i k) [
   | inl before ↦ list_any-append (λ n. bytes_eq n q.name) names (p.name ∷ [])
       ∙ or_left (is_listed names q.name) _ (front i before has q here)
-  | inr behind ↦
-      let last : k ≡ i = omega (arith, behind, lt) in
+  | inr past ↦
+      let last : k ≡ i = omega (arith, past, lt) in
       let same : p ≡ q = some_same p q (sym at ∙ ap (λ j. slice_get ps (slice_index order j)) last ∙ here) in
       list_any-append (λ n. bytes_eq n q.name) names (p.name ∷ [])
       ∙ or_right (is_listed names q.name) _
@@ -206,7 +157,7 @@ pub front_past : (ps : List Program) (order set : List ℕ) (names : List (List 
     → HasFront ps set order k names → (Contains set (slice_index order k) → ⊥) → HasFront ps set order (k + 1) names
 front_past ps order set names k front absent i lt has q here = elim (cases_lt i k) [
   | inl before ↦ front i before has q here
-  | inr behind ↦
-      let last : i ≡ k = omega (arith, behind, lt) in
+  | inr past ↦
+      let last : i ≡ k = omega (arith, past, lt) in
       absurd (absent (subst (λ j. Contains set (slice_index order j)) last has))
 ]

@@ -1,22 +1,19 @@
 -- Tables of signals by their names.
-use Rattle.std.proofs.Common.{◌≡◌, ℕ, zero, suc, ◌<◌, List, [], ◌∷◌, ◌++◌, length, map, take, get_or, Bool}
-use Rattle.std.proofs.Common.{true, false, cond, ◌||◌, if◌then◌else◌, Option, Some, None, option_map, Bor}
+use Rattle.std.proofs.Common.{◌≡◌, ℕ, suc, ◌<◌, List, [], ◌∷◌, ◌++◌, length, map, take, get_or, Bool}
+use Rattle.std.proofs.Common.{false, cond, if◌then◌else◌, Option, Some, None, option_map, Bor}
 use Rattle.std.proofs.Common.{◌≤◌, ◌+◌, unwrap_or, refl, ap, sym, subst, ◌∙◌, arith}
 use Rattle.std.proofs.lemmas.List.{length-append, length-map, length-take-le}
+use Rattle.std.proofs.Math.Seq.{take-suc}
 use Rattle.std.specs.Cmp.Lexicographic.{nat_list_eq_equiv}
 use Rattle.std.specs.List.{list_any, position}
 use Rattle.std.specs.Str.{bytes_eq}
 use Rattle.std.specs.Map.{keys_of, values_of}
 use Rattle.indexmap.specs.IndexMap.{insert_entry}
-use Rattle.est_kernel.specs.Interfaces.{is_named}
+use Rattle.est_kernel.specs.Interfaces.{is_named, IsInterface}
 use Rattle.est_kernel.specs.declared.interface.Declaration.{Declaration}
-use Rattle.est_kernel.specs.declared.interface.TheConstants.{MOST_SIGNALS}
-use Rattle.est_checks.proofs.Declaring.{more}
-use Rattle.est_checks.specs.Duplicates.{redeclared}
-use Rattle.est_link.proofs.Distinct.{new_signal}
+use Rattle.est_reduce.proofs.Interfaces.{new_before}
 use Rattle.est_link.specs.Inner.SignalTables.{HasNamesAsKeys, IsTableOfSignals}
-use Rattle.est_link.specs.MainModule.{declaration_of, place_of}
-use Rattle.est_modules.specs.declared.head.Declared.{Declared}
+use Rattle.est_link.specs.MainModule.{member_place}
 use Rattle.est_modules.proofs.Positions.{position_cons}
 use Rattle.est_modules.proofs.Testing.{or_parts}
 
@@ -70,7 +67,7 @@ same_places (e ∷ es) n named =
 
 -- the place that a table tells
 pub place_told : (es : List Entry) (n : List ℕ) (o : Option ℕ) → HasNamesAsKeys es
-    → o ≡ position (λ (k : Bor (List ℕ)). bytes_eq n k.now) (keys_of es) → unwrap_or o 0 ≡ place_of (values_of es) n
+    → o ≡ position (λ (k : Bor (List ℕ)). bytes_eq n k.now) (keys_of es) → unwrap_or o 0 ≡ member_place (values_of es) n
 place_told es n o named is = ap (λ (p : Option ℕ). unwrap_or p 0) (is ∙ same_places es n named)
 
 -- a table without signals
@@ -91,28 +88,28 @@ values_pushed : (es : List Entry) (e : Entry) → values_of (es ++ e ∷ []) ≡
 values_pushed [] e = refl
 values_pushed (x ∷ es) e = ap (λ ds. x.1 ∷ ds) (values_pushed es e)
 
--- a table with one more of the signals that a module declares
-pub one_more : (ds : List Declared) (i : ℕ) (d : Declared) (es new : List Entry) (k : Bor (List ℕ))
-    → redeclared [] (map (λ (d : Declared). d.name) ds) ≡ None → length ds ≤ MOST_SIGNALS → i < length ds
-    → d ≡ get_or ds i d → values_of es ≡ map declaration_of (take i ds) → IsTableOfSignals es → k.now ≡ d.name
-    → new ≡ insert_entry same_key es k (declaration_of d)
-    → (values_of new ≡ map declaration_of (take (i + 1) ds)) × IsTableOfSignals new
-one_more ds i d es new k distinct room within at_i values table same added =
-    let x = declaration_of d in
+-- a table with one more of the signals of an interface
+pub one_more : (ds : List Declaration) (i : ℕ) (d : Declaration) (es new : List Entry) (k : Bor (List ℕ))
+    → IsInterface ds → i < length ds → d ≡ get_or ds i d → values_of es ≡ take i ds → IsTableOfSignals es
+    → k.now ≡ d.name → new ≡ insert_entry same_key es k d
+    → (values_of new ≡ take (i + 1) ds) × IsTableOfSignals new
+one_more ds i d es new k interface within at_i values table same added =
+    let named : k.now ≡ (get_or ds i d).name = same ∙ ap (λ (x : Declaration). x.name) at_i in
     let unseen : list_any (is_named k.now) (values_of es) ≡ false =
-    ap (λ (n : List ℕ). list_any (is_named n) (values_of es)) same ∙ ap (list_any (is_named d.name)) values
-    ∙ new_signal ds i d distinct within at_i in
-    let last : new ≡ es ++ (k, x) ∷ [] = added ∙ added_last es k x table.named unseen in
-    let shown : values_of new ≡ map declaration_of (take (i + 1) ds) =
-    ap (λ (xs : List Entry). values_of xs) last ∙ values_pushed es (k, x)
-    ∙ ap (λ (ys : List Declaration). ys ++ x ∷ []) values
-    ∙ ap (λ (y : Declared). map declaration_of (take i ds) ++ declaration_of y ∷ []) at_i
-    ∙ more declaration_of ds i (i + 1) d within (omega arith) in
+    ap (λ (n : List ℕ). list_any (is_named n) (values_of es)) named
+    ∙ ap (list_any (is_named (get_or ds i d).name)) values ∙ new_before ds i d interface.1 within in
+    let last : new ≡ es ++ (k, d) ∷ [] = added ∙ added_last es k d table.named unseen in
+    let next : suc i ≡ i + 1 = omega arith in
+    let shown : values_of new ≡ take (i + 1) ds =
+    ap (λ (xs : List Entry). values_of xs) last ∙ values_pushed es (k, d)
+    ∙ ap (λ (ys : List Declaration). ys ++ d ∷ []) values
+    ∙ ap (λ (x : Declaration). take i ds ++ x ∷ []) at_i
+    ∙ sym (take-suc ds i d within) ∙ ap (λ n. take n ds) next in
     let count : length es ≡ i = sym (length-map es (λ (e : Entry). e.1)) ∙ ap length values
-    ∙ length-map (take i ds) declaration_of ∙ length-take-le i ds (omega (arith, within)) in (
+    ∙ length-take-le i ds (omega (arith, within)) in (
       shown,
       record {
-        named = subst HasNamesAsKeys (sym last) (names_pushed es k x table.named same);
-        bound = omega (arith, ap length last ∙ length-append es ((k, x) ∷ []), count, within, room);
+        named = subst HasNamesAsKeys (sym last) (names_pushed es k d table.named same);
+        bound = omega (arith, ap length last ∙ length-append es ((k, d) ∷ []), count, within, interface.0);
       },
     )

@@ -6,8 +6,7 @@ use Rattle.std.proofs.lemmas.List.Quantifiers.{position-Some}
 use Rattle.std.proofs.lemmas.List.{length-map}
 use Rattle.std.specs.List.{find, list_any, position, slice_get}
 use Rattle.std.specs.Str.{bytes_eq}
-use Rattle.est_link.specs.Bodies.{is_listed}
-use Rattle.est_link.specs.Inner.Needs.{HasFront}
+use Rattle.est_link.specs.Inner.Needs.{HasFront, is_listed}
 use Rattle.est_link.specs.Inner.Tables.{bodies_of, body_found, has_body}
 use Rattle.est_modules.specs.Modules.{Program, program_named}
 use Rattle.est_modules.specs.ModuleOrders.{IsOrderOf, run_rows, places_run, place_named}

@@ -1,3 +1,4 @@
+pub mod AllRuns
 pub mod Binds
 pub mod Checked
 pub mod Joins

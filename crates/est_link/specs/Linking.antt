@@ -5,6 +5,7 @@ use Rattle.std.specs.Prelude.{◌≡◌, ℕ, ◌+◌, List, [], ◌∷◌, leng
 use Rattle.std.specs.List.{position}
 use Rattle.std.specs.Str.{bytes_eq}
 use Rattle.est_syntax.specs.Tree.{RenamingTree, TestTree}
+use Rattle.est_checks.specs.RecursiveRuns.{HasRun}
 use Rattle.est_link.specs.Asking.{test_asked}
 use Rattle.est_kernel.specs.Term.{Name, outer, inner, Query, tick, of, negated, joined, Queries, last, more}
 use Rattle.est_modules.specs.Derived as derived
@@ -18,18 +19,19 @@ use Rattle.est_reduce.specs.Bodies.{weak_abort, repeat, repeat_each, every, trap
 
 -- ---- what names mean at a place
 
--- how many local signals lie round a place
-abbrev pub locals_round : List Binder → ℕ
-locals_round [] = 0
-locals_round (signals ns ∷ bs) = locals_round bs + length (ns.first ∷ ns.later)
-locals_round (a_trap t ∷ bs) = locals_round bs
+-- how many local signals lie around a place
+abbrev pub locals_around : List Binder → ℕ
+locals_around [] = 0
+locals_around (signals ns ∷ bs) = locals_around bs + length (ns.first ∷ ns.later)
+locals_around (a_trap t ∷ bs) = locals_around bs
 
 -- the interface signal at a place of the interface; a name that has none means `tick`
 abbrev pub of_interface : Option ℕ → Query
 of_interface None = tick
 of_interface (Some i) = of (outer i)
 
--- the local signal at a place of a list round which l others lie; a name that has none means what it does further out
+-- the local signal at a place of a list around which l others lie; a name that has none means what it does further
+-- out
 abbrev pub of_list : Option ℕ → ℕ → Query → Query
 of_list None l further = further
 of_list (Some i) l further = of (inner (l + i))
@@ -38,7 +40,7 @@ of_list (Some i) l further = of (inner (l + i))
 abbrev pub signal_at : Program → List Binder → List ℕ → Query
 signal_at p [] s = of_interface (position (λ (d : Declared). bytes_eq d.name s) p.interface)
 signal_at p (signals ns ∷ bs) s =
-    of_list (position (λ n. bytes_eq n s) (ns.first ∷ ns.later)) (locals_round bs) (signal_at p bs s)
+    of_list (position (λ n. bytes_eq n s) (ns.first ∷ ns.later)) (locals_around bs) (signal_at p bs s)
 signal_at p (a_trap t ∷ bs) s = signal_at p bs s
 
 -- how many traps lie between an exit and the innermost trap of its name
@@ -47,51 +49,52 @@ trap_at [] t = 0
 trap_at (signals ns ∷ bs) t = trap_at bs t
 trap_at (a_trap u ∷ bs) t = if bytes_eq u t then 0 else trap_at bs t + 1
 
--- ---- a module's body, with its interface names bound
+-- ---- a module's body where it is run
 
 -- the signal that an emission means; `tick` is never emitted, and a name asks for no more than a signal
 abbrev pub emitted : Query → Name
 emitted (of n) = n
 emitted _ = outer 0
 
--- what a signal becomes where the interface signals stand for those of a list, inside l local signals
-abbrev pub bound_name : List Query → ℕ → Name → Query
-bound_name qs l (outer i) = get_or qs i tick
-bound_name qs l (inner k) = of (inner (l + k))
+-- what a signal of a module becomes in a run of it, where its interface signals stand for those of a list, inside l
+-- local signals
+abbrev pub signal_in_run : List Query → ℕ → Name → Query
+signal_in_run qs l (outer i) = get_or qs i tick
+signal_in_run qs l (inner k) = of (inner (l + k))
 
 abbrev mutual
-  -- what is asked, so bound: each name of it
-  pub bound_query : List Query → ℕ → Query → Query
-  bound_query qs l tick = tick
-  bound_query qs l (of n) = bound_name qs l n
-  bound_query qs l (negated t) = negated (bound_query qs l t)
-  bound_query qs l (joined c t ts) = joined c (bound_query qs l t) (bound_queries qs l ts)
+  -- what a test of it asks there: each name so
+  pub query_in_run : List Query → ℕ → Query → Query
+  query_in_run qs l tick = tick
+  query_in_run qs l (of n) = signal_in_run qs l n
+  query_in_run qs l (negated t) = negated (query_in_run qs l t)
+  query_in_run qs l (joined c t ts) = joined c (query_in_run qs l t) (queries_in_run qs l ts)
 
   -- the same of one test or more
-  pub bound_queries : List Query → ℕ → Queries → Queries
-  bound_queries qs l (last t) = last (bound_query qs l t)
-  bound_queries qs l (more t ts) = more (bound_query qs l t) (bound_queries qs l ts)
+  pub queries_in_run : List Query → ℕ → Queries → Queries
+  queries_in_run qs l (last t) = last (query_in_run qs l t)
+  queries_in_run qs l (more t ts) = more (query_in_run qs l t) (queries_in_run qs l ts)
 
--- a statement, so bound
-abbrev pub bound : List Query → ℕ → Body → Body
-bound qs l nothing = nothing
-bound qs l pause = pause
-bound qs l halt = halt
-bound qs l (emit n) = emit (emitted (bound_name qs l n))
-bound qs l (sustain n) = sustain (emitted (bound_name qs l n))
-bound qs l (exit k) = exit k
-bound qs l (await now s) = await now (bound_query qs l s)
-bound qs l (present s p q) = present (bound_query qs l s) (bound qs l p) (bound qs l q)
-bound qs l (suspend now s p) = suspend now (bound_query qs l s) (bound qs l p)
-bound qs l (abort now s p) = abort now (bound_query qs l s) (bound qs l p)
-bound qs l (weak_abort now s p) = weak_abort now (bound_query qs l s) (bound qs l p)
-bound qs l (repeat p) = repeat (bound qs l p)
-bound qs l (repeat_each s p) = repeat_each (bound_query qs l s) (bound qs l p)
-bound qs l (every now s p) = every now (bound_query qs l s) (bound qs l p)
-bound qs l (trap p) = trap (bound qs l p)
-bound qs l (signal n p) = signal n (bound qs l p)
-bound qs l (seq p q) = seq (bound qs l p) (bound qs l q)
-bound qs l (par p q) = par (bound qs l p) (bound qs l q)
+-- what a statement of it becomes there
+abbrev pub body_in_run : List Query → ℕ → Body → Body
+body_in_run qs l nothing = nothing
+body_in_run qs l pause = pause
+body_in_run qs l halt = halt
+body_in_run qs l (emit n) = emit (emitted (signal_in_run qs l n))
+body_in_run qs l (sustain n) = sustain (emitted (signal_in_run qs l n))
+body_in_run qs l (exit k) = exit k
+body_in_run qs l (await now s) = await now (query_in_run qs l s)
+body_in_run qs l (present s p q) = present (query_in_run qs l s) (body_in_run qs l p) (body_in_run qs l q)
+body_in_run qs l (suspend now s p) = suspend now (query_in_run qs l s) (body_in_run qs l p)
+body_in_run qs l (abort now s p) = abort now (query_in_run qs l s) (body_in_run qs l p)
+body_in_run qs l (weak_abort now s p) = weak_abort now (query_in_run qs l s) (body_in_run qs l p)
+body_in_run qs l (repeat p) = repeat (body_in_run qs l p)
+body_in_run qs l (repeat_each s p) = repeat_each (query_in_run qs l s) (body_in_run qs l p)
+body_in_run qs l (every now s p) = every now (query_in_run qs l s) (body_in_run qs l p)
+body_in_run qs l (trap p) = trap (body_in_run qs l p)
+body_in_run qs l (signal n p) = signal n (body_in_run qs l p)
+body_in_run qs l (seq p q) = seq (body_in_run qs l p) (body_in_run qs l q)
+body_in_run qs l (par p q) = par (body_in_run qs l p) (body_in_run qs l q)
 
 -- what the signals of an interface stand for where their module is run in p, inside binders
 abbrev pub interface_bound : Program → List Binder → List RenamingTree → List Declared → List Query
@@ -133,11 +136,12 @@ linked ps bodies p bs (derived.trap t q) = trap (linked ps bodies p (a_trap t �
 linked ps bodies p bs (derived.signal ns q) =
     signal (length (ns.first ∷ ns.later)) (linked ps bodies p (signals ns ∷ bs) q)
 linked ps bodies p bs (derived.run m rs) =
-    bound (interface_bound p bs rs (interface_run (program_named ps m))) (locals_round bs) (bodies m)
+    body_in_run (interface_bound p bs rs (interface_run (program_named ps m))) (locals_around bs) (bodies m)
 linked ps bodies p bs (derived.seq q r) = seq (linked ps bodies p bs q) (linked ps bodies p bs r)
 linked ps bodies p bs (derived.par q r) = par (linked ps bodies p bs q) (linked ps bodies p bs r)
 
--- the module m has the flat body that its text and the flat bodies of the modules that it runs give
-abbrev pub IsLinking : List Program → (List ℕ → Body) → List ℕ → Type 0
-IsLinking ps bodies m =
-    (p : Program) → program_named ps m ≡ Some p → bodies m ≡ linked ps bodies p [] p.body
+-- a module has this flat body: its text gives it, where each module that it has a run of has its flat body
+pub data IsLinked (ps : List Program) : List ℕ → Body → Type 0 where
+  links : {m : List ℕ} {body : Body} (home : Program) (bodies : List ℕ → Body) → program_named ps m ≡ Some home
+      → ((n : List ℕ) → HasRun ps m n → IsLinked ps n (bodies n)) → body ≡ linked ps bodies home [] home.body
+      → IsLinked ps m body

@@ -1,9 +1,7 @@
 -- The interface and the relations of the main module, as the kernel has them: signals by their places in the interface
 -- (this project's own form).
 use Rattle.std.specs.Prelude.{◌≡◌, ℕ, List, [], ◌∷◌, map, unwrap_or, ⊤}
-use Rattle.std.specs.List.{position}
 use Rattle.est_syntax.specs.Tree.{RelationTree, excludes, implies}
-use Rattle.est_kernel.specs.Interfaces.{is_named}
 use Rattle.est_kernel.specs.declared.interface.Declaration.{Declaration}
 use Rattle.est_kernel.specs.declared.interface.Kind as kernel
 use Rattle.est_kernel.specs.declared.interface.Kind.TheVariants as variants
@@ -11,6 +9,7 @@ use Rattle.est_modules.specs.Modules.{Program}
 use Rattle.est_modules.specs.declared.head.Declared.{Declared}
 use Rattle.est_modules.specs.declared.head.Kind.{Kind}
 use Rattle.est_modules.specs.declared.head.Kind.TheVariants.{Input, Output, InputOutput}
+use Rattle.est_relations.specs.Offers.{place_of}
 use Rattle.est_relations.specs.declared.relations.Relation.{Relation}
 use Rattle.est_relations.specs.declared.relations.Relation.TheVariants.{Exclusion, Implication}
 
@@ -28,15 +27,15 @@ declaration_of d = record { name = d.name; kind = kernel_kind d.kind }
 abbrev pub declarations_of : Program → List Declaration
 declarations_of p = map declaration_of p.interface
 
--- the place of a name in an interface, which is 0 where it isn't there
-abbrev pub place_of : List Declaration → List ℕ → ℕ
-place_of ds s = unwrap_or (position (is_named s) ds) 0
+-- the place of a member of a relation in the interface; each has one where no relation is at fault, and else this is 0
+abbrev pub member_place : List Declaration → List ℕ → ℕ
+member_place ds s = unwrap_or (place_of ds s) 0
 
 -- the relation is the one that is written, its members by their places
 abbrev pub IsRelation : List Declaration → RelationTree → Relation → Type 0
-IsRelation ds (excludes a b ns) (Exclusion members) = members ≡ map (place_of ds) (a ∷ b ∷ ns)
+IsRelation ds (excludes a b ns) (Exclusion members) = members ≡ map (member_place ds) (a ∷ b ∷ ns)
 IsRelation ds (implies a b) (Implication condition implied) =
-    (condition.index ≡ place_of ds a) × (implied.index ≡ place_of ds b)
+    (condition.index ≡ member_place ds a) × (implied.index ≡ member_place ds b)
 IsRelation ds _ _ = ⊥
 
 -- the relations are those that are written

@@ -6,7 +6,7 @@ ghost use Rattle.est_kernel.specs.Term.{tick};
 ghost use Rattle.est_modules.specs.Scopes.{binders_of};
 ghost use Rattle.est_modules.specs.Modules.{program_of};
 ghost use Rattle.est_reduce.specs.Views.{bound_query as query_view};
-ghost use Rattle.est_link.specs.Linking.{locals_round, signal_at, trap_at, of_interface};
+ghost use Rattle.est_link.specs.Linking.{locals_around, signal_at, trap_at, of_interface};
 ghost use Rattle.est_link.specs.Inner.Binds.{binding_of};
 
 use est_modules::head::{Declared, Head};
@@ -24,7 +24,7 @@ pub struct Binding<'a> {
     pub alloc: Global,
     /// The module in whose body the `run` stands.
     pub home: &'a Head<'a>,
-    /// The binders round it.
+    /// The binders around it.
     pub scope: &'a Scope<'a>,
     /// How many local signals they are.
     pub locals: u32,
@@ -102,20 +102,20 @@ fn interface_signal(interface: &[Declared], name: &Identifier) -> Result<BoundTe
     }
 }
 
-/// How many local signals lie round a place. It calls itself once for each binder round the place,
-/// of which there are at most 128.
-pub fn locals_round(scope: &Scope<'_>) -> Result<u32, AllocError>
-    ensures { IfOk result (λ n. n ≡ locals_round (binders_of scope.now)) }
+/// How many local signals lie around a place. It calls itself once for each binder around the
+/// place, of which there are at most 128.
+pub fn locals_around(scope: &Scope<'_>) -> Result<u32, AllocError>
+    ensures { IfOk result (λ n. n ≡ locals_around (binders_of scope.now)) }
 {
     match scope {
         Scope::Module => Ok(0),
-        Scope::Signals(names, outer) => sum(locals_round(outer)?, count(names)?),
-        Scope::Trap(_, outer) => locals_round(outer),
+        Scope::Signals(names, outer) => sum(locals_around(outer)?, count(names)?),
+        Scope::Trap(_, outer) => locals_around(outer),
     }
 }
 
-/// The signal that a name means. It calls itself once for each binder round the place, of
-/// which there are at most 128.
+/// The signal that a name means. It calls itself once for each binder around the place, of which
+/// there are at most 128.
 pub fn signal_at(
     home: &Head<'_>,
     scope: &Scope<'_>,
@@ -128,7 +128,7 @@ pub fn signal_at(
         Scope::Module => interface_signal(&home.interface, name),
         Scope::Signals(names, outer) => match place_of(names, name)? {
             Some(place) => {
-                let level = sum(locals_round(outer)?, place)?;
+                let level = sum(locals_around(outer)?, place)?;
                 Ok(BoundTest::Of(BoundSignal::Inner(level)))
             }
             None => signal_at(home, outer, name),
@@ -137,8 +137,8 @@ pub fn signal_at(
     }
 }
 
-/// How many traps lie between an exit and its trap. It calls itself once for each binder round the
-/// place, of which there are at most 128.
+/// How many traps lie between an exit and its trap. It calls itself once for each binder around
+/// the place, of which there are at most 128.
 pub fn trap_at(scope: &Scope<'_>, name: &Identifier) -> Result<u32, AllocError>
     ensures { IfOk result (λ k. k ≡ trap_at (binders_of scope.now) name.now) }
 {

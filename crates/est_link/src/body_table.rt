@@ -1,6 +1,6 @@
 //! The flat bodies of the modules that main runs, worked out bottom-up.
 ghost use Rattle.std.specs.Prelude.{◌≡◌, IfOk, map};
-ghost use Rattle.est_link.specs.Bodies.{AreBottomUp};
+ghost use Rattle.est_link.specs.Inner.Needs.{AreBottomUp};
 ghost use Rattle.est_link.specs.Inner.Tables.{AreMade, bodies_of, body_linked};
 ghost use Rattle.est_modules.specs.Modules.{program_of, program_named};
 ghost use Rattle.est_reduce.specs.Views.{body_of};

@@ -6,7 +6,8 @@ ghost use Rattle.std.specs.Prelude.{◌≡◌, ◌+◌, IfOk};
 ghost use Rattle.est_kernel.specs.Term.{joined};
 ghost use Rattle.est_reduce.specs.Views.{bound_joint as joint_view, bound_name as name_view};
 ghost use Rattle.est_reduce.specs.Views.{bound_query as query_view, body_of};
-ghost use Rattle.est_link.specs.Linking.{bound, bound_name, bound_queries, bound_query, emitted};
+ghost use Rattle.est_link.specs.Linking.{body_in_run, emitted, queries_in_run, query_in_run};
+ghost use Rattle.est_link.specs.Linking.{signal_in_run};
 ghost use Rattle.est_link.specs.Inner.Binds.{binding_of};
 
 use crate::bindings::{Binding, interface_bound, sum};
@@ -27,7 +28,7 @@ pub fn emitted(test: BoundTest) -> BoundSignal
 
 /// What a signal of the body stands for.
 fn bind_signal(binding: &Binding<'_>, signal: BoundSignal) -> Result<BoundTest, AllocError>
-    ensures { IfOk result (λ t. query_view t ≡ bound_name (binding_of binding.now)
+    ensures { IfOk result (λ t. query_view t ≡ signal_in_run (binding_of binding.now)
         binding.now.locals (name_view signal)) }
 {
     match signal {
@@ -40,7 +41,7 @@ fn bind_signal(binding: &Binding<'_>, signal: BoundSignal) -> Result<BoundTest, 
 
 /// What is emitted in place of a signal of the body.
 fn bind_sent(binding: &Binding<'_>, signal: BoundSignal) -> Result<BoundSignal, AllocError>
-    ensures { IfOk result (λ n. name_view n ≡ emitted (bound_name (binding_of binding.now)
+    ensures { IfOk result (λ n. name_view n ≡ emitted (signal_in_run (binding_of binding.now)
         binding.now.locals (name_view signal))) }
 {
     Ok(emitted(bind_signal(binding, signal)?))
@@ -50,7 +51,7 @@ fn bind_sent(binding: &Binding<'_>, signal: BoundSignal) -> Result<BoundSignal, 
 /// expressions lie in one another.
 #[cycle(tests)]
 fn bind_test(binding: &Binding<'_>, test: &BoundTest) -> Result<BoundTest, AllocError>
-    ensures { IfOk result (λ t. query_view t ≡ bound_query (binding_of binding.now)
+    ensures { IfOk result (λ t. query_view t ≡ query_in_run (binding_of binding.now)
         binding.now.locals (query_view test.now)) }
 {
     match test {
@@ -69,8 +70,8 @@ fn bind_joined(
     operands: &BoundOperands,
 ) -> Result<BoundTest, AllocError>
     ensures { IfOk result (λ t. query_view t ≡ joined connective
-        (bound_query (binding_of binding.now) binding.now.locals (joint_view operands.now).first)
-        (bound_queries (binding_of binding.now) binding.now.locals
+        (query_in_run (binding_of binding.now) binding.now.locals (joint_view operands.now).first)
+        (queries_in_run (binding_of binding.now) binding.now.locals
         (joint_view operands.now).later)) }
 {
     let mut later = Vec::new(binding.alloc);
@@ -86,7 +87,7 @@ fn bind_joined(
 fn bind_wait(binding: &Binding<'_>, wait: &Wait) -> Result<Wait, AllocError>
     ensures immediate { IfOk result (λ w. w.immediate ≡ wait.now.immediate) }
     ensures test { IfOk result (λ w. query_view w.test
-        ≡ bound_query (binding_of binding.now) binding.now.locals (query_view wait.now.test)) }
+        ≡ query_in_run (binding_of binding.now) binding.now.locals (query_view wait.now.test)) }
 {
     Ok(Wait {
         immediate: wait.immediate,
@@ -95,11 +96,11 @@ fn bind_wait(binding: &Binding<'_>, wait: &Wait) -> Result<Wait, AllocError>
 }
 
 /// A flat body whose interface signals stand for those that the `run` binds, inside the local
-/// signals round the `run`.
+/// signals around the `run`.
 #[cycle(bind)]
 pub fn bind_body(run: &Binding<'_>, flat: &Body) -> Result<Body, AllocError>
-    ensures { IfOk result (λ f. body_of f ≡ bound (binding_of run.now) run.now.locals (body_of
-        flat.now)) }
+    ensures { IfOk result (λ f. body_of f ≡ body_in_run (binding_of run.now) run.now.locals
+        (body_of flat.now)) }
 {
     match flat {
         Body::Nothing => Ok(Body::Nothing),
@@ -129,8 +130,8 @@ pub fn bind_body(run: &Binding<'_>, flat: &Body) -> Result<Body, AllocError>
 /// A body in a box, so bound.
 #[cycle(bind)]
 fn bind_box(run: &Binding<'_>, flat: &Body) -> Result<Box<Body>, AllocError>
-    ensures { IfOk result (λ b. body_of b.value ≡ bound (binding_of run.now) run.now.locals (body_of
-        flat.now)) }
+    ensures { IfOk result (λ b. body_of b.value ≡ body_in_run (binding_of run.now) run.now.locals
+        (body_of flat.now)) }
 {
     Ok(Box::new(run.alloc, bind_body(run, flat)?)?)
 }

@@ -1,7 +1,7 @@
 //! The flat body of a module, from its text and the flat bodies of the modules that it runs.
 //!
-//! The functions call each other once for each unit that is open, of which the reader lets at most
-//! 128 be so at once. A run is no call: its module was made flat before.
+//! Recursion is at most one call for each open unit, and at most 128 units are open. A `run` is no
+//! call: its module was made flat before.
 ghost use Rattle.std.specs.Prelude.{◌≡◌, IfOk, map, option_map};
 ghost use Rattle.std.specs.List.{find};
 ghost use Rattle.std.specs.Str.{bytes_eq};
@@ -11,15 +11,16 @@ ghost use Rattle.est_modules.specs.Derived.{unit_derived, branches_derived, sequ
 ghost use Rattle.est_modules.specs.Derived.{statement_derived};
 ghost use Rattle.est_modules.specs.Scopes.{binders_of};
 ghost use Rattle.est_modules.specs.Modules.{program_of, program_named};
-ghost use Rattle.est_link.specs.Linking.{linked, interface_bound, interface_run, bound, asked_at};
-ghost use Rattle.est_link.specs.Linking.{emitted, locals_round, signal_at};
+ghost use Rattle.est_link.specs.Linking.{linked, interface_bound, interface_run, asked_at};
+ghost use Rattle.est_link.specs.Linking.{body_in_run};
+ghost use Rattle.est_link.specs.Linking.{emitted, locals_around, signal_at};
 ghost use Rattle.est_link.specs.Inner.Tables.{bodies_of};
 ghost use Rattle.est_link.specs.Inner.Joins.{joined_by};
 ghost use Rattle.est_reduce.specs.Bodies.{seq, par};
 ghost use Rattle.est_reduce.specs.Views.{body_of, bound_name as name_view};
 ghost use Rattle.est_reduce.specs.Views.{bound_query as query_view};
 
-use crate::bindings::{Binding, count, locals_round, signal_at, trap_at};
+use crate::bindings::{Binding, count, locals_around, signal_at, trap_at};
 use crate::bound_bodies::{bind_body, emitted};
 use crate::found_tests::find_test;
 use est_modules::head::{Declared, Head, head_named};
@@ -76,17 +77,18 @@ fn run(
     name: &Identifier,
     renamings: &[Renaming],
 ) -> Result<Body, AllocError>
-    ensures { IfOk result (λ f. body_of f ≡ bound (interface_bound (program_of linker.now.home.now)
-        (binders_of scope.now) (map renaming_view renamings.now)
+    ensures { IfOk result (λ f. body_of f ≡ body_in_run
+        (interface_bound (program_of linker.now.home.now) (binders_of scope.now)
+        (map renaming_view renamings.now)
         (interface_run (program_named (map program_of linker.now.heads.now) name.now)))
-        (locals_round (binders_of scope.now)) (bodies_of linker.now.bodies.now name.now)) }
+        (locals_around (binders_of scope.now)) (bodies_of linker.now.bodies.now name.now)) }
 {
     let interface = interface_run(linker.heads, name);
     let binding = Binding {
         alloc: linker.alloc,
         home: &*linker.home,
         scope: &*scope,
-        locals: locals_round(scope)?,
+        locals: locals_around(scope)?,
         renamings: &*renamings,
         interface,
     };
@@ -101,7 +103,7 @@ fn run(
 pub struct Place<'a> {
     /// The modules, and the module.
     pub linker: &'a Linker<'a>,
-    /// The binders round the place.
+    /// The binders around the place.
     pub scope: &'a Scope<'a>,
 }
 

@@ -1,12 +1,11 @@
 //! Linking: a library of modules and the name of its main module give one flat module, or their
 //! first fault.
-ghost use Rattle.std.specs.Prelude.{◌≡◌, None, IsTrue, IfOk, map};
+ghost use Rattle.std.specs.Prelude.{◌≡◌, None, IfOk, map};
 ghost use Rattle.est_checks.specs.FirstFaults.{Finds, IsFirstFault};
-ghost use Rattle.est_link.specs.FlatModules.{IsFlatOf, IsLinkOf};
+ghost use Rattle.est_link.specs.FlatModules.{IsFlatOf, IsLinkOf, flat_of};
 ghost use Rattle.est_modules.specs.Modules.{program_of};
 ghost use Rattle.est_modules.specs.ModuleOrders.{IsOrderOf};
 ghost use Rattle.est_syntax.specs.Views.{library_view};
-ghost use Rattle.est_text.specs.Identifiers.{is_identifier};
 
 use crate::linked_module::linked_body;
 use crate::main_module::main_module;
@@ -29,7 +28,7 @@ fn flat_module<'a>(
 ) -> Result<Flat, AllocError>
     requires order { IsOrderOf (map program_of heads.now) order.now }
     requires checked { IsFirstFault (map program_of heads.now) main.now None }
-    ensures { IfOk result (IsFlatOf (map program_of heads.now) main.now) }
+    ensures { IfOk result (λ f. IsFlatOf (map program_of heads.now) main.now (flat_of f)) }
 {
     let body = linked_body(alloc, &*heads, order, main)?;
     let Some(home) = head_named(&*heads, main) else {
@@ -39,16 +38,12 @@ fn flat_module<'a>(
 }
 
 /// The flat main module of modules, or their first fault.
-fn link_heads<'a>(
-    alloc: Global,
-    heads: &'a [Head<'a>],
-    main: &Identifier,
-) -> Result<Flat, LinkFault>
+fn link_heads<'a>(alloc: Global, heads: &'a [Head<'a>], main: &str) -> Result<Flat, LinkFault>
     ensures first { Finds (IsFirstFault (map program_of heads.now) main.now) result }
-    ensures flat { IfOk result (IsFlatOf (map program_of heads.now) main.now) }
+    ensures flat { IfOk result (λ f. IsFlatOf (map program_of heads.now) main.now (flat_of f)) }
 {
-    let order = check_library(alloc, &*heads, main)?;
-    Ok(flat_module(alloc, &*heads, &order, main)?)
+    let (main, order) = check_library(alloc, &*heads, main)?;
+    Ok(flat_module(alloc, &*heads, &order, &main)?)
 }
 
 /// Links a library: its main module, each `run` replaced by the body of the module that it runs,
@@ -61,12 +56,8 @@ fn link_heads<'a>(
 /// recursive runs, renamings, names that aren't visible, emissions of inputs, relations of the main
 /// module, its limits; or `Memory`.
 pub fn link(alloc: Global, library: &Library, main: &str) -> Result<Flat, LinkFault>
-    requires { IsTrue (is_identifier main.now) }
     ensures { IsLinkOf (library_view library.now) main.now result }
 {
-    let Some(main) = Identifier::from_text(main) else {
-        unreachable!();
-    };
     let heads = heads_of(alloc, library)?;
-    link_heads(alloc, &heads, &main)
+    link_heads(alloc, &heads, main)
 }

@@ -2,7 +2,8 @@
 ghost use Rattle.std.specs.Prelude.{◌≡◌, ℕ, Bool, List, None, Some, IfOk, map};
 ghost use Rattle.std.specs.List.{find, position};
 ghost use Rattle.std.specs.Str.{bytes_eq};
-ghost use Rattle.est_link.specs.Bodies.{IsLinked, HasSoundNames};
+ghost use Rattle.est_link.specs.Bodies.{HasSoundNames};
+ghost use Rattle.est_link.specs.Linking.{IsLinked};
 ghost use Rattle.est_checks.specs.Duplicates.{first_duplicate};
 ghost use Rattle.est_link.specs.Inner.Tables.{bodies_of};
 ghost use Rattle.est_link.specs.MainModule.{declarations_of};

@@ -6,8 +6,8 @@ ghost use Rattle.est_reduce.specs.Views.{body_of};
 ghost use Rattle.est_syntax.specs.Views.{relation_view};
 ghost use Rattle.est_kernel.specs.declared.interface.TheConstants.{MOST_SIGNALS};
 ghost use Rattle.est_relations.specs.declared.relations.TheConstants.{MOST_RELATIONS};
-ghost use Rattle.est_link.specs.MainModule.{kernel_kind, declaration_of, declarations_of, place_of};
-ghost use Rattle.est_link.specs.MainModule.{IsRelation, AreRelations};
+ghost use Rattle.est_link.specs.MainModule.{kernel_kind, declaration_of, declarations_of};
+ghost use Rattle.est_link.specs.MainModule.{IsRelation, AreRelations, member_place};
 ghost use Rattle.est_checks.specs.LawlessRelations.{first_lawless};
 ghost use Rattle.est_modules.specs.Modules.{program_of};
 ghost use Rattle.est_checks.specs.Duplicates.{redeclared};
@@ -24,13 +24,23 @@ use est_text::identifier::Identifier;
 use std::alloc::{AllocError, Global};
 
 /// Input, output or both.
-pub fn kernel_kind(kind: Kind) -> KernelKind
+fn kernel_kind(kind: Kind) -> KernelKind
     ensures { result ≡ kernel_kind kind }
 {
     match kind {
         Kind::Input => KernelKind::Input,
         Kind::Output => KernelKind::Output,
         Kind::InputOutput => KernelKind::InputOutput,
+    }
+}
+
+/// A signal of an interface, as the kernel has it.
+fn declaration_of(signal: &Declared) -> Declaration
+    ensures { result ≡ declaration_of signal.now }
+{
+    Declaration {
+        name: signal.name,
+        kind: kernel_kind(signal.kind),
     }
 }
 
@@ -42,10 +52,7 @@ pub fn kernel_interface(alloc: Global, declared: &[Declared]) -> Result<Interfac
 {
     let mut interface = Interface::new(alloc);
     for signal in declared {
-        interface.declare(Declaration {
-            name: signal.name,
-            kind: kernel_kind(signal.kind),
-        })?;
+        interface.declare(declaration_of(signal))?;
     }
     Ok(interface)
 }
@@ -58,7 +65,7 @@ fn members(
     second: &Identifier,
     later: &[Identifier],
 ) -> Result<Members, AllocError>
-    ensures { IfOk result (λ m. m ≡ map (place_of signals.now) (first.now ∷ second.now ∷
+    ensures { IfOk result (λ m. m ≡ map (member_place signals.now) (first.now ∷ second.now ∷
         later.now)) }
 {
     let mut members = Members::new(alloc);
@@ -88,19 +95,20 @@ fn kernel_relation(
     }
 }
 
-/// The relations that are written.
+/// The relations that are written, over the signals of an interface.
 fn kernel_relations(
     alloc: Global,
-    signals: &SignalTable<'_>,
+    interface: &Interface,
     relations: &[&tree::Relation],
 ) -> Result<Relations, AllocError>
     requires { length relations.now ≤ MOST_RELATIONS }
-    ensures { IfOk result (λ rs. AreRelations signals.now (map (λ r. relation_view r.now)
+    ensures { IfOk result (λ rs. AreRelations interface.now (map (λ r. relation_view r.now)
         relations.now) rs) }
 {
+    let signals = SignalTable::of_interface(alloc, interface)?;
     let mut made = Relations::new(alloc);
     for relation in relations {
-        made.push(kernel_relation(alloc, signals, relation)?)?;
+        made.push(kernel_relation(alloc, &signals, relation)?)?;
     }
     Ok(made)
 }
@@ -122,9 +130,8 @@ pub fn main_module(alloc: Global, home: &Head<'_>, body: Body) -> Result<Flat, A
     ensures body { IfOk result (λ f. body_of f.body ≡ body_of body) }
 {
     let interface = kernel_interface(alloc, &home.interface)?;
-    let signals = SignalTable::of_declared(alloc, &home.interface)?;
     let listed = relations_of(alloc, home.declarations)?;
-    let relations = kernel_relations(alloc, &signals, &listed)?;
+    let relations = kernel_relations(alloc, &interface, &listed)?;
     Ok(Flat {
         interface,
         relations,

@@ -2,9 +2,8 @@
 ghost use Rattle.std.specs.Prelude.{◌≡◌, ◌<◌, Some, None, IfOk, length, map, Contains};
 ghost use Rattle.std.specs.Bool.{Decides};
 ghost use Rattle.std.specs.List.{slice_get};
-ghost use Rattle.est_link.specs.Bodies.{AreBottomUp};
 ghost use Rattle.est_checks.specs.Duplicates.{first_duplicate};
-ghost use Rattle.est_link.specs.Inner.Needs.{IsClosed, HasFront};
+ghost use Rattle.est_link.specs.Inner.Needs.{AreBottomUp, IsClosed, HasFront};
 ghost use Rattle.est_modules.specs.Modules.{Program, program_of, first_in_bodies};
 ghost use Rattle.est_modules.specs.ModuleOrders.{IsOrderOf, places_run};
 ghost use Rattle.est_checks.specs.MissingModules.{missing_at};

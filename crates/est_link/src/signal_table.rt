@@ -1,21 +1,17 @@
 //! The signals of the main module by their names, in the order of declaration.
-ghost use Rattle.std.specs.Prelude.{◌≡◌, ◌≤◌, [], None, IfOk, length, map};
-ghost use Rattle.est_kernel.specs.declared.interface.TheConstants.{MOST_SIGNALS};
-ghost use Rattle.est_link.specs.MainModule.{declaration_of, place_of};
-ghost use Rattle.est_checks.specs.Duplicates.{redeclared};
+ghost use Rattle.std.specs.Prelude.{◌≡◌, IfOk};
+ghost use Rattle.est_link.specs.MainModule.{member_place};
 
-use crate::main_module::kernel_kind;
-use est_kernel::interface::Declaration;
+use est_kernel::interface::{Declaration, Interface};
 use est_kernel::statement::InterfaceSignal;
-use est_modules::head::Declared;
 use est_text::identifier::Identifier;
 use indexmap::IndexMap;
 use std::alloc::{AllocError, Global};
 use std::marker::Model;
 
-/// The signals of a module, each at the text of its name. There are at most `MOST_SIGNALS`: names
-/// that are chosen to have one hash cost at most that number of comparisons. A contract sees the
-/// list of their declarations.
+/// The signals of an interface, each at the text of its name. There are at most `MOST_SIGNALS`:
+/// names that are chosen to have one hash cost at most that number of comparisons. A contract sees
+/// the list of their declarations.
 #[derive(Drop)]
 pub struct SignalTable<'a> {
     signals: IndexMap<&'a [u8], Declaration>,
@@ -35,21 +31,14 @@ impl<'a> Model for SignalTable<'a> {
 }
 
 impl<'a> SignalTable<'a> {
-    /// The signals that a module declares, of which no two are of one name.
-    pub fn of_declared(alloc: Global, declared: &'a [Declared]) -> Result<Self, AllocError>
-        requires room { length declared.now ≤ MOST_SIGNALS }
-        requires distinct { redeclared [] (map (λ d. d.name) declared.now) ≡ None }
-        ensures { IfOk result (λ t. t ≡ map declaration_of declared.now) }
+    /// The signals of an interface.
+    pub fn of_interface(alloc: Global, interface: &'a Interface) -> Result<Self, AllocError>
+        ensures { IfOk result (λ t. t ≡ interface.now) }
     {
         let mut signals = IndexMap::new(alloc);
-        for signal in declared {
-            let kind = kernel_kind(signal.kind);
-            let declaration = Declaration {
-                name: signal.name,
-                kind,
-            };
+        for signal in interface.declarations() {
             let name: &'a [u8] = signal.name.as_bytes();
-            match signals.insert(name, declaration) {
+            match signals.insert(name, *signal) {
                 Ok(_none) => {}
                 Err(_refused) => return Err(AllocError),
             }
@@ -59,7 +48,7 @@ impl<'a> SignalTable<'a> {
 
     /// The signal of a name, which is the first where the name isn't there.
     pub fn find(&self, name: &Identifier) -> InterfaceSignal
-        ensures { result.index ≡ place_of self.now name.now }
+        ensures { result.index ≡ member_place self.now name.now }
     {
         match self.signals.get_index_of(name.as_bytes()) {
             Some(place) => InterfaceSignal { index: place as u8 },

@@ -19,7 +19,7 @@ use Rattle.est_modules.specs.PlaceOrders.{NoneIsRecursive}
 use Rattle.est_modules.specs.RunRows.{IsRun, Leads, once}
 use Rattle.est_modules.proofs.SearchLemmas.{extended, in_bounds}
 
--- ---- places, each behind those that it is run by: none is met again, so the way down ends
+-- ---- places, each after those that it is run by: none is met again, so the way down ends
 
 -- a place of the set with one more is an old one, or that one
 old_or_new : (seen : List Bool) (p q : ℕ) → IsIn (slice_set seen p true) q → IsIn seen q ⊎ (p ≡ q)

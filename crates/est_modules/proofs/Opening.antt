@@ -1,4 +1,4 @@
--- Names of modules that are run, as far as no `signal` round a place declares them.
+-- Names of modules that are run, as far as no `signal` around a place declares them.
 use Rattle.std.proofs.Common.{◌≡◌, ◌||◌, ◌&&◌, not, ℕ, List, [], ◌∷◌, ◌++◌, Option, Some, None, Bool, true, false, cond}
 use Rattle.std.proofs.Common.{map, filter, refl, ap, sym, ◌∙◌, subst}
 use Rattle.std.proofs.lemmas.Option.{none-some}

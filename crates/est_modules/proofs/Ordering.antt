@@ -21,7 +21,7 @@ pub place_found : (hs : List Head) (m : List ℕ) → place_named (map program_o
     ≡ position (λ (h : Head). bytes_eq h.name m) hs
 place_found hs m = position_map (λ (p : Program). bytes_eq p.name m) program_of hs
 
--- what is put behind each other is what each gives
+-- what is put after each other is what each gives
 pub gathered : {X A : Type 0} (f : X → List A) (k : List A) (xs : List X)
     → fold (λ s x. s ++ f x) k xs ≡ k ++ flat_map f xs
 gathered f k [] = sym (append-nil k)

@@ -1,4 +1,4 @@
--- What is known behind statements and lists.
+-- What is known after statements and lists.
 use Rattle.std.proofs.Common.{◌≡◌, ℕ, List, [], ◌∷◌, ◌++◌, map, refl, ap, sym, ◌∙◌, rules}
 use Rattle.std.specs.List.{fold}
 use Rattle.est_syntax.specs.Views.{unit_view, sequence_view, statement_view, units_of, sequences_of}
@@ -25,9 +25,9 @@ two : {S : Type 0} (f : S → Occurrence → S) (xs ys : List Occurrence) (k : S
     → n ≡ fold f m ys → n ≡ fold f k (xs ++ ys)
 two f xs ys k d e = e ∙ ap (λ m. fold f m ys) d ∙ sym (fold_append f k xs ys)
 
--- what is known behind the names of tests is what is known behind their places
+-- what is known after the names of tests is what is known after their places
 names_fold : {S : Type 0} (f : S → Occurrence → S) (bs : List Binder) (ns : List (List ℕ)) (k : S)
-    → past_names f bs ns k ≡ fold f k (map (λ (n : List ℕ). record { act = tests n; round = bs }) ns)
+    → past_names f bs ns k ≡ fold f k (map (λ (n : List ℕ). record { act = tests n; around = bs }) ns)
 names_fold f bs [] k = refl
 names_fold f bs (n ∷ ns) k = names_fold f bs ns (past f bs (tests n) k)
 
@@ -35,7 +35,7 @@ test_fold : {S : Type 0} (f : S → Occurrence → S) (bs : List Binder) (t : Te
     → past_test f bs t k ≡ fold f k (tested bs t)
 test_fold f bs t k = names_fold f bs (test_names t) k
 
--- what is known behind a statement is what is known behind its occurrences
+-- what is known after a statement is what is known after its occurrences
 pub passed_fold : {S : Type 0} (f : S → Occurrence → S) (bs : List Binder) (p : Derived) (k : S)
     → passed f bs p k ≡ fold f k (occurrences bs p)
 passed_fold f bs missing k = refl

@@ -1,4 +1,4 @@
--- What is known behind the names of tests.
+-- What is known after the names of tests.
 use Rattle.std.proofs.Common.{◌≡◌, ℕ, List, [], ◌∷◌, ◌++◌, map, refl, ap, ◌∙◌, rules}
 use Rattle.std.specs.List.{fold}
 use Rattle.est_syntax.specs.Views.{literal_view, conjunction_view, expression_view, literals_of, conjunctions_of}

@@ -116,7 +116,7 @@ no_place_here true c o rest e = absurd (none-some 0 (sym e))
 no_place_here false c None rest e = rest refl
 no_place_here false c (Some i) rest e = absurd (none-some (i + 1) (sym e))
 
--- where there is no place, none passes, and the other way round
+-- where there is no place, none passes, and conversely
 pub no_place : {X : Type 0} (p : X → Bool) (xs : List X) → position p xs ≡ None → list_any p xs ≡ false
 no_place p [] e = refl
 no_place p (y ∷ ys) e = no_place_here (p y) (list_any p ys) (position p ys) (no_place p ys)

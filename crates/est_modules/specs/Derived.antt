@@ -59,7 +59,7 @@ abbrev mutual
   pub sequence_derived : SequenceTree → Derived
   sequence_derived (tree.sequence u us c) = then_units (unit_derived u) us
 
-  -- a statement, and further units behind it
+  -- a statement, and further units after it
   pub then_units : Derived → UnitsTree → Derived
   then_units p tree.no_units = p
   then_units p (tree.units u us) = seq p (then_units (unit_derived u) us)

@@ -1,4 +1,4 @@
--- Where names stand in the body of a module, in the order of the text, and what the statements round them bind
+-- Where names stand in the body of a module, in the order of the text, and what the statements around them bind
 -- (this project's own form).
 use Rattle.std.specs.Prelude.{ℕ, List, [], ◌∷◌, ◌++◌, map, Option, None}
 use Rattle.std.specs.Option.{option_or}
@@ -21,14 +21,14 @@ pub data Act : Type 0 where
   binds : NamesTree → Act
   runs : List ℕ → List RenamingTree → Act
 
--- a place in a body: an act, and the binders round its place, innermost first
+-- a place in a body: an act, and the binders around its place, innermost first
 pub record Occurrence : Type 0 where
   pub act : Act
-  pub round : List Binder
+  pub around : List Binder
 
 -- the places of a test where names stand, in the order of the text
 abbrev pub tested : List Binder → TestTree → List Occurrence
-tested bs t = map (λ n. record { act = tests n; round = bs }) (test_names t)
+tested bs t = map (λ n. record { act = tests n; around = bs }) (test_names t)
 
 -- the places of a statement where names stand, in the order of the text
 abbrev pub occurrences : List Binder → Derived → List Occurrence
@@ -36,9 +36,9 @@ occurrences bs missing = []
 occurrences bs nothing = []
 occurrences bs pause = []
 occurrences bs halt = []
-occurrences bs (emit s) = record { act = emits s; round = bs } ∷ []
-occurrences bs (sustain s) = record { act = emits s; round = bs } ∷ []
-occurrences bs (exit t) = record { act = exits t; round = bs } ∷ []
+occurrences bs (emit s) = record { act = emits s; around = bs } ∷ []
+occurrences bs (sustain s) = record { act = emits s; around = bs } ∷ []
+occurrences bs (exit t) = record { act = exits t; around = bs } ∷ []
 occurrences bs (await d) = tested bs d.test
 occurrences bs (present t p q) = tested bs t ++ (occurrences bs p ++ occurrences bs q)
 occurrences bs (suspend p d) = occurrences bs p ++ tested bs d.test
@@ -48,8 +48,8 @@ occurrences bs (repeat p) = occurrences bs p
 occurrences bs (repeat_each p t) = occurrences bs p ++ tested bs t
 occurrences bs (every d p) = tested bs d.test ++ occurrences bs p
 occurrences bs (trap t p) = occurrences (a_trap t ∷ bs) p
-occurrences bs (signal ns p) = record { act = binds ns; round = bs } ∷ occurrences (signals ns ∷ bs) p
-occurrences bs (run m rs) = record { act = runs m rs; round = bs } ∷ []
+occurrences bs (signal ns p) = record { act = binds ns; around = bs } ∷ occurrences (signals ns ∷ bs) p
+occurrences bs (run m rs) = record { act = runs m rs; around = bs } ∷ []
 occurrences bs (seq p q) = occurrences bs p ++ occurrences bs q
 occurrences bs (par p q) = occurrences bs p ++ occurrences bs q
 

@@ -7,7 +7,7 @@ use Rattle.est_modules.specs.declared.scope.Scope.TheVariants.{Module, Signals',
 use Rattle.est_modules.specs.declared.scope.Act.{Act as ActValue}
 use Rattle.est_modules.specs.declared.scope.Act.TheVariants.{Emits, Tests, Exits, Binds, Runs}
 
--- the binders round a place, innermost first
+-- the binders around a place, innermost first
 abbrev pub binders_of : Scope → List Binder
 binders_of Module = []
 binders_of (Signals' ns a rest) = signals (names_view ns.now) ∷ binders_of rest

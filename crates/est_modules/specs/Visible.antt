@@ -15,13 +15,13 @@ is_tick s = bytes_eq s (codes "tick")
 abbrev pub is_among : NamesTree → List ℕ → Bool
 is_among ns s = bytes_eq ns.first s || list_any (λ n. bytes_eq n s) ns.later
 
--- a `signal` round the place declares the name
+-- a `signal` around the place declares the name
 abbrev pub is_local : List Binder → List ℕ → Bool
 is_local [] s = false
 is_local (signals ns ∷ bs) s = is_among ns s || is_local bs s
 is_local (a_trap t ∷ bs) s = is_local bs s
 
--- a `trap` round the place has this name
+-- a `trap` around the place has this name
 abbrev pub is_trap : List Binder → List ℕ → Bool
 is_trap [] t = false
 is_trap (signals ns ∷ bs) t = is_trap bs t
@@ -35,7 +35,7 @@ is_visible p bs s = is_local bs s || (is_declared p.interface s || is_tick s)
 abbrev pub stands_in : List (List ℕ) → List ℕ → Bool
 stands_in ns n = list_any (λ m. bytes_eq m n) ns
 
--- a `signal` stands round a place
+-- a `signal` stands around a place
 abbrev pub has_signals : List Binder → Bool
 has_signals [] = false
 has_signals (signals ns ∷ bs) = true

@@ -1,4 +1,4 @@
--- What is known behind a statement, from what was known before it, without the list of its occurrences; for private
+-- What is known after a statement, from what was known before it, without the list of its occurrences; for private
 -- clauses (this project's own form).
 use Rattle.est_syntax.specs.Tree.{TestTree, BranchesTree, then_only, else_only, both}
 use Rattle.std.specs.Prelude.{ℕ, List, [], ◌∷◌}
@@ -8,20 +8,20 @@ use Rattle.est_modules.specs.Derived.{par, statement_derived}
 use Rattle.est_modules.specs.Tests.{test_names}
 use Rattle.est_modules.specs.Occurrences.{Binder, signals, a_trap, Act, emits, tests, exits, binds, runs, Occurrence}
 
--- what is known behind one occurrence
+-- what is known after one occurrence
 abbrev pub past : {S : Type 0} → (S → Occurrence → S) → List Binder → Act → S → S
-past f bs a s = f s (record { act = a; round = bs })
+past f bs a s = f s (record { act = a; around = bs })
 
--- what is known behind the names of tests
+-- what is known after the names of tests
 abbrev pub past_names : {S : Type 0} → (S → Occurrence → S) → List Binder → List (List ℕ) → S → S
 past_names f bs [] k = k
 past_names f bs (n ∷ ns) k = past_names f bs ns (past f bs (tests n) k)
 
--- what is known behind a test
+-- what is known after a test
 abbrev pub past_test : {S : Type 0} → (S → Occurrence → S) → List Binder → TestTree → S → S
 past_test f bs t k = past_names f bs (test_names t) k
 
--- what is known behind a statement
+-- what is known after a statement
 abbrev pub passed : {S : Type 0} → (S → Occurrence → S) → List Binder → Derived → S → S
 passed f bs missing k = k
 passed f bs nothing k = k

@@ -4,7 +4,7 @@
 //! A `Head` is a module as linking reads it, without what only spells it. The definitions in
 //! `specs/` say what stands where (`Occurrences`), what a module is (`Modules`, `Derived`) and what
 //! a name means at a place (`Visible`). One walk serves all that goes over a body: it visits each
-//! place in the order of the text, with the declarations round it.
+//! place in the order of the text, with the declarations around it.
 //!
 //! `module_order` puts the modules into an order in which each stands after all that it runs, or
 //! answers the first from which a chain of runs leads back to it. Under it lies the same question

@@ -35,7 +35,7 @@ pub fn name_at(heads: &[Head<'_>], place: usize) -> Identifier
     heads[place].name
 }
 
-/// Puts a place behind the others, if there is one.
+/// Adds a place to the list, if there is one.
 fn note(places: &mut Vec<usize>, place: Option<usize>) -> Result<(), AllocError>
     ensures { OnOk result (places.new.items ≡ places.old.items ++ option_to_list place) }
 {

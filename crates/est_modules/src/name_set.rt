@@ -7,8 +7,8 @@ use est_text::identifier::Identifier;
 use std::alloc::{AllocError, Global};
 use std::collections::BTreeSet;
 
-/// A set of names, in their order, so that a look-up among so many takes as many steps as their
-/// number has digits in binary, whatever names a text chooses.
+/// A set of names, in their order, so that a look-up among n of them takes as many steps as n has
+/// digits in binary, whatever names a text chooses.
 #[derive(Drop)]
 pub struct NameSet<'a> {
     names: BTreeSet<&'a [u8]>,

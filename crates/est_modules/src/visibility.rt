@@ -32,9 +32,9 @@ fn is_among(names: &Names, name: &Identifier) -> bool
     names.first.is(name) || stands_in(&names.later, name)
 }
 
-/// Whether a `signal` round the place declares the name.
+/// Whether a `signal` around the place declares the name.
 ///
-/// It calls itself once for each binder round the place, of which there are at most 128.
+/// It calls itself once for each binder around the place, of which there are at most 128.
 pub fn is_local(scope: &Scope<'_>, signal: &Identifier) -> bool
     ensures { result ≡ is_local (binders_of scope.now) signal.now }
 {
@@ -45,9 +45,9 @@ pub fn is_local(scope: &Scope<'_>, signal: &Identifier) -> bool
     }
 }
 
-/// Whether a `trap` round the place has this name.
+/// Whether a `trap` around the place has this name.
 ///
-/// It calls itself once for each binder round the place, of which there are at most 128.
+/// It calls itself once for each binder around the place, of which there are at most 128.
 pub fn is_trap(scope: &Scope<'_>, trap: &Identifier) -> bool
     ensures { result ≡ is_trap (binders_of scope.now) trap.now }
 {
@@ -58,9 +58,9 @@ pub fn is_trap(scope: &Scope<'_>, trap: &Identifier) -> bool
     }
 }
 
-/// Whether a `signal` stands round the place.
+/// Whether a `signal` stands around the place.
 ///
-/// It calls itself once for each binder round the place, of which there are at most 128.
+/// It calls itself once for each binder around the place, of which there are at most 128.
 pub fn has_signals(scope: &Scope<'_>) -> bool
     ensures { result ≡ has_signals (binders_of scope.now) }
 {

@@ -22,7 +22,7 @@ pub trait Visitor {
     /// What is known of what has been learned.
     ghost state: { Self.Seen → State };
 
-    /// What is known behind an occurrence, from what was known before it.
+    /// What is known after an occurrence, from what was known before it.
     ghost after: { Self → State → Occurrence → State };
 
     /// What is known of the names that the walk keeps.
@@ -42,5 +42,5 @@ pub trait Visitor {
     ) -> Result<(), AllocError>
         requires { IsOpen (fits self.now) (binders_of scope.now) kept.now }
         ensures { OnOk result (state seen.new ≡ after self.now (state seen.old) (record
-            { act = act_of act.now; round = binders_of scope.now })) };
+            { act = act_of act.now; around = binders_of scope.now })) };
 }

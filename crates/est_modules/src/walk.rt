@@ -1,8 +1,8 @@
 //! The walk over the body of a module, in the order of the text.
 //!
-//! The functions call each other once for each unit that is open round a place, and the reader lets
-//! at most 128 be open at once (`est_syntax`, `MOST_OPEN_UNITS`), so that they are at most four
-//! times as deep. A run is no call.
+//! The functions call each other at most four times for each unit that is open around a place, and
+//! the reader lets at most 128 be open at once (`est_syntax`, `MOST_OPEN_UNITS`). A `run` is no
+//! call: the module that it runs is walked by itself.
 ghost use Rattle.std.specs.Prelude.{◌≡◌, [], OnOk};
 ghost use Rattle.std.specs.List.{fold};
 ghost use Rattle.est_syntax.specs.Views.{test_view, unit_view, branches_view};
@@ -54,7 +54,7 @@ fn walk_unit<V: Visitor>(
         }
         Unit::Loop(body, _) | Unit::Group(body) => walk_statement(visitor, seen, kept, scope, body),
         Unit::LoopEach(body, test) => walk_watched(visitor, seen, kept, scope, body, test),
-        Unit::Every(delay, body, _) => walk_behind(visitor, seen, kept, scope, &delay.test, body),
+        Unit::Every(delay, body, _) => walk_delayed(visitor, seen, kept, scope, &delay.test, body),
         Unit::Trap(trap, body, _) => {
             let inside = Scope::Trap(*trap, &*scope);
             walk_statement(visitor, seen, kept, &inside, body)
@@ -95,9 +95,9 @@ fn walk_watched<V: Visitor>(
     walk_test(visitor, seen, kept, scope, test)
 }
 
-/// Visits the test behind which a body begins, and then the places of the body.
+/// Visits the test after which a body begins, and then the places of the body.
 #[cycle(walk)]
-fn walk_behind<V: Visitor>(
+fn walk_delayed<V: Visitor>(
     visitor: &V,
     seen: &mut V::Seen,
     kept: &OpenNames<'_, '_>,

@@ -1,6 +1,7 @@
 //! Linked modules and their flat bodies.
-ghost use Rattle.std.specs.Prelude.{◌≡◌, ℕ, Bool, List, None, Some, IsTrue, IfOk, map};
-ghost use Rattle.est_link.specs.Bodies.{IsLinked, HasSoundNames};
+ghost use Rattle.std.specs.Prelude.{◌≡◌, ℕ, Bool, List, None, Some, IfOk, map};
+ghost use Rattle.est_link.specs.Bodies.{HasSoundNames};
+ghost use Rattle.est_link.specs.Linking.{IsLinked};
 ghost use Rattle.est_checks.specs.Duplicates.{first_duplicate};
 ghost use Rattle.est_link.specs.FlatModules.{IsLinkOf};
 ghost use Rattle.est_link.specs.MainModule.{declarations_of};
@@ -10,7 +11,6 @@ ghost use Rattle.est_checks.specs.MissingModules.{first_missing};
 ghost use Rattle.est_reduce.specs.Bound.{IsBound};
 ghost use Rattle.est_reduce.specs.Views.{body_of};
 ghost use Rattle.est_syntax.specs.Views.{library_view};
-ghost use Rattle.est_text.specs.Identifiers.{is_identifier};
 
 use est_checks::fault::LinkFault;
 use est_link::{link, linked_module};
@@ -51,7 +51,6 @@ pub fn linked_body<'a>(
 ///
 /// The first fault of the checks in their order; or `Memory`.
 pub fn link(alloc: Global, library: &Library, main: &str) -> Result<Flat, LinkFault>
-    requires { IsTrue (is_identifier main.now) }
     ensures { IsLinkOf (library_view library.now) main.now result }
 {
     link::link(alloc, library, main)

@@ -3,7 +3,7 @@ ghost use Rattle.std.specs.Prelude.{◌≡◌, [], map, option_map, IfOk};
 ghost use Rattle.est_checks.specs.Duplicates.{first_duplicate};
 ghost use Rattle.est_checks.specs.Emissions.{emitted_of, refused_at};
 ghost use Rattle.est_checks.specs.LinkFaults.{lawless_number, fault_before_order};
-ghost use Rattle.est_checks.specs.LinkFaults.{fault_behind_order};
+ghost use Rattle.est_checks.specs.LinkFaults.{fault_after_order};
 ghost use Rattle.est_modules.specs.Modules.{program_of, first_in_bodies};
 ghost use Rattle.est_modules.specs.NameTables.{IsTable};
 ghost use Rattle.est_modules.specs.Occurrences.{first_of, occurrences};
@@ -168,7 +168,7 @@ fn lawless_number(alloc: Global, main: Option<&Head<'_>>) -> Result<Option<usize
 pub fn fault_before_order<'a>(
     alloc: Global,
     heads: &'a [Head<'a>],
-    main: &Identifier,
+    main: &str,
 ) -> Result<Option<LinkFault>, AllocError>
     ensures { IfOk result (λ fault. fault ≡ fault_before_order (map program_of heads.now)
         main.now) }
@@ -176,7 +176,10 @@ pub fn fault_before_order<'a>(
     if let Some(name) = first_duplicate(alloc, &*heads)? {
         return Ok(Some(LinkFault::DuplicateName(name)));
     }
-    match first_missing(alloc, &*heads, main)? {
+    let Some(main) = Identifier::from_text(main) else {
+        return Ok(Some(LinkFault::MisnamedMain));
+    };
+    match first_missing(alloc, &*heads, &main)? {
         Some(name) => Ok(Some(LinkFault::UnknownModule(name))),
         None => Ok(None),
     }
@@ -188,13 +191,13 @@ pub fn fault_before_order<'a>(
 /// # Errors
 ///
 /// `AllocError` where memory is refused.
-pub fn fault_behind_order<'a>(
+pub fn fault_after_order<'a>(
     alloc: Global,
     heads: &'a [Head<'a>],
     main: &Identifier,
     table: &'a [Emission],
 ) -> Result<Option<LinkFault>, AllocError>
-    ensures { IfOk result (λ fault. fault ≡ fault_behind_order (map program_of heads.now) main.now
+    ensures { IfOk result (λ fault. fault ≡ fault_after_order (map program_of heads.now) main.now
         (emitted_of table.now)) }
 {
     if let Some(name) = first_bad_renaming(alloc, &*heads)? {

@@ -8,12 +8,11 @@ use Rattle.est_checks.specs.FirstFaults.{IsFirstFault}
 use Rattle.est_modules.specs.Modules.{programs_of}
 use Rattle.est_checks.specs.declared.fault.LinkFault.{LinkFault}
 use Rattle.est_checks.proofs.Uniqueness.{one_first_fault}
+use Rattle.est_link.specs.FlatModules.{FlatModule}
 use Rattle.est_reduce.specs.Bodies.{Body}
 use Rattle.est_reduce.specs.Reducing.{IsFaultOf}
-use Rattle.est_reduce.specs.Views.{body_of}
 use Rattle.est_reduce.specs.declared.fault.ReduceFault.{ReduceFault}
 use Rattle.est_reduce.specs.declared.fault.ReduceFault.TheVariants as reduce
-use Rattle.est_reduce.specs.declared.flat.Flat.{Flat}
 use Rattle.est_reduce.proofs.Answering.{one_fault}
 use Rattle.est_syntax.specs.Grammar.{tokens_of}
 use Rattle.est_syntax.specs.Faults.{IsSyntaxFault, IsTooDeep}
@@ -38,7 +37,7 @@ use Rattle.est_text.specs.declared.place.Place.{Place}
 use Rattle.reactor_core.specs.Faults.{refusal_of_lex, refusal_of_parse, refusal_of_link, refusal_of_reduce}
 use Rattle.reactor_core.specs.Loading.{IsCutOf, Spells, LinksTo, GivenModule, Gives, IsLoadFault, in_cutting}
 use Rattle.reactor_core.specs.Loading.{in_grammar, in_linking, in_reduction}
-use Rattle.reactor_core.proofs.OneLoad.{CutsAreOne, LinksAreOne, same_library, same_flat}
+use Rattle.reactor_core.proofs.OneLoad.{CutsAreOne, LinksAreOne, none_found, same_library, same_flat}
 
 -- a text has one first place where no piece stands, and none where it is cut into tokens (a law of est_text)
 pub record CutFaultsAreOne : Type 0 where
@@ -133,12 +132,12 @@ module _ (cuts : CutsAreOne) (faults : CutFaultsAreOne) (links : LinksAreOne) wh
       (same_library cuts text k l one other)
 
   -- a library that links has no fault of linking
-  links_or_none : (main text : List ℕ) (flat : Flat) → LinksTo main text flat → (library : LibraryTree)
+  links_or_none : (main text : List ℕ) (flat : FlatModule) → LinksTo main text flat → (library : LibraryTree)
       → Spells text library
       → (fault : LinkFault) → IsFirstFault (programs_of library) main (Some fault) → ⊥
   links_or_none main text flat link library spells fault h =
       none_fault fault
-      (one_first_fault (programs_of link.library) main None (Some fault) link.sound
+      (one_first_fault (programs_of link.library) main None (Some fault) (none_found link.library main link.sound)
       (first_here main text library link.library spells link.spells (Some fault) h))
 
   two_linkings : (main text : List ℕ) (k l : LibraryTree) → Spells text k → Spells text l → (a b : LinkFault)
@@ -199,8 +198,8 @@ module _ (cuts : CutsAreOne) (faults : CutFaultsAreOne) (links : LinksAreOne) wh
   one_load_fault main text _ _ (in_reduction flat link f h) (in_linking l s g k) =
       absurd (links_or_none main text flat link l s g k)
   one_load_fault main text _ _ (in_reduction flat link f h) (in_reduction other link' g k) =
-      two_reductions (body_of flat.body) f g h
-      (subst (λ (p : Body). IsFaultOf p g) (sym (same_flat cuts links main text flat other link link').body) k)
+      two_reductions flat.body f g h
+      (subst (λ (m : FlatModule). IsFaultOf m.body g) (sym (same_flat cuts links main text flat other link link')) k)
 
   -- where a text gives a module, memory alone is refused
   pub given_or_fault : (main text : List ℕ) (m : GivenModule) (a : Refusal) → Gives main text m
@@ -213,9 +212,10 @@ module _ (cuts : CutsAreOne) (faults : CutFaultsAreOne) (links : LinksAreOne) wh
       absurd (links_or_none main text gives.flat gives.links l s f h)
   given_or_fault main text m _ gives (in_reduction flat link f h) =
       reduced f
-      (subst (λ (p : Body). IsFaultOf p f) (same_flat cuts links main text flat gives.flat link gives.links).body h)
+      (subst (λ (m : FlatModule). IsFaultOf m.body f)
+      (same_flat cuts links main text flat gives.flat link gives.links) h)
     where
-      reduced : (f : ReduceFault) → IsFaultOf (body_of gives.flat.body) f → refusal_of_reduce f ≡ Memory
+      reduced : (f : ReduceFault) → IsFaultOf gives.flat.body f → refusal_of_reduce f ≡ Memory
       reduced (reduce.TooLarge limit) h = let e = ap limit_passed gives.begins in
           absurd (none_some limit (sym gives.within_limits ∙ e ∙ h))
       reduced reduce.InstantLoop h = absurd (h.1 (subst IsLoopSafe gives.begins gives.loop_safe))

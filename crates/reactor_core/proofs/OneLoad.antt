@@ -1,31 +1,40 @@
 -- A text and the name of its main module give one module at most, or have one first fault.
 use Rattle.std.proofs.Common.{◌≡◌, ◌∙◌, ℕ, List, ap, sym, subst}
-use Rattle.std.specs.Prelude.{None}
 use Rattle.est_kernel.specs.Term.{Term}
 use Rattle.est_kernel.specs.declared.interface.Declaration.{Declaration}
-use Rattle.est_link.specs.Alike.{AreAlike}
+use Rattle.std.specs.Prelude.{None}
 use Rattle.est_checks.specs.FirstFaults.{IsFirstFault}
-use Rattle.est_link.specs.FlatModules.{IsFlatOf}
+use Rattle.est_link.specs.FlatModules.{FlatModule, IsFlatOf}
 use Rattle.est_modules.specs.Modules.{Program, programs_of}
 use Rattle.est_reduce.specs.Reductions.{kernel_term}
-use Rattle.est_reduce.specs.declared.flat.Flat.{Flat}
 use Rattle.est_relations.specs.declared.relations.Relation.{Relation}
 use Rattle.est_syntax.specs.Grammar.{tokens_of}
 use Rattle.est_syntax.specs.Tree.{LibraryTree}
 use Rattle.est_syntax.proofs.Unique.{one_library}
 use Rattle.est_text.specs.Pieces.{AreTokens}
 use Rattle.est_text.specs.declared.token.Located.{Located}
-use Rattle.reactor_core.specs.Loading.{Spells, LinksTo, GivenModule, Gives}
+use Rattle.reactor_core.specs.Loading.{HasNoFault, Spells, LinksTo, GivenModule, Gives}
 
 -- a text is cut in one way (a law of est_text)
 abbrev pub CutsAreOne : Type 0
 CutsAreOne = (text : List ℕ) (tokens others : List Located) → AreTokens text tokens → AreTokens text others
     → tokens ≡ others
 
--- a library without a fault is linked to one flat module (a law of est_link)
+-- a library is linked to one flat module (a law of est_link)
 abbrev pub LinksAreOne : Type 0
-LinksAreOne = (ps : List Program) (main : List ℕ) → IsFirstFault ps main None → (a b : Flat) → IsFlatOf ps main a
-    → IsFlatOf ps main b → AreAlike a b
+LinksAreOne = (ps : List Program) (main : List ℕ) → (a b : FlatModule) → IsFlatOf ps main a → IsFlatOf ps main b
+    → a ≡ b
+
+-- no check has a fault
+pub no_fault : (library : LibraryTree) (main : List ℕ) → IsFirstFault (programs_of library) main None
+    → HasNoFault library main
+unfolding HasNoFault
+no_fault library main h = h
+
+pub none_found : (library : LibraryTree) (main : List ℕ) → HasNoFault library main
+    → IsFirstFault (programs_of library) main None
+unfolding HasNoFault
+none_found library main h = h
 
 -- modules of the same parts are the same
 same_parts : (m n : GivenModule) → m.interface ≡ n.interface → m.relations ≡ n.relations → m.term ≡ n.term → m ≡ n
@@ -47,11 +56,11 @@ module _ (cuts : CutsAreOne) where
 
   module _ (links : LinksAreOne) where
     -- a text and a main module's name link to one flat module
-    pub same_flat : (main text : List ℕ) (f g : Flat) → LinksTo main text f → LinksTo main text g → AreAlike f g
+    pub same_flat : (main text : List ℕ) (f g : FlatModule) → LinksTo main text f → LinksTo main text g → f ≡ g
     same_flat main text f g one other =
         let library : other.library ≡ one.library = same_library text other.library one.library other.spells
         one.spells in
-        links (programs_of one.library) main one.sound f g one.is
+        links (programs_of one.library) main f g one.is
         (subst (λ (l : LibraryTree). IsFlatOf (programs_of l) main g) library other.is)
 
     -- and give one module
@@ -59,6 +68,6 @@ module _ (cuts : CutsAreOne) where
     same_given main text m n one other =
         let flat = same_flat main text one.flat other.flat one.links other.links in
         same_parts m n
-        (one.declares ∙ flat.interface ∙ sym other.declares)
-        (one.relates ∙ flat.relations ∙ sym other.relates)
-        (one.begins ∙ ap kernel_term flat.body ∙ sym other.begins)
+        (one.declares ∙ ap (λ (f : FlatModule). f.interface) flat ∙ sym other.declares)
+        (one.relates ∙ ap (λ (f : FlatModule). f.relations) flat ∙ sym other.relates)
+        (one.begins ∙ ap (λ (f : FlatModule). kernel_term f.body) flat ∙ sym other.begins)

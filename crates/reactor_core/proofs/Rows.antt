@@ -1,5 +1,5 @@
 -- The table of a module's refusals, read backwards.
-use Rattle.std.proofs.Common.{◌≡◌, ℕ, List, refl, ap}
+use Rattle.std.proofs.Common.{◌≡◌, ℕ, List, [], ◌∷◌, refl, ap}
 use Rattle.std.specs.Prelude.{◌==◌, codes, Option, Some, None, if◌then◌else◌}
 use Rattle.std.specs.Str.{bytes_eq}
 use Rattle.refusal_tables.specs.Rows.{Fields, TellsApart}
@@ -12,9 +12,9 @@ use Rattle.reactor_core.specs.declared.refusal.Limit.TheVariants.{Nesting, Signa
 use Rattle.reactor_core.specs.declared.refusal.Limit.TheVariants.{Locals}
 use Rattle.reactor_core.specs.declared.refusal.ModuleRefusal.{ModuleRefusal}
 use Rattle.reactor_core.specs.declared.refusal.ModuleRefusal.TheVariants.{Pending, NoInstant, Lexical, Syntax}
-use Rattle.reactor_core.specs.declared.refusal.ModuleRefusal.TheVariants.{UnknownModule, RecursiveRun, UnknownName}
-use Rattle.reactor_core.specs.declared.refusal.ModuleRefusal.TheVariants.{DuplicateName, EmitInput, BadRename}
-use Rattle.reactor_core.specs.declared.refusal.ModuleRefusal.TheVariants.{InstantLoop, TooLarge, Semantics}
+use Rattle.reactor_core.specs.declared.refusal.ModuleRefusal.TheVariants.{MisnamedMain, UnknownModule, RecursiveRun}
+use Rattle.reactor_core.specs.declared.refusal.ModuleRefusal.TheVariants.{UnknownName, DuplicateName, EmitInput}
+use Rattle.reactor_core.specs.declared.refusal.ModuleRefusal.TheVariants.{BadRename, InstantLoop, TooLarge, Semantics}
 use Rattle.reactor_core.specs.Refusals.{row_of, limit_text}
 
 -- the limit of this word
@@ -40,6 +40,10 @@ limit_is Locals = refl
 abbrev place_back : Fields → Place
 place_back fields = record { line = number_in (second fields); column = number_in (first fields) }
 
+abbrev unknown_back : Fields → ModuleRefusal
+unknown_back [] = MisnamedMain
+unknown_back (field ∷ fields) = UnknownModule (text_in (first (field ∷ fields)))
+
 -- the refusal of this number and these fields
 abbrev pub module_back : ℕ → Fields → Option ModuleRefusal
 module_back code fields =
@@ -51,7 +55,7 @@ module_back code fields =
     else (if code == 66 then Some NoInstant
     else (if code == 70 then Some (Lexical (place_back fields))
     else (if code == 71 then Some (Syntax (place_back fields))
-    else (if code == 72 then Some (UnknownModule (text_in (first fields)))
+    else (if code == 72 then Some (unknown_back fields)
     else (if code == 73 then Some (RecursiveRun (text_in (first fields)))
     else (if code == 74 then Some (UnknownName (text_in (first fields)))
     else (if code == 75 then Some (DuplicateName (text_in (first fields)))

@@ -18,10 +18,10 @@ use Rattle.est_text.specs.declared.lex.LexFault.TheVariants as lex
 use Rattle.reactor_core.specs.declared.refusal.Limit.{Limit}
 use Rattle.reactor_core.specs.declared.refusal.Limit.TheVariants.{Nesting, Signals, Relations, Statements, Loops, Traps}
 use Rattle.reactor_core.specs.declared.refusal.Limit.TheVariants.{Locals}
-use Rattle.reactor_core.specs.declared.refusal.ModuleRefusal.TheVariants.{Pending, Lexical, Syntax, UnknownModule}
-use Rattle.reactor_core.specs.declared.refusal.ModuleRefusal.TheVariants.{RecursiveRun, UnknownName, DuplicateName}
-use Rattle.reactor_core.specs.declared.refusal.ModuleRefusal.TheVariants.{EmitInput, BadRename, InstantLoop, TooLarge}
-use Rattle.reactor_core.specs.declared.refusal.ModuleRefusal.TheVariants.{Semantics}
+use Rattle.reactor_core.specs.declared.refusal.ModuleRefusal.TheVariants.{Pending, Lexical, Syntax, MisnamedMain}
+use Rattle.reactor_core.specs.declared.refusal.ModuleRefusal.TheVariants.{UnknownModule, RecursiveRun, UnknownName}
+use Rattle.reactor_core.specs.declared.refusal.ModuleRefusal.TheVariants.{DuplicateName, EmitInput, BadRename}
+use Rattle.reactor_core.specs.declared.refusal.ModuleRefusal.TheVariants.{InstantLoop, TooLarge, Semantics}
 use Rattle.reactor_core.specs.declared.refusal.Refusal.{Refusal}
 use Rattle.reactor_core.specs.declared.refusal.Refusal.TheVariants.{Module, Memory}
 
@@ -52,6 +52,7 @@ refusal_of_parse parse.Memory = Memory
 -- the refusal of the same name as a fault of linking
 abbrev pub refusal_of_link : LinkFault → Refusal
 refusal_of_link (link.DuplicateName name) = Module (DuplicateName name)
+refusal_of_link link.MisnamedMain = Module MisnamedMain
 refusal_of_link (link.UnknownModule name) = Module (UnknownModule name)
 refusal_of_link (link.RecursiveRun name) = Module (RecursiveRun name)
 refusal_of_link (link.BadRename name) = Module (BadRename name)

@@ -6,14 +6,12 @@ use Rattle.est_kernel.specs.StartCodes.{IsLoopSafe}
 use Rattle.est_kernel.specs.Term.{Term}
 use Rattle.est_kernel.specs.declared.interface.Declaration.{Declaration}
 use Rattle.est_checks.specs.FirstFaults.{IsFirstFault}
-use Rattle.est_link.specs.FlatModules.{IsFlatOf}
+use Rattle.est_link.specs.FlatModules.{FlatModule, IsFlatOf}
 use Rattle.est_modules.specs.Modules.{programs_of}
 use Rattle.est_checks.specs.declared.fault.LinkFault.{LinkFault}
 use Rattle.est_reduce.specs.Reducing.{IsFaultOf}
 use Rattle.est_reduce.specs.Reductions.{kernel_term}
-use Rattle.est_reduce.specs.Views.{body_of}
 use Rattle.est_reduce.specs.declared.fault.ReduceFault.{ReduceFault}
-use Rattle.est_reduce.specs.declared.flat.Flat.{Flat}
 use Rattle.est_relations.specs.declared.relations.Relation.{Relation}
 use Rattle.est_syntax.specs.Grammar.{tokens_of, spelling, library_depth}
 use Rattle.est_syntax.specs.ParseFaults.{IsParseFault}
@@ -39,11 +37,15 @@ pub record Spells (text : List ℕ) (library : LibraryTree) : Type 0 where
   pub spelt : tokens_of tokens.located ≡ spelling library
   pub shallow : library_depth library ≤ MOST_OPEN_UNITS
 
+-- no check of the library with this main module has a fault
+unfoldable pub HasNoFault : LibraryTree → (main : List ℕ) → Type 0
+HasNoFault library main = IsFirstFault (programs_of library) main None
+
 -- the text spells a library in which linking finds no fault, and this is its flat main module
-pub record LinksTo (main text : List ℕ) (flat : Flat) : Type 0 where
+pub record LinksTo (main text : List ℕ) (flat : FlatModule) : Type 0 where
   pub library : LibraryTree
   pub spells : Spells text library
-  pub sound : IsFirstFault (programs_of library) main None
+  pub sound : HasNoFault library main
   pub is : IsFlatOf (programs_of library) main flat
 
 -- a module that runs: its interface and its relations, each in the order of the text, and its kernel term
@@ -55,11 +57,11 @@ pub record GivenModule : Type 0 where
 -- the text and the name of its main module give this module: it links to the main module's interface and relations, and
 -- the main module's kernel term by the table of reductions is within the limits, and no loop of it takes no time
 pub record Gives (main text : List ℕ) (m : GivenModule) : Type 0 where
-  pub flat : Flat
+  pub flat : FlatModule
   pub links : LinksTo main text flat
   pub declares : m.interface ≡ flat.interface
   pub relates : m.relations ≡ flat.relations
-  pub begins : m.term ≡ kernel_term (body_of flat.body)
+  pub begins : m.term ≡ kernel_term flat.body
   pub within_limits : limit_passed m.term ≡ None
   pub loop_safe : IsLoopSafe m.term
 
@@ -73,5 +75,5 @@ pub data IsLoadFault (main text : List ℕ) : Refusal → Type 0 where
   in_linking : (library : LibraryTree) → Spells text library
       → (fault : LinkFault) → IsFirstFault (programs_of library) main (Some fault)
       → IsLoadFault main text (refusal_of_link fault)
-  in_reduction : (flat : Flat) → LinksTo main text flat
-      → (fault : ReduceFault) → IsFaultOf (body_of flat.body) fault → IsLoadFault main text (refusal_of_reduce fault)
+  in_reduction : (flat : FlatModule) → LinksTo main text flat
+      → (fault : ReduceFault) → IsFaultOf flat.body fault → IsLoadFault main text (refusal_of_reduce fault)

@@ -8,9 +8,9 @@ use Rattle.reactor_core.specs.declared.refusal.Limit.TheVariants.{Nesting, Signa
 use Rattle.reactor_core.specs.declared.refusal.Limit.TheVariants.{Locals}
 use Rattle.reactor_core.specs.declared.refusal.ModuleRefusal.{ModuleRefusal}
 use Rattle.reactor_core.specs.declared.refusal.ModuleRefusal.TheVariants.{Pending, NoInstant, Lexical, Syntax}
-use Rattle.reactor_core.specs.declared.refusal.ModuleRefusal.TheVariants.{UnknownModule, RecursiveRun, UnknownName}
-use Rattle.reactor_core.specs.declared.refusal.ModuleRefusal.TheVariants.{DuplicateName, EmitInput, BadRename}
-use Rattle.reactor_core.specs.declared.refusal.ModuleRefusal.TheVariants.{InstantLoop, TooLarge, Semantics}
+use Rattle.reactor_core.specs.declared.refusal.ModuleRefusal.TheVariants.{MisnamedMain, UnknownModule, RecursiveRun}
+use Rattle.reactor_core.specs.declared.refusal.ModuleRefusal.TheVariants.{UnknownName, DuplicateName, EmitInput}
+use Rattle.reactor_core.specs.declared.refusal.ModuleRefusal.TheVariants.{BadRename, InstantLoop, TooLarge, Semantics}
 
 -- the word for a limit of a module's size
 abbrev pub limit_text : Limit → List ℕ
@@ -36,6 +36,7 @@ row_of (Lexical place) =
     tells 70 (codes "Lexical") ((codes "column", Number place.column) ∷ (codes "line", Number place.line) ∷ [])
 row_of (Syntax place) =
     tells 71 (codes "Syntax") ((codes "column", Number place.column) ∷ (codes "line", Number place.line) ∷ [])
+row_of MisnamedMain = tells 72 (codes "UnknownModule") []
 row_of (UnknownModule name) = tells 72 (codes "UnknownModule") ((codes "name", Text name) ∷ [])
 row_of (RecursiveRun name) = tells 73 (codes "RecursiveRun") ((codes "name", Text name) ∷ [])
 row_of (UnknownName name) = tells 74 (codes "UnknownName") ((codes "name", Text name) ∷ [])

@@ -1,10 +1,9 @@
 //! A running module with its journal.
 ghost use Rattle.std.specs.Prelude.{◌≡◌, ◌⊎◌, ◌<◌, ◌-◌, ◌++◌, ◌∷◌, [], length, Some, MatchResult};
-ghost use Rattle.std.specs.Prelude.{MatchOption, IfOk, IfErr, IsTrue, true, false, slice_get};
+ghost use Rattle.std.specs.Prelude.{MatchOption, IfOk, IfErr, true, false, slice_get};
 ghost use Rattle.est_kernel.specs.Bits.{bits};
 ghost use Rattle.est_kernel.specs.Interfaces.{offerable};
 ghost use Rattle.est_meaning.specs.Knowledge.{IsIn};
-ghost use Rattle.est_text.specs.Identifiers.{is_identifier};
 ghost use Rattle.reactor_core.specs.Meaning.{Running, RunsAfter, ModuleOf, is_loaded, instants_of};
 ghost use Rattle.reactor_core.specs.Meaning.{entry};
 ghost use Rattle.reactor_core.specs.Loading.{IsLoadFault};
@@ -79,21 +78,21 @@ fn instant_at(instants: &[PastInstant], n: u64) -> Option<PastInstant>
 }
 
 /// The load of the module `main` of a text: its entry keeps copies of both, its module is read from
-/// the text, and the engine is that of the module's kernel.
+/// the text, and the engine is that of the module's kernel. No module has a name that is no
+/// identifier, so the text has been refused before that is asked.
 fn read_load(alloc: Global, main: &str, text: &str) -> Result<(Load, Module, ModuleEngine), Refusal>
-    requires { IsTrue (is_identifier main.now) }
     ensures entry { IfOk result (λ read. read.0 ≡ load_of main.now text.now) }
     ensures given { IfOk result (λ read. ModuleOf read.0 (given_by read.1)) }
     ensures engine { IfOk result (λ read. IsEngineOf read.2 read.1.kernel) }
     ensures fault { IfErr result (IsLoadFault main.now text.now) }
 {
-    let Some(main) = Identifier::from_text(main) else {
-        unreachable!();
-    };
     let text = Text::copied(alloc, text)?;
-    let loaded = read_module(alloc, main.as_str(), text.as_str())?;
+    let loaded = read_module(alloc, main, text.as_str())?;
     let engine = ModuleEngine::for_kernel(alloc, &loaded.kernel)?;
-    Ok((Load { main, text }, loaded, engine))
+    match Identifier::from_text(main) {
+        Some(main) => Ok((Load { main, text }, loaded, engine)),
+        None => Err(Refusal::Module(ModuleRefusal::MisnamedMain)),
+    }
 }
 
 impl Reactor {
@@ -153,9 +152,8 @@ impl Reactor {
     }
 
     /// Loads the module `main` of a text: the reactor has not begun, and its journal has the load's
-    /// entry, with copies of both. That the name is an identifier is the caller's condition: no
-    /// module has another. A refusal, by the text, JournalFull or Memory, gives the journal back as
-    /// it was.
+    /// entry, with copies of both. A refusal, by the text, JournalFull or Memory, gives the journal
+    /// back as it was. A name that is no identifier is UnknownModule: no module has it.
     pub fn load(
         alloc: Global,
         journal: Journal,
@@ -163,7 +161,6 @@ impl Reactor {
         main: &str,
         text: &str,
     ) -> Result<Reactor, (Refusal, Journal)>
-        requires { IsTrue (is_identifier main.now) }
         ensures { LoadAnswer journal stamp main.now text.now result }
     {
         match read_load(alloc, main, text) {

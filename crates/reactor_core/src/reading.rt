@@ -1,6 +1,5 @@
 //! From a text and the name of its main module to the module that they give.
-ghost use Rattle.std.specs.Prelude.{IfOk, IfErr, IsTrue};
-ghost use Rattle.est_text.specs.Identifiers.{is_identifier};
+ghost use Rattle.std.specs.Prelude.{IfOk, IfErr};
 ghost use Rattle.reactor_core.specs.Loading.{Gives, IsLoadFault};
 ghost use Rattle.reactor_core.specs.Standing.{given_by};
 
@@ -15,7 +14,6 @@ use std::alloc::Global;
 /// The main module of a text: it is cut, read by the grammar, linked and reduced. Each stage ends
 /// before the next begins, so a fault of an earlier one is answered before any of a later one.
 pub fn read_module(alloc: Global, main: &str, text: &str) -> Result<Module, Refusal>
-    requires { IsTrue (is_identifier main.now) }
     ensures given { IfOk result (λ m. Gives main.now text.now (given_by m)) }
     ensures fault { IfErr result (IsLoadFault main.now text.now) }
 {

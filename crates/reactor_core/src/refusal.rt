@@ -88,6 +88,8 @@ pub enum ModuleRefusal {
     Lexical(Place),
     /// The first token with which the tokens so far begin no library.
     Syntax(Place),
+    /// The name of the main module is no identifier, so no module has it.
+    MisnamedMain,
     /// The main module, or one that is run, isn't there.
     UnknownModule(Identifier),
     /// A chain of runs leads from this module back to it.
@@ -125,6 +127,7 @@ impl ModuleRefusal {
             ModuleRefusal::NoInstant => (66, "NoInstant"),
             ModuleRefusal::Lexical(_) => (70, "Lexical"),
             ModuleRefusal::Syntax(_) => (71, "Syntax"),
+            ModuleRefusal::MisnamedMain => (72, "UnknownModule"),
             ModuleRefusal::UnknownModule(_) => (72, "UnknownModule"),
             ModuleRefusal::RecursiveRun(_) => (73, "RecursiveRun"),
             ModuleRefusal::UnknownName(_) => (74, "UnknownName"),
@@ -198,6 +201,7 @@ impl From<LinkFault> for Refusal {
     fn from(fault: LinkFault) -> Refusal {
         match fault {
             LinkFault::DuplicateName(name) => Refusal::Module(ModuleRefusal::DuplicateName(name)),
+            LinkFault::MisnamedMain => Refusal::Module(ModuleRefusal::MisnamedMain),
             LinkFault::UnknownModule(name) => Refusal::Module(ModuleRefusal::UnknownModule(name)),
             LinkFault::RecursiveRun(name) => Refusal::Module(ModuleRefusal::RecursiveRun(name)),
             LinkFault::BadRename(name) => Refusal::Module(ModuleRefusal::BadRename(name)),

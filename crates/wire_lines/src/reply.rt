@@ -148,6 +148,7 @@ fn write_module_refusal(line: &mut LineWriter, refusal: &ModuleRefusal) -> Resul
         | ModuleRefusal::Pending(PendingRefusal::NotInput)
         | ModuleRefusal::Pending(PendingRefusal::AlreadyOffered)
         | ModuleRefusal::NoInstant
+        | ModuleRefusal::MisnamedMain
         | ModuleRefusal::InstantLoop => line.label(code, fault),
     }
 }

@@ -97,4 +97,4 @@ noted_act ps emitted t ks k bs (runs m rs) = noted_run ps emitted t ks k bs rs (
 
 -- the same of an occurrence
 abbrev pub noted_after : List Program → (List ℕ → List ℕ → Bool) → NameTable → List Kept → Noted → Occurrence → Noted
-noted_after ps emitted t ks k o = noted_act ps emitted t ks k o.round o.act
+noted_after ps emitted t ks k o = noted_act ps emitted t ks k o.around o.act

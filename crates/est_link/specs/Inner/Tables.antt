@@ -4,7 +4,7 @@ use Rattle.std.specs.List.{find, list_any}
 use Rattle.std.specs.Str.{bytes_eq}
 use Rattle.est_reduce.specs.Bodies.{Body, nothing}
 use Rattle.est_reduce.specs.Views.{body_of}
-use Rattle.est_link.specs.Bodies.{AllRuns}
+use Rattle.est_checks.specs.RecursiveRuns.{HasRun}
 use Rattle.est_link.specs.Linking.{linked}
 use Rattle.est_modules.specs.Modules.{Program, program_named}
 use Rattle.est_link.specs.declared.flatten.Linked.{Linked}
@@ -29,7 +29,7 @@ body_linked ps bodies (Some p) = linked ps bodies p [] p.body
 
 -- the body of an entry is made from those of the entries before, among which are those of all modules that it runs
 pub record IsMade (ps : List Program) (es : List Linked) (e : Linked) : Type 0 where
-  pub ready : (p : Program) → program_named ps e.name ≡ Some p → AllRuns (λ n. has_body es n ≡ true) p.body
+  pub ready : (n : List ℕ) → HasRun ps e.name n → has_body es n ≡ true
   pub made : body_of e.body ≡ body_linked ps (bodies_of es) (program_named ps e.name)
 
 -- a table whose bodies were made one after another

@@ -64,7 +64,7 @@ pub record IsSearching (rows : List (List ℕ)) (first : ℕ) (s : Search) : Typ
   pub sound : (place : ℕ) → IsIn s.seen place → Leads rows first place
   pub complete : (place : ℕ) → IsMet first s place → Contains s.waiting place ⊎ IsFollowed rows s.seen place
 
--- these are the first modules, so many, in the order of their places, each with its rank
+-- these are the first `count` modules in the order of their places, each with its rank
 pub record AreRanked (rows : List (List ℕ)) (count : ℕ) (ranked : List Ranked) : Type 0 where
   pub places : map (λ (m : Ranked). m.place) ranked ≡ range_with_len 0 count
   pub ranks : All (λ (m : Ranked). IsRankOf rows m.place m.rank) ranked

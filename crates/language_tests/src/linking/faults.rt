@@ -8,7 +8,7 @@ use est_syntax::tree::Renaming;
 use est_text::identifier::Identifier;
 use est_text::lex::lex;
 use link_mistakes::emitting::{callers_name, emissions_of};
-use link_mistakes::faults::{fault_before_order, fault_behind_order};
+use link_mistakes::faults::{fault_after_order, fault_before_order};
 use std::alloc::Global;
 use std::test::Fail;
 
@@ -85,7 +85,7 @@ const BEFORE_ORDER: [(&str, Kind, &str); 12] = [
 ];
 
 /// Renamings, names and emissions. The main module is M, and N emits A and T.
-const BEHIND_ORDER: [(&str, Kind, &str); 23] = [
+const AFTER_ORDER: [(&str, Kind, &str); 23] = [
     ("module M: emit X end module", Kind::Unknown, "X"),
     ("module M: emit tick end module", Kind::Emit, "tick"),
     (
@@ -261,7 +261,8 @@ fn told(fault: LinkFault) -> Option<(Kind, Identifier)> {
         LinkFault::BadRename(name) => Some((Kind::Rename, name)),
         LinkFault::UnknownName(name) => Some((Kind::Unknown, name)),
         LinkFault::EmitInput(name) => Some((Kind::Emit, name)),
-        LinkFault::RecursiveRun(_)
+        LinkFault::MisnamedMain
+        | LinkFault::RecursiveRun(_)
         | LinkFault::Semantics(_)
         | LinkFault::TooLarge(_)
         | LinkFault::Memory => None,
@@ -280,9 +281,9 @@ fn faults_of(alloc: Global, text: &str) -> Result<(Option<LinkFault>, Option<Lin
     let Some(emissions) = table() else {
         return Err(Fail::from("no name"));
     };
-    let before = fault_before_order(alloc, &heads, &main)?;
-    let behind = fault_behind_order(alloc, &heads, &main, &emissions)?;
-    Ok((before, behind))
+    let before = fault_before_order(alloc, &heads, "M")?;
+    let after = fault_after_order(alloc, &heads, &main, &emissions)?;
+    Ok((before, after))
 }
 
 /// Whether the fault is of this kind and has this name.
@@ -298,11 +299,11 @@ fn is_told(fault: Option<LinkFault>, kind: Kind, name: &str) -> bool {
 
 /// The first fault of a library, of these checks.
 fn fault_of(alloc: Global, text: &str) -> Result<Option<LinkFault>, Fail> {
-    let (before, behind) = faults_of(alloc, text)?;
+    let (before, after) = faults_of(alloc, text)?;
     if before.is_some() {
         return Ok(before);
     }
-    Ok(behind)
+    Ok(after)
 }
 
 /// Fails where the first fault of a library of a table is another.
@@ -321,7 +322,7 @@ fn expect_names(alloc: Global, rows: &[(&str, Kind, &str)]) -> Result<(), Fail> 
 #[test]
 fn first_faults_are_named(rt: HostRuntime) -> Result<(), Fail> {
     expect_names(rt.alloc(), &BEFORE_ORDER)?;
-    expect_names(rt.alloc(), &BEHIND_ORDER)
+    expect_names(rt.alloc(), &AFTER_ORDER)
 }
 
 #[test]
@@ -348,7 +349,8 @@ fn libraries_without_a_fault_pass(rt: HostRuntime) -> Result<(), Fail> {
     Ok(())
 }
 
-/// Fails where a module emits other names, in whatever order.
+/// Fails where a module emits other names, or in another order: first those of its statements and
+/// those that its runs rename, as they are met, and then the others of its runs, by their numbers.
 fn expect_emissions(
     alloc: Global,
     heads: &[Head<'_>],
@@ -358,9 +360,10 @@ fn expect_emissions(
 ) -> Result<(), Fail> {
     let found = emissions_of(alloc, &*heads, &*table, home)?;
     if found.len() != names.len()
-        || !names
+        || !found
             .iter()
-            .all(|name| found.iter().any(|one| one.as_str() == *name))
+            .zip(names.iter())
+            .all(|(one, name)| one.as_str() == *name)
     {
         return Err(Fail::from(format!(in alloc; "{found:?} in place of {names:?}")?));
     }
@@ -375,7 +378,7 @@ const EMITTED: [(&str, &[&str], &[&str]); 2] = [
         "module N: output A, B, P; emit A; sustain P || present B then emit A end end module \
         module M: output A, B, O, P; signal P in run N end; run N [signal O/A, A/P] end module",
         &["A", "P"],
-        &["A", "O"],
+        &["O", "A"],
     ),
     // by a run after the end of the `signal` that hides it
     (

@@ -199,7 +199,10 @@ fn told(fault: LinkFault) -> Option<(Kind, Identifier)> {
         LinkFault::BadRename(name) => Some((Kind::Rename, name)),
         LinkFault::UnknownName(name) => Some((Kind::Unknown, name)),
         LinkFault::EmitInput(name) => Some((Kind::Emit, name)),
-        LinkFault::Semantics(_) | LinkFault::TooLarge(_) | LinkFault::Memory => None,
+        LinkFault::MisnamedMain
+        | LinkFault::Semantics(_)
+        | LinkFault::TooLarge(_)
+        | LinkFault::Memory => None,
     }
 }
 
@@ -214,11 +217,16 @@ pub fn is_told(fault: Option<LinkFault>, kind: Kind, name: &str) -> bool {
     }
 }
 
-/// Links a text whose main module is M.
-pub fn link_text(alloc: Global, text: &str) -> Result<Result<Flat, LinkFault>, Fail> {
+/// Links a text to its main module of this name.
+fn link_named(alloc: Global, text: &str, main: &str) -> Result<Result<Flat, LinkFault>, Fail> {
     let tokens = lex(alloc, text)?;
     let library = parse(alloc, &tokens)?;
-    Ok(link(alloc, &library, "M"))
+    Ok(link(alloc, &library, main))
+}
+
+/// Links a text whose main module is M.
+pub fn link_text(alloc: Global, text: &str) -> Result<Result<Flat, LinkFault>, Fail> {
+    link_named(alloc, text, "M")
 }
 
 /// The fault of a text, if it has one.
@@ -237,6 +245,26 @@ fn first_faults_are_answered(rt: HostRuntime) -> Result<(), Fail> {
             return Err(Fail::from(format!(in rt.alloc();
                 "{fault:?} in place of {kind:?} {name}: {text}"
             )?));
+        }
+    }
+    Ok(())
+}
+
+/// Names that are no identifiers.
+const NO_IDENTIFIERS: [&str; 4] = ["", "1", "M ", "M-N"];
+
+/// No module has a name that is no identifier. That is asked after the names that stand twice, and
+/// before all else.
+#[test]
+fn a_name_that_is_no_identifier_is_unknown(rt: HostRuntime) -> Result<(), Fail> {
+    for main in NO_IDENTIFIERS {
+        let alone = link_named(rt.alloc(), "module M: run X end module", main)?;
+        if alone.err() != Some(LinkFault::MisnamedMain) {
+            return Err(Fail::from(format!(in rt.alloc(); "{main:?} is not unknown")?));
+        }
+        let twice = link_named(rt.alloc(), "module M: input A, A; nothing end module", main)?;
+        if !is_told(twice.err(), Kind::Duplicate, "A") {
+            return Err(Fail::from(format!(in rt.alloc(); "{main:?} hides what stands twice")?));
         }
     }
     Ok(())

@@ -10,6 +10,6 @@ pub returns : goal.returns
 returns c =
     let ps = map program_of c.args.heads.now in
     let em = emitted_of c.args.table.now in
-    subst (λ f. AreKept c.args.numbers.now (barred_by ps em f) c.loop-place.kept.items)
+    subst (λ f. AreKept c.args.numbers.now (barred_by ps em f) c.in_ok-kept.kept.items)
     (fun_ext (λ s. c.in_ok-inputs.ensures s ∙ ap (λ ds. is_input ds s) c.deref.ensures.value))
-    c.loop-place.invariant
+    c.in_ok-kept.ensures

@@ -9,4 +9,4 @@ pub returns : goal.returns
 returns c = λ ps em t ks.
     same_noted _
     (noted_after ps em t ks (noted_of c.args.seen.now)
-    (record { act = emits c.args.signal.now; round = binders_of c.args.scope.now })) refl c.in_ok-add_outer.ensures
+    (record { act = emits c.args.signal.now; around = binders_of c.args.scope.now })) refl c.in_ok-add_outer.ensures

@@ -1,11 +1,11 @@
 use Rattle.std.proofs.Common.{◌≡◌, ◌∙◌, List, IfOk, map, ap, sym, subst}
 use Rattle.std.proofs.lemmas.List.{take_all}
-use Rattle.est_kernel.specs.Term.{Query, Queries, Joint, joined}
+use Rattle.est_kernel.specs.Term.{Query, Joint, joined}
 use Rattle.est_kernel.specs.View.{queries_of}
 use Rattle.est_reduce.specs.Views.{bound_query as query_view}
 use Rattle.est_reduce.proofs.Tests.{operands_seen}
 use Rattle.est_link.specs.Inner.Binds.{binding_of}
-use Rattle.est_link.specs.Linking.{bound_query, bound_queries}
+use Rattle.est_link.specs.Linking.{query_in_run, queries_in_run}
 use Rattle.est_link.proofs.Binding.{test_bound, listed_bound}
 use Rattle.est_link.proofs.bound_bodies.+tests.Goals as goal
 
@@ -32,5 +32,5 @@ bind_joined-returns t c =
     ∙ ap (λ (rs : List Query). joined k (test_bound qs l o.first.value)
     (queries_of (test_bound qs l o.second.value) rs)) later
     ∙ ap (joined k (test_bound qs l o.first.value)) (sym (listed_bound qs l (query_view o.second.value) o.later.items))
-    ∙ sym (ap (λ (j : Joint). joined k (bound_query qs l j.first) (bound_queries qs l j.later)) (operands_seen o)))
+    ∙ sym (ap (λ (j : Joint). joined k (query_in_run qs l j.first) (queries_in_run qs l j.later)) (operands_seen o)))
     c.joined.ensures

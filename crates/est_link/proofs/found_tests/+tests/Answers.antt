@@ -3,7 +3,6 @@ use Rattle.std.proofs.lemmas.List.{take_all}
 use Rattle.est_kernel.specs.Term.{Query, joined}
 use Rattle.est_kernel.specs.View.{queries_of}
 use Rattle.est_kernel.specs.declared.statement.Connective.TheVariants.{And, Or}
-use Rattle.est_syntax.specs.Views.{conjunction_view}
 use Rattle.est_syntax.specs.declared.tree.Literal.TheViews.{out-Conjunction, out-Expression}
 use Rattle.est_modules.specs.Modules.{program_of}
 use Rattle.est_modules.specs.Scopes.{binders_of}

@@ -1,15 +1,17 @@
 use Rattle.std.proofs.Common.{◌≡◌, ◌∙◌, sym, subst, map, length, true, Contains}
-use Rattle.est_link.specs.Bodies.{IsLinked}
+use Rattle.est_link.specs.Linking.{IsLinked}
 use Rattle.est_link.specs.Inner.Needs.{IsClosed, HasFront}
 use Rattle.est_link.specs.Inner.Tables.{has_body, bodies_of}
 use Rattle.est_link.specs.MainModule.{declarations_of}
-use Rattle.est_modules.specs.Modules.{program_of}
+use Rattle.std.specs.Str.{bytes_eq}
+use Rattle.est_modules.specs.Modules.{Program, program_of}
 use Rattle.est_modules.specs.ModuleOrders.{IsOrderOf}
 use Rattle.est_link.proofs.Bounding.{IsSound, made_sound}
 use Rattle.est_link.proofs.MainBody.{main_bound}
 use Rattle.est_link.proofs.Made.{made_linked}
 use Rattle.est_modules.proofs.Ordering.{place_found}
-use Rattle.est_link.proofs.Taking.{main_has, main_there, placed}
+use Rattle.est_checks.proofs.RunsThere.{none_missing}
+use Rattle.est_link.proofs.Taking.{find_at_place, main_has, main_there, placed}
 use Rattle.est_reduce.specs.Bound.{IsBound}
 use Rattle.est_link.proofs.linked_module.linked_body.Goals as goal
 
@@ -34,7 +36,10 @@ returns-in_ok-bodies-in-Some-clause-linked c =
     (sym c.deref.ensures.value) c.in_ok-needed-in-Some.ensures.main in
     let here : has_body es main ≡ true = main_has ps order set es main place module_at.0
     (subst (IsOrderOf ps) (sym c.places-in-Some.ensures) c.requires.order) front has at module_at.1 in
-    subst (IsLinked ps main) (sym c.take_body.ensures) (made_linked ps es c.in_ok-bodies-in-Some.ensures.made main here)
+    let found = find_at_place (λ (p : Program). bytes_eq p.name main) ps place module_at.0 (sym at) module_at.1 in
+    subst (IsLinked ps main) (sym c.take_body.ensures)
+    (made_linked ps (none_missing ps main c.requires.there) es c.in_ok-bodies-in-Some.ensures.made main module_at.0
+    found here)
 
 pub returns-in_ok-bodies-in-Some-clause-bound : goal.returns-in_ok-bodies-in-Some-clause-bound
 returns-in_ok-bodies-in-Some-clause-bound c =

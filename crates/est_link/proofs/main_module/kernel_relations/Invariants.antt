@@ -7,7 +7,7 @@ use Rattle.est_link.proofs.main_module.kernel_relations.Given as goal
 abbrev pub invariant-loop-relation : goal.invariant-loop-relation
 invariant-loop-relation l =
     record {
-      made : AreRelations l.signals
+      made : AreRelations l.interface
           (map (λ (r : Bor Relation). relation_view r.now) (take l.relation-index l.relations)) l.made;
       count : length l.made ≡ l.relation-index;
     }

@@ -14,11 +14,10 @@ invariant_of-result c =
     let p = program_of c.args.home.now in
     let rs = c.in_ok-relations.relations in
     let interface = c.in_ok-interface.ensures ∙ ap (map declaration_of) c.deref.ensures.value in
-    let signals = c.in_ok-signals.ensures ∙ ap (map declaration_of) c.deref-2.ensures.value in
-    let written = ap (map (λ (r : Bor Relation). relation_view r.now)) c.deref-3.ensures.value
+    let written = ap (map (λ (r : Bor Relation). relation_view r.now)) c.deref-2.ensures.value
     ∙ c.in_ok-listed.ensures in
-    let are = subst (λ ds. AreRelations ds p.relations rs) signals
-    (subst (λ ts. AreRelations c.in_ok-signals.signals ts rs) written c.in_ok-relations.ensures) in
+    let are = subst (λ ds. AreRelations ds p.relations rs) interface
+    (subst (λ ts. AreRelations c.in_ok-interface.interface ts rs) written c.in_ok-relations.ensures) in
     record {
       over_inputs = subst (λ ds. AreOverInputs ds rs) (sym interface)
           (over_inputs p rs c.requires.distinct c.requires.lawful are);

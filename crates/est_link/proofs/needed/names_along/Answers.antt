@@ -1,8 +1,7 @@
 use Rattle.std.proofs.Common.{◌∙◌, ◌+◌, sym, ap, subst, map, slice_index, Contains, ◌++◌, ◌∷◌, [], arith}
 use Rattle.std.proofs.lemmas.Bool.{false≢true}
 use Rattle.std.proofs.lemmas.List.{length-map}
-use Rattle.est_link.specs.Bodies.{AreBottomUp}
-use Rattle.est_link.specs.Inner.Needs.{HasFront}
+use Rattle.est_link.specs.Inner.Needs.{AreBottomUp, HasFront}
 use Rattle.est_modules.specs.Modules.{program_of}
 use Rattle.est_link.proofs.Needing.{next_name, next_front, front_past}
 use Rattle.est_modules.proofs.Standing.{order_within, program_at}

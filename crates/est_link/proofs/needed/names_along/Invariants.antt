@@ -1,7 +1,6 @@
 use Rattle.std.proofs.Common.{map}
-use Rattle.est_link.specs.Bodies.{AreBottomUp}
 use Rattle.est_modules.specs.Modules.{program_of}
-use Rattle.est_link.specs.Inner.Needs.{HasFront}
+use Rattle.est_link.specs.Inner.Needs.{AreBottomUp, HasFront}
 use Rattle.est_link.proofs.needed.names_along.Given as goal
 
 abbrev pub invariant-loop-place : goal.invariant-loop-place

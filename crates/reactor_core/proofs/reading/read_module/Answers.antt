@@ -7,6 +7,7 @@ use Rattle.est_kernel.specs.Limits.{limit_passed}
 use Rattle.est_kernel.specs.StartCodes.{IsLoopSafe}
 use Rattle.est_kernel.specs.Term.{Term}
 use Rattle.est_checks.specs.FirstFaults.{IsFirstFault}
+use Rattle.est_link.specs.FlatModules.{flat_of}
 use Rattle.est_modules.specs.Modules.{programs_of}
 use Rattle.est_checks.specs.declared.fault.LinkFault.{LinkFault}
 use Rattle.est_checks.specs.declared.fault.LinkFault.TheVariants as link
@@ -16,6 +17,7 @@ use Rattle.est_text.specs.declared.lex.LexFault.TheVariants as lex
 use Rattle.reactor_core.specs.Faults.{refusal_of_link}
 use Rattle.reactor_core.specs.Loading.{IsCutOf, Spells, LinksTo, IsLoadFault, in_cutting, in_grammar, in_linking}
 use Rattle.reactor_core.specs.Loading.{in_reduction}
+use Rattle.reactor_core.proofs.OneLoad.{no_fault}
 use Rattle.reactor_core.proofs.reading.read_module.Goals as goal
 
 -- want of memory while linking is that of a load
@@ -61,9 +63,9 @@ returns-in_err-kernel-clause-fault c =
     let library = library_view c.in_ok-library.library in
     let spells : Spells c.args.text.now library =
     record { tokens = c.in_ok-tokens.tokens; cut = cut; spelt = l.spelt; shallow = l.depth } in
-    let links : LinksTo c.args.main.now c.args.text.now c.in_ok-flat.flat =
-    record { library = library; spells = spells; sound = f.first; is = f.flat } in
-    rw (p.1, p.2) (in_reduction c.in_ok-flat.flat links c.in_err-kernel.field-0.0 c.in_err-kernel.ensures)
+    let links : LinksTo c.args.main.now c.args.text.now (flat_of c.in_ok-flat.flat) =
+    record { library = library; spells = spells; sound = no_fault library c.args.main.now f.first; is = f.flat } in
+    rw (p.1, p.2) (in_reduction (flat_of c.in_ok-flat.flat) links c.in_err-kernel.field-0.0 c.in_err-kernel.ensures)
 
 pub returns-clause-given : goal.returns-clause-given
 returns-clause-given c =
@@ -76,8 +78,13 @@ returns-clause-given c =
     let spells : Spells c.args.text.now library =
     record { tokens = c.in_ok-tokens.tokens; cut = cut; spelt = l.spelt; shallow = l.depth } in
     record {
-      flat = c.in_ok-flat.flat;
-      links = record { library = library; spells = spells; sound = f.first; is = f.flat };
+      flat = flat_of c.in_ok-flat.flat;
+      links = record {
+        library = library;
+        spells = spells;
+        sound = no_fault library c.args.main.now f.first;
+        is = f.flat;
+      };
       declares = k.declares;
       relates = refl;
       begins = k.term;

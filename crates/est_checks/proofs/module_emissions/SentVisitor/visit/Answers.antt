@@ -14,7 +14,7 @@ returns-in-Emits c =
     let k = noted_of c.args.seen.now in
     subst (λ act. OnOk c.note_emission.result
     (noted_of c.note_emission.new.seen ≡ noted_after ps em t ks k
-    (record { act = act_of act; round = binders_of c.args.scope.now }))) (sym c.in-Emits.is)
+    (record { act = act_of act; around = binders_of c.args.scope.now }))) (sym c.in-Emits.is)
     (c.note_emission.ensures ps em t ks)
 
 pub returns-in-Tests : goal.returns-in-Tests
@@ -24,7 +24,7 @@ returns-in-Tests c =
     let t = c.args.self.now.names.now in
     let ks = c.args.self.now.kept.now in
     let k = noted_of c.args.seen.now in
-    subst (λ act. k ≡ noted_after ps em t ks k (record { act = act_of act; round = binders_of c.args.scope.now }))
+    subst (λ act. k ≡ noted_after ps em t ks k (record { act = act_of act; around = binders_of c.args.scope.now }))
     (sym c.in-Tests.is) refl
 
 pub returns-in-Exits : goal.returns-in-Exits
@@ -34,7 +34,7 @@ returns-in-Exits c =
     let t = c.args.self.now.names.now in
     let ks = c.args.self.now.kept.now in
     let k = noted_of c.args.seen.now in
-    subst (λ act. k ≡ noted_after ps em t ks k (record { act = act_of act; round = binders_of c.args.scope.now }))
+    subst (λ act. k ≡ noted_after ps em t ks k (record { act = act_of act; around = binders_of c.args.scope.now }))
     (sym c.in-Exits.is) refl
 
 pub returns-in-Binds : goal.returns-in-Binds
@@ -44,7 +44,7 @@ returns-in-Binds c =
     let t = c.args.self.now.names.now in
     let ks = c.args.self.now.kept.now in
     let k = noted_of c.args.seen.now in
-    subst (λ act. k ≡ noted_after ps em t ks k (record { act = act_of act; round = binders_of c.args.scope.now }))
+    subst (λ act. k ≡ noted_after ps em t ks k (record { act = act_of act; around = binders_of c.args.scope.now }))
     (sym c.in-Binds.is) refl
 
 pub returns-in-Runs : goal.returns-in-Runs
@@ -56,4 +56,4 @@ returns-in-Runs c =
     let k = noted_of c.args.seen.now in
     subst (λ act. OnOk c.note_run.result
     (noted_of c.note_run.new.seen ≡ noted_after ps em t ks k
-    (record { act = act_of act; round = binders_of c.args.scope.now }))) (sym c.in-Runs.is) c.note_run.ensures
+    (record { act = act_of act; around = binders_of c.args.scope.now }))) (sym c.in-Runs.is) c.note_run.ensures

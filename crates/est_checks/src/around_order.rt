@@ -1,10 +1,11 @@
-//! The checks of a library in their order.
+//! The checks of a library that come before the order of its modules, and those that come after it.
 ghost use Rattle.std.specs.Prelude.{◌≡◌, map, option_map, IfOk};
 ghost use Rattle.est_modules.specs.Modules.{program_of};
 ghost use Rattle.est_modules.specs.NameTables.{IsTable};
 ghost use Rattle.est_checks.specs.Emissions.{emitted_of};
+ghost use Rattle.est_checks.specs.FirstFaults.{Finds};
 ghost use Rattle.est_checks.specs.LinkFaults.{lawless_number, fault_before_order};
-ghost use Rattle.est_checks.specs.LinkFaults.{fault_behind_order};
+ghost use Rattle.est_checks.specs.LinkFaults.{fault_after_order};
 
 use crate::bad_renamings::BadRename;
 use crate::duplicates::first_duplicate;
@@ -20,26 +21,30 @@ use est_modules::name_table::NameTable;
 use est_text::identifier::Identifier;
 use std::alloc::{AllocError, Global};
 
-/// The first fault of the checks that come before the order of the modules: names that are declared
-/// twice, modules that aren't there.
+/// The checks that come before the order of the modules: names that are declared twice, modules
+/// that aren't there. Where they have no fault, the name of the main module is an identifier.
 ///
 /// # Errors
 ///
-/// `AllocError` where memory is refused for the names that were met.
-pub fn fault_before_order<'a>(
+/// The first fault; or memory was refused for the names that were met.
+pub fn check_before_order<'a>(
     alloc: Global,
     heads: &'a [Head<'a>],
-    main: &Identifier,
-) -> Result<Option<LinkFault>, AllocError>
-    ensures { IfOk result (λ fault. fault ≡ fault_before_order (map program_of heads.now)
-        main.now) }
+    main: &str,
+) -> Result<Identifier, LinkFault>
+    ensures name { IfOk result (λ name. name ≡ main.now) }
+    ensures found { Finds (λ found. found ≡ fault_before_order (map program_of heads.now) main.now)
+        result }
 {
     if let Some(name) = first_duplicate(alloc, &*heads)? {
-        return Ok(Some(LinkFault::DuplicateName(name)));
+        return Err(LinkFault::DuplicateName(name));
     }
-    match first_missing(alloc, &*heads, main)? {
-        Some(name) => Ok(Some(LinkFault::UnknownModule(name))),
-        None => Ok(None),
+    let Some(main) = Identifier::from_text(main) else {
+        return Err(LinkFault::MisnamedMain);
+    };
+    match first_missing(alloc, &*heads, &main)? {
+        Some(name) => Err(LinkFault::UnknownModule(name)),
+        None => Ok(main),
     }
 }
 
@@ -54,14 +59,14 @@ fn lawless_number(alloc: Global, main: Option<&Head<'_>>) -> Result<Option<usize
     }
 }
 
-/// The first fault of the checks that come behind the order of the modules: renamings, names that
+/// The first fault of the checks that come after the order of the modules: renamings, names that
 /// aren't visible, emissions of inputs, relations of the main module. The table says what each
 /// module emits.
 ///
 /// # Errors
 ///
 /// `AllocError` where memory is refused for the list of the relations.
-pub fn fault_behind_order<'a>(
+pub fn fault_after_order<'a>(
     alloc: Global,
     names: &NameTable<'_>,
     heads: &'a [Head<'a>],
@@ -69,7 +74,7 @@ pub fn fault_behind_order<'a>(
     table: &'a [Emission],
 ) -> Result<Option<LinkFault>, AllocError>
     requires { IsTable names.now }
-    ensures { IfOk result (λ fault. fault ≡ fault_behind_order (map program_of heads.now) main.now
+    ensures { IfOk result (λ fault. fault ≡ fault_after_order (map program_of heads.now) main.now
         (emitted_of table.now)) }
 {
     let none = NameTable::new(alloc);

@@ -1,0 +1,20 @@
+use Rattle.std.proofs.Common.{None, map, subst}
+use Rattle.std.proofs.lemmas.Result.{err_from_is_err_and}
+use Rattle.est_checks.specs.FirstFaults.{IsFirstOf}
+use Rattle.est_checks.specs.Inner.Stages.{run_checks}
+use Rattle.est_modules.specs.Modules.{program_of}
+use Rattle.est_checks.proofs.Finding.{first_found, first_next}
+use Rattle.est_checks.proofs.library_check.check_library.Goals as goal
+
+pub returns-in_err-main-clause-found : goal.returns-in_err-main-clause-found
+returns-in_err-main-clause-found c =
+    let p = err_from_is_err_and c.from_residual.result c.from_residual.ensures.1 in
+    rw (p.1, p.2)
+    (first_found (map program_of c.args.heads.now) c.args.main.now c.in_err-main.field-0.0
+    c.in_err-main.ensures.found)
+
+pub returns-clause-found : goal.returns-clause-found
+returns-clause-found c =
+    let ps = map program_of c.args.heads.now in
+    first_next ps c.args.main.now c.in_ok-main.ensures.found None
+    (subst (λ m. IsFirstOf (run_checks ps m) None) c.in_ok-main.ensures.name c.in_ok-order.ensures.found)
