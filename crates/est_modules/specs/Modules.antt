@@ -79,8 +79,7 @@ program_of h =
       name = h.name;
       interface = h.interface.items;
       relations = relations_of (map declaration_view h.declarations.now);
-      body =
-          statement_derived (statement_view h.body.now);
+      body = statement_derived (statement_view h.body.now);
     }
 
 -- the first module of a name, if one has it

@@ -43,8 +43,10 @@ struct Ranked {
 /// The modules in an order in which each stands after all that it runs. `runs` has, for each
 /// module, the places of those that it runs; a number that is no place is passed over.
 ///
-/// # Errors `Recursive` with the place of the first module from which a chain of one or more runs
-/// leads back to it, where there is one; or memory was refused.
+/// # Errors
+///
+/// `Recursive` with the place of the first module from which a chain of one or more runs leads
+/// back to it, where there is one; or memory was refused.
 pub fn order_modules(alloc: Global, runs: &[Vec<usize>]) -> Result<Order, OrderFault>
     ensures bottom_up { IfOk result (λ order. IsBottomUp (rows_of runs.now) order) }
     ensures ok { OnOk result (NoneIsRecursive (rows_of runs.now)) }
