@@ -32,12 +32,12 @@ use est_rounds::signal_set::{self, Env, SignalSet};
 pub struct Place {
     /// Whether they are those of the incarnation that can go on from its pauses.
     pub main: bool,
+    /// Which side of a `||` is visited first.
+    pub direction: Direction,
     /// The cell for whether it is begun. Those for its codes follow.
     pub cell: usize,
     /// How many traps are around it.
     pub traps: usize,
-    /// Which side of a `||` is visited first.
-    pub direction: Direction,
 }
 
 /// What the cells of a statement say after a sweep.
@@ -102,7 +102,7 @@ pub fn is_true(status: Status) -> bool
 }
 
 /// Whether a cell isn't false.
-fn may_be_true(status: Status) -> bool
+pub fn may_be_true(status: Status) -> bool
     ensures { result ≡ is_possible status }
 {
     match status {
@@ -135,6 +135,7 @@ fn with_cell(read: CodesRead, code: usize, status: Status) -> CodesRead
 }
 
 /// Tells `count` code cells what is judged of their codes, and reads them.
+#[inline(always)]
 fn tell(table: &mut Table, cell: usize, count: usize, judged: &Judgement) -> CodesRead
     requires within { cell + count ≤ length table.old.cells.items }
     requires few { count ≤ 64 }
@@ -447,6 +448,7 @@ fn with_possible(present: u64, more: u64, possible: u64) -> u64
 }
 
 /// Tells a statement's code cells what is judged of it, and reads them.
+#[inline(always)]
 pub fn leave(table: &mut Table, at: Place, own: &Judgement, past: usize) -> Found
     requires within { at.cell + at.traps + 3 ≤ length table.old.cells.items }
     requires few { at.traps ≤ 62 }
