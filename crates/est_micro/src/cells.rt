@@ -11,7 +11,7 @@ ghost use Rattle.est_meaning.specs.Signals.{no_signals, union, without};
 ghost use Rattle.est_meaning.specs.Status.{verdict};
 ghost use Rattle.est_cells.specs.Gates.{sure_code, may_code, then_codes};
 ghost use Rattle.est_cells.specs.Tables.{if_run, is_sure, is_possible};
-ghost use Rattle.est_net.specs.Cells.{cell_at};
+ghost use Rattle.est_net.specs.Cells.{Learns, cell_at};
 ghost use Rattle.est_net.specs.Layout.{sure_codes, possible_codes};
 ghost use Rattle.est_rounds.specs.Views.{env_of, set_of};
 ghost use Rattle.est_micro.specs.Sweeps.{told};
@@ -134,23 +134,52 @@ fn with_cell(read: CodesRead, code: usize, status: Status) -> CodesRead
     }
 }
 
-/// Tells `count` code cells what is judged of their codes, and reads them.
+/// Tells a code cell what is judged of its code, and adds what it then says to what was read.
+#[inline(always)]
+fn tell_code(
+    table: &mut Table,
+    cell: usize,
+    code: usize,
+    judged: &Judgement,
+    read: CodesRead,
+) -> CodesRead
+    requires within { cell + code < length table.old.cells.items }
+    requires few { code < 64 }
+    ensures learns { Learns (cell + code)
+        (verdict (codes_of judged.now.must.codes code) (codes_of judged.now.can.codes code))
+        table.old.cells.items table.new.cells.items }
+    ensures sure { codes_of result.sure code
+        ≡ (codes_of read.sure code || is_sure (cell_at table.new.cells.items (cell + code))) }
+    ensures other_sure { (k : ℕ) → k ≢ code → codes_of result.sure k ≡ codes_of read.sure k }
+    ensures possible { codes_of result.possible code
+        ≡ (codes_of read.possible code || is_possible (cell_at table.new.cells.items (cell + code))) }
+    ensures other_possible { (k : ℕ) → k ≢ code
+        → codes_of result.possible k ≡ codes_of read.possible k }
+{
+    let status = table.learn(cell + code, verdict_on(judged, code));
+    with_cell(read, code, status)
+}
+
+/// Tells `count` code cells what is judged of their codes, and reads them. Those of codes 0 and 1,
+/// which every statement has, stand before the loop, since the compiler then knows their codes.
 #[inline(always)]
 fn tell(table: &mut Table, cell: usize, count: usize, judged: &Judgement) -> CodesRead
     requires within { cell + count ≤ length table.old.cells.items }
+    requires some { 2 ≤ count }
     requires few { count ≤ 64 }
     ensures told { AreTold cell count judged.now table.old.cells.items table.new.cells.items }
     ensures sure { codes_of result.sure ≡ sure_codes (cell_at table.new.cells.items) cell count }
     ensures possible { codes_of result.possible
         ≡ possible_codes (cell_at table.new.cells.items) cell count }
 {
-    let mut read = CodesRead {
+    let none = CodesRead {
         sure: CodeSet::empty(),
         possible: CodeSet::empty(),
     };
-    for code in 0..count {
-        let status = table.learn(cell + code, verdict_on(judged, code));
-        read = with_cell(read, code, status);
+    let first = tell_code(table, cell, 0, judged, none);
+    let mut read = tell_code(table, cell, 1, judged, first);
+    for code in 2..count {
+        read = tell_code(table, cell, code, judged, read);
     }
     read
 }

@@ -76,6 +76,32 @@ fn keep(on: bool, s: &Statement, pauses: &PauseSet, next: &mut PauseSet)
     }
 }
 
+/// Puts the pauses at which a part stands into `next`, if it is on. One that has no parts and no
+/// pause is passed over without a call. Answers the first place after its cells.
+#[cycle(collect)]
+#[inline(always)]
+fn collect_part(
+    table: &Table,
+    main: bool,
+    cell: usize,
+    traps: usize,
+    s: &Statement,
+    on: bool,
+    pauses: &PauseSet,
+    next: &mut PauseSet,
+) -> usize
+    requires { cell + sheet_size main s.now traps ≤ length table.now.cells.items }
+    ensures { Collects s.now main cell traps table.now.cells.items on pauses.now next.old next.new
+        result }
+{
+    match s {
+        Statement::Nothing => cell + traps + 3,
+        Statement::Emit(_) => cell + traps + 3,
+        Statement::Exit(_) => cell + traps + 3,
+        _ => collect(table, main, cell, traps, s, on, pauses, next),
+    }
+}
+
 /// Puts the pauses at which two parts stand into `next`, if they are on. Answers the first place
 /// after their cells.
 #[cycle(collect)]
@@ -95,8 +121,8 @@ fn collect_two(
     ensures { CollectsTwo p.now q.now main cell traps table.now.cells.items on pauses.now
         next.old next.new result }
 {
-    let past = collect(table, main, cell, traps, p, on, pauses, next);
-    collect(table, main, past, traps, q, on, pauses, next)
+    let past = collect_part(table, main, cell, traps, p, on, pauses, next);
+    collect_part(table, main, past, traps, q, on, pauses, next)
 }
 
 /// Puts the pauses at which a suspended statement stands into `next`, if it is on: where the

@@ -7,8 +7,8 @@ use Rattle.est_micro.proofs.next.+collect.Goals as goal
 
 pub collect_two-returns : goal.collect_two-returns
 collect_two-returns t c =
-    two_collected c.args.main c.args.cell c.args.traps c.args.p.now c.args.q.now _ c.args.on c.args.pauses.now _ _ _ _ _ c.collect-past.ensures
-    c.collect.ensures
+    two_collected c.args.main c.args.cell c.args.traps c.args.p.now c.args.q.now _ c.args.on c.args.pauses.now _ _ _ _ _ c.collect_part-past.ensures
+    c.collect_part.ensures
 
 pub collect_par-returns : goal.collect_par-returns
 collect_par-returns t c = λ a b.
@@ -84,3 +84,18 @@ collect_suspend-gives_pause-body_pauses-requires t c =
     let least = size_least c.args.main c.args.p.now c.args.traps in
     let within = c.requires in
     omega arith
+
+pub collect_part-returns-in-Nothing : goal.collect_part-returns-in-Nothing
+collect_part-returns-in-Nothing t c =
+    rw c.in-Nothing.is
+    (record { put_in = λ i. or_nothing (pauses_of c.args.next.now i) c.args.on; past_is = omega arith })
+
+pub collect_part-returns-in-Emit : goal.collect_part-returns-in-Emit
+collect_part-returns-in-Emit t c =
+    rw c.in-Emit.is
+    (record { put_in = λ i. or_nothing (pauses_of c.args.next.now i) c.args.on; past_is = omega arith })
+
+pub collect_part-returns-in-Exit : goal.collect_part-returns-in-Exit
+collect_part-returns-in-Exit t c =
+    rw c.in-Exit.is
+    (record { put_in = λ i. or_nothing (pauses_of c.args.next.now i) c.args.on; past_is = omega arith })
