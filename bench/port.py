@@ -2,12 +2,14 @@
 """How many instructions a cell the microstep engine takes, by a port to Rust, before anything is proved.
 
 usage: port.py [NAME ..]
+       port.py --exponents [FAMILY ..]
 
 The files of `est_micro` and what it calls are nearly Rust. This script takes out of them what Rust doesn't know (clauses, ghost lines and a
 few attributes), and builds them by `rustc -O` with bench/port.rs, which holds what else is needed. The programs are those of
 bench/worklist.py, all but the largest one, or those that are named. Each runs on the port and on `bench/worklist.c` under
 `valgrind --tool=callgrind`. Both have to decide as many cells and to give one sum of outputs; else the script ends with 1. A line for each
 program: its cells, the instructions a cell of both, and their ratio. The counts of the proved program are within some 20 of a hundred.
+--exponents prints the exponents of its families, as bench/worklist.py does, by the port.
 """
 import pathlib
 import re
@@ -87,9 +89,9 @@ def flat(statement):
     return " ".join(part if isinstance(part, str) else flat(part) for part in statement)
 
 
-def case(name, folder):
+def case(name, folder, made=None):
     """The file that the port reads of a program."""
-    _, inputs, outputs, statement, masks = worklist.programs()[name]
+    inputs, outputs, statement, masks = made or worklist.programs()[name][1:]
     path = folder / f"{name}.case"
     lines = (" ".join(f"{mask:x}" for mask in masks), " ".join(inputs), " ".join(outputs), flat(statement))
     path.write_text("\n".join(lines) + "\n", encoding="utf-8")
@@ -102,8 +104,23 @@ def counted(words_of):
     return (spent[1] - spent[0]) / INSTANTS, worklist.run(words_of(1 + INSTANTS), "")[1]
 
 
+def exponents(names):
+    """Prints the exponents of the port's instructions an instant over cells."""
+    with tempfile.TemporaryDirectory() as made:
+        folder = pathlib.Path(made)
+        port = built(folder)
+
+        def spent_by(name, parts):
+            given = case(name, folder, parts)
+            spent, line = counted(lambda count: [port, given, str(count)])
+            return int(line.split()[0]), spent
+        worklist.print_exponents(names, spent_by)
+
+
 def main(names):
     sys.setrecursionlimit(20000)
+    if names[:1] == ["--exponents"]:
+        return exponents(names[1:])
     ratios = []
     with tempfile.TemporaryDirectory() as made:
         folder = pathlib.Path(made)

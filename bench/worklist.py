@@ -3,6 +3,7 @@
 
 usage: worklist.py PROGRAM [PAIRS] [NAME ..]
        worklist.py --check PROGRAM [NAME ..]
+       worklist.py --exponents PROGRAM [FAMILY ..]
 
 PROGRAM is the built `crates/engine_pairs/out/engine_pairs`. Each program below is written as kernel statements. This script prints it as a
 module, which PROGRAM loads, and lays out its cells and their gates itself, for `bench/worklist.c`, which it builds with the system's `cc -O2`.
@@ -12,6 +13,9 @@ be as many, all of them decided in the last instant, and the sums of their outpu
 A time is the processor time of a run, user and system, less that of a run of one instant, over instants and cells. Each row has the medians
 of PAIRS pairs (10 if left out), the two programs in turn, and the median of their ratios. The instructions are callgrind's, one run each. The
 plain engine is timed too where local signals nest at most six deep. --check compares sums alone, over few instants.
+
+--exponents counts the engine's instructions an instant in programs of one kind and of growing size, and prints for each such family the
+exponent: the slope of the line that fits the logarithms of instructions over those of cells best. 1 is linear.
 """
 import math
 import os
@@ -123,14 +127,23 @@ def abro(count):
     return loop_each(seq(waits, emit("O0")), "R")
 
 
-def relay(order):
-    tellers = [emit("O0")] + [present(f"O{n}", emit(f"O{n + 1}")) for n in range(63)]
+def emissions(count):
+    return loop(*(emit(f"O{n}") for n in range(count)), PAUSE)
+
+
+def relay(order, count=64):
+    tellers = [emit("O0")] + [present(f"O{n}", emit(f"O{n + 1}")) for n in range(count - 1)]
     return loop(par(*tellers[::order]), PAUSE)
 
 
-def sequence():
+def ended(count):
+    """Parts side by side that have all ended but the last."""
+    return par(*(PAUSE for _ in range(count)), loop(emit("O0"), PAUSE))
+
+
+def sequence(parts=500):
     signals = names("S", 6)
-    body = seq(*(present(f"S{n % 6}", emit(f"O{n % 64}")) for n in reversed(range(500))), PAUSE)
+    body = seq(*(present(f"S{n % 6}", emit(f"O{n % 64}")) for n in reversed(range(parts))), PAUSE)
     for name in reversed(signals):
         body = ("local", name, seq(emit(name), body))
     return loop(body)
@@ -161,6 +174,12 @@ def block(n):
     return loop(("trap", "B", par(waiting, sustain(f"O{n % 28}"))))
 
 
+def busy_loops(depth):
+    """Loops in one another round two states of 24 emissions."""
+    states = (*(emit(f"O{n}") for n in range(1, 25)), PAUSE, *(emit(f"O{n}") for n in range(25, 49)), PAUSE)
+    return nested_loops(depth, seq(*states))
+
+
 def deep(parts, depth):
     """Parallel parts under sixteen traps, each a statement under loops in one another."""
     def part(n):
@@ -174,10 +193,36 @@ def deep(parts, depth):
     return body
 
 
+EIGHT = [1 << n % 8 | (0x55 if n % 5 == 0 else 0) for n in range(40)]
+
+
+def families():
+    """For each its name, its sizes, and what makes the program of a size: as those below are, without what it is."""
+    def outputs(make, letters="O"):
+        return lambda n: ([], [name for letter in letters for name in names(letter, min(64 // len(letters), 2 * n))], make(n), [0])
+
+    def eight(make):
+        return lambda n: (names("I", 8), names("O", 56), make(n), EIGHT)
+    return {
+        "parallel": ((16, 32, 64, 128, 227), outputs(lambda n: blinkers(n, min(64, 2 * n)))),
+        "sequence": ((60, 120, 250, 500), outputs(sequence)),
+        "many-outputs": ((8, 16, 32, 64), outputs(emissions)),
+        "relay": ((8, 16, 32, 64), outputs(lambda n: relay(-1, n))),
+        "relay-on": ((8, 16, 32, 64), outputs(lambda n: relay(1, n))),
+        "abro": ((2, 4, 8, 16), lambda n: (names("A", n) + ["R"], names("O", 1), abro(n), [0, 1, 2, (1 << n) - 1, 1 << n])),
+        "chain": ((4, 8, 15, 30), eight(chain)),
+        "every": ((6, 12, 25, 50), eight(lambda n: par(*(every(emit(f"O{k}"), f"I{k % 8}") for k in range(n))))),
+        "local": ((5, 10, 20, 40), outputs(lambda n: loop(told(names("S", n), "O0"), PAUSE))),
+        "ring": ((4, 8, 16, 32), outputs(ring, "PT")),
+        "blocks": ((12, 24, 47, 94), eight(lambda n: par(*(block(k) for k in range(n))))),
+        "loops": ((2, 4, 8, 16), outputs(busy_loops)),
+        "ended": ((30, 60, 120, 240), outputs(ended)),
+    }
+
+
 def programs():
     """For each its name and what it is; its inputs; its outputs; its statement; and the masks of the inputs of its instants."""
-    eight = [1 << n % 8 | (0x55 if n % 5 == 0 else 0) for n in range(40)]
-    none = [0]
+    eight, none = EIGHT, [0]
     return {
         "opening": ("a loop of `emit O; pause; emit P; pause`", [], names("O", 2), blinker("O0", "O1"), none),
         "parallel": ("16 loops of two states, side by side", [], names("O", 32), blinkers(16, 32), none),
@@ -186,7 +231,7 @@ def programs():
         "large": ("227 loops of two states, side by side", [], names("O", 64), blinkers(227, 64), none),
         "sequence": ("a sequence of 500 parts under 6 local signals", [], names("O", 64), sequence(), none),
         "many-outputs": ("64 emissions of 64 outputs", [], names("O", 64),
-                         loop(*(emit(f"O{n}") for n in range(64)), PAUSE), none),
+                         emissions(64), none),
         "relay": ("64 outputs, each told by one later in the text", [], names("O", 64), relay(-1), none),
         "relay-on": ("64 outputs, each told by one earlier in the text", [], names("O", 64), relay(1), none),
         "abro2": ("ABRO", ["A0", "A1", "R"], names("O", 1), abro(2), [1, 2, 0, 4, 3, 1, 5, 2]),
@@ -202,7 +247,7 @@ def programs():
         "blocks94": ("94 waits, each beside an output that is sustained meanwhile", names("I", 8), names("O", 56),
                      par(*(block(n) for n in range(94))), eight),
         "loops16": ("16 loops in one another round two states of 24 emissions", [], names("O", 49),
-                    nested_loops(16, seq(*(emit(f"O{n}") for n in range(1, 25)), PAUSE, *(emit(f"O{n}") for n in range(25, 49)), PAUSE)),
+                    busy_loops(16),
                     none),
         "deep60x12": ("60 parts side by side under 16 traps, each 12 loops deep", [], names("O", 32), deep(60, 12), none),
     }
@@ -383,9 +428,9 @@ class Layout:
 class Program:
     """A kernel, as a module for the engines and as nets for the worklist."""
 
-    def __init__(self, name, folder):
+    def __init__(self, name, folder, made=None):
         self.name = name
-        self.what, inputs, outputs, statement, masks = programs()[name]
+        inputs, outputs, statement, masks = made or programs()[name][1:]
         self.locals = locals_of(statement)
         self.case = f"{','.join(f'{mask:x}' for mask in masks)} {module_of(inputs, outputs, statement)}\n"
         layout = Layout(inputs, outputs, statement)
@@ -468,7 +513,36 @@ def row(words_of, program, pairs):
     return ratio
 
 
+def exponent(points):
+    """The slope of the line that fits the logarithms of these pairs best."""
+    logs = [(math.log(x), math.log(y)) for x, y in points]
+    return statistics.linear_regression(*zip(*logs)).slope
+
+
+def print_exponents(names_of, spent_by):
+    """Prints the exponent of each family; `spent_by` answers cells and instructions of a program by its name and what makes it up."""
+    for name in names_of or families():
+        sizes, make = families()[name]
+        points = [spent_by(f"{name}-{size}", make(size)) for size in sizes]
+        rows = ", ".join(f"{cells:,} cells {spent:,.0f}" for cells, spent in points)
+        print(f"{name}: {exponent(points):.2f} ({rows})", flush=True)
+
+
+def exponents(engine, names_of):
+    """Prints the exponents of the engine's instructions an instant over cells."""
+    sys.setrecursionlimit(20000)
+
+    def spent_by(name, made):
+        with tempfile.TemporaryDirectory() as folder:
+            program = Program(name, pathlib.Path(folder), made)
+        start, whole = (instructions([engine, "micro", str(count)], program.case) for count in (1, 1 + COUNTED))
+        return program.cells, (whole - start) / COUNTED
+    print_exponents(names_of, spent_by)
+
+
 def main(words):
+    if words[:1] == ["--exponents"] and len(words) > 1:
+        return exponents(str(pathlib.Path(words[1]).resolve()), words[2:])
     check = words[:1] == ["--check"]
     words = words[check:]
     if not words:

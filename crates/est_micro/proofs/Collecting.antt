@@ -15,11 +15,8 @@ use Rattle.est_cells.specs.Next.{stays}
 use Rattle.est_cells.specs.Tables.{sheet_size, is_sure}
 use Rattle.est_net.specs.Cells.{cell_at}
 use Rattle.est_net.specs.Layout.{output_count, sheet_in, sure_codes}
-use Rattle.est_micro.specs.declared.direction.Direction.{Direction}
 use Rattle.est_micro.specs.Pausing.{Collects, CollectsTwo}
-use Rattle.est_micro.specs.declared.cells.Place.{Place}
 use Rattle.est_micro.proofs.Telling.{nat_eq_same, nat_eq_other, same_or_not}
-use Rattle.est_micro.proofs.BegunNodes.{part_at, trapped_at}
 
 pub or_nothing : (x on : Bool) → x ≡ (x || (on && false))
 or_nothing true on = refl
@@ -72,12 +69,12 @@ pub kept_pause : (x on : Bool) (n i : ℕ) (f : ℕ → Bool)
 kept_pause x on n i f = swap x on (f n) (f i) (nat_eq n i) (λ e. ap f (eqb-true n i e))
 
 -- a pause
-pub pause_collected : (n : PauseIndex) (at : Place) (cells : List Status) (on gives is_in : Bool)
+pub pause_collected : (n : PauseIndex) (main : Bool) (c traps : ℕ) (cells : List Status) (on gives is_in : Bool)
     (pauses old new : PauseSet)
-    → gives ≡ sure_codes (cell_at cells) (at.cell + 1) (at.traps + 2) 1 → is_in ≡ (on && gives)
+    → gives ≡ sure_codes (cell_at cells) (c + 1) (traps + 2) 1 → is_in ≡ (on && gives)
     → ((i : ℕ) → pauses_of new i ≡ (pauses_of old i || (is_in && nat_eq n.index i)))
-    → Collects (Pause n) at cells on pauses old new (at.cell + at.traps + 3)
-pause_collected n at cells on gives is_in pauses old new e f h = record {
+    → Collects (Pause n) main c traps cells on pauses old new (c + traps + 3)
+pause_collected n main c traps cells on gives is_in pauses old new e f h = record {
   put_in = λ i. h i ∙ (ap (λ (z : Bool). pauses_of old i || (z && nat_eq n.index i)) f
       ∙ (or_gated (pauses_of old i) on gives (nat_eq n.index i)
       ∙ ap (λ (g : Bool). pauses_of old i || (on && (g && nat_eq n.index i))) e));
@@ -85,18 +82,18 @@ pause_collected n at cells on gives is_in pauses old new e f h = record {
 }
 
 -- two parts
-pub two_collected : (at : Place) (p q : Statement) (cells : List Status) (on : Bool) (pauses old mid new : PauseSet)
+pub two_collected : (main : Bool) (c traps : ℕ) (p q : Statement) (cells : List Status) (on : Bool) (pauses old mid new : PauseSet)
     (past end : ℕ)
-    → Collects p at cells on pauses old mid past
-    → Collects q (part_at at past) cells on pauses mid new end
-    → CollectsTwo at.main at.main p q at cells on pauses old new end
-two_collected at p q cells on pauses old mid new past end x y' =
+    → Collects p main c traps cells on pauses old mid past
+    → Collects q main past traps cells on pauses mid new end
+    → CollectsTwo p q main c traps cells on pauses old new end
+two_collected main c traps p q cells on pauses old mid new past end x y' =
     let y = subst
-    (λ (z : ℕ). Collects q (part_at at z) cells on pauses mid new end)
+    (λ (z : ℕ). Collects q main z traps cells on pauses mid new end)
     x.past_is y' in
-    let e = at.cell + sheet_size at.main p at.traps in
-    let a = λ (i : ℕ). stays at.main p (pauses_of pauses) (sheet_in (cell_at cells) at.main p at.cell at.traps) i in
-    let b = λ (i : ℕ). stays at.main q (pauses_of pauses) (sheet_in (cell_at cells) at.main q e at.traps) i in
+    let e = c + sheet_size main p traps in
+    let a = λ (i : ℕ). stays main p (pauses_of pauses) (sheet_in (cell_at cells) main p c traps) i in
+    let b = λ (i : ℕ). stays main q (pauses_of pauses) (sheet_in (cell_at cells) main q e traps) i in
     record {
       put_in =
           λ i. y.put_in i
@@ -105,22 +102,22 @@ two_collected at p q cells on pauses old mid new past end x y' =
     }
 
 -- a `||`
-pub par_collected : (at : Place) (a : _) (p : Statement) (b : _) (q : Statement) (cells : List Status)
+pub par_collected : (main : Bool) (c traps : ℕ) (a : _) (p : Statement) (b : _) (q : Statement) (cells : List Status)
     (on gives is_in : Bool)
-    (pauses old new : PauseSet) (end : ℕ) → gives ≡ sure_codes (cell_at cells) (at.cell + 1) (at.traps + 2) 1
+    (pauses old new : PauseSet) (end : ℕ) → gives ≡ sure_codes (cell_at cells) (c + 1) (traps + 2) 1
     → is_in ≡ (on && gives)
-    → CollectsTwo at.main at.main p q (part_at at (at.cell + at.traps + 3)) cells
+    → CollectsTwo p q main (c + traps + 3) traps cells
     is_in
     pauses old new end
-    → Collects (Par' a p b q) at cells on pauses old new end
-par_collected at a p b q cells on gives is_in pauses old new end e v z =
-    let d = at.cell + at.traps + 3 in
+    → Collects (Par' a p b q) main c traps cells on pauses old new end
+par_collected main c traps a p b q cells on gives is_in pauses old new end e v z =
+    let d = c + traps + 3 in
     let h = subst
-    (λ (w : Bool). CollectsTwo at.main at.main p q (part_at at d) cells w
+    (λ (w : Bool). CollectsTwo p q main d traps cells w
     pauses old new end) v z in
-    let f = λ (i : ℕ). (stays at.main p (pauses_of pauses) (sheet_in (cell_at cells) at.main p d at.traps) i
-    || stays at.main q (pauses_of pauses)
-    (sheet_in (cell_at cells) at.main q (d + sheet_size at.main p at.traps) at.traps) i) in
+    let f = λ (i : ℕ). (stays main p (pauses_of pauses) (sheet_in (cell_at cells) main p d traps) i
+    || stays main q (pauses_of pauses)
+    (sheet_in (cell_at cells) main q (d + sheet_size main p traps) traps) i) in
     let x = h.past_is in
     record {
       put_in = λ i. h.put_in i ∙ (or_gated (pauses_of old i) on gives (f i)
@@ -129,37 +126,37 @@ par_collected at a p b q cells on gives is_in pauses old new end e v z =
     }
 
 -- `present` and `;`
-pub present_collected : (at : Place) (t : _) (a : _) (p : Statement) (b : _) (q : Statement) (cells : List Status)
+pub present_collected : (main : Bool) (c traps : ℕ) (t : _) (a : _) (p : Statement) (b : _) (q : Statement) (cells : List Status)
     (on : Bool)
     (pauses old new : PauseSet) (end : ℕ)
-    → CollectsTwo at.main at.main p q (part_at at (at.cell + at.traps + 3)) cells
+    → CollectsTwo p q main (c + traps + 3) traps cells
     on pauses old new
-    end → Collects (Present' t a p b q) at cells on pauses old new end
-present_collected at t a p b q cells on pauses old new end h =
+    end → Collects (Present' t a p b q) main c traps cells on pauses old new end
+present_collected main c traps t a p b q cells on pauses old new end h =
     let x = h.past_is in
     record { put_in = h.put_in; past_is = omega arith }
 
-pub seq_collected : (at : Place) (a : _) (p : Statement) (b : _) (q : Statement) (cells : List Status) (on : Bool)
+pub seq_collected : (main : Bool) (c traps : ℕ) (a : _) (p : Statement) (b : _) (q : Statement) (cells : List Status) (on : Bool)
     (pauses old new : PauseSet) (end : ℕ)
-    → CollectsTwo at.main at.main p q (part_at at (at.cell + at.traps + 3)) cells
+    → CollectsTwo p q main (c + traps + 3) traps cells
     on pauses old new
-    end → Collects (Seq' a p b q) at cells on pauses old new end
-seq_collected at a p b q cells on pauses old new end h =
+    end → Collects (Seq' a p b q) main c traps cells on pauses old new end
+seq_collected main c traps a p b q cells on pauses old new end h =
     let x = h.past_is in
     record { put_in = h.put_in; past_is = omega arith }
 
 -- a `suspend`
-pub suspend_collected : (at : Place) (t : _) (a : _) (p : Statement) (cells : List Status) (on g h held is_in : Bool)
-    (pauses old mid new : PauseSet) (end : ℕ) → g ≡ sure_codes (cell_at cells) (at.cell + 1) (at.traps + 2) 1
-    → h ≡ sure_codes (cell_at cells) (at.cell + at.traps + 3 + 1) (at.traps + 2) 1
+pub suspend_collected : (main : Bool) (c traps : ℕ) (t : _) (a : _) (p : Statement) (cells : List Status) (on g h held is_in : Bool)
+    (pauses old mid new : PauseSet) (end : ℕ) → g ≡ sure_codes (cell_at cells) (c + 1) (traps + 2) 1
+    → h ≡ sure_codes (cell_at cells) (c + traps + 3 + 1) (traps + 2) 1
     → held ≡ (g && not h) → is_in ≡ (on && held)
-    → Collects p (part_at at (at.cell + at.traps + 3)) cells on pauses old mid
+    → Collects p main (c + traps + 3) traps cells on pauses old mid
     end
     → ((i : ℕ) → pauses_of new i ≡ (pauses_of mid i || (is_in && (has_pause p i && pauses_of pauses i))))
-    → Collects (Suspend' t a p) at cells on pauses old new end
-suspend_collected at t a p cells on g h held is_in pauses old mid new end e f u v x k =
-    let d = at.cell + at.traps + 3 in
-    let s = λ (i : ℕ). stays at.main p (pauses_of pauses) (sheet_in (cell_at cells) at.main p d at.traps) i in
+    → Collects (Suspend' t a p) main c traps cells on pauses old new end
+suspend_collected main c traps t a p cells on g h held is_in pauses old mid new end e f u v x k =
+    let d = c + traps + 3 in
+    let s = λ (i : ℕ). stays main p (pauses_of pauses) (sheet_in (cell_at cells) main p d traps) i in
     let y = x.past_is in
     record {
       put_in = λ i. k i
@@ -170,24 +167,24 @@ suspend_collected at t a p cells on g h held is_in pauses old mid new end e f u 
           ∙ (ap (λ (z : Bool). pauses_of old i
           || (on && (s i || ((z && not h) && (has_pause p i && pauses_of pauses i))))) e
           ∙ ap (λ (z : Bool). pauses_of old i || (on && (s i
-          || ((sure_codes (cell_at cells) (at.cell + 1) (at.traps + 2) 1 && not z)
+          || ((sure_codes (cell_at cells) (c + 1) (traps + 2) 1 && not z)
           && (has_pause p i && pauses_of pauses i))))) f))));
       past_is = omega arith;
     }
 
 -- a loop that can go on, and one that was begun again
-pub loop_collected : (way : Direction) (main : Bool) (c n : ℕ) (a : _) (p : Statement) (cells : List Status) (on : Bool)
+pub loop_collected : (main : Bool) (c n : ℕ) (a : _) (p : Statement) (cells : List Status) (on : Bool)
     (pauses old mid new : PauseSet)
     (past end : ℕ) → main ≡ true
-    → Collects p (record { main = main; cell = c + n + 3; traps = n; direction = way }) cells on pauses old mid past
-    → Collects p (record { main = false; cell = past; traps = n; direction = way }) cells on pauses mid new end
-    → Collects (Loop' a p) (record { main = main; cell = c; traps = n; direction = way }) cells on pauses old new end
-loop_collected way false c n a p cells on pauses old mid new past end h x y = let z : false ≡ true = h in cc
-loop_collected way true c n a p cells on pauses old mid new past end h x y' =
+    → Collects p main (c + n + 3) n cells on pauses old mid past
+    → Collects p false past n cells on pauses mid new end
+    → Collects (Loop' a p) main c n cells on pauses old new end
+loop_collected false c n a p cells on pauses old mid new past end h x y = let z : false ≡ true = h in cc
+loop_collected true c n a p cells on pauses old mid new past end h x y' =
     let d = c + n + 3 in
     let e = d + sheet_size true p n in
-    let y : Collects p (record { main = false; cell = e; traps = n; direction = way }) cells on pauses mid new end
-    = subst (λ (z : ℕ). Collects p (record { main = false; cell = z; traps = n; direction = way }) cells on pauses mid
+    let y : Collects p false e n cells on pauses mid new end
+    = subst (λ (z : ℕ). Collects p false z n cells on pauses mid
     new end) x.past_is
     y' in
     let f = λ (i : ℕ). stays true p (pauses_of pauses) (sheet_in (cell_at cells) true p d n) i in
@@ -200,14 +197,14 @@ loop_collected way true c n a p cells on pauses old mid new past end h x y' =
       past_is = omega arith;
     }
 
-pub again_collected : (way : Direction) (main : Bool) (c n : ℕ) (a : _) (p : Statement) (cells : List Status)
+pub again_collected : (main : Bool) (c n : ℕ) (a : _) (p : Statement) (cells : List Status)
     (on : Bool)
     (pauses old new : PauseSet)
     (end : ℕ) → main ≡ false
-    → Collects p (record { main = main; cell = c + n + 3; traps = n; direction = way }) cells on pauses old new end
-    → Collects (Loop' a p) (record { main = main; cell = c; traps = n; direction = way }) cells on pauses old new end
-again_collected way true c n a p cells on pauses old new end h x = let z : true ≡ false = h in cc
-again_collected way false c n a p cells on pauses old new end h x =
+    → Collects p main (c + n + 3) n cells on pauses old new end
+    → Collects (Loop' a p) main c n cells on pauses old new end
+again_collected true c n a p cells on pauses old new end h x = let z : true ≡ false = h in cc
+again_collected false c n a p cells on pauses old new end h x =
     let u = x.past_is in
     record {
       put_in = λ i. x.put_in i
@@ -216,21 +213,21 @@ again_collected way false c n a p cells on pauses old new end h x =
       past_is = omega arith;
     }
 
-pub trap_collected : (at : Place) (a : _) (p : Statement) (cells : List Status) (on : Bool) (pauses old new : PauseSet)
+pub trap_collected : (main : Bool) (c traps : ℕ) (a : _) (p : Statement) (cells : List Status) (on : Bool) (pauses old new : PauseSet)
     (end : ℕ)
-    → Collects p (trapped_at at) cells on pauses old
+    → Collects p main (c + traps + 3) (traps + 1) cells on pauses old
     new end
-    → Collects (Trap' a p) at cells on pauses old new end
-trap_collected at a p cells on pauses old new end x =
+    → Collects (Trap' a p) main c traps cells on pauses old new end
+trap_collected main c traps a p cells on pauses old new end x =
     let u = x.past_is in
     record { put_in = x.put_in; past_is = omega arith }
 
-pub local_collected : (at : Place) (s : _) (a : _) (p : Statement) (cells : List Status) (on : Bool)
+pub local_collected : (main : Bool) (c traps : ℕ) (s : _) (a : _) (p : Statement) (cells : List Status) (on : Bool)
     (pauses old new : PauseSet) (end : ℕ)
-    → Collects p (part_at at (at.cell + at.traps + 4)) cells on pauses old new
+    → Collects p main (c + traps + 4) traps cells on pauses old new
     end
-    → Collects (Binder' s a p) at cells on pauses old new end
-local_collected at s a p cells on pauses old new end x =
+    → Collects (Binder' s a p) main c traps cells on pauses old new end
+local_collected main c traps s a p cells on pauses old new end x =
     let u = x.past_is in
     record { put_in = x.put_in; past_is = omega arith }
 
@@ -260,18 +257,18 @@ pub no_pause_put : (old : ℕ → Bool) (n : ℕ) (b : Bool) → b ≡ false →
 no_pause_put old n b e i = or_nothing (old i) true ∙ ap (λ (y : Bool). old i || (y && nat_eq n i)) (sym e)
 
 -- the pauses at which a whole kernel stands
-pub all_collected : (way : Direction) (k : Kernel) (root : Statement) (outputs : ℕ) (cells : List Status)
+pub all_collected : (k : Kernel) (root : Statement) (outputs : ℕ) (cells : List Status)
     (from old new : PauseSet)
     (end : ℕ)
     → root ≡ k.root → outputs ≡ output_count k.interface → ((i : ℕ) → pauses_of old i ≡ false)
-    → Collects root (record { main = true; cell = outputs; traps = 0; direction = way }) cells true from old new end
+    → Collects root true outputs 0 cells true from old new end
     → (i : ℕ) → pauses_of new i
     ≡ stays true k.root (pauses_of from) (sheet_in (cell_at cells) true k.root (output_count k.interface) 0) i
-all_collected way k root outputs cells from old new end a b none h i =
-    let x = subst (λ (n : ℕ). Collects k.root (record { main = true; cell = n; traps = 0; direction = way }) cells
+all_collected k root outputs cells from old new end a b none h i =
+    let x = subst (λ (n : ℕ). Collects k.root true n 0 cells
     true from old new end)
     b
-    (subst (λ (z : Statement). Collects z (record { main = true; cell = outputs; traps = 0; direction = way }) cells
+    (subst (λ (z : Statement). Collects z true outputs 0 cells
     true from old new
     end) a h) in
     x.put_in i ∙ ap (λ (z : Bool). z || (true && stays true k.root (pauses_of from)

@@ -1,5 +1,5 @@
 -- The cells of the signals, one after another.
-use Rattle.std.specs.Prelude.{◌≡◌, ◌<◌, ◌≤◌, ◌+◌, ℕ, zero, suc, Bool, true, false, not, ◌&&◌, ◌||◌, cond, ltb}
+use Rattle.std.specs.Prelude.{◌≡◌, ◌≢◌, ◌<◌, ◌≤◌, ◌+◌, ℕ, zero, suc, Bool, true, false, not, ◌&&◌, ◌||◌, cond, ltb}
 use Rattle.std.specs.Prelude.{List, [], ◌∷◌, length}
 use Rattle.std.proofs.Common.{refl, ap, sym, ◌∙◌, arith, inl, inr, subst}
 use Rattle.std.proofs.lemmas.Bool.{lt-ltb}
@@ -18,12 +18,12 @@ use Rattle.est_cells.specs.Whole.{known}
 use Rattle.est_net.specs.Cells.{cell_at, learned}
 use Rattle.est_rounds.specs.Views.{env_of, set_of}
 use Rattle.est_rounds.specs.declared.signal_set.Env.{Env as Known}
-use Rattle.est_micro.specs.Outputs.{AreSignalsTold, IsKnownBy, IsToldOne}
+use Rattle.est_micro.specs.Outputs.{AreSignalsTold, IsToldOne}
 use Rattle.est_micro.specs.Views.{Changes}
 use Rattle.est_micro.proofs.BegunNodes.{widen, nothing_changes}
 use Rattle.est_micro.proofs.Frames.{changes_then, learn_changes}
 use Rattle.est_micro.proofs.Rounds.{rank_within}
-use Rattle.est_micro.proofs.Telling.{same_or_less}
+use Rattle.est_micro.proofs.Telling.{ReadSoFar, read_more, read_none, read_same, same_or_less}
 
 -- the cell that is next, and what was told so far
 pub record Telling (f : ℕ → Bool) (n : ℕ) (gate : ℕ → Status) (cell : ℕ) (old new : List Status) : Type 0 where
@@ -85,6 +85,58 @@ pub cell_within : (f : ℕ → Bool) (m n cell size : ℕ) → cell ≡ how_many
     → cell < size
 cell_within f m n cell size e l w h = let k = rank_within f m n l h in omega arith
 
+-- what was told and read so far
+pub record Exchanging (f : ℕ → Bool) (n : ℕ) (gate : ℕ → Status) (cell : ℕ) (x y : ℕ → Bool)
+    (old new : List Status) : Type 0 where
+  pub telling : Telling f n gate cell old new
+  pub sure : ReadSoFar x (λ k. f k && is_sure (cell_at new (how_many f k))) n
+  pub possible : ReadSoFar y (λ k. f k && is_possible (cell_at new (how_many f k))) n
+
+pub exchanging_none : (f : ℕ → Bool) (gate : ℕ → Status) (none : ℕ → Bool) → ((k : ℕ) → none k ≡ false)
+    → (old : List Status) → Exchanging f 0 gate 0 none none old old
+exchanging_none f gate none h old = record {
+  telling = telling_none f gate old;
+  sure = read_none none _ h;
+  possible = read_none none _ h;
+}
+
+pub exchanging_all : (f : ℕ → Bool) (n m : ℕ) (gate : ℕ → Status) (cell : ℕ) (x y : ℕ → Bool) (old new : List Status)
+    → n ≡ m → Exchanging f n gate cell x y old new → Exchanging f m gate cell x y old new
+exchanging_all f n m gate cell x y old new e h = subst (λ (z : ℕ). Exchanging f z gate cell x y old new) e h
+
+-- a cell that was read stays as it is where a later one is told
+stays_read : (pick : Status → Bool) (f : ℕ → Bool) (n : ℕ) (now : Status) (mid new : List Status) (next : ℕ)
+    → IsToldOne (f n) now (how_many f n) mid new next → (k : ℕ) → k < n
+    → (f k && pick (cell_at mid (how_many f k))) ≡ (f k && pick (cell_at new (how_many f k)))
+stays_read pick f n now mid new next y k l = go (f k) refl (f n) refl
+  where
+    go : (a : Bool) → f k ≡ a → (b : Bool) → f n ≡ b
+        → (a && pick (cell_at mid (how_many f k))) ≡ (a && pick (cell_at new (how_many f k)))
+    go false e b d = refl
+    go true e true d = ap pick (sym ((y.told d).others (how_many f k) (rank_within f n k l e)))
+    go true e false d = ap (λ (z : List Status). pick (cell_at z (how_many f k))) (sym (y.kept d))
+
+pub exchanging_more : (f : ℕ → Bool) (n : ℕ) (gate : ℕ → Status) (cell next : ℕ) (a b x y : ℕ → Bool)
+    (old mid new : List Status)
+    → Exchanging f n gate cell a b old mid → IsToldOne (f n) (gate n) cell mid new next
+    → x n ≡ (a n || (f n && is_sure (cell_at new cell))) → ((k : ℕ) → k ≢ n → x k ≡ a k)
+    → y n ≡ (b n || (f n && is_possible (cell_at new cell))) → ((k : ℕ) → k ≢ n → y k ≡ b k)
+    → Exchanging f (n + 1) gate next x y old new
+exchanging_more f n gate cell next a b x y old mid new h t p q r s =
+    let c = h.telling.cell_is in
+    let u = subst (λ (z : ℕ). IsToldOne (f n) (gate n) z mid new next) c t in
+    record {
+      telling = telling_more f n gate cell next old mid new h.telling t;
+      sure = read_more a x _ n (f n && is_sure (cell_at new cell))
+          (read_same a _ (λ k. f k && is_sure (cell_at new (how_many f k))) n h.sure
+          (stays_read is_sure f n (gate n) mid new next u)) p q
+          (ap (λ (z : ℕ). f n && is_sure (cell_at new z)) c);
+      possible = read_more b y _ n (f n && is_possible (cell_at new cell))
+          (read_same b _ (λ k. f k && is_possible (cell_at new (how_many f k))) n h.possible
+          (stays_read is_possible f n (gate n) mid new next u)) r s
+          (ap (λ (z : ℕ). f n && is_possible (cell_at new z)) c);
+    }
+
 -- what is known of a signal
 status_back : (v : Status) → verdict (is_sure v) (is_possible v) ≡ v
 status_back Present = refl
@@ -99,6 +151,12 @@ said false true true v h = status_back v
 said false true false v h = let z : false ≡ true = h refl in cc
 said false false true v h = refl
 said false false false v h = refl
+
+-- what is known by the cells of the signals and by what was offered
+abbrev pub IsKnownBy : (ℕ → Bool) → ℕ → (ℕ → Bool) → List Status → Known → Type 0
+IsKnownBy f m inputs cells e =
+    env_of e ≡ known (record { places = m; has = λ n. f n && not (inputs n) }) inputs
+    (λ n. cell_at cells (how_many f n))
 
 pub known_is : (f : ℕ → Bool) (m : ℕ) (inputs p q : ℕ → Bool) (cells : List Status) (e : Known)
     → ((n : ℕ) → f n ≡ true → n < m)

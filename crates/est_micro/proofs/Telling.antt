@@ -186,7 +186,7 @@ nothing_read c j old sure possible e f = record {
   possible_read = read_none possible (λ k. is_possible (cell_at old (c + k))) (none_there possible f);
 }
 
-read_same : (codes : Codes) (f g : ℕ → Bool) (n : ℕ) → ReadSoFar codes f n → ((k : ℕ) → k < n → f k ≡ g k)
+pub read_same : (codes : Codes) (f g : ℕ → Bool) (n : ℕ) → ReadSoFar codes f n → ((k : ℕ) → k < n → f k ≡ g k)
     → ReadSoFar codes g n
 read_same codes f g n h s k = h k ∙ and_same (ltb k n) (f k) (g k) (λ b. s k (ltb-true k n b))
 

@@ -1,13 +1,10 @@
 -- The cells of the signals that may be emitted, by the mask of these signals (this project's own form).
-use Rattle.std.specs.Prelude.{◌≡◌, ◌<◌, ◌+◌, ℕ, Bool, true, false, not, ◌&&◌, cond, List}
+use Rattle.std.specs.Prelude.{◌≡◌, ◌<◌, ◌+◌, ℕ, Bool, true, false, cond, List}
 use Rattle.est_kernel.specs.Bits.{bits}
 use Rattle.est_meaning.specs.Rounds.{how_many}
 use Rattle.est_meaning.specs.declared.status.Status.{Status}
-use Rattle.est_cells.specs.Whole.{known}
 use Rattle.est_net.specs.Cells.{cell_at, learned, Learns}
-use Rattle.est_rounds.specs.Views.{env_of}
 use Rattle.est_rounds.specs.declared.acts.Judgement.{Judgement}
-use Rattle.est_rounds.specs.declared.signal_set.Env.{Env as Known}
 use Rattle.est_micro.specs.Runs.{output_gate}
 use Rattle.est_micro.specs.Views.{Changes}
 
@@ -26,9 +23,3 @@ pub record AreSignalsTold (f : ℕ → Bool) (m : ℕ) (gate : ℕ → Status) (
   pub changes : Changes 0 (how_many f m) old new
   pub told : (n : ℕ) → n < m → f n ≡ true
       → cell_at new (how_many f n) ≡ learned (cell_at old (how_many f n)) (gate n)
-
--- what is known by the cells of the signals and by what was offered
-abbrev pub IsKnownBy : (ℕ → Bool) → ℕ → (ℕ → Bool) → List Status → Known → Type 0
-IsKnownBy f m inputs cells e =
-    env_of e ≡ known (record { places = m; has = λ n. f n && not (inputs n) }) inputs
-    (λ n. cell_at cells (how_many f n))

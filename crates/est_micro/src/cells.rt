@@ -11,7 +11,7 @@ ghost use Rattle.est_meaning.specs.Signals.{no_signals, union, without};
 ghost use Rattle.est_meaning.specs.Environments.{verdict};
 ghost use Rattle.est_cells.specs.Gates.{sure_code, may_code, then_codes};
 ghost use Rattle.est_cells.specs.Tables.{if_run, is_sure, is_possible};
-ghost use Rattle.est_net.specs.Cells.{cell_at};
+ghost use Rattle.est_net.specs.Cells.{Learns, cell_at};
 ghost use Rattle.est_net.specs.Layout.{sure_codes, possible_codes};
 ghost use Rattle.est_rounds.specs.Views.{env_of, set_of};
 ghost use Rattle.est_micro.specs.Sweeps.{told};
@@ -32,12 +32,12 @@ use est_rounds::signal_set::{self, Env, SignalSet};
 pub struct Place {
     /// Whether they are those of the incarnation that can go on from its pauses.
     pub main: bool,
+    /// Which side of a `||` is visited first.
+    pub direction: Direction,
     /// The cell for whether it is begun. Those for its codes follow.
     pub cell: usize,
     /// How many traps are around it.
     pub traps: usize,
-    /// Which side of a `||` is visited first.
-    pub direction: Direction,
 }
 
 /// What the cells of a statement say after a sweep.
@@ -102,7 +102,7 @@ pub fn is_true(status: Status) -> bool
 }
 
 /// Whether a cell isn't false.
-fn may_be_true(status: Status) -> bool
+pub fn may_be_true(status: Status) -> bool
     ensures { result ≡ is_possible status }
 {
     match status {
@@ -134,22 +134,52 @@ fn with_cell(read: CodesRead, code: usize, status: Status) -> CodesRead
     }
 }
 
-/// Tells `count` code cells what is judged of their codes, and reads them.
+/// Tells a code cell what is judged of its code, and adds what it then says to what was read.
+#[inline(always)]
+fn tell_code(
+    table: &mut Table,
+    cell: usize,
+    code: usize,
+    judged: &Judgement,
+    read: CodesRead,
+) -> CodesRead
+    requires within { cell + code < length table.old.cells.items }
+    requires few { code < 64 }
+    ensures learns { Learns (cell + code)
+        (verdict (codes_of judged.now.must.codes code) (codes_of judged.now.can.codes code))
+        table.old.cells.items table.new.cells.items }
+    ensures sure { codes_of result.sure code
+        ≡ (codes_of read.sure code || is_sure (cell_at table.new.cells.items (cell + code))) }
+    ensures other_sure { (k : ℕ) → k ≢ code → codes_of result.sure k ≡ codes_of read.sure k }
+    ensures possible { codes_of result.possible code
+        ≡ (codes_of read.possible code || is_possible (cell_at table.new.cells.items (cell + code))) }
+    ensures other_possible { (k : ℕ) → k ≢ code
+        → codes_of result.possible k ≡ codes_of read.possible k }
+{
+    let status = table.learn(cell + code, verdict_on(judged, code));
+    with_cell(read, code, status)
+}
+
+/// Tells `count` code cells what is judged of their codes, and reads them. Those of codes 0 and 1,
+/// which every statement has, stand before the loop, since the compiler then knows their codes.
+#[inline(always)]
 fn tell(table: &mut Table, cell: usize, count: usize, judged: &Judgement) -> CodesRead
     requires within { cell + count ≤ length table.old.cells.items }
+    requires some { 2 ≤ count }
     requires few { count ≤ 64 }
     ensures told { AreTold cell count judged.now table.old.cells.items table.new.cells.items }
     ensures sure { codes_of result.sure ≡ sure_codes (cell_at table.new.cells.items) cell count }
     ensures possible { codes_of result.possible
         ≡ possible_codes (cell_at table.new.cells.items) cell count }
 {
-    let mut read = CodesRead {
+    let none = CodesRead {
         sure: CodeSet::empty(),
         possible: CodeSet::empty(),
     };
-    for code in 0..count {
-        let status = table.learn(cell + code, verdict_on(judged, code));
-        read = with_cell(read, code, status);
+    let first = tell_code(table, cell, 0, judged, none);
+    let mut read = tell_code(table, cell, 1, judged, first);
+    for code in 2..count {
+        read = tell_code(table, cell, code, judged, read);
     }
     read
 }
@@ -447,6 +477,7 @@ fn with_possible(present: u64, more: u64, possible: u64) -> u64
 }
 
 /// Tells a statement's code cells what is judged of it, and reads them.
+#[inline(always)]
 pub fn leave(table: &mut Table, at: Place, own: &Judgement, past: usize) -> Found
     requires within { at.cell + at.traps + 3 ≤ length table.old.cells.items }
     requires few { at.traps ≤ 62 }

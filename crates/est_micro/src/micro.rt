@@ -11,7 +11,6 @@ ghost use Rattle.est_rounds.specs.Contract.{HasNoReaction, IsReaction};
 ghost use Rattle.est_micro.specs.Engine.{GoesOnFrom, HasValues, IsNetOf};
 ghost use Rattle.est_micro.specs.Runs.{IsSettled};
 
-use crate::cells::Place;
 use crate::direction::Direction;
 use crate::next::collect;
 use crate::run::{Settled, settle};
@@ -57,13 +56,16 @@ fn outcome(
     let must = settled.found.judged.must;
     if must.codes.has(Completion::Pause) {
         let mut next = PauseSet::new();
-        let place = Place {
-            main: true,
-            cell: outputs,
-            traps: 0,
-            direction: Direction::Forwards,
-        };
-        collect(table, place, kernel.root(), true, from, &mut next);
+        collect(
+            table,
+            true,
+            outputs,
+            0,
+            kernel.root(),
+            true,
+            from,
+            &mut next,
+        );
         return Ok(Outcome {
             outputs: must.signals.interface,
             next: State::Paused(next),

@@ -14,7 +14,7 @@ ghost use Rattle.est_net.specs.Cells.{cell_at};
 ghost use Rattle.est_net.specs.Layout.{sure_codes};
 ghost use Rattle.est_micro.specs.Pausing.{Collects, CollectsTwo};
 
-use crate::cells::{Place, is_true};
+use crate::cells::is_true;
 use est_kernel::pause_set::PauseSet;
 use est_kernel::statement::{PauseIndex, Statement};
 use est_net::table::Table;
@@ -76,26 +76,53 @@ fn keep(on: bool, s: &Statement, pauses: &PauseSet, next: &mut PauseSet)
     }
 }
 
+/// Puts the pauses at which a part stands into `next`, if it is on. One that has no parts and no
+/// pause is passed over without a call. Answers the first place after its cells.
+#[cycle(collect)]
+#[inline(always)]
+fn collect_part(
+    table: &Table,
+    main: bool,
+    cell: usize,
+    traps: usize,
+    s: &Statement,
+    on: bool,
+    pauses: &PauseSet,
+    next: &mut PauseSet,
+) -> usize
+    requires { cell + sheet_size main s.now traps ≤ length table.now.cells.items }
+    ensures { Collects s.now main cell traps table.now.cells.items on pauses.now next.old next.new
+        result }
+{
+    match s {
+        Statement::Nothing => cell + traps + 3,
+        Statement::Emit(_) => cell + traps + 3,
+        Statement::Exit(_) => cell + traps + 3,
+        _ => collect(table, main, cell, traps, s, on, pauses, next),
+    }
+}
+
 /// Puts the pauses at which two parts stand into `next`, if they are on. Answers the first place
 /// after their cells.
 #[cycle(collect)]
 fn collect_two(
     table: &Table,
-    at: Place,
+    main: bool,
+    cell: usize,
+    traps: usize,
     p: &Statement,
     q: &Statement,
     on: bool,
     pauses: &PauseSet,
     next: &mut PauseSet,
 ) -> usize
-    requires { at.cell + sheet_size at.main p.now at.traps
-        + sheet_size at.main q.now at.traps ≤ length table.now.cells.items }
-    ensures { CollectsTwo at.main at.main p.now q.now at table.now.cells.items on pauses.now
+    requires { cell + sheet_size main p.now traps
+        + sheet_size main q.now traps ≤ length table.now.cells.items }
+    ensures { CollectsTwo p.now q.now main cell traps table.now.cells.items on pauses.now
         next.old next.new result }
 {
-    let past = collect(table, at, p, on, pauses, next);
-    let place = Place { cell: past, ..at };
-    collect(table, place, q, on, pauses, next)
+    let past = collect_part(table, main, cell, traps, p, on, pauses, next);
+    collect_part(table, main, past, traps, q, on, pauses, next)
 }
 
 /// Puts the pauses at which a suspended statement stands into `next`, if it is on: where the
@@ -103,23 +130,24 @@ fn collect_two(
 #[cycle(collect)]
 fn collect_suspend(
     table: &Table,
-    at: Place,
+    main: bool,
+    cell: usize,
+    traps: usize,
     p: &Statement,
     on: bool,
     pauses: &PauseSet,
     next: &mut PauseSet,
 ) -> usize
-    requires { at.cell + at.traps + 3 + sheet_size at.main p.now at.traps
+    requires { cell + traps + 3 + sheet_size main p.now traps
         ≤ length table.now.cells.items }
     ensures { (t a : _)
-        → Collects (Suspend' t a p.now) at table.now.cells.items on pauses.now next.old next.new
+        → Collects (Suspend' t a p.now) main cell traps table.now.cells.items on pauses.now next.old next.new
         result }
 {
-    let inside = at.cell + at.traps + 3;
-    let place = Place { cell: inside, ..at };
-    let past = collect(table, place, p, on, pauses, next);
-    let pauses_itself = gives_pause(table, at.cell, at.traps);
-    let body_pauses = gives_pause(table, inside, at.traps);
+    let inside = cell + traps + 3;
+    let past = collect(table, main, inside, traps, p, on, pauses, next);
+    let pauses_itself = gives_pause(table, cell, traps);
+    let body_pauses = gives_pause(table, inside, traps);
     let held = both(pauses_itself, !body_pauses);
     keep(both(on, held), p, pauses, next);
     past
@@ -129,113 +157,125 @@ fn collect_suspend(
 #[cycle(collect)]
 fn collect_loop(
     table: &Table,
-    at: Place,
+    main: bool,
+    cell: usize,
+    traps: usize,
     p: &Statement,
     on: bool,
     pauses: &PauseSet,
     next: &mut PauseSet,
 ) -> usize
-    requires main { at.main ≡ true }
-    requires within { at.cell + at.traps + 3 + sheet_size true p.now at.traps
-        + sheet_size false p.now at.traps
+    requires main { main ≡ true }
+    requires within { cell + traps + 3 + sheet_size true p.now traps
+        + sheet_size false p.now traps
         ≤ length table.now.cells.items }
     ensures { (a : _)
-        → Collects (Loop' a p.now) at table.now.cells.items on pauses.now next.old next.new result }
+        → Collects (Loop' a p.now) main cell traps table.now.cells.items on pauses.now next.old next.new result }
 {
-    let place = Place {
-        cell: at.cell + at.traps + 3,
-        ..at
-    };
-    let past = collect(table, place, p, on, pauses, next);
-    let place = Place {
-        main: false,
-        cell: past,
-        ..at
-    };
-    collect(table, place, p, on, pauses, next)
+    let past = collect(table, main, cell + traps + 3, traps, p, on, pauses, next);
+    collect(table, false, past, traps, p, on, pauses, next)
 }
 
 /// Puts a pause into `next`, if it is on and gives code 1.
-fn collect_pause(table: &Table, at: Place, n: PauseIndex, on: bool, next: &mut PauseSet) -> usize
-    requires { at.cell + at.traps + 3 ≤ length table.now.cells.items }
-    ensures { (pauses : _)
-        → Collects (Pause n) at table.now.cells.items on pauses next.old next.new result }
+fn collect_pause(
+    table: &Table,
+    cell: usize,
+    traps: usize,
+    n: PauseIndex,
+    on: bool,
+    next: &mut PauseSet,
+) -> usize
+    requires { cell + traps + 3 ≤ length table.now.cells.items }
+    ensures { (main pauses : _)
+        → Collects (Pause n) main cell traps table.now.cells.items on pauses next.old next.new result }
 {
-    let gives = gives_pause(table, at.cell, at.traps);
+    let gives = gives_pause(table, cell, traps);
     put(next, n, both(on, gives));
-    at.cell + at.traps + 3
+    cell + traps + 3
 }
 
 /// Puts the pauses at which a `||` stands into `next`, if it is on and gives code 1.
 #[cycle(collect)]
 fn collect_par(
     table: &Table,
-    at: Place,
+    main: bool,
+    cell: usize,
+    traps: usize,
     p: &Statement,
     q: &Statement,
     on: bool,
     pauses: &PauseSet,
     next: &mut PauseSet,
 ) -> usize
-    requires { at.cell + at.traps + 3 + sheet_size at.main p.now at.traps
-        + sheet_size at.main q.now at.traps
+    requires { cell + traps + 3 + sheet_size main p.now traps
+        + sheet_size main q.now traps
         ≤ length table.now.cells.items }
     ensures { (a b : _)
-        → Collects (Par' a p.now b q.now) at table.now.cells.items on pauses.now next.old next.new
+        → Collects (Par' a p.now b q.now) main cell traps table.now.cells.items on pauses.now next.old next.new
         result }
 {
-    let gives = gives_pause(table, at.cell, at.traps);
-    let place = Place {
-        cell: at.cell + at.traps + 3,
-        ..at
-    };
-    collect_two(table, place, p, q, both(on, gives), pauses, next)
+    let gives = gives_pause(table, cell, traps);
+    collect_two(
+        table,
+        main,
+        cell + traps + 3,
+        traps,
+        p,
+        q,
+        both(on, gives),
+        pauses,
+        next,
+    )
 }
 
 /// Puts the pauses at which the body of a trap stands into `next`, if it is on.
 #[cycle(collect)]
 fn collect_trap(
     table: &Table,
-    at: Place,
+    main: bool,
+    cell: usize,
+    traps: usize,
     p: &Statement,
     on: bool,
     pauses: &PauseSet,
     next: &mut PauseSet,
 ) -> usize
-    requires { at.cell + at.traps + 3 + sheet_size at.main p.now
-        (at.traps + 1) ≤ length table.now.cells.items }
+    requires { cell + traps + 3 + sheet_size main p.now
+        (traps + 1) ≤ length table.now.cells.items }
     ensures { (a : _)
-        → Collects (Trap' a p.now) at table.now.cells.items on pauses.now next.old next.new result }
+        → Collects (Trap' a p.now) main cell traps table.now.cells.items on pauses.now next.old next.new result }
 {
-    let place = Place {
-        cell: at.cell + at.traps + 3,
-        traps: at.traps + 1,
-        ..at
-    };
-    collect(table, place, p, on, pauses, next)
+    collect(
+        table,
+        main,
+        cell + traps + 3,
+        traps + 1,
+        p,
+        on,
+        pauses,
+        next,
+    )
 }
 
 /// Puts the pauses at which the body of a local signal's binder stands into `next`, if it is on.
 #[cycle(collect)]
 fn collect_local(
     table: &Table,
-    at: Place,
+    main: bool,
+    cell: usize,
+    traps: usize,
     p: &Statement,
     on: bool,
     pauses: &PauseSet,
     next: &mut PauseSet,
 ) -> usize
-    requires { at.cell + at.traps + 4 + sheet_size at.main p.now at.traps
+    requires { cell + traps + 4 + sheet_size main p.now traps
         ≤ length table.now.cells.items }
     ensures { (s a : _)
-        → Collects (Binder' s a p.now) at table.now.cells.items on pauses.now next.old next.new
+        → Collects (Binder' s a p.now) main cell traps table.now.cells.items on pauses.now next.old next.new
         result }
 {
-    let place = Place {
-        cell: at.cell + at.traps + 4,
-        ..at
-    };
-    collect(table, place, p, on, pauses, next)
+    collect(table, main, cell + traps + 4, traps, p, on, pauses, next)
 }
 
 /// Puts the pauses at which a statement stands into `next`, if it is on. Answers the first place
@@ -243,36 +283,37 @@ fn collect_local(
 #[cycle(collect)]
 pub fn collect(
     table: &Table,
-    at: Place,
+    main: bool,
+    cell: usize,
+    traps: usize,
     s: &Statement,
     on: bool,
     pauses: &PauseSet,
     next: &mut PauseSet,
 ) -> usize
-    requires { at.cell + sheet_size at.main s.now at.traps ≤ length table.now.cells.items }
-    ensures { Collects s.now at table.now.cells.items on pauses.now next.old next.new result }
+    requires { cell + sheet_size main s.now traps ≤ length table.now.cells.items }
+    ensures { Collects s.now main cell traps table.now.cells.items on pauses.now next.old next.new result }
 {
-    let parts = Place {
-        cell: at.cell + at.traps + 3,
-        ..at
-    };
+    let parts = cell + traps + 3;
     match s {
-        Statement::Nothing => parts.cell,
-        Statement::Emit(_) => parts.cell,
-        Statement::Exit(_) => parts.cell,
-        Statement::Pause(n) => collect_pause(table, at, *n, on, next),
-        Statement::Present(_, p, q) => collect_two(table, parts, p, q, on, pauses, next),
-        Statement::Seq(p, q) => collect_two(table, parts, p, q, on, pauses, next),
-        Statement::Par(p, q) => collect_par(table, at, p, q, on, pauses, next),
-        Statement::Suspend(_, p) => collect_suspend(table, at, p, on, pauses, next),
+        Statement::Nothing => parts,
+        Statement::Emit(_) => parts,
+        Statement::Exit(_) => parts,
+        Statement::Pause(n) => collect_pause(table, cell, traps, *n, on, next),
+        Statement::Present(_, p, q) => collect_two(
+            table, main, parts, traps, p, q, on, pauses, next,
+        ),
+        Statement::Seq(p, q) => collect_two(table, main, parts, traps, p, q, on, pauses, next),
+        Statement::Par(p, q) => collect_par(table, main, cell, traps, p, q, on, pauses, next),
+        Statement::Suspend(_, p) => collect_suspend(table, main, cell, traps, p, on, pauses, next),
         Statement::Loop(p) => {
-            if at.main {
-                collect_loop(table, at, p, on, pauses, next)
+            if main {
+                collect_loop(table, main, cell, traps, p, on, pauses, next)
             } else {
-                collect(table, parts, p, on, pauses, next)
+                collect(table, main, parts, traps, p, on, pauses, next)
             }
         }
-        Statement::Trap(p) => collect_trap(table, at, p, on, pauses, next),
-        Statement::Local(_, p) => collect_local(table, at, p, on, pauses, next),
+        Statement::Trap(p) => collect_trap(table, main, cell, traps, p, on, pauses, next),
+        Statement::Local(_, p) => collect_local(table, main, cell, traps, p, on, pauses, next),
     }
 }

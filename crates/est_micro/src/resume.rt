@@ -252,6 +252,15 @@ fn side(is_on: bool, found: &Found, run: Status) -> Judgement
     }
 }
 
+/// Whether a pause of the second side of a `||` is set, of which one side has such a pause. So where
+/// the first has none, the second isn't gone through.
+fn second_lives(first_on: bool, q: &Statement, pauses: &PauseSet) -> bool
+    requires { first_on ≡ false → is_live q.now (pauses_of pauses.now) ≡ true }
+    ensures { result ≡ is_live q.now (pauses_of pauses.now) }
+{
+    !first_on || has_live(q, pauses)
+}
+
 /// Sweeps a `||`, the first side before the second.
 #[cycle(resume)]
 fn resume_par(
@@ -265,6 +274,8 @@ fn resume_par(
 ) -> Found
     requires main { at.main ≡ true }
     requires direction { at.direction ≡ Forwards }
+    requires live { (is_live p.now (pauses_of pauses.now) || is_live q.now (pauses_of pauses.now))
+        ≡ true }
     requires fits { FitsMasks p.now × FitsMasks q.now }
     requires within { at.cell + at.traps + 3 + sheet_size true p.now at.traps
         + sheet_size true q.now at.traps
@@ -277,7 +288,7 @@ fn resume_par(
 {
     let go = table.learn(at.cell, Status::Absent);
     let first_on = has_live(p, pauses);
-    let second_on = has_live(q, pauses);
+    let second_on = second_lives(first_on, q, pauses);
     let place = Place {
         cell: at.cell + at.traps + 3,
         ..at
@@ -308,6 +319,8 @@ fn resume_par_back(
 ) -> Found
     requires main { at.main ≡ true }
     requires direction { at.direction ≡ Backwards }
+    requires live { (is_live p.now (pauses_of pauses.now) || is_live q.now (pauses_of pauses.now))
+        ≡ true }
     requires fits { FitsMasks p.now × FitsMasks q.now }
     requires within { at.cell + at.traps + 3 + sheet_size true p.now at.traps
         + sheet_size true q.now at.traps
@@ -320,7 +333,7 @@ fn resume_par_back(
 {
     let go = table.learn(at.cell, Status::Absent);
     let first_on = has_live(p, pauses);
-    let second_on = has_live(q, pauses);
+    let second_on = second_lives(first_on, q, pauses);
     let place = Place {
         cell: at.cell + at.traps + 3,
         ..at

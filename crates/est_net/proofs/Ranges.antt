@@ -1,10 +1,13 @@
 -- Ranges of cells, looked at and decided one after another.
 use Rattle.std.specs.Prelude.{◌≡◌, ◌≢◌, ◌<◌, ◌≤◌, ◌+◌, ◌⊎◌, ◌&&◌, ℕ, zero, suc, Bool, true, false, not, List}
+use Rattle.std.specs.Prelude.{length, set}
 use Rattle.std.proofs.Common.{refl, ap, sym, ◌∙◌, arith, inl, inr, subst}
+use Rattle.std.proofs.lemmas.List.{get_or-set_same, get_or-set_other, length-set, set-get_or}
+use Rattle.std.proofs.lemmas.List.Sums.{sum_by-set}
 use Rattle.est_meaning.specs.declared.status.Status.{Status}
 use Rattle.est_meaning.specs.declared.status.Status.TheVariants.{Present, Absent, Unknown}
 use Rattle.est_cells.specs.Tables.{is_sure}
-use Rattle.est_net.specs.Cells.{AreFalse, Learns, NoneTrue, cell_at, learned}
+use Rattle.est_net.specs.Cells.{AreFalse, Learns, NoneTrue, cell_at, learned, steps_of}
 
 last_or_before : (k n : ℕ) → k < n + 1 → (k ≡ n) ⊎ (k < n)
 last_or_before zero zero l = inl refl
@@ -47,6 +50,39 @@ none_false lo cells = record {
   more = omega arith;
   quiet = λ e. refl;
 }
+
+-- a cell that is told that it is false, by an assignment: what it then knows, told to it, is what it then knows
+pub told_twice : (v w now : Status) → now ≡ learned v w → learned v now ≡ now
+told_twice Present w now e = sym e
+told_twice Absent w now e = sym e
+told_twice Unknown w now e = refl
+
+step_or_same : (v w : Status) → steps_of v ≤ steps_of (learned v w)
+step_or_same Present w = omega arith
+step_or_same Absent w = omega arith
+step_or_same Unknown w = omega arith
+
+no_step : (v : Status) → steps_of (learned v Absent) ≡ steps_of v → learned v Absent ≡ v
+no_step Present e = refl
+no_step Absent e = refl
+no_step Unknown e = absurd (omega (arith, e))
+
+pub assigned_false : (cells new : List Status) (n : ℕ) (now : Status) → n < length cells
+    → now ≡ learned (cell_at cells n) Absent → new ≡ set cells n now → Learns n Absent cells new
+assigned_false cells new n now l e s = subst (λ (z : List Status). Learns n Absent cells z) (sym s)
+    (let count = sum_by-set steps_of cells n now Absent l in
+    let more = subst (λ (v : Status). steps_of (cell_at cells n) ≤ steps_of v) (sym e)
+    (step_or_same (cell_at cells n) Absent) in
+    record {
+      here = get_or-set_same cells n now Absent l ∙ e;
+      others = λ i k. get_or-set_other cells n i now Absent (λ z. absurd (omega (arith, k, z)));
+      later = λ i k. get_or-set_other cells n i now Absent (λ z. absurd (omega (arith, k, z)));
+      size = length-set cells n now;
+      more = omega (arith, count, more);
+      quiet = λ q. ap (set cells n) (e ∙ no_step (cell_at cells n)
+          (let same : steps_of now ≡ steps_of (cell_at cells n) = omega (arith, count, q) in
+          ap steps_of (sym e) ∙ same)) ∙ set-get_or cells n Absent;
+    })
 
 told_false : (v : Status) → v ≢ Present → learned v Absent ≡ Absent
 told_false Present d = absurd (d refl)

@@ -4,8 +4,9 @@ ghost use Rattle.std.specs.Prelude.{◌≡◌, ◌<◌, ◌≤◌, ◌+◌, ◌&
 ghost use Rattle.std.specs.Prelude.{option_map, replicate, take};
 ghost use Rattle.est_cells.specs.Tables.{is_sure};
 ghost use Rattle.est_net.specs.Cells.{AreFalse, Learns, NoneTrue, cell_at, decided, known_as};
+ghost use Rattle.est_net.specs.Cells.{learned};
 ghost use Rattle.est_net.specs.Cells.{steps_of, value_of};
-ghost use Rattle.est_meaning.specs.declared.status.Status.TheVariants.{Unknown};
+ghost use Rattle.est_meaning.specs.declared.status.Status.TheVariants.{Absent, Unknown};
 
 use est_meaning::status::Status;
 
@@ -26,14 +27,25 @@ fn knowing(value: bool) -> Status
     }
 }
 
-/// Decides a cell that is open. No other assignment decides a cell.
+/// Decides a cell that is open, or assigns what the cell knows already. No other assignment decides
+/// a cell.
+#[inline(always)]
+fn assign(cells: &mut [Status], cell: usize, now: Status)
+    requires within { cell < length cells.old }
+    requires keeps { learned (cell_at cells.old cell) now ≡ now }
+    ensures { cells.new ≡ set cells.old cell now }
+{
+    cells[cell] = now;
+}
+
+/// Decides a cell that is open.
 #[inline(always)]
 fn decide(cells: &mut [Status], cell: usize, value: bool)
     requires { slice_get cells.old cell ≡ Some Unknown }
     ensures cells { cells.new ≡ set cells.old cell (known_as value) }
     ensures count { decided cells.new ≡ decided cells.old + 1 }
 {
-    cells[cell] = knowing(value);
+    assign(cells, cell, knowing(value));
 }
 
 /// Opens all cells.
@@ -99,7 +111,19 @@ fn has_no_true(cells: &[Status], from: usize, past: usize) -> bool
     none
 }
 
-/// Decides the open cells of a range, in which none is true, to be false.
+/// What a cell knows that is told that it is false.
+#[inline(always)]
+fn falsified(status: Status) -> Status
+    ensures { result ≡ learned status Absent }
+{
+    match status {
+        Status::Present => Status::Present,
+        Status::Absent | Status::Unknown => Status::Absent,
+    }
+}
+
+/// Decides the open cells of a range, in which none is true, to be false. Each cell is assigned,
+/// also one that is false already, since then the compiler writes many at once.
 fn make_false(cells: &mut [Status], from: usize, past: usize)
     requires range { from ≤ past }
     requires within { past ≤ length cells.old }
@@ -107,7 +131,8 @@ fn make_false(cells: &mut [Status], from: usize, past: usize)
     ensures { AreFalse from past cells.old cells.new }
 {
     for cell in from..past {
-        tell(cells, cell, Status::Absent);
+        let now = falsified(read(cells, cell));
+        assign(cells, cell, now);
     }
 }
 

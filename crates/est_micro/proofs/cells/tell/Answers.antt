@@ -1,4 +1,4 @@
-use Rattle.std.proofs.Common.{◌≡◌, ℕ, arith, subst}
+use Rattle.std.proofs.Common.{◌≡◌, ℕ, refl, arith, subst}
 use Rattle.est_kernel.specs.CodeViews.{codes_of}
 use Rattle.est_net.specs.Cells.{cell_at}
 use Rattle.est_micro.proofs.Telling.{ToldAndRead, nothing_read, one_read, read_possible_done, read_sure_done, told_done}
@@ -6,14 +6,20 @@ use Rattle.est_micro.proofs.cells.tell.Goals as goal
 
 pub loop-code-init : goal.loop-code-init
 loop-code-init c =
-    nothing_read c.args.cell c.args.judged.now c.args.table.now.cells.items _ _ c.empty.ensures c.empty-2.ensures
+    let none = nothing_read c.args.cell c.args.judged.now c.args.table.now.cells.items _ _ c.empty.ensures
+    c.empty-2.ensures in
+    let a = c.tell_code-first.ensures in
+    let b = c.tell_code-read.ensures in
+    one_read c.args.cell 1 c.args.judged.now c.args.table.now.cells.items _ _ _ _ _ _ _ _
+    (one_read c.args.cell 0 c.args.judged.now c.args.table.now.cells.items _ _ _ _ _ _ _ _ none a.learns refl refl
+    a.sure a.other_sure a.possible a.other_possible)
+    b.learns refl refl b.sure b.other_sure b.possible b.other_possible
 
 pub loop-code-preserved : goal.loop-code-preserved
 loop-code-preserved c =
+    let a = c.tell_code-read-in-loop-code.ensures in
     one_read c.args.cell _ c.args.judged.now c.args.table.now.cells.items _ _ _ _ _ _ _ _ c.loop-code.invariant
-    c.learn-status.ensures.learns c.verdict_on.ensures c.learn-status.ensures.known
-    c.with_cell-read.ensures.sure c.with_cell-read.ensures.other_sure
-    c.with_cell-read.ensures.possible c.with_cell-read.ensures.other_possible
+    a.learns refl refl a.sure a.other_sure a.possible a.other_possible
 
 pub returns-clause-told : goal.returns-clause-told
 returns-clause-told c =

@@ -15,7 +15,7 @@ returns-then-has-clause-ok c =
     reaction_paused k c.args.state.now c.args.inputs.now _ c.args.settled.now
     (pauses_of c.args.from.now) _ k.distinct k.loop_safe
     c.requires.state c.requires.lives c.requires.from c.requires.settled (sym c.has.ensures ∙ c.if-has.true)
-    (all_collected _ k _ c.args.outputs _ c.args.from.now _ _ _ c.root.ensures c.requires.outputs c.new-next.ensures
+    (all_collected k _ c.args.outputs _ c.args.from.now _ _ _ c.root.ensures c.requires.outputs c.new-next.ensures
     c.collect.ensures)
 
 pub returns-then-has-clause-values : goal.returns-then-has-clause-values

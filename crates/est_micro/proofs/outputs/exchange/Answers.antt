@@ -1,4 +1,4 @@
-use Rattle.std.proofs.Common.{◌≡◌, ◌<◌, ◌≤◌, ℕ, Bool, true, List, length, ap, sym, ◌∙◌, arith, subst}
+use Rattle.std.proofs.Common.{◌≡◌, ◌<◌, ◌≤◌, ℕ, Bool, true, List, length, refl, ap, sym, ◌∙◌, subst}
 use Rattle.est_kernel.specs.Bits.{bits}
 use Rattle.est_kernel.specs.Interfaces.{emittable}
 use Rattle.est_kernel.specs.declared.interface.Declaration.{Declaration}
@@ -7,9 +7,9 @@ use Rattle.est_meaning.specs.declared.status.Status.{Status}
 use Rattle.est_rounds.specs.declared.acts.Judgement.{Judgement}
 use Rattle.est_rounds.specs.declared.signal_set.Env.{Env as Known}
 use Rattle.est_net.specs.Layout.{output_count}
-use Rattle.est_micro.specs.Outputs.{AreSignalsTold, IsKnownBy, told_of}
+use Rattle.est_micro.specs.Outputs.{AreSignalsTold, told_of}
 use Rattle.est_micro.specs.Runs.{IsExchanged}
-use Rattle.est_micro.proofs.Exchanging.{emittable_within}
+use Rattle.est_micro.proofs.Exchanging.{IsKnownBy, emittable_within, known_is}
 use Rattle.est_micro.proofs.outputs.exchange.Goals as goal
 
 exchanged : (i : List Declaration) (f : ℕ → Bool) (m inputs : ℕ) (j : Judgement) (old new : List Status) (e : Known)
@@ -30,26 +30,18 @@ count_is i f m size a b h = subst (λ (g : ℕ → Bool). how_many g m ≤ size)
 inside : (i : List Declaration) (f : ℕ → Bool) (m : ℕ) → f ≡ emittable i → m ≡ length i → (n : ℕ) → f n ≡ true → n < m
 inside i f m a b n h = subst (λ (z : ℕ). n < z) (sym b) (emittable_within i n (ap (λ (g : ℕ → Bool). g n) (sym a) ∙ h))
 
-pub tell_all-requires-clause-within : goal.tell_all-requires-clause-within
-tell_all-requires-clause-within c =
+pub exchange_all-read-requires-clause-within : goal.exchange_all-read-requires-clause-within
+exchange_all-read-requires-clause-within c =
     count_is c.args.kernel.now.interface _ _ _
     (c.emittable-signals.ensures ∙ ap emittable c.interface-interface.ensures)
-    (c.len-places.ensures.len ∙ ap length c.interface-interface.ensures) c.requires
-
-pub known_by-requires-clause-within : goal.known_by-requires-clause-within
-known_by-requires-clause-within c =
-    count_is c.args.kernel.now.interface _ _ _
-    (c.emittable-signals.ensures ∙ ap emittable c.interface-interface.ensures)
-    (c.len-places.ensures.len ∙ ap length c.interface-interface.ensures)
-    (let s = c.tell_all.ensures.changes.size in omega (arith, s, c.requires))
-
-pub known_by-requires-clause-inside : goal.known_by-requires-clause-inside
-known_by-requires-clause-inside c =
-    inside c.args.kernel.now.interface _ _ (c.emittable-signals.ensures ∙ ap emittable c.interface-interface.ensures)
-    (c.len-places.ensures.len ∙ ap length c.interface-interface.ensures)
+    (c.len.ensures.len ∙ ap length c.interface-interface.ensures) c.requires
 
 pub returns : goal.returns
 returns c =
-    exchanged c.args.kernel.now.interface _ _ c.args.inputs c.args.judged.now _ _ _
-    (c.emittable-signals.ensures ∙ ap emittable c.interface-interface.ensures)
-    (c.len-places.ensures.len ∙ ap length c.interface-interface.ensures) c.tell_all.ensures c.known_by.ensures
+    let f = c.emittable-signals.ensures ∙ ap emittable c.interface-interface.ensures in
+    let m = c.len.ensures.len ∙ ap length c.interface-interface.ensures in
+    let r = c.exchange_all-read.ensures in
+    exchanged c.args.kernel.now.interface _ _ c.args.inputs c.args.judged.now _ _ _ f m r.told
+    (known_is _ _ (bits c.args.inputs) (bits c.exchange_all-read.result.sure)
+    (bits c.exchange_all-read.result.possible) _ _ (inside c.args.kernel.now.interface _ _ f m) c.either.ensures
+    c.either-2.ensures r.sure r.possible refl refl)

@@ -38,7 +38,7 @@ resume_seq-returns t c = λ a b.
 pub resume_par-returns : goal.resume_par-returns
 resume_par-returns t c = λ a b.
     par_resumed c.args.at a c.args.p.now b c.args.q.now c.args.pauses.now c.args.run _ _ _ c.args.env.now
-    _ _ _ _ _ _ _ _ _ _ _ _ c.requires.direction c.has_live-first_on.ensures c.has_live-second_on.ensures
+    _ _ _ _ _ _ _ _ _ _ _ _ c.requires.direction c.has_live-first_on.ensures c.second_lives-second_on.ensures
     c.learn-go.ensures.learns
     c.learn-go.ensures.known c.part-first.ensures c.told-inside.ensures c.part-second.ensures c.side-left.ensures
     c.side-right.ensures
@@ -47,7 +47,7 @@ resume_par-returns t c = λ a b.
 pub resume_par_back-returns : goal.resume_par_back-returns
 resume_par_back-returns t c = λ a b.
     par_resumed_back c.args.at a c.args.p.now b c.args.q.now c.args.pauses.now c.args.run _ _ _ _ c.args.env.now
-    _ _ _ _ _ _ _ _ _ _ _ _ c.requires.direction c.has_live-first_on.ensures c.has_live-second_on.ensures
+    _ _ _ _ _ _ _ _ _ _ _ _ c.requires.direction c.has_live-first_on.ensures c.second_lives-second_on.ensures
     c.learn-go.ensures.learns
     c.learn-go.ensures.known c.past.ensures c.part-second.ensures c.told-inside.ensures c.part-first.ensures
     c.side-left.ensures

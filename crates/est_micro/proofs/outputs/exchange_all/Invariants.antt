@@ -1,0 +1,8 @@
+use Rattle.est_kernel.specs.Bits.{bits}
+use Rattle.est_micro.specs.Outputs.{told_of}
+use Rattle.est_micro.proofs.Exchanging.{Exchanging}
+use Rattle.est_micro.proofs.outputs.exchange_all.Given as goal
+
+abbrev pub invariant-loop-n : goal.invariant-loop-n
+invariant-loop-n l = Exchanging (bits l.signals) l.n (told_of l.inputs l.judged) l.read.cell (bits l.read.sure)
+    (bits l.read.possible) l.fn.table.cells.items l.table.cells.items
