@@ -85,7 +85,7 @@ const BEFORE_ORDER: [(&str, Kind, &str); 12] = [
 ];
 
 /// Renamings, names and emissions. The main module is M, and N emits A and T.
-const BEHIND_ORDER: [(&str, Kind, &str); 23] = [
+const AFTER_ORDER: [(&str, Kind, &str); 23] = [
     ("module M: emit X end module", Kind::Unknown, "X"),
     ("module M: emit tick end module", Kind::Emit, "tick"),
     (
@@ -281,8 +281,8 @@ fn faults_of(alloc: Global, text: &str) -> Result<(Option<LinkFault>, Option<Lin
         return Err(Fail::from("no name"));
     };
     let before = fault_before_order(alloc, &heads, &main)?;
-    let behind = fault_behind_order(alloc, &heads, &main, &emissions)?;
-    Ok((before, behind))
+    let after = fault_behind_order(alloc, &heads, &main, &emissions)?;
+    Ok((before, after))
 }
 
 /// Whether the fault is of this kind and has this name.
@@ -298,11 +298,11 @@ fn is_told(fault: Option<LinkFault>, kind: Kind, name: &str) -> bool {
 
 /// The first fault of a library, of these checks.
 fn fault_of(alloc: Global, text: &str) -> Result<Option<LinkFault>, Fail> {
-    let (before, behind) = faults_of(alloc, text)?;
+    let (before, after) = faults_of(alloc, text)?;
     if before.is_some() {
         return Ok(before);
     }
-    Ok(behind)
+    Ok(after)
 }
 
 /// Fails where the first fault of a library of a table is another.
@@ -321,7 +321,7 @@ fn expect_names(alloc: Global, rows: &[(&str, Kind, &str)]) -> Result<(), Fail> 
 #[test]
 fn first_faults_are_named(rt: HostRuntime) -> Result<(), Fail> {
     expect_names(rt.alloc(), &BEFORE_ORDER)?;
-    expect_names(rt.alloc(), &BEHIND_ORDER)
+    expect_names(rt.alloc(), &AFTER_ORDER)
 }
 
 #[test]

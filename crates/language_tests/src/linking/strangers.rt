@@ -30,16 +30,16 @@ fn module_name(alloc: Global, number: usize) -> Result<String, Fail> {
 
 /// A chain of modules, each of which runs the next between two parts, and what the last one does.
 fn chain(alloc: Global, modules: u16, parts: (&str, &str), last: &str) -> Result<String, Fail> {
-    let (before, behind) = parts;
+    let (before, after) = parts;
     let mut text = String::new(alloc);
     for number in 1..modules as usize {
         let name = module_name(alloc, number - 1)?;
         text.push_str(&format!(in alloc;
-            "module {name}:{before}run M{number}{behind} end module "
+            "module {name}:{before}run M{number}{after} end module "
         )?)?;
     }
     let name = module_name(alloc, (modules as usize).saturating_sub(1))?;
-    text.push_str(&format!(in alloc; "module {name}:{before}{last}{behind} end module")?)?;
+    text.push_str(&format!(in alloc; "module {name}:{before}{last}{after} end module")?)?;
     Ok(text)
 }
 
@@ -144,8 +144,8 @@ fn deep_texts(rt: HostRuntime) -> Result<(), Fail> {
     let brackets = chain(alloc, 228, (&opens, &closes), "pause")?;
     expect_answer(alloc, "29,184 brackets", brackets, Answer::Kernel(0))?;
     let before = format!(in alloc; "input I;{}", "suspend ".repeat(alloc, 128)?)?;
-    let behind = " when I".repeat(alloc, 128)?;
-    let suspended = chain(alloc, 16, (&before, &behind), "pause")?;
+    let after = " when I".repeat(alloc, 128)?;
+    let suspended = chain(alloc, 16, (&before, &after), "pause")?;
     let large = Answer::Large(Limit::Statements);
     expect_answer(alloc, "2,049 statements", suspended, large)
 }
