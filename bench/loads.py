@@ -77,12 +77,12 @@ def name(number):
     return "M" if number == 0 else f"M{number}"
 
 
-def chain(count, before, behind, last):
+def chain(count, before, after, last):
     """Modules that each run the next one, between two parts; what the last one does."""
     parts = []
     for number in range(count):
         act = f"run {name(number + 1)}" if number + 1 < count else last
-        parts.append(f"module {name(number)}:{before}{act}{behind} end module ")
+        parts.append(f"module {name(number)}:{before}{act}{after} end module ")
     return "".join(parts)
 
 
@@ -319,8 +319,8 @@ def random_body(chance, names, modules, room):
         opening.append(f"signal {','.join(part)} in " if part else "trap T in ")
     wrapping = chance.choice((0, 0, 0.5, 1))
     acts = [random_wrapped(chance, random_act(chance, names, modules), names, wrapping) for _ in range(chance.choice((1, 2, 5, 20)))]
-    behind = [";" + chance.choice(acts) if chance.random() < 0.8 else "" for _ in range(depth)]
-    ending = "".join(f" end{act}" for act in behind)
+    after = [";" + chance.choice(acts) if chance.random() < 0.8 else "" for _ in range(depth)]
+    ending = "".join(f" end{act}" for act in after)
     whole = ";".join(acts)
     left = room - sum(map(len, opening)) - len(ending) - len(whole)
     times = max(0, left // (len(whole) + 1)) if chance.random() < 0.8 else chance.randint(0, 5)

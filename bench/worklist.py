@@ -98,7 +98,7 @@ def local(names, p):
     return ("local", names[0], local(names[1:], p)) if names else p
 
 
-# Programs: what each is, its inputs, its outputs, its statement, and the inputs of its instants, which come round.
+# Programs: what each is, its inputs, its outputs, its statement, and the inputs of its instants, which come again and again.
 
 def names(letter, count):
     return [f"{letter}{n}" for n in range(count)]
@@ -160,7 +160,7 @@ def chain(count):
 
 
 def ring(count):
-    """An arbiter without requests: the right goes round from the cell that has the token, which goes on by one cell in each instant."""
+    """An arbiter without requests: the right goes around the ring, from the cell that has the token; that goes on by a cell an instant."""
     def cell(n):
         passed = present(f"P{(n - 1) % count}", emit(f"P{n}"))
         moving = present(f"T{n}", seq(PAUSE, emit(f"T{(n + 1) % count}")), PAUSE)
@@ -246,7 +246,7 @@ def programs():
         "ring32": ("32 cells of an arbiter, in a ring", [], names("P", 32) + names("T", 32), ring(32), none),
         "blocks94": ("94 waits, each beside an output that is sustained meanwhile", names("I", 8), names("O", 56),
                      par(*(block(n) for n in range(94))), eight),
-        "loops16": ("16 loops in one another round two states of 24 emissions", [], names("O", 49),
+        "loops16": ("16 loops in one another around two states of 24 emissions", [], names("O", 49),
                     busy_loops(16),
                     none),
         "deep60x12": ("60 parts side by side under 16 traps, each 12 loops deep", [], names("O", 32), deep(60, 12), none),
@@ -293,7 +293,7 @@ class Other(int):
 
 
 class Place:
-    """Where a statement stands: the traps round it, the nets of the signals, the net of the `suspend` around it (-1: none), the statement
+    """Where a statement stands: the traps around it, the nets of the signals, the net of the `suspend` around it (-1: none), the statement
     around it (-1: none), and whether this is incarnation 0."""
 
     def __init__(self, main, traps, signals, runs, around):

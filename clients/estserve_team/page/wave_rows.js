@@ -25,7 +25,7 @@ export class WaveRows {
     this.life = (this.life ?? 0) + 1;
   }
 
-  /** There are so many instants now. */
+  /** Takes the number of instants that there are now. */
   grow(newest) {
     this.newest = Math.max(this.newest, newest);
   }

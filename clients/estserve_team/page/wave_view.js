@@ -107,7 +107,7 @@ export class WaveView {
     this.redraw();
   }
 
-  /** There are so many instants. */
+  /** Takes the number of instants. */
   grow(instants) {
     this.instants = instants;
     this.rows.grow(instants);

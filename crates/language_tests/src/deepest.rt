@@ -15,7 +15,7 @@ const STAMP: Stamp = Stamp {
 /// What stands around `sustain O`: how often in each module, and how many modules run one another.
 struct Nest {
     before: &'static str,
-    behind: &'static str,
+    after: &'static str,
     times: usize,
     modules: u32,
 }
@@ -25,25 +25,25 @@ struct Nest {
 const NESTS: [Nest; 4] = [
     Nest {
         before: "suspend ",
-        behind: " when I",
+        after: " when I",
         times: 73,
         modules: 28,
     },
     Nest {
         before: "present I else ",
-        behind: " end",
+        after: " end",
         times: 73,
         modules: 14,
     },
     Nest {
         before: "[",
-        behind: "; pause]",
+        after: "; pause]",
         times: 73,
         modules: 14,
     },
     Nest {
         before: "[pause || ",
-        behind: "]",
+        after: "]",
         times: 73,
         modules: 14,
     },
@@ -52,14 +52,14 @@ const NESTS: [Nest; 4] = [
 /// The modules of a nest: the first is M, and each runs the next one.
 fn text_of(alloc: Global, nest: &Nest) -> Result<String, AllocError> {
     let before = nest.before.repeat(alloc, nest.times)?;
-    let behind = nest.behind.repeat(alloc, nest.times)?;
+    let after = nest.after.repeat(alloc, nest.times)?;
     let mut text = String::from_str(alloc, "module M:")?;
     for number in 1..nest.modules {
         text.push_str(&format!(in alloc;
-            "input I;output O;{before}run M{number}{behind} end module module M{number}:"
+            "input I;output O;{before}run M{number}{after} end module module M{number}:"
         )?)?;
     }
-    text.push_str(&format!(in alloc; "input I;output O;{before}sustain O{behind} end module")?)?;
+    text.push_str(&format!(in alloc; "input I;output O;{before}sustain O{after} end module")?)?;
     Ok(text)
 }
 

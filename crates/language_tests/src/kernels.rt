@@ -169,7 +169,7 @@ const BINDERS: [(&str, bool); 6] = [
     ("pause, local 1", false),
 ];
 
-/// Fails where a statement is closed and shouldn't be, or the other way round.
+/// Fails where a statement is closed and shouldn't be, or isn't and should be.
 fn expect_closed(rt: &impl Abort, alloc: Global, rows: &[(&str, bool)]) {
     let interface = Interface::new(alloc);
     for (text, closed) in rows {

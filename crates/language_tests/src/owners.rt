@@ -28,7 +28,7 @@ const OWNED: [(&str, &str); 4] = [
         "#0 #1 #2 0.0:01 1.0:01 2.0:012 3.0:012 4.0:012 5.0:012 6.0:012 7.0:012 8.0:012 9.0:01",
     ),
     // what lies in both loops has incarnation 1 for the restart of the inner one, and 2 for that of
-    // the outer one; for the inner loop itself the outer one is the first round it
+    // the outer one; for the inner loop itself the outer one is the first around it
     (
         "output O; loop loop emit O; pause end end",
         "#0 0.0:01 1.0:01 2.0:01 3.0:01 4.0:01 2.1:01 3.1:01 4.1:01 1.1:01 2.2:01 3.2:01 4.2:01",

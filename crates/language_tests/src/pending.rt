@@ -158,7 +158,7 @@ fn offers_under_relations(rt: HostRuntime) {
 /// Relations, and whether they are between inputs.
 const OVER_INPUTS: [(&str, bool); 3] = [("A # B", true), ("A # O", false), ("A => O", false)];
 
-/// Fails where relations are between inputs and shouldn't be, or the other way round.
+/// Fails where relations are between inputs and shouldn't be, or aren't and should be.
 fn expect_over_inputs(rt: &impl Abort, alloc: Global, rows: &[(&str, bool)]) {
     let interface = interface(rt, alloc);
     for (written, over_inputs) in rows {

@@ -303,7 +303,7 @@ fn faults(rt: HostRuntime) {
 
 /// A body of four thousand million names, which no text can have.
 #[test]
-fn so_many_names_are_never_built(rt: HostRuntime) {
+fn four_billion_names_are_never_built(rt: HostRuntime) {
     let alloc = rt.alloc();
     let interface = Interface::new(alloc);
     let pause = Box::new(alloc, Body::Pause).expect(&rt, "room");
@@ -314,7 +314,12 @@ fn so_many_names_are_never_built(rt: HostRuntime) {
         body,
     };
     let found = reduced(&rt, alloc, &flat);
-    expect_told(&rt, found.as_str(), "TooLarge(Statements)", "so many names");
+    expect_told(
+        &rt,
+        found.as_str(),
+        "TooLarge(Statements)",
+        "four billion names",
+    );
 }
 
 /// Bodies, how many words their test has, and whether the kernel term is within the limit: a test

@@ -133,7 +133,7 @@ const FAULTS: [(&str, u64, u64); 32] = [
 /// The printable characters with which no token, blank or comment begins.
 const OTHERS: &str = "! \" $ & \' * + - . 0 1 2 3 4 5 6 7 8 9 < = > ? @ \\ ^ _ ` { | } ~";
 
-/// Fails where one of these texts is an identifier and shouldn't be, or the other way round.
+/// Fails where one of these texts is an identifier and shouldn't be, or isn't and should be.
 fn expect_names(rt: &impl Abort, rows: &[(&str, bool)]) {
     for (text, is_name) in rows {
         let holds = match Identifier::from_text(text) {

@@ -65,10 +65,10 @@ fn nested(
     row: (&str, &str, &str, &str, usize),
     depth: usize,
 ) -> String {
-    let (before, open, close, behind, _) = row;
+    let (before, open, close, after, _) = row;
     let opens = open.repeat(alloc, depth).expect(rt, "room");
     let closes = close.repeat(alloc, depth).expect(rt, "room");
-    format!(in alloc; "module M: {before}{opens}A{closes}{behind} end module").expect(rt, "room")
+    format!(in alloc; "module M: {before}{opens}A{closes}{after} end module").expect(rt, "room")
 }
 
 /// The column of the token that opens one unit too many.

@@ -17,14 +17,14 @@ const SUSPENSIONS: usize = 73;
 /// The deepest module M: it emits O in each instant without I, inside 2,044 suspensions.
 fn deepest_text(alloc: Global) -> Result<String, AllocError> {
     let before = "suspend ".repeat(alloc, SUSPENSIONS)?;
-    let behind = " when I".repeat(alloc, SUSPENSIONS)?;
+    let after = " when I".repeat(alloc, SUSPENSIONS)?;
     let mut text = String::from_str(alloc, "module M:")?;
     for number in 1..MODULES {
         text.push_str(&format!(in alloc;
-            "input I;output O;{before}run M{number}{behind} end module module M{number}:"
+            "input I;output O;{before}run M{number}{after} end module module M{number}:"
         )?)?;
     }
-    text.push_str(&format!(in alloc; "input I;output O;{before}sustain O{behind} end module")?)?;
+    text.push_str(&format!(in alloc; "input I;output O;{before}sustain O{after} end module")?)?;
     Ok(text)
 }
 
