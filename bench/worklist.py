@@ -128,9 +128,10 @@ def relay(order):
     return loop(par(*tellers[::order]), PAUSE)
 
 
-def sequence():
-    signals = names("S", 6)
-    body = seq(*(present(f"S{n % 6}", emit(f"O{n % 64}")) for n in reversed(range(500))), PAUSE)
+def sequence(count=6):
+    """500 parts under this many local signals."""
+    signals = names("S", count)
+    body = seq(*(present(f"S{n % count}", emit(f"O{n % 64}")) for n in reversed(range(500))), PAUSE)
     for name in reversed(signals):
         body = ("local", name, seq(emit(name), body))
     return loop(body)

@@ -12,6 +12,7 @@ pub mod entry;
 pub mod journal;
 pub mod laws;
 mod loaded;
+pub mod nesting;
 pub mod reactor;
 mod reading;
 pub mod refusal;
