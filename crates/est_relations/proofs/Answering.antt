@@ -94,14 +94,14 @@ nothing_pending i rs h = record {
 }
 
 -- and where an input comes that keeps them
-pub kept_with : (i : List Declaration) (rs : List Relation) (mask place : ℕ) (name : List ℕ) → KeepsExclusions i rs mask
-    → IsNewInput i mask name place → list_all (keeps_exclusion (bits (with_place mask place))) rs ≡ true
+pub kept_with : (i : List Declaration) (rs : List Relation) (mask place : ℕ) → KeepsExclusions i rs mask
+    → offerable i place ≡ true → list_all (keeps_exclusion (bits (with_place mask place))) rs ≡ true
     → KeepsExclusions i rs (with_place mask place)
-kept_with i rs mask place name k new h = record {
+kept_with i rs mask place k input h = record {
   over_inputs = k.over_inputs;
   inputs = λ n b. elim (or_true (bits mask n) (nat_eq place n) (sym (with_bits mask place n) ∙ b)) [
     | inl was ↦ k.inputs n was
-    | inr comes ↦ ap (offerable i) (sym (nat_same place n comes)) ∙ new.input
+    | inr comes ↦ ap (offerable i) (sym (nat_same place n comes)) ∙ input
   ];
   kept = h;
 }

@@ -1,16 +1,14 @@
 -- An accepted offer keeps each exclusion: this follows from the definitions alone.
-use Rattle.std.proofs.Common.{◌≡◌, ◌∙◌, ◌<◌, inl, inr, ℕ, zero, suc, ◌+◌, Bool, true, false, ◌&&◌, nat_lt, cond, List}
+use Rattle.std.proofs.Common.{◌≡◌, ◌∙◌, ◌<◌, inl, inr, ℕ, zero, suc, ◌+◌, Bool, true, false, ◌&&◌, List}
 use Rattle.std.proofs.Common.{[], ◌∷◌, length, take, Option, None, refl, sym, ap, arith}
 use Rattle.std.specs.Prelude.{Some, Ok, Err, slice_get}
-use Rattle.std.specs.List.{find, list_all, position_or_len}
+use Rattle.std.specs.List.{find, list_all}
 use Rattle.std.proofs.lemmas.Bool.{cases_Bool, false≢true}
-use Rattle.std.proofs.lemmas.Bool.Decides.{nat_tests}
 use Rattle.std.proofs.lemmas.Option.{get_or_from_slice_get}
 use Rattle.refusal_rules.proofs.RuleLemmas.{all_passed}
 use Rattle.est_kernel.specs.Bits.{bits}
-use Rattle.est_kernel.specs.Interfaces.{offerable, is_named}
+use Rattle.est_kernel.specs.Interfaces.{offerable}
 use Rattle.est_kernel.specs.declared.interface.Declaration.{Declaration}
-use Rattle.est_relations.specs.Inner.Names.{IsNewInput}
 use Rattle.est_relations.specs.Keeping.{has_one_at_most, keeps_exclusion}
 use Rattle.est_relations.specs.Offers.{PendingInputs, place_of, with_place, KeepsExclusions, IsFirstExcluded}
 use Rattle.est_relations.specs.Offers.{OfferAnswer, offer_rules, Adds}
@@ -116,16 +114,8 @@ offer_keeps before after name k answer =
     ((Ok (record {}) ≡ Ok (record {})) × Adds before name after)
     (λ refusal h. no_fault (record {}) refusal h.0) answer in
     let adds = all.1.1 in
-    let new : IsNewInput before.interface before.mask name adds.place = record {
-      there = adds.there;
-      input = input_there before.interface adds.place
-          (λ o. all.0.1.0 (record { place = adds.place; there = adds.there; output = o }));
-      new = not_true (bits before.mask adds.place)
-          (λ b. all.0.1.1.0 (record { place = adds.place; there = adds.there; pending = b }));
-    } in
+    let input : offerable before.interface adds.place ≡ true = input_there before.interface adds.place
+    (λ o. all.0.1.0 (record { place = adds.place; there = adds.there; output = o })) in
     rw adds.added
-    (kept_with before.interface before.relations before.mask adds.place name k new
-    (all_kept before name adds.place k adds.there (λ number signal. all.0.1.1.1.0 (number, signal)))) where
-      not_true : (b : Bool) → (b ≡ true → ⊥) → b ≡ false
-      not_true false h = refl
-      not_true true h = absurd (h refl)
+    (kept_with before.interface before.relations before.mask adds.place k input
+    (all_kept before name adds.place k adds.there (λ number signal. all.0.1.1.1.0 (number, signal))))

@@ -1,9 +1,9 @@
 //! The inputs that are offered and not yet taken by an instant.
-ghost use Rattle.std.specs.Prelude.{◌≡◌, MatchResult};
-ghost use Rattle.est_relations.specs.Inner.Names.{IsNewInput, RefusesName, JoinsAs, RefusesOffer};
+ghost use Rattle.std.specs.Prelude.{◌≡◌, ◌<◌, ℕ, List, Some, length, IfOk, MatchResult};
+ghost use Rattle.est_relations.specs.Inner.Names.{AcceptsOffer, RefusesOffer};
 ghost use Rattle.est_relations.specs.Keeping.{AreOverInputs};
 ghost use Rattle.est_relations.specs.Offers.{KeepsExclusions, OfferAnswer, ReadyAnswer};
-ghost use Rattle.est_relations.specs.Offers.{pending_inputs, with_place};
+ghost use Rattle.est_relations.specs.Offers.{pending_inputs, place_of, with_place};
 
 use crate::refusal::Refusal;
 use crate::relations::Relations;
@@ -38,28 +38,6 @@ impl<'a> Model for Pending<'a> {
     ghost invariant = { λ p. KeepsExclusions p.interface.now p.relations.now p.inputs };
 }
 
-/// The signal of this name, where it may be offered and is not pending.
-fn offered(
-    interface: &Interface,
-    pending: u64,
-    name: &Identifier,
-) -> Result<InterfaceSignal, Refusal>
-    ensures { MatchResult result
-        (λ s. IsNewInput interface.now pending name.now s.index)
-        (RefusesName interface.now pending name.now) }
-{
-    let Some(signal) = interface.find(name) else {
-        return Err(Refusal::UnknownSignal);
-    };
-    if !interface.kind(signal).can_be_offered() {
-        return Err(Refusal::NotInput);
-    }
-    if mask::has(pending, signal.index) {
-        return Err(Refusal::AlreadyOffered);
-    }
-    Ok(signal)
-}
-
 /// The mask with this signal.
 fn with_signal(mask: u64, signal: InterfaceSignal) -> u64
     ensures { result ≡ with_place mask signal.index }
@@ -67,19 +45,27 @@ fn with_signal(mask: u64, signal: InterfaceSignal) -> u64
     mask | 1 << signal.index
 }
 
-/// The pending inputs with the input of this name, where it may come.
+/// The pending inputs with this one, where it may come.
 fn joined(
     interface: &Interface,
     relations: &Relations,
     pending: u64,
-    name: &Identifier,
+    signal: InterfaceSignal,
 ) -> Result<u64, Refusal>
-    requires { KeepsExclusions interface.now relations.now pending }
-    ensures { MatchResult result
-        (JoinsAs interface.now relations.now pending name.now)
-        (RefusesOffer interface.now relations.now pending name.now) }
+    requires kept { KeepsExclusions interface.now relations.now pending }
+    requires within { signal.index < length interface.now }
+    ensures kept { IfOk result (KeepsExclusions interface.now relations.now) }
+    ensures answer { (name : List ℕ) → place_of interface.now name ≡ Some signal.index
+        → MatchResult result
+        (AcceptsOffer interface.now relations.now pending name)
+        (RefusesOffer interface.now relations.now pending name) }
 {
-    let signal = offered(interface, pending, name)?;
+    if !interface.kind(signal).can_be_offered() {
+        return Err(Refusal::NotInput);
+    }
+    if mask::has(pending, signal.index) {
+        return Err(Refusal::AlreadyOffered);
+    }
     match first_broken(relations.as_slice(), pending, signal) {
         Some(broken) => Err(Refusal::Excluded {
             relation: broken.relation,
@@ -129,7 +115,20 @@ impl<'a> Pending<'a> {
     pub fn offer(&mut self, name: &Identifier) -> Result<(), Refusal>
         ensures { OfferAnswer self.old name.now result self.new }
     {
-        match joined(self.interface, self.relations, self.inputs, name) {
+        match self.interface.find(name) {
+            Some(signal) => self.offer_signal(signal),
+            None => Err(Refusal::UnknownSignal),
+        }
+    }
+
+    /// The same of this signal, for an owner that looks names up itself: it is answered as an offer
+    /// of its name.
+    pub fn offer_signal(&mut self, signal: InterfaceSignal) -> Result<(), Refusal>
+        requires { signal.index < length self.old.interface }
+        ensures { (name : List ℕ) → place_of self.old.interface name ≡ Some signal.index
+            → OfferAnswer self.old name result self.new }
+    {
+        match joined(self.interface, self.relations, self.inputs, signal) {
             Ok(inputs) => {
                 self.inputs = inputs;
                 Ok(())

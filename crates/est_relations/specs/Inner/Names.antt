@@ -3,7 +3,7 @@ use Rattle.std.specs.Prelude.{◌≡◌, ℕ, true, false, List, Some, None, Ok,
 use Rattle.est_kernel.specs.Bits.{bits}
 use Rattle.est_kernel.specs.Interfaces.{offerable}
 use Rattle.est_kernel.specs.declared.interface.Declaration.{Declaration}
-use Rattle.est_relations.specs.Offers.{pending_inputs, place_of, IsOutputName, IsPendingName, KeepsExclusions}
+use Rattle.est_relations.specs.Offers.{pending_inputs, place_of, IsOutputName, IsPendingName}
 use Rattle.est_relations.specs.Offers.{OfferAnswer}
 use Rattle.est_relations.specs.declared.relations.Relation.{Relation}
 use Rattle.est_relations.specs.declared.refusal.Refusal.{Refusal}
@@ -22,12 +22,11 @@ RefusesName interface mask name NotInput = IsOutputName interface name
 RefusesName interface mask name AlreadyOffered = IsPendingName interface mask name
 RefusesName interface mask name _ = ⊥
 
--- the input of the name joins the pending ones, which are then this mask
-pub record JoinsAs (interface : List Declaration) (relations : List Relation) (mask : ℕ) (name : List ℕ)
-    (after : ℕ) : Type 0 where
-  pub answer : OfferAnswer (pending_inputs interface relations mask) name (Ok (record {}))
-      (pending_inputs interface relations after)
-  pub kept : KeepsExclusions interface relations after
+-- the name may be offered, and what is pending is then this mask
+abbrev pub AcceptsOffer : List Declaration → List Relation → (mask : ℕ) → List ℕ → (after : ℕ) → Type 0
+AcceptsOffer interface relations mask name after =
+    OfferAnswer (pending_inputs interface relations mask) name (Ok (record {}))
+    (pending_inputs interface relations after)
 
 -- why the name may not be offered
 abbrev pub RefusesOffer : List Declaration → List Relation → (mask : ℕ) → List ℕ → Refusal → Type 0

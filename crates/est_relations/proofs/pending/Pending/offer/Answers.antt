@@ -1,7 +1,9 @@
+use Rattle.std.proofs.Common.{sym}
+use Rattle.est_relations.specs.declared.refusal.Refusal.TheVariants.{UnknownSignal}
+use Rattle.est_relations.proofs.Answering.{refused_name}
 use Rattle.est_relations.proofs.pending.Pending.offer.Goals as goal
 
-pub returns-in-Ok : goal.returns-in-Ok
-returns-in-Ok c = rw (← c.self.view_is) c.in-Ok.ensures.answer
-
-pub returns-in-Err : goal.returns-in-Err
-returns-in-Err c = rw (← c.self.view_is) c.in-Err.ensures
+pub returns-in-None : goal.returns-in-None
+returns-in-None c =
+    rw (← c.self.view_is)
+    (refused_name _ c.args.name.now UnknownSignal c.self.invariant (sym c.in-None.ensures.place))
