@@ -81,17 +81,26 @@ def wait_for_end(server):
     raise SystemExit("closing.py: the server does not end")
 
 
+def connect(connection, path):
+    """Connects to the server as soon as it listens there."""
+    end = time.monotonic() + WAIT_SECONDS
+    while time.monotonic() < end:
+        try:
+            return connection.connect(path)
+        except (FileNotFoundError, ConnectionRefusedError):
+            time.sleep(0.005)
+    raise SystemExit("closing.py: the server does not listen")
+
+
 def close_after(program, opening, lines):
     """The processor seconds of these lines, after others, and of a close after them."""
     with tempfile.TemporaryDirectory() as folder:
         path = str(pathlib.Path(folder) / "socket")
         words = [program, "serve", "--socket", path, "--workers", "1", "--connections", "1"]
         server = subprocess.Popen(words, stdout=subprocess.PIPE)
-        while not os.path.exists(path):
-            time.sleep(0.005)
         with socket.socket(socket.AF_UNIX) as connection:
             connection.settimeout(WAIT_SECONDS)
-            connection.connect(path)
+            connect(connection, path)
             with connection.makefile("rb") as answers:
                 send(connection, answers, opening)
                 start = seconds_of(server.pid)

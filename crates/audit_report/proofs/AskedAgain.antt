@@ -1,6 +1,7 @@
 -- What the plain engine answers is an outcome of the journal, and an accepted step keeps one.
-use Rattle.std.proofs.Common.{◌≡◌, ◌∙◌, ℕ, Bool, List, [], ◌∷◌, ◌++◌, refl, sym, ap, subst, ⊎_elim}
-use Rattle.std.specs.Prelude.{Some}
+use Rattle.std.proofs.Common.{◌≡◌, ◌∙◌, ◌<◌, ℕ, false, List, [], ◌∷◌, ◌++◌, sym, ap, subst, ⊎_elim, arith}
+use Rattle.std.specs.Prelude.{Some, is_some}
+use Rattle.std.proofs.lemmas.Bool.{false≢true}
 use Rattle.std.proofs.lemmas.Option.{same_Some}
 use Rattle.refusal_rules.proofs.RuleLemmas.{first_or_none}
 use Rattle.est_kernel.specs.Bits.{bits}
@@ -24,7 +25,7 @@ use Rattle.reactor_core.specs.declared.entry.Load.{Load as LoadEntry}
 use Rattle.reactor_core.specs.declared.entry.PastInstant.{PastInstant}
 use Rattle.reactor_core.specs.declared.entry.SlotEntry.{SlotEntry}
 use Rattle.reactor_core.specs.Loading.{GivenModule}
-use Rattle.reactor_core.specs.Meaning.{instant, entry, ModuleOf, Running, RunsAfter}
+use Rattle.reactor_core.specs.Meaning.{instant, entry, is_loaded, ModuleOf, Running, RunsAfter}
 use Rattle.reactor_core.specs.Left.{IsKernelOf, IsLeftOf}
 use Rattle.reactor_core.specs.Reacting.{ReactsWith, IsStuck}
 use Rattle.reactor_core.specs.Instants.{IsOutcome, HasNoOutcome}
@@ -36,8 +37,9 @@ use Rattle.access_core.specs.Answering.{IsRefused}
 use Rattle.access_core.specs.SlotStep.{SlotStep, slot_rules, Does, stamp_of}
 use Rattle.access_core.specs.Journals.{command_of}
 use Rattle.access_core.proofs.OneNaming.{same_mask}
-use Rattle.audit_report.specs.Inner.Asking.{KeepsNoOutcome}
+use Rattle.audit_report.specs.Inner.Asking.{GivesOutputs, KeepsOutputs, KeepsOthers}
 use Rattle.audit_report.specs.Inner.Faults.{last_instant, KeepsInstant}
+use Rattle.audit_report.specs.declared.asked_again.TheConstants.{ASKED_LOCALS}
 use Rattle.audit_report.proofs.Replayed.{last_pushed}
 
 module _ (modules : OneModule) (journal : List SlotEntry) (k : Kernel) (x : State) (left : IsLeftOf journal k x)
@@ -97,6 +99,21 @@ same_depth modules journal k other one two =
     let same : one.given ≡ two.given = modules two.load one.given two.given is two.is in
     ap local_depth (one.begins ∙ ap (λ (g : GivenModule). g.term) same ∙ sym two.begins)
 
+-- where the plain engine is not asked, nothing is said
+pub too_deep : OneModule → (journal : List SlotEntry) (k : Kernel) (outputs : ℕ) → IsKernelOf journal k
+    → ASKED_LOCALS < local_depth (term_of k.root) → GivesOutputs journal outputs
+too_deep modules journal k outputs here deep other is shallow =
+    absurd (omega (arith, deep, shallow, same_depth modules journal other k is here))
+
+-- nor where no module runs
+pub nothing_runs : (journal : List SlotEntry) (a : Action) → is_loaded journal ≡ false → KeepsOutputs journal a
+nothing_runs journal (action.Load l) none = tt
+nothing_runs journal (action.Offer signal) none = tt
+nothing_runs journal action.Discard none = tt
+nothing_runs journal (action.Step i) none = λ k is shallow.
+    absurd (false≢true (sym none ∙ ap is_some is.last))
+nothing_runs journal action.Unload none = tt
+
 -- one outcome at most has these outputs
 pub other_outputs : OneModule → (journal : List SlotEntry) (a b : ℕ) (t : Term) → IsOutcome journal a t → ¬ (a ≡ b)
     → (next : Term) → IsOutcome journal b next → ⊥
@@ -129,7 +146,7 @@ module _ (judged : List Entry) (slot session : ℕ) (before : List SlotEntry) (r
 
   -- so what keeps none is not kept
   pub not_kept_here : (a : Action) → SlotStep judged slot session (command_of a) before reply after
-      → KeepsNoOutcome before a → KeepsInstant after a → ⊥
+      → KeepsOthers before a → KeepsInstant after a → ⊥
   not_kept_here (action.Load l) h none keeps = none
   not_kept_here (action.Offer signal) h none keeps = none
   not_kept_here action.Discard h none keeps = none

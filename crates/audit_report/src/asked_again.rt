@@ -5,7 +5,8 @@
 ghost use Rattle.std.specs.Prelude.{◌≡◌, IfOk, IfErr, true, false};
 ghost use Rattle.est_kernel.specs.Term.{Term};
 ghost use Rattle.reactor_core.specs.Instants.{HasNoOutcome, IsOutcome};
-ghost use Rattle.audit_report.specs.Inner.Asking.{KeepsNoOutcome, KeepsOutcome};
+ghost use Rattle.audit_report.specs.Inner.Asking.{GivesOutputs, GivesOtherwise, KeepsOutputs};
+ghost use Rattle.audit_report.specs.Inner.Asking.{KeepsOthers};
 
 use access_core::slot::Slot;
 use est_kernel::state::Inputs;
@@ -37,24 +38,33 @@ fn ask_plain(reactor: &Reactor) -> Result<u64, u64>
     }
 }
 
-/// Whether the plain engine gives the outputs that this action keeps, if it is a step, in the next
-/// instant of what runs in the slot. It is not asked where local signals nest too deep.
-pub(crate) fn agrees(slot: &Slot, action: &Action) -> bool
-    ensures same { result ≡ true → KeepsOutcome slot.now.journal action.now }
-    ensures other { result ≡ false → KeepsNoOutcome slot.now.journal action.now }
+/// Whether the plain engine gives these outputs in the next instant of what runs. It is not asked
+/// where local signals nest too deep.
+fn gives_outputs(reactor: &Reactor, outputs: u64) -> bool
+    ensures same { result ≡ true → GivesOutputs reactor.now outputs }
+    ensures other { result ≡ false → GivesOtherwise reactor.now outputs }
 {
     one_module();
-    let Action::Step(stored) = action else {
-        return true;
-    };
-    let Some(reactor) = slot.reactor() else {
-        return true;
-    };
     if nests_locals(reactor.kernel().root(), ASKED_LOCALS) {
         return true;
     }
     match ask_plain(reactor) {
-        Ok(outputs) => outputs == stored.outputs,
+        Ok(given) => given == outputs,
         Err(_) => false,
+    }
+}
+
+/// Whether the plain engine gives the outputs that this action keeps, if it is a step of what runs
+/// in the slot.
+pub(crate) fn agrees(slot: &Slot, action: &Action) -> bool
+    ensures same { result ≡ true → KeepsOutputs slot.now.journal action.now }
+    ensures other { result ≡ false → KeepsOthers slot.now.journal action.now }
+{
+    let Some(reactor) = slot.reactor() else {
+        return true;
+    };
+    match action {
+        Action::Step(stored) => gives_outputs(reactor, stored.outputs),
+        Action::Load(_) | Action::Offer(_) | Action::Discard | Action::Unload => true,
     }
 }

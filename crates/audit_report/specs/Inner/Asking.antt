@@ -11,21 +11,28 @@ use Rattle.reactor_core.specs.Instants.{IsOutcome}
 use Rattle.reactor_core.specs.Left.{IsKernelOf}
 use Rattle.audit_report.specs.declared.asked_again.TheConstants.{ASKED_LOCALS}
 
--- the action is a step, and the next instant after these entries has no outcome with the outputs that it keeps
-abbrev pub KeepsNoOutcome : List SlotEntry → Action → Type 0
-KeepsNoOutcome journal (Load l) = ⊥
-KeepsNoOutcome journal (Offer signal) = ⊥
-KeepsNoOutcome journal Discard = ⊥
-KeepsNoOutcome journal (Step i) = (next : Term) → IsOutcome journal i.outputs next → ⊥
-KeepsNoOutcome journal Unload = ⊥
+-- where the local signals of the module that runs nest no deeper than the plain engine is asked, the next instant after
+-- these entries has an outcome with these outputs
+abbrev pub GivesOutputs : List SlotEntry → (outputs : ℕ) → Type 0
+GivesOutputs journal outputs = (k : Kernel) → IsKernelOf journal k → local_depth (term_of k.root) ≤ ASKED_LOCALS
+    → (next : Term) × IsOutcome journal outputs next
 
--- where the action is a step of a module whose local signals nest no deeper than the plain engine is asked, the next
--- instant after these entries has an outcome with the outputs that the step keeps
-abbrev pub KeepsOutcome : List SlotEntry → Action → Type 0
-KeepsOutcome journal (Load l) = Unit {0}
-KeepsOutcome journal (Offer signal) = Unit {0}
-KeepsOutcome journal Discard = Unit {0}
-KeepsOutcome journal (Step i) =
-    (k : Kernel) → IsKernelOf journal k → local_depth (term_of k.root) ≤ ASKED_LOCALS
-    → (next : Term) × IsOutcome journal i.outputs next
-KeepsOutcome journal Unload = Unit {0}
+-- the next instant after these entries has no outcome with these outputs
+abbrev pub GivesOtherwise : List SlotEntry → (outputs : ℕ) → Type 0
+GivesOtherwise journal outputs = (next : Term) → IsOutcome journal outputs next → ⊥
+
+-- where the action is a step, the next instant gives the outputs that it keeps, if the plain engine is asked
+abbrev pub KeepsOutputs : List SlotEntry → Action → Type 0
+KeepsOutputs journal (Load l) = Unit {0}
+KeepsOutputs journal (Offer signal) = Unit {0}
+KeepsOutputs journal Discard = Unit {0}
+KeepsOutputs journal (Step i) = GivesOutputs journal i.outputs
+KeepsOutputs journal Unload = Unit {0}
+
+-- the action is a step, and the next instant doesn't give the outputs that it keeps
+abbrev pub KeepsOthers : List SlotEntry → Action → Type 0
+KeepsOthers journal (Load l) = ⊥
+KeepsOthers journal (Offer signal) = ⊥
+KeepsOthers journal Discard = ⊥
+KeepsOthers journal (Step i) = GivesOtherwise journal i.outputs
+KeepsOthers journal Unload = ⊥

@@ -9,8 +9,8 @@ const LOCALS: usize = 32;
 /// The module M: it emits O in the first instant, and is done.
 fn nested_text(alloc: Global) -> Result<String, AllocError> {
     let before = "signal S in ".repeat(alloc, LOCALS)?;
-    let behind = " end".repeat(alloc, LOCALS)?;
-    format!(in alloc; "module M:output O;{before}present S else emit O end{behind} end module")
+    let after = " end".repeat(alloc, LOCALS)?;
+    format!(in alloc; "module M:output O;{before}present S else emit O end{after} end module")
 }
 
 #[test]
