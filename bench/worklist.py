@@ -141,9 +141,10 @@ def ended(count):
     return par(*(PAUSE for _ in range(count)), loop(emit("O0"), PAUSE))
 
 
-def sequence(parts=500):
-    signals = names("S", 6)
-    body = seq(*(present(f"S{n % 6}", emit(f"O{n % 64}")) for n in reversed(range(parts))), PAUSE)
+def sequence(parts=500, depth=6):
+    """This many parts, one after another, under this many local signals."""
+    signals = names("S", depth)
+    body = seq(*(present(f"S{n % depth}", emit(f"O{n % 64}")) for n in reversed(range(parts))), PAUSE)
     for name in reversed(signals):
         body = ("local", name, seq(emit(name), body))
     return loop(body)

@@ -1,5 +1,5 @@
 //! One slot, and the answer to a command on it.
-ghost use Rattle.std.specs.Prelude.{◌≡◌, ◌⊎◌, ℕ, [], List, true};
+ghost use Rattle.std.specs.Prelude.{◌≡◌, ◌⊎◌, ℕ, [], List, true, false, MatchOption};
 ghost use Rattle.est_kernel.specs.Term.{Term};
 ghost use Rattle.rbac_policy.specs.declared.commands.Entry.{Entry};
 ghost use Rattle.rbac_policy.specs.StandsFor.{StandsFor};
@@ -275,6 +275,17 @@ impl Slot {
         match &self.content {
             Content::Empty(journal) => journal,
             Content::Loaded(reactor) => reactor.journal(),
+        }
+    }
+
+    /// What runs in it, if a module does. It takes no memory.
+    pub fn reactor(&self) -> Option<&Reactor>
+        ensures { MatchOption result (is_loaded self.now.journal ≡ false)
+            (λ reactor. reactor.now ≡ self.now.journal) }
+    {
+        match &self.content {
+            Content::Empty(_) => None,
+            Content::Loaded(reactor) => Some(reactor),
         }
     }
 

@@ -121,7 +121,7 @@ module _ (judged : List Entry) (slot session : ℕ) (before : List SlotEntry) (r
       (Does judged slot session (command_of asked) before reply after) h)
 
 -- the instant that the last of the entries keeps
-last_pushed : (before : List SlotEntry) (e : SlotEntry) → last_instant (before ++ e ∷ []) ≡ instant_of e.action
+pub last_pushed : (before : List SlotEntry) (e : SlotEntry) → last_instant (before ++ e ∷ []) ≡ instant_of e.action
 last_pushed before e =
     let last : length (before ++ e ∷ []) - 1 ≡ length before = omega (arith, length_push before e) in
     ap (λ k. instant_in (slice_get (before ++ e ∷ []) k)) last ∙ ap instant_in (get_last before e)

@@ -6,6 +6,7 @@
 //! is the one that the slot step added at its version. `report` is the text of such an audit.
 #![tactic(auto)]
 
+mod asked_again;
 pub mod audit;
 pub mod finding;
 pub mod laws;

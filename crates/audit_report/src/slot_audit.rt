@@ -9,6 +9,7 @@ ghost use Rattle.audit_report.specs.Findings.{IsFirstOfSlot};
 ghost use Rattle.audit_report.specs.Inner.Faults.{last_instant, KeepsInstant, fault_of, Replays};
 ghost use Rattle.audit_report.specs.Inner.Faults.{finding_of};
 
+use crate::asked_again::agrees;
 use crate::finding::Finding;
 use access_core::command::SlotCommand;
 use access_core::refusal::Refusal;
@@ -95,7 +96,8 @@ fn fault_of(refusal: &Refusal) -> Fault
     }
 }
 
-/// Gives the entry's command to the slot, which is to add this very entry; else why it doesn't.
+/// Gives the entry's command to the slot, which is to add this very entry; else why it doesn't. Of
+/// a step the plain engine is asked too.
 fn replay_entry(
     alloc: Global,
     policy: &Policy,
@@ -111,10 +113,11 @@ fn replay_entry(
         return Err(Fault::Memory);
     };
     let session = SessionId::new(entry.stamp.session);
+    let agrees = agrees(slot, &entry.action);
     match decide_slot(policy, slot, session, command) {
         Reply::Refused(refusal) => Err(fault_of(&refusal)),
         _ => {
-            if keeps_instant(slot.journal().entries(), &entry.action) {
+            if agrees && keeps_instant(slot.journal().entries(), &entry.action) {
                 Ok(())
             } else {
                 Err(Fault::Reaction)

@@ -67,6 +67,29 @@ refuses m pending name before after e is h =
       answer = subst (λ (p : PendingInputs). PendingAnswer (pending_inputs m pending) name (Err e) p) same answer;
     }
 
+-- a name of no signal may not join them
+pub refuses_unknown : (m : Module) (pending : ℕ) (name : List ℕ) → AreKept m pending
+    → place_of m.kernel.interface name ≡ None → RefusesName m pending name (refusal_of_pending UnknownSignal)
+refuses_unknown m pending name kept none = record {
+  given = UnknownSignal;
+  told = refl;
+  answer = refused_name (pending_inputs m pending) name UnknownSignal kept none;
+}
+
+-- the place of a name in the interface is that which the index tells
+pub place_told : (m : Module) (name : List ℕ) (found : Option InterfaceSignal)
+    → option_map (λ (s : InterfaceSignal). s.index) found ≡ place_among m.signals name
+    → place_of m.kernel.interface name ≡ option_map (λ (s : InterfaceSignal). s.index) found
+place_told m name found told =
+    sym (told ∙ ap (λ (names : List (List ℕ)). place_among names name) m.indexed
+    ∙ place_in_interface m.kernel.interface name)
+
+-- a signal of the index is one of the interface
+pub within_interface : (m : Module) (at : ℕ) → at < length m.signals → at < length m.kernel.interface
+within_interface m at within =
+    let long = ap length m.indexed ∙ length-map m.kernel.interface (λ (d : Declaration). d.name) in
+    omega (arith, long, within)
+
 -- an instant may take pending inputs that are ready
 lawful_where : (p : PendingInputs) → ReadyAnswer p (Ok (record {})) → AreLawful p.relations (bits p.mask)
 lawful_where p (inl refused) = absurd (no_err (record {}) refused.refusal refused.answered)

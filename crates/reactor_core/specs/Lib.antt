@@ -10,3 +10,4 @@ pub mod Answers
 pub mod Instants
 pub mod Left
 pub mod Engines
+pub mod SignalIndexes

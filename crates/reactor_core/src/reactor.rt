@@ -26,6 +26,7 @@ use crate::text::Text;
 use est_kernel::interface::Interface;
 use est_kernel::kernel::Kernel;
 use est_kernel::state::State;
+use est_relations::relations::Relations;
 use est_text::identifier::Identifier;
 use std::alloc::Global;
 use std::marker::Model;
@@ -101,6 +102,14 @@ impl Reactor {
         ensures { (r : Running) × RunsAfter self.now r × (result.now ≡ r.interface) }
     {
         self.parts.loaded.kernel.interface()
+    }
+
+    /// The relations between the inputs of the module that runs, in the order of its text. It takes
+    /// no memory.
+    pub fn relations(&self) -> &Relations
+        ensures { (r : Running) × RunsAfter self.now r × (result.now ≡ r.relations) }
+    {
+        &self.parts.loaded.relations
     }
 
     /// The kernel of the module that runs. It takes no memory.

@@ -3,3 +3,4 @@ mod deepest;
 mod findings;
 mod journals;
 mod memory;
+mod nested;

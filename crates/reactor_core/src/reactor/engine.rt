@@ -2,9 +2,9 @@
 ghost use Rattle.std.specs.Prelude.{IfOk};
 ghost use Rattle.reactor_core.specs.Engines.{IsEngineOf};
 
+use crate::nesting::nests_locals;
 use est_kernel::kernel::Kernel;
 use est_kernel::state::{Inputs, Outcome, State, Stuck};
-use est_kernel::statement::Statement;
 use est_micro::micro::Micro;
 use est_net::net::Net;
 use est_rounds::engine::Engine;
@@ -36,21 +36,6 @@ impl ModuleEngine {
         } else {
             Ok(ModuleEngine::Plain(Rounds::new()))
         }
-    }
-}
-
-/// Whether local signals are nested deeper than this in a statement. Recursion is as deep as the
-/// statement.
-fn nests_locals(statement: &Statement, depth: u16) -> bool {
-    match statement {
-        Statement::Local(_, p) => depth == 0 || nests_locals(p, depth - 1),
-        Statement::Present(_, p, q) | Statement::Seq(p, q) | Statement::Par(p, q) => {
-            nests_locals(p, depth) || nests_locals(q, depth)
-        }
-        Statement::Suspend(_, p) | Statement::Loop(p) | Statement::Trap(p) => {
-            nests_locals(p, depth)
-        }
-        Statement::Nothing | Statement::Pause(_) | Statement::Emit(_) | Statement::Exit(_) => false,
     }
 }
 

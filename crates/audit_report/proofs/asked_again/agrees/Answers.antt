@@ -1,0 +1,5 @@
+use Rattle.audit_report.proofs.AskedAgain.{nothing_runs}
+use Rattle.audit_report.proofs.asked_again.agrees.Goals as goal
+
+pub returns-in_default-clause-same : goal.returns-in_default-clause-same
+returns-in_default-clause-same c = ?
