@@ -141,7 +141,8 @@ fn collect_suspend(
     requires { cell + traps + 3 + sheet_size main p.now traps
         ≤ length table.now.cells.items }
     ensures { (t a : _)
-        → Collects (Suspend' t a p.now) main cell traps table.now.cells.items on pauses.now next.old next.new
+        → Collects (Suspend' t a p.now) main cell traps table.now.cells.items on pauses.now next.old
+        next.new
         result }
 {
     let inside = cell + traps + 3;
@@ -170,7 +171,8 @@ fn collect_loop(
         + sheet_size false p.now traps
         ≤ length table.now.cells.items }
     ensures { (a : _)
-        → Collects (Loop' a p.now) main cell traps table.now.cells.items on pauses.now next.old next.new result }
+        → Collects (Loop' a p.now) main cell traps table.now.cells.items on pauses.now next.old
+        next.new result }
 {
     let past = collect(table, main, cell + traps + 3, traps, p, on, pauses, next);
     collect(table, false, past, traps, p, on, pauses, next)
@@ -187,7 +189,8 @@ fn collect_pause(
 ) -> usize
     requires { cell + traps + 3 ≤ length table.now.cells.items }
     ensures { (main pauses : _)
-        → Collects (Pause n) main cell traps table.now.cells.items on pauses next.old next.new result }
+        → Collects (Pause n) main cell traps table.now.cells.items on pauses next.old next.new
+        result }
 {
     let gives = gives_pause(table, cell, traps);
     put(next, n, both(on, gives));
@@ -211,7 +214,8 @@ fn collect_par(
         + sheet_size main q.now traps
         ≤ length table.now.cells.items }
     ensures { (a b : _)
-        → Collects (Par' a p.now b q.now) main cell traps table.now.cells.items on pauses.now next.old next.new
+        → Collects (Par' a p.now b q.now) main cell traps table.now.cells.items on pauses.now
+        next.old next.new
         result }
 {
     let gives = gives_pause(table, cell, traps);
@@ -243,7 +247,8 @@ fn collect_trap(
     requires { cell + traps + 3 + sheet_size main p.now
         (traps + 1) ≤ length table.now.cells.items }
     ensures { (a : _)
-        → Collects (Trap' a p.now) main cell traps table.now.cells.items on pauses.now next.old next.new result }
+        → Collects (Trap' a p.now) main cell traps table.now.cells.items on pauses.now next.old
+        next.new result }
 {
     collect(
         table,
@@ -272,7 +277,8 @@ fn collect_local(
     requires { cell + traps + 4 + sheet_size main p.now traps
         ≤ length table.now.cells.items }
     ensures { (s a : _)
-        → Collects (Binder' s a p.now) main cell traps table.now.cells.items on pauses.now next.old next.new
+        → Collects (Binder' s a p.now) main cell traps table.now.cells.items on pauses.now next.old
+        next.new
         result }
 {
     collect(table, main, cell + traps + 4, traps, p, on, pauses, next)
@@ -292,7 +298,8 @@ pub fn collect(
     next: &mut PauseSet,
 ) -> usize
     requires { cell + sheet_size main s.now traps ≤ length table.now.cells.items }
-    ensures { Collects s.now main cell traps table.now.cells.items on pauses.now next.old next.new result }
+    ensures { Collects s.now main cell traps table.now.cells.items on pauses.now next.old next.new
+        result }
 {
     let parts = cell + traps + 3;
     match s {
