@@ -82,7 +82,8 @@ pause_collected n main c traps cells on gives is_in pauses old new e f h = recor
 }
 
 -- two parts
-pub two_collected : (main : Bool) (c traps : ℕ) (p q : Statement) (cells : List Status) (on : Bool) (pauses old mid new : PauseSet)
+pub two_collected : (main : Bool) (c traps : ℕ) (p q : Statement) (cells : List Status) (on : Bool)
+    (pauses old mid new : PauseSet)
     (past end : ℕ)
     → Collects p main c traps cells on pauses old mid past
     → Collects q main past traps cells on pauses mid new end
@@ -126,7 +127,8 @@ par_collected main c traps a p b q cells on gives is_in pauses old new end e v z
     }
 
 -- `present` and `;`
-pub present_collected : (main : Bool) (c traps : ℕ) (t : _) (a : _) (p : Statement) (b : _) (q : Statement) (cells : List Status)
+pub present_collected : (main : Bool) (c traps : ℕ) (t : _) (a : _) (p : Statement) (b : _) (q : Statement)
+    (cells : List Status)
     (on : Bool)
     (pauses old new : PauseSet) (end : ℕ)
     → CollectsTwo p q main (c + traps + 3) traps cells
@@ -136,7 +138,8 @@ present_collected main c traps t a p b q cells on pauses old new end h =
     let x = h.past_is in
     record { put_in = h.put_in; past_is = omega arith }
 
-pub seq_collected : (main : Bool) (c traps : ℕ) (a : _) (p : Statement) (b : _) (q : Statement) (cells : List Status) (on : Bool)
+pub seq_collected : (main : Bool) (c traps : ℕ) (a : _) (p : Statement) (b : _) (q : Statement) (cells : List Status)
+    (on : Bool)
     (pauses old new : PauseSet) (end : ℕ)
     → CollectsTwo p q main (c + traps + 3) traps cells
     on pauses old new
@@ -146,7 +149,8 @@ seq_collected main c traps a p b q cells on pauses old new end h =
     record { put_in = h.put_in; past_is = omega arith }
 
 -- a `suspend`
-pub suspend_collected : (main : Bool) (c traps : ℕ) (t : _) (a : _) (p : Statement) (cells : List Status) (on g h held is_in : Bool)
+pub suspend_collected : (main : Bool) (c traps : ℕ) (t : _) (a : _) (p : Statement) (cells : List Status)
+    (on g h held is_in : Bool)
     (pauses old mid new : PauseSet) (end : ℕ) → g ≡ sure_codes (cell_at cells) (c + 1) (traps + 2) 1
     → h ≡ sure_codes (cell_at cells) (c + traps + 3 + 1) (traps + 2) 1
     → held ≡ (g && not h) → is_in ≡ (on && held)
@@ -213,7 +217,8 @@ again_collected false c n a p cells on pauses old new end h x =
       past_is = omega arith;
     }
 
-pub trap_collected : (main : Bool) (c traps : ℕ) (a : _) (p : Statement) (cells : List Status) (on : Bool) (pauses old new : PauseSet)
+pub trap_collected : (main : Bool) (c traps : ℕ) (a : _) (p : Statement) (cells : List Status) (on : Bool)
+    (pauses old new : PauseSet)
     (end : ℕ)
     → Collects p main (c + traps + 3) (traps + 1) cells on pauses old
     new end

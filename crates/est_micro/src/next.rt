@@ -91,8 +91,8 @@ fn collect_part(
     next: &mut PauseSet,
 ) -> usize
     requires { cell + sheet_size main s.now traps ≤ length table.now.cells.items }
-    ensures { Collects s.now main cell traps table.now.cells.items on pauses.now next.old next.new
-        result }
+    ensures { Collects s.now main cell traps table.now.cells.items on pauses.now next.old
+        next.new result }
 {
     match s {
         Statement::Nothing => cell + traps + 3,
@@ -141,8 +141,8 @@ fn collect_suspend(
     requires { cell + traps + 3 + sheet_size main p.now traps
         ≤ length table.now.cells.items }
     ensures { (t a : _)
-        → Collects (Suspend' t a p.now) main cell traps table.now.cells.items on pauses.now next.old next.new
-        result }
+        → Collects (Suspend' t a p.now) main cell traps table.now.cells.items on pauses.now next.old
+        next.new result }
 {
     let inside = cell + traps + 3;
     let past = collect(table, main, inside, traps, p, on, pauses, next);
@@ -170,7 +170,8 @@ fn collect_loop(
         + sheet_size false p.now traps
         ≤ length table.now.cells.items }
     ensures { (a : _)
-        → Collects (Loop' a p.now) main cell traps table.now.cells.items on pauses.now next.old next.new result }
+        → Collects (Loop' a p.now) main cell traps table.now.cells.items on pauses.now next.old
+        next.new result }
 {
     let past = collect(table, main, cell + traps + 3, traps, p, on, pauses, next);
     collect(table, false, past, traps, p, on, pauses, next)
@@ -187,7 +188,8 @@ fn collect_pause(
 ) -> usize
     requires { cell + traps + 3 ≤ length table.now.cells.items }
     ensures { (main pauses : _)
-        → Collects (Pause n) main cell traps table.now.cells.items on pauses next.old next.new result }
+        → Collects (Pause n) main cell traps table.now.cells.items on pauses next.old
+        next.new result }
 {
     let gives = gives_pause(table, cell, traps);
     put(next, n, both(on, gives));
@@ -211,8 +213,9 @@ fn collect_par(
         + sheet_size main q.now traps
         ≤ length table.now.cells.items }
     ensures { (a b : _)
-        → Collects (Par' a p.now b q.now) main cell traps table.now.cells.items on pauses.now next.old next.new
-        result }
+        → Collects (Par' a p.now b q.now) main cell traps table.now.cells.items on pauses.now
+        next.old
+        next.new result }
 {
     let gives = gives_pause(table, cell, traps);
     collect_two(
@@ -243,7 +246,8 @@ fn collect_trap(
     requires { cell + traps + 3 + sheet_size main p.now
         (traps + 1) ≤ length table.now.cells.items }
     ensures { (a : _)
-        → Collects (Trap' a p.now) main cell traps table.now.cells.items on pauses.now next.old next.new result }
+        → Collects (Trap' a p.now) main cell traps table.now.cells.items on pauses.now next.old
+        next.new result }
 {
     collect(
         table,
@@ -272,8 +276,8 @@ fn collect_local(
     requires { cell + traps + 4 + sheet_size main p.now traps
         ≤ length table.now.cells.items }
     ensures { (s a : _)
-        → Collects (Binder' s a p.now) main cell traps table.now.cells.items on pauses.now next.old next.new
-        result }
+        → Collects (Binder' s a p.now) main cell traps table.now.cells.items on pauses.now next.old
+        next.new result }
 {
     collect(table, main, cell + traps + 4, traps, p, on, pauses, next)
 }
@@ -292,7 +296,8 @@ pub fn collect(
     next: &mut PauseSet,
 ) -> usize
     requires { cell + sheet_size main s.now traps ≤ length table.now.cells.items }
-    ensures { Collects s.now main cell traps table.now.cells.items on pauses.now next.old next.new result }
+    ensures { Collects s.now main cell traps table.now.cells.items on pauses.now next.old
+        next.new result }
 {
     let parts = cell + traps + 3;
     match s {

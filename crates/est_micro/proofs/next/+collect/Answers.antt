@@ -7,18 +7,21 @@ use Rattle.est_micro.proofs.next.+collect.Goals as goal
 
 pub collect_two-returns : goal.collect_two-returns
 collect_two-returns t c =
-    two_collected c.args.main c.args.cell c.args.traps c.args.p.now c.args.q.now _ c.args.on c.args.pauses.now _ _ _ _ _ c.collect_part-past.ensures
+    two_collected c.args.main c.args.cell c.args.traps c.args.p.now c.args.q.now _ c.args.on c.args.pauses.now _ _ _ _
+    _ c.collect_part-past.ensures
     c.collect_part.ensures
 
 pub collect_par-returns : goal.collect_par-returns
 collect_par-returns t c = λ a b.
-    par_collected c.args.main c.args.cell c.args.traps a c.args.p.now b c.args.q.now _ c.args.on _ _ c.args.pauses.now _ _ _
+    par_collected c.args.main c.args.cell c.args.traps a c.args.p.now b c.args.q.now _ c.args.on _ _ c.args.pauses.now
+    _ _ _
     c.gives_pause-gives.ensures
     c.both.ensures c.collect_two.ensures
 
 pub collect_suspend-returns : goal.collect_suspend-returns
 collect_suspend-returns t c = λ q a.
-    suspend_collected c.args.main c.args.cell c.args.traps q a c.args.p.now _ c.args.on _ _ _ _ c.args.pauses.now _ _ _ _
+    suspend_collected c.args.main c.args.cell c.args.traps q a c.args.p.now _ c.args.on _ _ _ _ c.args.pauses.now _ _ _
+    _
     c.gives_pause-pauses_itself.ensures
     c.gives_pause-body_pauses.ensures c.both-held.ensures c.both.ensures c.collect-past.ensures c.keep.ensures
 
@@ -30,11 +33,13 @@ collect_loop-returns t c = λ a.
     c.collect-past.ensures c.collect.ensures
 
 pub collect_trap-returns : goal.collect_trap-returns
-collect_trap-returns t c = λ a. trap_collected c.args.main c.args.cell c.args.traps a c.args.p.now _ c.args.on c.args.pauses.now _ _ _
+collect_trap-returns t c = λ a. trap_collected c.args.main c.args.cell c.args.traps a c.args.p.now _ c.args.on
+    c.args.pauses.now _ _ _
     c.collect.ensures
 
 pub collect_local-returns : goal.collect_local-returns
-collect_local-returns t c = λ s a. local_collected c.args.main c.args.cell c.args.traps s a c.args.p.now _ c.args.on c.args.pauses.now _ _ _
+collect_local-returns t c = λ s a. local_collected c.args.main c.args.cell c.args.traps s a c.args.p.now _ c.args.on
+    c.args.pauses.now _ _ _
     c.collect.ensures
 
 pub collect-returns-in-Nothing : goal.collect-returns-in-Nothing
