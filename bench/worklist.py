@@ -216,7 +216,7 @@ def families():
         "local": ((5, 10, 20, 40), outputs(lambda n: loop(told(names("S", n), "O0"), PAUSE))),
         "ring": ((4, 8, 16, 32), outputs(ring, "PT")),
         "blocks": ((12, 24, 47, 94), eight(lambda n: par(*(block(k) for k in range(n))))),
-        "loops": ((2, 4, 8, 16), outputs(busy_loops)),
+        "loops": ((2, 4, 8, 16), lambda n: ([], names("O", 49), busy_loops(n), [0])),
         "ended": ((30, 60, 120, 240), outputs(ended)),
     }
 

@@ -96,10 +96,10 @@ fn goes_on(now: usize, before: usize, cells: usize) -> bool
     now != before && now != cells
 }
 
-/// Which way to sweep next: a sweep that decided less than an eighth of the open cells is followed
+/// Which way to sweep next: a sweep that decided less than half of the open cells is followed
 /// by one the other way.
 fn next_direction(direction: Direction, now: usize, before: usize, cells: usize) -> Direction {
-    if now.saturating_sub(before) < cells.saturating_sub(before) / 8 {
+    if now.saturating_sub(before) < cells.saturating_sub(before) / 2 {
         direction.turned()
     } else {
         direction

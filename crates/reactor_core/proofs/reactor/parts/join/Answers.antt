@@ -1,17 +1,17 @@
 use Rattle.std.proofs.Common.{◌≡◌, ◌∙◌, ap, List}
 use Rattle.std.proofs.lemmas.Result.{err_from_is_err_and}
-use Rattle.std.specs.Prelude.{Some}
+use Rattle.std.specs.Prelude.{Some, None}
 use Rattle.est_kernel.specs.declared.interface.Declaration.{Declaration}
 use Rattle.est_relations.specs.Offers.{PendingInputs, place_of}
 use Rattle.reactor_core.specs.Standing.{pending_inputs}
-use Rattle.reactor_core.proofs.Joining.{joins, refuses, refuses_unknown, place_told, within_interface}
+use Rattle.reactor_core.proofs.Joining.{joins, refuses, refuses_unknown, place_told}
 use Rattle.reactor_core.proofs.reactor.parts.join.Goals as goal
 
 pub returns-in_default : goal.returns-in_default
-returns-in_default c = ?
-
-pub offer_signal-requires : goal.offer_signal-requires
-offer_signal-requires c = ?
+returns-in_default c =
+    rw c.from.ensures
+    (refuses_unknown c.args.loaded.now c.args.pending c.args.name.now c.requires
+    (place_told c.args.loaded.now c.args.name.now None c.in_default.ensures.place))
 
 pub returns-in_err-offer_signal : goal.returns-in_err-offer_signal
 returns-in_err-offer_signal c =
