@@ -137,7 +137,8 @@ module _ (judged : List Entry) (slot session : ℕ) (before : List SlotEntry) (r
       let adds = passed.1.adds in
       let done = instant adds.outcome.running.pending passed.1.outputs in
       let last : Some done ≡ Some i =
-      sym (last_pushed before (entry (stamp_of judged session) (action.Step done))) ∙ ap last_instant (sym adds.appended) ∙ keeps in
+      sym (last_pushed before (entry (stamp_of judged session) (action.Step done)))
+      ∙ ap last_instant (sym adds.appended) ∙ keeps in
       let same : passed.1.outputs ≡ i.outputs = ap (λ (p : PastInstant). p.outputs) (same_Some done i last) in
       (passed.1.next, subst (λ (n : ℕ). IsOutcome before n passed.1.next) same adds.outcome))
       (first_or_none (slot_rules judged slot session (command_of (action.Step i)) before)

@@ -1,7 +1,8 @@
 //! The plain engine, asked for a step that was replayed.
 //!
 //! A step is replayed on the engine of its module, which may be the microstep engine. Both engines
-//! keep one promise, so they cannot differ; the plain engine is far smaller, and is asked beside it.
+//! keep one promise, so they cannot differ; the plain engine is far smaller, and is asked beside
+//! it.
 ghost use Rattle.std.specs.Prelude.{◌≡◌, IfOk, IfErr, true, false};
 ghost use Rattle.est_kernel.specs.Term.{Term};
 ghost use Rattle.reactor_core.specs.Instants.{HasNoOutcome, IsOutcome};

@@ -93,7 +93,7 @@ sound_main ps main n distinct lawful small p found =
 -- a library without a fault is sound
 pub is_checked : (ps : List Program) (main : List ℕ) → IsFirstFault ps main None → IsChecked ps main
 is_checked ps main h =
-    let from_order = (all_pass ps main h).1.1 in
+    let from_order = (all_pass ps main h).1.1.1 in
     let from_emissions = from_order.1.1.1 in
     let refused = from_emissions.0 in
     let limit = from_emissions.1.1.0 in

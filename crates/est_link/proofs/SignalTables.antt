@@ -1,7 +1,7 @@
 -- Tables of signals by their names.
 use Rattle.std.proofs.Common.{◌≡◌, ℕ, suc, ◌<◌, List, [], ◌∷◌, ◌++◌, length, map, take, get_or, Bool}
-use Rattle.std.proofs.Common.{false, cond, if◌then◌else◌, Option, Some, None, option_map, Bor}
-use Rattle.std.proofs.Common.{◌≤◌, ◌+◌, unwrap_or, refl, ap, sym, subst, ◌∙◌, arith}
+use Rattle.std.proofs.Common.{false, cond, if◌then◌else◌, Option, Some, option_map, Bor}
+use Rattle.std.proofs.Common.{◌+◌, unwrap_or, refl, ap, sym, subst, ◌∙◌, arith}
 use Rattle.std.proofs.lemmas.List.{length-append, length-map, length-take-le}
 use Rattle.std.proofs.Math.Seq.{take-suc}
 use Rattle.std.specs.Cmp.Lexicographic.{nat_list_eq_equiv}

@@ -152,7 +152,8 @@ fn tell_code(
         ≡ (codes_of read.sure code || is_sure (cell_at table.new.cells.items (cell + code))) }
     ensures other_sure { (k : ℕ) → k ≢ code → codes_of result.sure k ≡ codes_of read.sure k }
     ensures possible { codes_of result.possible code
-        ≡ (codes_of read.possible code || is_possible (cell_at table.new.cells.items (cell + code))) }
+        ≡ (codes_of read.possible code
+        || is_possible (cell_at table.new.cells.items (cell + code))) }
     ensures other_possible { (k : ℕ) → k ≢ code
         → codes_of result.possible k ≡ codes_of read.possible k }
 {

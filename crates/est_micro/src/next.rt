@@ -91,8 +91,8 @@ fn collect_part(
     next: &mut PauseSet,
 ) -> usize
     requires { cell + sheet_size main s.now traps ≤ length table.now.cells.items }
-    ensures { Collects s.now main cell traps table.now.cells.items on pauses.now next.old next.new
-        result }
+    ensures { Collects s.now main cell traps table.now.cells.items on pauses.now next.old
+        next.new result }
 {
     match s {
         Statement::Nothing => cell + traps + 3,
@@ -142,8 +142,7 @@ fn collect_suspend(
         ≤ length table.now.cells.items }
     ensures { (t a : _)
         → Collects (Suspend' t a p.now) main cell traps table.now.cells.items on pauses.now next.old
-        next.new
-        result }
+        next.new result }
 {
     let inside = cell + traps + 3;
     let past = collect(table, main, inside, traps, p, on, pauses, next);
@@ -189,8 +188,8 @@ fn collect_pause(
 ) -> usize
     requires { cell + traps + 3 ≤ length table.now.cells.items }
     ensures { (main pauses : _)
-        → Collects (Pause n) main cell traps table.now.cells.items on pauses next.old next.new
-        result }
+        → Collects (Pause n) main cell traps table.now.cells.items on pauses next.old
+        next.new result }
 {
     let gives = gives_pause(table, cell, traps);
     put(next, n, both(on, gives));
@@ -215,8 +214,8 @@ fn collect_par(
         ≤ length table.now.cells.items }
     ensures { (a b : _)
         → Collects (Par' a p.now b q.now) main cell traps table.now.cells.items on pauses.now
-        next.old next.new
-        result }
+        next.old
+        next.new result }
 {
     let gives = gives_pause(table, cell, traps);
     collect_two(
@@ -278,8 +277,7 @@ fn collect_local(
         ≤ length table.now.cells.items }
     ensures { (s a : _)
         → Collects (Binder' s a p.now) main cell traps table.now.cells.items on pauses.now next.old
-        next.new
-        result }
+        next.new result }
 {
     collect(table, main, cell + traps + 4, traps, p, on, pauses, next)
 }
@@ -298,8 +296,8 @@ pub fn collect(
     next: &mut PauseSet,
 ) -> usize
     requires { cell + sheet_size main s.now traps ≤ length table.now.cells.items }
-    ensures { Collects s.now main cell traps table.now.cells.items on pauses.now next.old next.new
-        result }
+    ensures { Collects s.now main cell traps table.now.cells.items on pauses.now next.old
+        next.new result }
 {
     let parts = cell + traps + 3;
     match s {

@@ -252,8 +252,8 @@ fn side(is_on: bool, found: &Found, run: Status) -> Judgement
     }
 }
 
-/// Whether a pause of the second side of a `||` is set, of which one side has such a pause. So
-/// where the first has none, the second isn't gone through.
+/// Whether a pause of the second side of a `||` is set, of which one side has such a pause. So the
+/// second isn't gone through where the first has none.
 fn second_lives(first_on: bool, q: &Statement, pauses: &PauseSet) -> bool
     requires { first_on ≡ false → is_live q.now (pauses_of pauses.now) ≡ true }
     ensures { result ≡ is_live q.now (pauses_of pauses.now) }

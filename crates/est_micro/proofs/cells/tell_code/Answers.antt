@@ -1,4 +1,4 @@
-use Rattle.std.proofs.Common.{ap, ◌∙◌, ◌||◌, Bool}
+use Rattle.std.proofs.Common.{ap, ◌∙◌, ◌||◌}
 use Rattle.est_kernel.specs.CodeViews.{codes_of}
 use Rattle.est_cells.specs.Tables.{is_sure, is_possible}
 use Rattle.est_meaning.specs.declared.status.Status.{Status}

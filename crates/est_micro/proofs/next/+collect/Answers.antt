@@ -7,14 +7,14 @@ use Rattle.est_micro.proofs.next.+collect.Goals as goal
 
 pub collect_two-returns : goal.collect_two-returns
 collect_two-returns t c =
-    two_collected c.args.main c.args.cell c.args.traps c.args.p.now c.args.q.now _ c.args.on c.args.pauses.now _ _ _ _ _
-    c.collect_part-past.ensures
+    two_collected c.args.main c.args.cell c.args.traps c.args.p.now c.args.q.now _ c.args.on c.args.pauses.now _ _ _ _
+    _ c.collect_part-past.ensures
     c.collect_part.ensures
 
 pub collect_par-returns : goal.collect_par-returns
 collect_par-returns t c = λ a b.
-    par_collected c.args.main c.args.cell c.args.traps a c.args.p.now b c.args.q.now _ c.args.on _ _ c.args.pauses.now _
-    _ _
+    par_collected c.args.main c.args.cell c.args.traps a c.args.p.now b c.args.q.now _ c.args.on _ _ c.args.pauses.now
+    _ _ _
     c.gives_pause-gives.ensures
     c.both.ensures c.collect_two.ensures
 

@@ -1,5 +1,4 @@
 use Rattle.std.proofs.Common.{◌≡◌, ◌||◌, ◌&&◌, ◌+◌, Bool, true, false, cond, refl, sym, ap, ◌∙◌, arith}
-use Rattle.est_meaning.specs.declared.status.Status.{Status}
 use Rattle.est_cells.specs.Tables.{is_sure, is_possible}
 use Rattle.est_micro.proofs.outputs.exchange_one.Goals as goal
 
