@@ -1,15 +1,23 @@
 -- What the pending inputs of a module answer to an offer, and to an instant that is to take them.
-use Rattle.std.proofs.Common.{◌≡◌, ◌∙◌, ℕ, List, inl, inr, refl, ap, sym, subst}
+use Rattle.std.proofs.Common.{◌≡◌, ◌∙◌, ◌<◌, ℕ, List, length, Option, None, option_map, inl, inr, refl, ap, sym, subst}
+use Rattle.std.proofs.Common.{arith}
+use Rattle.std.proofs.lemmas.List.{length-map}
 use Rattle.std.specs.Prelude.{Result, Ok, Err}
 use Rattle.est_kernel.specs.Bits.{bits}
+use Rattle.est_kernel.specs.declared.interface.Declaration.{Declaration}
+use Rattle.est_kernel.specs.declared.statement.InterfaceSignal.{InterfaceSignal}
 use Rattle.est_relations.specs.Keeping.{AreLawful}
 use Rattle.est_relations.specs.Offers.{PendingInputs, KeepsExclusions, Adds, OfferAnswer as PendingAnswer, ReadyAnswer}
-use Rattle.est_relations.specs.Offers.{offer_rules as pending_rules}
+use Rattle.est_relations.specs.Offers.{offer_rules as pending_rules, place_of}
 use Rattle.est_relations.specs.declared.refusal.Refusal.{Refusal as PendingRefusal}
+use Rattle.est_relations.specs.declared.refusal.Refusal.TheVariants.{UnknownSignal}
+use Rattle.est_relations.proofs.Answering.{refused_name}
 use Rattle.refusal_rules.proofs.RuleLemmas.{all_passed, answered}
 use Rattle.reactor_core.specs.declared.loaded.Module.{Module}
 use Rattle.reactor_core.specs.Faults.{refusal_of_pending}
-use Rattle.reactor_core.specs.Standing.{pending_inputs, JoinsAs, RefusesName, RefusesInstant}
+use Rattle.reactor_core.specs.Standing.{pending_inputs, AreKept, JoinsAs, RefusesName, RefusesInstant}
+use Rattle.reactor_core.specs.SignalIndexes.{place_among}
+use Rattle.reactor_core.proofs.SignalIndexes.{place_in_interface}
 
 pub no_err : {A E : Type 0} (x : A) (e : E) → Ok x ≡ Err e → ⊥
 no_err x e h = cc
