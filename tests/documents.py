@@ -5,8 +5,9 @@ The lists of docs/generated are those that scripts/reading_list.py and scripts/w
 body says why it is wrong; README.md has at most 100 lines; each crate stands in docs/ARCHITECTURE.md, and crates.txt
 has its storeys and its order; each function of the walk there stands in its file; each script of examples/scripts has
 its answers and its row in examples/README.md, and the opening one is the stored run; each test that docs/EXAMPLES.md
-names is written; each link leads to a file and a heading, and each quoted block stands in its file; and no line of code,
-definition or proof is too wide.
+names is written; each link leads to a file and a heading, and each quoted block stands in its file; no line of code,
+definition or proof is too wide; docs/GATE.md tells nearly as many lines of proof as there are; and docs/DECISIONS.md has
+at most 60 entries, which say what was rejected.
 Ends with status 1 after naming what differs.
 """
 
@@ -17,11 +18,13 @@ import sys
 ROOT = pathlib.Path(__file__).resolve().parent.parent
 sys.path.insert(0, str(ROOT / "scripts"))
 sys.dont_write_bytecode = True
+import proof_lines  # noqa: E402
 import reading_list  # noqa: E402
 import wrong_bodies  # noqa: E402
 
 
 README_LINES = 100  # at most
+ENTRIES = 60  # of docs/DECISIONS.md, at most
 WIDTHS = {".rt": 100, ".antt": 120}  # characters of a line, at most
 
 
@@ -39,6 +42,14 @@ def long_readme():
     """A line if README.md is too long to be read at once."""
     lines = len((ROOT / "README.md").read_text().splitlines())
     return [f"README.md has {lines} lines: at most {README_LINES}"] if lines > README_LINES else []
+
+
+def faulty_decisions():
+    """A line if docs/DECISIONS.md has too many entries, and one for each that words a rejected way otherwise."""
+    lines = (ROOT / "docs/DECISIONS.md").read_text().splitlines()
+    entries = [line for line in lines if line.startswith("- **")]
+    faults = [f"docs/DECISIONS.md has {len(entries)} entries: at most {ENTRIES}"] if len(entries) > ENTRIES else []
+    return faults + [f"docs/DECISIONS.md: Rejected: in place of Instead of: in {line[:60]} .." for line in entries if "Instead of:" in line]
 
 
 def missing_sentences():
@@ -173,6 +184,7 @@ def wide_lines():
 def main():
     faults = differing_tables() + missing_sentences() + missing_functions() + faulty_examples()
     faults += long_readme() + missing_crates("docs/ARCHITECTURE.md") + shuffled_crates() + missing_tests() + wide_lines()
+    faults += faulty_decisions() + proof_lines.stale_rows()
     for document in [*ROOT.glob("*.md"), *ROOT.glob("docs/**/*.md"), *ROOT.glob("examples/*.md")]:
         faults += broken_links(document) + broken_anchors(document) + stale_quotes(document)
     print("\n".join(faults) if faults else "documents: in step with the repository")
