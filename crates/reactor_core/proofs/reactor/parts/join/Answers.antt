@@ -1,6 +1,6 @@
 use Rattle.std.proofs.Common.{◌≡◌, ◌∙◌, ap, List}
 use Rattle.std.proofs.lemmas.Result.{err_from_is_err_and}
-use Rattle.std.specs.Prelude.{Some}
+use Rattle.std.specs.Prelude.{Some, None}
 use Rattle.est_kernel.specs.declared.interface.Declaration.{Declaration}
 use Rattle.est_relations.specs.Offers.{PendingInputs, place_of}
 use Rattle.reactor_core.specs.Standing.{pending_inputs}
@@ -8,10 +8,15 @@ use Rattle.reactor_core.proofs.Joining.{joins, refuses, refuses_unknown, place_t
 use Rattle.reactor_core.proofs.reactor.parts.join.Goals as goal
 
 pub returns-in_default : goal.returns-in_default
-returns-in_default c = ?
+returns-in_default c =
+    rw c.from.ensures
+    (refuses_unknown c.args.loaded.now c.args.pending c.args.name.now c.requires
+    (place_told c.args.loaded.now c.args.name.now None c.in_default.ensures.place))
 
 pub offer_signal-requires : goal.offer_signal-requires
-offer_signal-requires c = ?
+offer_signal-requires c =
+    rw (c.resume-pending.ensures, c.interface.ensures)
+    (within_interface c.args.loaded.now c.in-Some.signal.index c.in-Some.ensures.within)
 
 pub returns-in_err-offer_signal : goal.returns-in_err-offer_signal
 returns-in_err-offer_signal c =
