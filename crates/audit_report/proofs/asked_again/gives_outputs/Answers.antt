@@ -18,8 +18,11 @@ returns-then-nests_locals-clause-same c = λ yes.
 
 pub returns-in-Ok-clause-same : goal.returns-in-Ok-clause-same
 returns-in-Ok-clause-same c = λ yes kernel is shallow.
-    let found = c.in-Ok.ensures.ok in
-    (found.0, subst (λ (n : ℕ). IsOutcome c.args.reactor.now n found.0) (equal c.in-Ok.given c.args.outputs yes) found.1)
+    let found = c.in-Ok.ensures.ok in (
+      found.0,
+      subst (λ (n : ℕ). IsOutcome c.args.reactor.now n found.0)
+          (equal c.in-Ok.given c.args.outputs yes) found.1,
+    )
 
 pub returns-in-Ok-clause-other : goal.returns-in-Ok-clause-other
 returns-in-Ok-clause-other c = λ no next other.

@@ -1,4 +1,4 @@
-use Rattle.std.proofs.Common.{◌≡◌, ◌⊎◌, ℕ, List, sym, refl, subst, ⊎_elim}
+use Rattle.std.proofs.Common.{◌≡◌, ◌⊎◌, ◌∙◌, ℕ, List, sym, refl, ap, subst, ⊎_elim}
 use Rattle.std.specs.Prelude.{Some, None}
 use Rattle.std.proofs.lemmas.Result.{err_from_is_err_and}
 use Rattle.est_kernel.specs.declared.interface.Declaration.{Declaration}
@@ -17,6 +17,7 @@ use Rattle.est_text.specs.declared.lex.LexFault.TheVariants as lex
 use Rattle.reactor_core.specs.Faults.{refusal_of_link}
 use Rattle.reactor_core.specs.Loading.{IsCutOf, Spells, LinksTo, IsLoadFault, in_cutting, in_grammar, in_linking}
 use Rattle.reactor_core.specs.Loading.{in_reduction}
+use Rattle.reactor_core.specs.SignalIndexes.{names_of}
 use Rattle.reactor_core.proofs.OneLoad.{no_fault}
 use Rattle.reactor_core.proofs.reading.read_module.Goals as goal
 
