@@ -4,7 +4,7 @@ use Rattle.std.specs.Prelude.{Some, None}
 use Rattle.est_kernel.specs.declared.interface.Declaration.{Declaration}
 use Rattle.est_relations.specs.Offers.{PendingInputs, place_of}
 use Rattle.reactor_core.specs.Standing.{pending_inputs}
-use Rattle.reactor_core.proofs.Joining.{joins, refuses, refuses_unknown, place_told}
+use Rattle.reactor_core.proofs.Joining.{joins, refuses, refuses_unknown, place_told, within_interface}
 use Rattle.reactor_core.proofs.reactor.parts.join.Goals as goal
 
 pub returns-in_default : goal.returns-in_default
@@ -12,14 +12,11 @@ returns-in_default c =
     rw c.from.ensures
     (refuses_unknown c.args.loaded.now c.args.pending c.args.name.now c.requires
     (place_told c.args.loaded.now c.args.name.now None c.in_default.ensures.place))
-<<<<<<< HEAD
-=======
 
 pub offer_signal-requires : goal.offer_signal-requires
 offer_signal-requires c =
     rw (c.resume-pending.ensures, c.interface.ensures)
     (within_interface c.args.loaded.now c.in-Some.signal.index c.in-Some.ensures.within)
->>>>>>> f4db3dbd2ffb015a0998ae7ef65efc1af6cefacd
 
 pub returns-in_err-offer_signal : goal.returns-in_err-offer_signal
 returns-in_err-offer_signal c =
