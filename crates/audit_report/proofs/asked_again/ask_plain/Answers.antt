@@ -5,21 +5,21 @@ use Rattle.audit_report.proofs.asked_again.ask_plain.Goals as goal
 pub react-requires-clause-inputs : goal.react-requires-clause-inputs
 react-requires-clause-inputs c =
     let runs = c.pending.ensures.inputs in
-    inputs_fit c.one_module.ensures c.args.reactor.now c.state-kernel.result.0.now c.state-kernel.result.1.now
-    c.state-kernel.ensures runs.0 runs.1 c.pending.result runs.2
+    inputs_fit c.one_module.ensures c.args.reactor.now c.state.result.0.now c.state.result.1.now
+    c.state.ensures runs.0 runs.1 c.pending.result runs.2
 
 pub returns-in-Ok-clause-ok : goal.returns-in-Ok-clause-ok
 returns-in-Ok-clause-ok c =
     let runs = c.pending.ensures.mask in (
-      state_term c.state-kernel.result.0.now.root c.in-Ok.outcome.next,
-      outcome_of c.one_module.ensures c.args.reactor.now c.state-kernel.result.0.now c.state-kernel.result.1.now
-          c.state-kernel.ensures runs.0 runs.1 (record { signals = c.pending.result }) c.in-Ok.outcome runs.2
+      state_term c.state.result.0.now.root c.in-Ok.outcome.next,
+      outcome_of c.one_module.ensures c.args.reactor.now c.state.result.0.now c.state.result.1.now
+          c.state.ensures runs.0 runs.1 (record { signals = c.pending.result }) c.in-Ok.outcome runs.2
           c.in-Ok.ensures.ok,
     )
 
 pub returns-in-Err-clause-err : goal.returns-in-Err-clause-err
 returns-in-Err-clause-err c =
     let runs = c.pending.ensures.mask in
-    no_outcome_of c.one_module.ensures c.args.reactor.now c.state-kernel.result.0.now c.state-kernel.result.1.now
-    c.state-kernel.ensures runs.0 runs.1 (record { signals = c.pending.result }) c.in-Err.stuck runs.2
+    no_outcome_of c.one_module.ensures c.args.reactor.now c.state.result.0.now c.state.result.1.now
+    c.state.ensures runs.0 runs.1 (record { signals = c.pending.result }) c.in-Err.stuck runs.2
     c.in-Err.ensures.stuck
