@@ -45,13 +45,15 @@ returns c =
           after c.new-session.ensures c.in-Ok.ensures (c.decide_slot.ensures.step judged stands) in
           let loses : KeepsInstant after e.action → ⊥ = λ keeps. elim c.else-agrees.branch [
             | else-agrees-via-then-agrees+else-keeps_instant w ↦
-                absurd (search
-                    (rules, w.if-keeps_instant.ensures.1 (subst (λ (j : List SlotEntry). KeepsInstant j e.action)
-                (sym (w.entries.ensures ∙ w.journal.ensures)) keeps)))
+                absurd (search (
+                  rules,
+                  w.if-keeps_instant.ensures.1 (subst (λ (j : List SlotEntry). KeepsInstant j e.action)
+                      (sym (w.entries.ensures ∙ w.journal.ensures)) keeps),
+                ))
             | else-agrees-via-else-agrees w ↦
                 not_kept_here judged slot.number e.stamp.session slot.journal c.decide_slot.result after
                 c.in_default-decide_slot.not-Refused e.action step
-                    (c.agrees-agrees.ensures.other w.if-agrees.false) keeps
+                (c.agrees-agrees.ensures.other w.if-agrees.false) keeps
           ] in
           otherwise judged slot.number slot.journal e c.decide_slot.result after version step
           c.in_default-decide_slot.not-Refused loses;
