@@ -25,7 +25,7 @@ CRATES = {
     "est_kernel": ("code_set", "completion", "mask", "pause_set", "statement"),
     "est_meaning": ("status",),
     "est_rounds": ("acts", "answer", "signal_set", "resume"),
-    "est_net": ("table",),
+    "est_net": ("reach", "table"),
     "est_micro": ("begin", "cells", "direction", "idle", "next", "outputs", "resume", "run", "micro"),
 }
 BY_HAND = {"est_kernel": ("interface", "kernel", "state"), "est_net": ("net",)}  # modules of bench/port.rs
@@ -65,6 +65,9 @@ def ported(crate, module):
         text = re.sub(r"\nimpl (?:Test|Statement) \{.*?\n\}\n", "\n", text, flags=re.S)
     if (crate, module) == ("est_rounds", "resume"):  # the rest is the plain engine's
         text = f"use est_kernel::pause_set::PauseSet;\nuse est_kernel::statement::Statement;\n{function(text, 'has_live')}\n"
+    if module == "reach":  # memory is never refused here
+        for ours, theirs in (("alloc: Global, ", ""), ("Vec::new(alloc)", "Vec::new()"), ("AllocError", "()"), ("later.end })?;", "later.end });")):
+            text = text.replace(ours, theirs)
     if module == "micro":
         text = text[:text.index("impl Engine for")].replace("use est_rounds::engine::Engine;\n", "")
     text = text.replace("use crate::", f"use crate::{crate}::")

@@ -66,9 +66,11 @@ mod by_hand {
     }
 
     pub mod net {
+        use crate::est_net::reach::Reach;
         use crate::est_net::table::Table;
 
         pub struct Net {
+            pub reach: Reach,
             pub table: Table,
             pub outputs: usize,
         }
@@ -82,6 +84,7 @@ use by_hand::state::{Inputs, State};
 use est_kernel::statement::{InterfaceSignal, LocalSignal, PauseIndex, Signal, Statement, Test, TrapIndex};
 use est_meaning::status::Status;
 use est_micro::micro::Micro;
+use est_net::reach::Reach;
 use est_net::table::Table;
 
 /// The words of a statement, and the names that are in scope.
@@ -181,8 +184,9 @@ fn main() {
     let root = reader.statement();
     let cells = len - inputs + size(true, &root, 0);
     let interface = Interface { emittable: first(len) & !first(inputs), offerable: first(inputs), len };
+    let reach = Reach::of(&root).expect("no reach");
     let kernel = Kernel { interface, root };
-    let mut engine = Micro::new(Net { table: Table::new(vec![Status::Unknown; cells]), outputs: len - inputs });
+    let mut engine = Micro::new(Net { reach, table: Table::new(vec![Status::Unknown; cells]), outputs: len - inputs });
     let (mut state, mut sum) = (State::Fresh, 0u64);
     for n in 0..instants {
         let Ok(outcome) = engine.run(&kernel, &state, &Inputs { signals: masks[n % masks.len()] & first(inputs) }) else {

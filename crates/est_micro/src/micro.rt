@@ -124,11 +124,13 @@ impl Micro {
         ensures stuck { IfErr result (λ s. HasNoReaction kernel.now state.now inputs.now s) }
     {
         let outputs = self.net.outputs;
+        let possible = self.net.reach.from_state(state);
         let settled = settle(
             &mut self.net.table,
             kernel,
             outputs,
             state,
+            possible,
             inputs.signals,
             self.direction,
         );

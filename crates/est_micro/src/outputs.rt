@@ -137,7 +137,7 @@ pub fn exchange(table: &mut Table, kernel: &Kernel, inputs: u64, judged: &Judgem
 
 /// What is judged before anything is known: nothing is emitted surely, and each signal that may be
 /// emitted possibly is.
-pub fn in_doubt(kernel: &Kernel) -> Judgement
+pub fn in_doubt(possible: u64) -> Judgement
     ensures sure { (n : ℕ) → bits result.must.signals.interface n ≡ false }
     ensures possible { bits result.can.signals.interface ≡ emittable kernel.now.interface }
 {
@@ -151,7 +151,7 @@ pub fn in_doubt(kernel: &Kernel) -> Judgement
         },
         can: Acts {
             signals: SignalSet {
-                interface: kernel.interface().emittable(),
+                interface: possible,
                 local: 0,
             },
             codes: CodeSet::empty(),

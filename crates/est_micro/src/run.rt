@@ -113,6 +113,7 @@ pub fn settle(
     kernel: &Kernel,
     outputs: usize,
     state: &State,
+    possible: u64,
     inputs: u64,
     first: Direction,
 ) -> Settled
@@ -123,7 +124,7 @@ pub fn settle(
 {
     let cells = table.len();
     table.clear();
-    let doubt = in_doubt(kernel);
+    let doubt = in_doubt(possible);
     let mut env = exchange(table, kernel, inputs, &doubt);
     let mut before = 0;
     let mut direction = first;

@@ -1,2 +1,4 @@
 pub mod Deciding
+pub mod Covering
 mod Ranges
+mod Reaching

@@ -2,3 +2,4 @@ pub mod Cells
 pub mod Inner
 pub mod Layout
 pub mod Owners
+pub mod Reach

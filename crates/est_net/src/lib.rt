@@ -9,4 +9,5 @@
 mod lay;
 pub mod net;
 pub mod owners;
+pub mod reach;
 pub mod table;

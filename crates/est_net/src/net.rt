@@ -8,8 +8,10 @@ ghost use Rattle.est_meaning.specs.Rounds.{how_many};
 ghost use Rattle.est_meaning.specs.declared.status.Status.TheVariants.{Unknown};
 ghost use Rattle.est_net.specs.Cells.{decided, known_as, value_of};
 ghost use Rattle.est_net.specs.Layout.{cell_count, output_count};
+ghost use Rattle.est_net.specs.Reach.{IsReachOf};
 
 use crate::lay::lay;
+use crate::reach::Reach;
 use crate::table::Table;
 use est_kernel::interface::Interface;
 use est_kernel::kernel::Kernel;
@@ -24,6 +26,8 @@ pub struct Net {
     pub table: Table,
     /// How many of them are of signals of the interface. They come first.
     pub outputs: usize,
+    /// What may be emitted in an instant.
+    pub reach: Reach,
 }
 
 /// How many signals up to a place are in the mask.
@@ -66,13 +70,16 @@ impl Net {
         ensures cells { IfOk result (λ net. net.table.cells.items
             ≡ replicate (cell_count kernel.now) Unknown) }
         ensures outputs { IfOk result (λ net. net.outputs ≡ output_count kernel.now.interface) }
+        ensures reach { IfOk result (λ net. IsReachOf net.reach kernel.now.root) }
     {
         let outputs = count_outputs(kernel.interface());
         let mut cells = open_cells(alloc, outputs)?;
         lay(&mut cells, true, kernel.root(), 0)?;
+        let reach = Reach::of(alloc, kernel.root())?;
         Ok(Net {
             table: Table::new(cells),
             outputs,
+            reach,
         })
     }
 
@@ -99,6 +106,7 @@ impl Net {
         ensures count { decided self.new.table.cells.items ≡ decided self.old.table.cells.items
             + 1 }
         ensures outputs { self.new.outputs ≡ self.old.outputs }
+        ensures reach { self.new.reach ≡ self.old.reach }
     {
         self.table.write(cell, value);
     }
@@ -108,6 +116,7 @@ impl Net {
         ensures cells { self.new.table.cells.items
             ≡ replicate (length self.old.table.cells.items) Unknown }
         ensures outputs { self.new.outputs ≡ self.old.outputs }
+        ensures reach { self.new.reach ≡ self.old.reach }
     {
         self.table.clear();
     }
