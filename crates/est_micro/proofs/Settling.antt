@@ -11,18 +11,24 @@ use Rattle.est_kernel.specs.declared.kernel.Kernel.{Kernel}
 use Rattle.est_kernel.specs.declared.state.State.{State}
 use Rattle.est_kernel.specs.declared.state.State.TheVariants.{Fresh, Done, Paused}
 use Rattle.est_kernel.specs.declared.statement.Statement.{Statement}
+use Rattle.est_kernel.specs.Term.{Term, outer}
+use Rattle.est_meaning.proofs.KnowledgeIsMonotone.{must_can}
+use Rattle.est_meaning.specs.Knowledge.{IsBelow}
 use Rattle.est_meaning.specs.Laws.{IsWithinPlaces}
-use Rattle.est_meaning.specs.Rounds.{judged_signals, last_env}
+use Rattle.est_meaning.specs.MustCan.{can, must, sure as surely}
+use Rattle.est_meaning.specs.Rounds.{JudgedSignals, judged_signals, last_env}
 use Rattle.est_meaning.specs.States.{state_term}
 use Rattle.est_meaning.specs.Environments.{Env, verdict}
 use Rattle.est_meaning.specs.declared.status.Status.{Status}
 use Rattle.est_meaning.specs.declared.status.Status.TheVariants.{Present, Absent, Unknown}
 use Rattle.est_cells.proofs.OpenTable.{opened_begun, opened_resumed}
+use Rattle.est_cells.proofs.WholeTable.{at_rest, judged_round}
 use Rattle.est_cells.specs.Opening.{open_sheet}
 use Rattle.est_cells.specs.Tables.{Sheet, Below}
 use Rattle.est_cells.specs.Whole.{TableBelow, known, sheet_meaning, table_gates, table_meaning}
 use Rattle.est_net.specs.Cells.{cell_at, decided, learned}
 use Rattle.est_net.specs.Layout.{cell_count, output_count, rank, sheet_in}
+use Rattle.est_net.specs.Reach.{HasEmissions}
 use Rattle.est_rounds.specs.Views.{env_of}
 use Rattle.est_rounds.specs.declared.signal_set.Env.{Env as Known}
 use Rattle.est_micro.specs.declared.direction.Direction.{Direction}
@@ -131,9 +137,32 @@ open_meaning k Fresh e c = opened_begun true k.root Present e k.interface 0 0 c
 open_meaning k Done e c = opened_begun true k.root Absent e k.interface 0 0 c
 open_meaning k (Paused p) e c = opened_resumed k.root (pauses_of p) Present e k.interface 0 0 c
 
+-- a signal that isn't possible is absent, and of one that is nothing is known
+possible_below : (j : JudgedSignals) → IsWithinPlaces j → (inputs : ℕ → Bool) (t : Term) (possible : ℕ → Bool) (m : ℕ)
+    → j.has m ≡ true
+    → ((can t surely (last_env j inputs t)).signals (outer m) ≡ true → possible m ≡ true)
+    → IsBelow (verdict false (possible m)) (last_env j inputs t (outer m))
+possible_below j w inputs t possible m l f = go (possible m) refl
+  where
+    last : Env
+    last = last_env j inputs t
+
+    is : last (outer m) ≡ verdict ((must t last).signals (outer m)) ((can t surely last).signals (outer m))
+    is = sym (ap (λ (e : Env). e (outer m)) (at_rest j w inputs t)) ∙ judged_round j t last m l
+
+    absent : (a b : Bool) → (a ≡ true → b ≡ true) → (b ≡ true → false ≡ true) → verdict a b ≡ Absent
+    absent a true g h = let z : false ≡ true = h refl in cc
+    absent true false g h = let z : false ≡ true = g refl in cc
+    absent false false g h = refl
+
+    go : (b : Bool) → possible m ≡ b → IsBelow (verdict false b) (last (outer m))
+    go true i = inl refl
+    go false i = inr (sym (is ∙ absent ((must t last).signals (outer m)) ((can t surely last).signals (outer m))
+        ((must_can t last).signals (outer m)) (λ h. sym i ∙ f h)))
+
 pub start_ready : (k : Kernel) (x : State) (inputs sure possible : ℕ → Bool) (n : ℕ) (new : List Status) (e : Known)
     → IsClosed k.interface 0 0 (term_of k.root) → n ≡ cell_count k → ((i : ℕ) → sure i ≡ false)
-    → possible ≡ emittable k.interface
+    → HasEmissions k.root x possible
     → IsExchanged k.interface inputs sure possible (replicate n Unknown) new e
     → length (replicate n Unknown) ≡ n → Ready k x inputs new e
 start_ready k x inputs sure possible n new e closed size none all h long =
@@ -149,14 +178,14 @@ start_ready k x inputs sure possible n new e closed size none all h long =
         outputs = λ m l.
             let o = may_be i inputs m l in
             let r = rank_within (emittable i) (length i) m (within_places i inputs m l) o in
-            let t : output_cells i new m ≡ Unknown
+            let told : output_cells i new m ≡ verdict false (possible m)
             = h.told m (within_places i inputs m l) o
             ∙ (ap (λ (v : Status). learned v (output_gate inputs sure possible m))
             (open_there n (rank i m) (omega arith))
             ∙ (gate_is inputs sure possible m (not_input i inputs m l)
-            ∙ (ap (λ (b : Bool). verdict b (possible m)) (none m)
-            ∙ ap (λ (b : Bool). verdict false b) (ap (λ (g : ℕ → Bool). g m) all ∙ o)))) in
-            inl t;
+            ∙ ap (λ (b : Bool). verdict b (possible m)) (none m))) in
+            subst (λ (v : Status). IsBelow v (last (outer m))) (sym told)
+            (possible_below j (within_places i inputs) inputs (state_term k.root x) possible m l (all last m));
         sheet = subst (λ (z : Sheet true k.root). Below true k.root z (sheet_meaning k.root x last)) (sym same)
             (open_meaning k x last closed);
       };

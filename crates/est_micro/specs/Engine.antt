@@ -10,13 +10,15 @@ use Rattle.est_cells.specs.Decided.{IsReactionOf, TableDecided}
 use Rattle.est_meaning.specs.Rounds.{judged_signals}
 use Rattle.est_net.specs.Cells.{decided}
 use Rattle.est_net.specs.Layout.{cell_count, output_count}
+use Rattle.est_net.specs.Reach.{IsReachOf}
 use Rattle.est_net.specs.declared.net.Net.{Net}
 use Rattle.est_micro.specs.Runs.{AreOfferedTrue, table_of}
 
--- the table is that of the kernel
+-- the table is that of the kernel, and so is what may be emitted
 pub record IsNetOf (net : Net) (k : Kernel) : Type 0 where
   pub size : length net.table.cells.items ≡ cell_count k
   pub outputs : net.outputs ≡ output_count k.interface
+  pub reach : IsReachOf net.reach k.root
 
 -- every cell is decided, with its value in the reaction; a signal that was offered is present
 pub record HasValues (k : Kernel) (x : State) (inputs : ℕ → Bool) (cells : List Status) : Type 0 where

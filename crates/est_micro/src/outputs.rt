@@ -135,11 +135,10 @@ pub fn exchange(table: &mut Table, kernel: &Kernel, inputs: u64, judged: &Judgem
     }
 }
 
-/// What is judged before anything is known: nothing is emitted surely, and each signal that may be
-/// emitted possibly is.
+/// What is judged before anything is known: nothing is emitted surely, and these signals possibly.
 pub fn in_doubt(possible: u64) -> Judgement
     ensures sure { (n : ℕ) → bits result.must.signals.interface n ≡ false }
-    ensures possible { bits result.can.signals.interface ≡ emittable kernel.now.interface }
+    ensures possible { result.can.signals.interface ≡ possible }
 {
     Judgement {
         must: Acts {

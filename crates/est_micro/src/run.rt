@@ -8,6 +8,7 @@ ghost use Rattle.est_kernel.specs.View.{term_of};
 ghost use Rattle.est_meaning.specs.States.{IsState};
 ghost use Rattle.est_cells.specs.Tables.{sheet_size};
 ghost use Rattle.est_net.specs.Layout.{cell_count, output_count};
+ghost use Rattle.est_net.specs.Reach.{HasEmissions};
 ghost use Rattle.est_rounds.specs.Views.{env_of};
 ghost use Rattle.est_micro.specs.Runs.{IsRound, IsSettled, sheet_swept};
 ghost use Rattle.est_micro.specs.Views.{IsSwept};
@@ -106,8 +107,8 @@ fn next_direction(direction: Direction, now: usize, before: usize, cells: usize)
     }
 }
 
-/// Opens the table, and makes rounds until nothing more can be decided. The first sweep goes this
-/// way.
+/// Opens the table, and makes rounds until nothing more can be decided. No signal is emitted that
+/// isn't possible. The first sweep goes this way.
 pub fn settle(
     table: &mut Table,
     kernel: &Kernel,
@@ -120,6 +121,7 @@ pub fn settle(
     requires state { IsState kernel.now.root state.now }
     requires outputs { outputs ≡ output_count kernel.now.interface }
     requires size { length table.old.cells.items ≡ cell_count kernel.now }
+    requires possible { HasEmissions kernel.now.root state.now (bits possible) }
     ensures { IsSettled kernel.now state.now (bits inputs) table.new.cells.items result }
 {
     let cells = table.len();

@@ -3,6 +3,7 @@ use Rattle.std.proofs.lemmas.List.{length-replicate}
 use Rattle.est_kernel.specs.Bits.{bits}
 use Rattle.est_meaning.specs.declared.status.Status.{Status}
 use Rattle.est_meaning.specs.declared.status.Status.TheVariants.{Unknown}
+use Rattle.est_net.specs.Reach.{HasEmissions}
 use Rattle.est_micro.specs.Runs.{IsExchanged}
 use Rattle.est_micro.proofs.FullTables.{decided_within}
 use Rattle.est_micro.proofs.Settling.{start_ready, round_made, settled}
@@ -21,7 +22,8 @@ loop-found-init c =
     round_made _ k c.args.state.now (bits c.args.inputs) _ _ _ _ _ _ _
     (start_ready k c.args.state.now (bits c.args.inputs) _ _ n _ _ k.closed c.requires.size
     c.in_doubt-doubt.ensures.sure
-    c.in_doubt-doubt.ensures.possible h (length-replicate n Unknown))
+    (subst (λ (z : ℕ). HasEmissions k.root c.args.state.now (bits z)) (sym c.in_doubt-doubt.ensures.possible)
+    c.requires.possible) h (length-replicate n Unknown))
     c.round-found.ensures (omega arith) c.decided-now.ensures
 
 pub loop-found-preserved : goal.loop-found-preserved

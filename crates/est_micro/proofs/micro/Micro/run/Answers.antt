@@ -1,3 +1,5 @@
+use Rattle.std.proofs.Common.{sym, ◌∙◌}
+use Rattle.est_net.proofs.Covering.{reach_has_emissions}
 use Rattle.est_micro.proofs.Outcomes.{done_values, reaction_done}
 use Rattle.est_micro.proofs.micro.Micro.run.Goals as goal
 
@@ -20,3 +22,9 @@ outcome-requires-clause-from c = λ p h. cc (c.in-Fresh.is, h)
 
 pub outcome-requires-in-Paused-clause-lives : goal.outcome-requires-in-Paused-clause-lives
 outcome-requires-in-Paused-clause-lives c = λ h. cc (c.in-Paused.is, h)
+
+pub settle-settled-requires-clause-possible : goal.settle-settled-requires-clause-possible
+settle-settled-requires-clause-possible c = λ e n k.
+    c.from_state-possible.ensures n
+    ∙ reach_has_emissions c.args.kernel.now.root c.args.state.now c.args.self.now.net.reach c.requires.net.reach
+    c.requires.state e n k
