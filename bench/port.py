@@ -66,7 +66,7 @@ def ported(crate, module):
     if (crate, module) == ("est_rounds", "resume"):  # the rest is the plain engine's
         text = f"use est_kernel::pause_set::PauseSet;\nuse est_kernel::statement::Statement;\n{function(text, 'has_live')}\n"
     if module == "reach":  # memory is never refused here
-        for ours, theirs in (("alloc: Global, ", ""), ("Vec::new(alloc)", "Vec::new()"), ("AllocError", "()"), ("later.end })?;", "later.end });")):
+        for ours, theirs in (("alloc: Global, ", ""), ("Vec::new(alloc)", "Vec::new()"), ("AllocError", "()"), ("pauses.push(from)?;", "pauses.push(from);")):
             text = text.replace(ours, theirs)
     if module == "micro":
         text = text[:text.index("impl Engine for")].replace("use est_rounds::engine::Engine;\n", "")

@@ -1,5 +1,5 @@
 -- Ranges of cells, looked at and decided one after another.
-use Rattle.std.specs.Prelude.{◌≡◌, ◌≢◌, ◌<◌, ◌≤◌, ◌+◌, ◌⊎◌, ◌&&◌, ℕ, zero, suc, Bool, true, false, not, List}
+use Rattle.std.specs.Prelude.{◌≡◌, ◌≢◌, ◌↔◌, ◌<◌, ◌≤◌, ◌+◌, ◌⊎◌, ◌&&◌, ℕ, zero, suc, Bool, true, false, not, List}
 use Rattle.std.specs.Prelude.{length, set}
 use Rattle.std.proofs.Common.{refl, ap, sym, ◌∙◌, arith, inl, inr, subst}
 use Rattle.std.proofs.lemmas.List.{get_or-set_same, get_or-set_other, length-set, set-get_or}
@@ -21,6 +21,11 @@ not_true Present h e = let z : true ≡ false = h in cc
 not_true Absent h e = cc
 not_true Unknown h e = cc
 
+surely : (v : Status) → is_sure v ≡ true → v ≡ Present
+surely Present h = refl
+surely Absent h = let z : false ≡ true = h in cc
+surely Unknown h = let z : false ≡ true = h in cc
+
 -- no cell of an empty range is true; one cell more
 pub none_true : (lo : ℕ) (cells : List Status) → NoneTrue lo lo cells
 unfolding NoneTrue
@@ -34,11 +39,30 @@ one_more lo n cells h d i l u = elim (last_or_before i n u) [
   | inr k ↦ h i l k
 ]
 
-pub none_more : (lo n : ℕ) (cells : List Status) (was is_true now : Bool) → (was ≡ true → NoneTrue lo n cells)
-    → is_true ≡ is_sure (cell_at cells n) → now ≡ (was && not is_true) → now ≡ true → NoneTrue lo (n + 1) cells
-none_more lo n cells false b now h e f g = let z : false ≡ true = sym f ∙ g in cc
-none_more lo n cells true true now h e f g = let z : false ≡ true = sym f ∙ g in cc
-none_more lo n cells true false now h e f g = one_more lo n cells (h refl) (not_true (cell_at cells n) (sym e))
+-- there is none in a range exactly where there is none before its last cell, and that isn't true
+one_less : (lo n : ℕ) (cells : List Status) → NoneTrue lo (n + 1) cells → NoneTrue lo n cells
+unfolding NoneTrue
+one_less lo n cells h i l u = h i l (omega arith)
+
+the_last : (lo n : ℕ) (cells : List Status) → lo ≤ n → NoneTrue lo (n + 1) cells → cell_at cells n ≢ Present
+unfolding NoneTrue
+the_last lo n cells l h = h n l (omega arith)
+
+pub none_more : (lo n : ℕ) (cells : List Status) (was is_true now : Bool) → lo ≤ n
+    → ((was ≡ true) ↔ NoneTrue lo n cells) → is_true ≡ is_sure (cell_at cells n) → now ≡ (was && not is_true)
+    → (now ≡ true) ↔ NoneTrue lo (n + 1) cells
+none_more lo n cells was b now l h e f = (there was b h e f, back was b h e f)
+  where
+    there : (was b : Bool) → ((was ≡ true) ↔ NoneTrue lo n cells) → b ≡ is_sure (cell_at cells n)
+        → now ≡ (was && not b) → now ≡ true → NoneTrue lo (n + 1) cells
+    there false b h e f g = let z : false ≡ true = sym f ∙ g in cc
+    there true true h e f g = let z : false ≡ true = sym f ∙ g in cc
+    there true false h e f g = one_more lo n cells (h.0 refl) (not_true (cell_at cells n) (sym e))
+
+    back : (was b : Bool) → ((was ≡ true) ↔ NoneTrue lo n cells) → b ≡ is_sure (cell_at cells n)
+        → now ≡ (was && not b) → NoneTrue lo (n + 1) cells → now ≡ true
+    back was true h e f g = absurd (the_last lo n cells l g (surely (cell_at cells n) (sym e)))
+    back was false h e f g = f ∙ ap (λ (z : Bool). z && true) (h.1 (one_less lo n cells g))
 
 -- no cell of an empty range has changed; one cell more is told that it is false
 pub none_false : (lo : ℕ) (cells : List Status) → AreFalse lo lo cells cells

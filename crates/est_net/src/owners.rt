@@ -32,7 +32,7 @@ pub struct StatementCell {
     /// of the text.
     pub statement: usize,
     /// 0 where the statement goes on or is begun in due course, and i where it is begun by the
-    /// restart of the i-th loop round it, counted from the innermost outwards.
+    /// restart of the i-th loop around it, counted from the innermost outwards.
     pub incarnation: usize,
     /// What the cell tells.
     pub kind: CellKind,

@@ -1,6 +1,6 @@
 //! Cells, each open or decided.
 
-ghost use Rattle.std.specs.Prelude.{◌≡◌, ◌<◌, ◌≤◌, ◌+◌, ◌&&◌, true, length, set, slice_get, Some};
+ghost use Rattle.std.specs.Prelude.{◌≡◌, ◌↔◌, ◌<◌, ◌≤◌, ◌+◌, ◌&&◌, true, length, set, slice_get, Some};
 ghost use Rattle.std.specs.Prelude.{option_map, replicate, take};
 ghost use Rattle.est_cells.specs.Tables.{is_sure};
 ghost use Rattle.est_net.specs.Cells.{AreFalse, Learns, NoneTrue, cell_at, decided, known_as};
@@ -102,7 +102,7 @@ fn both(a: bool, b: bool) -> bool
 fn has_no_true(cells: &[Status], from: usize, past: usize) -> bool
     requires range { from ≤ past }
     requires within { past ≤ length cells.now }
-    ensures { result ≡ true → NoneTrue from past cells.now }
+    ensures { (result ≡ true) ↔ NoneTrue from past cells.now }
 {
     let mut none = true;
     for cell in from..past {
@@ -253,7 +253,7 @@ impl Table {
     pub fn has_no_true(&self, from: usize, past: usize) -> bool
         requires range { from ≤ past }
         requires within { past ≤ length self.now.cells.items }
-        ensures { result ≡ true → NoneTrue from past self.now.cells.items }
+        ensures { (result ≡ true) ↔ NoneTrue from past self.now.cells.items }
     {
         has_no_true(self.cells.as_slice(), from, past)
     }

@@ -88,6 +88,58 @@ fn decided_cells(rt: HostRuntime) -> Result<(), Fail> {
     Ok(())
 }
 
+/// Modules whose outputs are A, B and C, and which of these may be emitted in each of three instants
+/// without inputs, whatever their tests say: 1 stands for A, 2 for B, 4 for C.
+const REACHED: [(&str, &str); 6] = [
+    ("emit A; pause; emit B; pause; emit C", "1, 2, 4"),
+    // both branches count
+    (
+        "present A then emit B else emit C end; pause; emit A",
+        "6, 1, 0",
+    ),
+    // what follows a trap may follow its exit
+    ("trap T in emit A; pause; exit T end; emit B", "1, 2, 0"),
+    // a loop begins its body again
+    ("loop emit A; pause; emit B end", "1, 3, 3"),
+    // what follows both sides may follow each
+    ("[pause; emit A || pause; pause; emit B]; emit C", "0, 5, 6"),
+    ("signal S in emit S; pause; emit A end", "0, 1, 0"),
+];
+
+/// Which outputs may be emitted in an instant without inputs, which is then made.
+fn reached(engine: &mut Micro, kernel: &Kernel, state: &mut State) -> u64
+    requires net { IsNetOf engine.old.net kernel.now }
+    requires state { IsState kernel.now.root state.old }
+    ensures net { IsNetOf engine.new.net kernel.now }
+    ensures state { IsState kernel.now.root state.new }
+{
+    let signals = engine.net().reach.from_state(&*state);
+    decided(engine, kernel, state);
+    signals
+}
+
+/// What may be emitted in each of three instants.
+fn reaches(alloc: Global, kernel: &Kernel) -> Result<String, Fail> {
+    let mut engine = Micro::new(Net::build(alloc, kernel)?);
+    let mut state = State::Fresh;
+    let first = reached(&mut engine, kernel, &mut state);
+    let second = reached(&mut engine, kernel, &mut state);
+    let third = reached(&mut engine, kernel, &mut state);
+    Ok(format!(in alloc; "{first}, {second}, {third}")?)
+}
+
+#[test]
+fn reached_outputs(rt: HostRuntime) -> Result<(), Fail> {
+    for (body, wanted) in &REACHED {
+        let text = format!(in rt.alloc(); "module M: output A, B, C; {body} end module")?;
+        let told = reaches(rt.alloc(), &load(rt.alloc(), text.as_str())?)?;
+        if told.as_str() != *wanted {
+            return Err(Fail::from(format!(in rt.alloc(); "{told}: {body}")?));
+        }
+    }
+    Ok(())
+}
+
 /// As many nested local signals as there may be. Each is present where the one inside it is, and
 /// asks before that one is decided.
 fn nested(alloc: Global) -> Result<String, AllocError> {
