@@ -1,4 +1,4 @@
 pub mod Deciding
-pub mod Covering
+mod Covering
 mod Ranges
 mod Reaching

@@ -9,7 +9,8 @@ ghost use Rattle.est_kernel.specs.View.{name_of};
 ghost use Rattle.est_kernel.specs.declared.statement.Statement.TheVariants.{Pause, Present', Seq'};
 ghost use Rattle.est_kernel.specs.declared.statement.Statement.TheVariants.{Loop', Par'};
 ghost use Rattle.est_meaning.specs.Signals.{same_name};
-ghost use Rattle.est_net.specs.Reach.{IsReachOf, from_pauses, from_state, may_emit};
+ghost use Rattle.est_meaning.specs.States.{IsState};
+ghost use Rattle.est_net.specs.Reach.{HasEmissions, IsReachOf, from_pauses, from_state, may_emit};
 ghost use Rattle.est_net.specs.Inner.Adding.{IsAdded};
 
 use est_kernel::mask;
@@ -222,9 +223,11 @@ impl Reach {
         signals
     }
 
-    /// What may be emitted in an instant that begins in this state.
+    /// What may be emitted in an instant that begins in this state. Nothing else is emitted in it.
     pub fn from_state(&self, state: &State) -> u64
-        ensures { (n : ℕ) → bits result n ≡ from_state self.now state.now n }
+        ensures told { (n : ℕ) → bits result n ≡ from_state self.now state.now n }
+        ensures emissions { (s : _) → IsReachOf self.now s → IsState s state.now
+            → HasEmissions s state.now (bits result) }
     {
         match state {
             State::Fresh => self.first,

@@ -1,5 +1,3 @@
-use Rattle.std.proofs.Common.{sym, ◌∙◌}
-use Rattle.est_net.proofs.Covering.{reach_has_emissions}
 use Rattle.est_micro.proofs.Outcomes.{done_values, reaction_done}
 use Rattle.est_micro.proofs.micro.Micro.run.Goals as goal
 
@@ -24,7 +22,5 @@ pub outcome-requires-in-Paused-clause-lives : goal.outcome-requires-in-Paused-cl
 outcome-requires-in-Paused-clause-lives c = λ h. cc (c.in-Paused.is, h)
 
 pub settle-settled-requires-clause-possible : goal.settle-settled-requires-clause-possible
-settle-settled-requires-clause-possible c = λ e n k.
-    c.from_state-possible.ensures n
-    ∙ reach_has_emissions c.args.kernel.now.root c.args.state.now c.args.self.now.net.reach c.requires.net.reach
-    c.requires.state e n k
+settle-settled-requires-clause-possible c =
+    c.from_state-possible.ensures.emissions c.args.kernel.now.root c.requires.net.reach c.requires.state
