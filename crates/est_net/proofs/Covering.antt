@@ -218,7 +218,8 @@ begun_covers n (Par' a p b q) end exit m e =
     (wider n end exit (can (term_of p) m e) x (x || y) (or_left x y) (begun_covers n p end exit m e))
     (wider n end exit (can (term_of q) m e) y (x || y) (or_right x y) (begun_covers n q end exit m e))
 begun_covers n (Trap' a p) end exit m e =
-    trap_covers n end exit (can (term_of p) m e) (may_emit n p end (end || exit)) (begun_covers n p end (end || exit) m e)
+    trap_covers n end exit (can (term_of p) m e) (may_emit n p end (end || exit))
+    (begun_covers n p end (end || exit) m e)
 begun_covers n (Binder' s a p) end exit m e =
     let f = env_within m s.index (term_of p) e in
     hide_covers n s.index end exit (can (term_of p) m f) (may_emit n p end exit) (begun_covers n p end exit m f)
@@ -293,5 +294,5 @@ unfolding no_signals
 reach_has_emissions s Fresh r h w e n k = h.first n ∙ (begun_covers n s false false sure e).emits k
 reach_has_emissions s Done r h w e n k = no k
 reach_has_emissions s (Paused p) r h w e n k =
-    (resumed_covers n s false false (λ set. from_pauses r.pauses.items set n) (pauses_of p) sure e (h.later n) w.live).emits
-    k
+    (resumed_covers n s false false (λ set. from_pauses r.pauses.items set n) (pauses_of p) sure e (h.later n)
+    w.live).emits k

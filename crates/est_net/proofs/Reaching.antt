@@ -1,5 +1,6 @@
 -- The pauses that are added to a list, part by part.
-use Rattle.std.specs.Prelude.{◌≡◌, ◌<◌, ◌+◌, ℕ, Bool, true, false, ◌&&◌, ◌||◌, List, [], ◌∷◌, ◌++◌, length, get_or, take}
+use Rattle.std.specs.Prelude.{◌≡◌, ◌<◌, ◌+◌, ℕ, Bool, true, false, ◌&&◌, ◌||◌, List, [], ◌∷◌, ◌++◌, length}
+use Rattle.std.specs.Prelude.{get_or, take}
 use Rattle.std.proofs.Common.{refl, sym, ap, ◌∙◌, subst}
 use Rattle.std.proofs.lemmas.List.{take_more}
 use Rattle.est_kernel.specs.Bits.{bits}
@@ -180,7 +181,8 @@ pub nothing_later : (s : Statement) (old new : List FromPause) (signals : ℕ) (
     → ((n : ℕ) → end n ≡ false) → ((n : ℕ) → exit n ≡ false) → IsAdded s end exit old new signals
     → (r : Reach) → r.first ≡ signals → r.pauses.items ≡ new → IsReachOf r s
 nothing_later s old new signals end exit no_end no_exit added r first_is pauses_are = record {
-  first = λ n. ap (λ (m : ℕ). bits m n) first_is ∙ (added.begun n ∙ (ap (λ (z : Bool). may_emit n s z (exit n)) (no_end n)
+  first = λ n. ap (λ (m : ℕ). bits m n) first_is
+      ∙ (added.begun n ∙ (ap (λ (z : Bool). may_emit n s z (exit n)) (no_end n)
       ∙ ap (λ (z : Bool). may_emit n s false z) (no_exit n)));
   later = λ n. subst (λ (z : List FromPause). Tells n s false false (λ set. from_pauses z set n)) (sym pauses_are)
       (subst (λ (z : Bool). Tells n s false z (λ set. from_pauses new set n)) (no_exit n)

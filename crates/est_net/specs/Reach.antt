@@ -17,12 +17,13 @@ use Rattle.est_meaning.specs.States.{state_term}
 use Rattle.est_net.specs.declared.reach.FromPause.{FromPause}
 use Rattle.est_net.specs.declared.reach.Reach.{Reach}
 
--- a set has every signal of the interface that can be emitted in an instant that begins in this state, whatever is known
+-- a set has every signal of the interface that can be emitted in an instant that begins in this state, whatever is
+-- known
 abbrev pub HasEmissions : Statement → State → (ℕ → Bool) → Type 0
 HasEmissions s x set = (e : Env) (n : ℕ) → (can (state_term s x) sure e).signals (outer n) ≡ true → set n ≡ true
 
--- whether signal n of the interface may be emitted once a statement is begun, where `end` says it of what follows its
--- end in the same instant, and `exit` of what follows its exit of a trap
+-- whether signal n of the interface may be emitted once a statement is begun, where `end` says it of what follows
+-- its end in the same instant, and `exit` of what follows its exit of a trap
 abbrev pub may_emit : ℕ → Statement → (end exit : Bool) → Bool
 may_emit n Nothing end exit = end
 may_emit n (Pause i) end exit = false

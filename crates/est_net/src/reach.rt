@@ -1,5 +1,5 @@
-//! Which signals of the interface may be emitted in an instant, by the pauses from which it goes on.
-//! No test is asked: each branch counts.
+//! Which signals of the interface may be emitted in an instant, by the pauses from which it goes
+//! on. No test is asked: each branch counts.
 
 ghost use Rattle.std.specs.Prelude.{◌≡◌, ◌||◌, ◌&&◌, ℕ, false, IfOk};
 ghost use Rattle.est_kernel.specs.Bits.{bits};

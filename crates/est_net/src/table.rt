@@ -1,7 +1,7 @@
 //! Cells, each open or decided.
 
-ghost use Rattle.std.specs.Prelude.{◌≡◌, ◌↔◌, ◌<◌, ◌≤◌, ◌+◌, ◌&&◌, true, length, set, slice_get, Some};
-ghost use Rattle.std.specs.Prelude.{option_map, replicate, take};
+ghost use Rattle.std.specs.Prelude.{◌≡◌, ◌↔◌, ◌<◌, ◌≤◌, ◌+◌, ◌&&◌, true, length, set, slice_get};
+ghost use Rattle.std.specs.Prelude.{Some, option_map, replicate, take};
 ghost use Rattle.est_cells.specs.Tables.{is_sure};
 ghost use Rattle.est_net.specs.Cells.{AreFalse, Learns, NoneTrue, cell_at, decided, known_as};
 ghost use Rattle.est_net.specs.Cells.{learned};

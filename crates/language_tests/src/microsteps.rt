@@ -88,8 +88,8 @@ fn decided_cells(rt: HostRuntime) -> Result<(), Fail> {
     Ok(())
 }
 
-/// Modules whose outputs are A, B and C, and which of these may be emitted in each of three instants
-/// without inputs, whatever their tests say: 1 stands for A, 2 for B, 4 for C.
+/// Modules whose outputs are A, B and C, and which of these may be emitted in each of three
+/// instants without inputs, whatever their tests say: 1 stands for A, 2 for B, 4 for C.
 const REACHED: [(&str, &str); 6] = [
     ("emit A; pause; emit B; pause; emit C", "1, 2, 4"),
     // both branches count

@@ -5,8 +5,8 @@ use Rattle.est_kernel.specs.declared.statement.Statement.{Statement}
 use Rattle.est_net.specs.Reach.{Tells, from_pauses, may_emit}
 use Rattle.est_net.specs.declared.reach.FromPause.{FromPause}
 
--- the pauses of a statement are added to a list: it tells of them, and what it told before; `signals` may be emitted once
--- the statement is begun; `end` and `exit` may follow
+-- the pauses of a statement are added to a list: it tells of them, and what it told before; `signals` may be emitted
+-- once the statement is begun; `end` and `exit` may follow
 pub record IsAdded (s : Statement) (end exit : ℕ → Bool) (old new : List FromPause) (signals : ℕ) : Type 0 where
   pub begun : (n : ℕ) → bits signals n ≡ may_emit n s (end n) (exit n)
   pub grown : (set : ℕ → Bool) (n : ℕ) → from_pauses old set n ≡ true → from_pauses new set n ≡ true

@@ -4,7 +4,8 @@ use Rattle.est_net.proofs.Reaching.{par_added, seq_added, two_added}
 use Rattle.est_net.proofs.reach.+add.Goals as goal
 
 pub add_two-returns-clause-present : goal.add_two-returns-clause-present
-add_two-returns-clause-present t c = two_added c.args.p.now c.args.q.now (bits c.args.later.end) (bits c.args.later.exit)
+add_two-returns-clause-present t c = two_added c.args.p.now c.args.q.now (bits c.args.later.end)
+    (bits c.args.later.exit)
     c.args.pauses.now.items c.add.new.pauses.items c.add-2.new.pauses.items c.in_ok-first.first c.in_ok-second.second
     c.either.result c.in_ok-first.ensures c.in_ok-second.ensures c.either.ensures
 
