@@ -68,7 +68,11 @@ ended n end exit = record { emits = λ h. no h; ends = λ h e. e; exits = λ k h
 
 paused : (n : ℕ) (end exit said : Bool) → Covers n end exit (just_code 1) said
 unfolding no_signals code
-paused n end exit said = record { emits = λ h. no h; ends = λ h e. no h; exits = λ k h e. other_code 1 k (omega arith) h }
+paused n end exit said = record {
+  emits = λ h. no h;
+  ends = λ h e. no h;
+  exits = λ k h e. other_code 1 k (omega arith) h;
+}
 
 exited : (n k : ℕ) (end exit : Bool) → Covers n end exit (just_code (k + 2)) exit
 unfolding no_signals code
