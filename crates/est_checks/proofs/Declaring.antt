@@ -1,19 +1,12 @@
 -- Names that are declared a second time, along lists of the code.
 use Rattle.std.proofs.Common.{◌≡◌, ℕ, suc, ◌<◌, List, [], ◌∷◌, ◌++◌, Option, Some, None, refl, ap, sym, ◌∙◌, map}
 use Rattle.std.proofs.Common.{length, get_or, take, drop}
-use Rattle.std.proofs.Math.Seq.{drop-cons, take-suc}
-use Rattle.std.proofs.lemmas.List.{map-append}
+use Rattle.std.proofs.Math.Seq.{drop-cons}
 use Rattle.std.specs.Option.{option_or}
 use Rattle.est_modules.specs.Modules.{program_of}
+use Rattle.est_modules.proofs.Lists.{more}
 use Rattle.est_checks.specs.Duplicates.{duplicate_of, duplicate_after}
 use Rattle.est_modules.specs.declared.head.Head.{Head}
-
--- a list of which i were taken goes on with the next
-pub more : {X Y : Type 0} (f : X → Y) (xs : List X) (i j : ℕ) (d : X) → i < length xs → j ≡ suc i
-    → map f (take i xs) ++ f (get_or xs i d) ∷ [] ≡ map f (take j xs)
-more f xs i j d lt next =
-    sym (ap (λ k. map f (take k xs)) next ∙ ap (map f) (take-suc xs i d lt)
-    ∙ map-append f (take i xs) (get_or xs i d ∷ []))
 
 -- ---- modules of a library
 

@@ -10,11 +10,11 @@ use Rattle.est_modules.specs.Modules.{Program, program_named}
 use Rattle.est_modules.specs.declared.head.Declared.{Declared}
 use Rattle.est_modules.proofs.Testing.{same_bytes, found_passes}
 
-and_false : (b : Bool) → (b && false) ≡ false
+pub and_false : (b : Bool) → (b && false) ≡ false
 and_false true = refl
 and_false false = refl
 
-distributed : (a b c : Bool) → ((a && b) || (a && c)) ≡ (a && (b || c))
+pub distributed : (a b c : Bool) → ((a && b) || (a && c)) ≡ (a && (b || c))
 distributed true b c = refl
 distributed false b c = refl
 

@@ -4,7 +4,9 @@ ghost use Rattle.est_modules.specs.Modules.{program_of};
 ghost use Rattle.est_checks.specs.MissingModules.{first_missing};
 
 use crate::place_check::{Check, first_in_bodies};
-use est_modules::head::{Head, head_named};
+use est_modules::head::Head;
+use est_modules::heads::Heads;
+use est_modules::kept_names::KeptNames;
 use est_modules::name_table::NameTable;
 use est_modules::open_names::OpenNames;
 use est_modules::scope::{Act, Scope};
@@ -14,7 +16,7 @@ use std::alloc::{AllocError, Global};
 /// The check for runs of modules that aren't there.
 #[derive(Clone, Copy)]
 struct UnknownModule<'a> {
-    heads: &'a [Head<'a>],
+    heads: &'a Heads<'a>,
 }
 
 impl Check for UnknownModule<'_> {
@@ -35,7 +37,7 @@ impl Check for UnknownModule<'_> {
     ) -> Result<Option<Identifier>, AllocError> {
         match act {
             Act::Emits(_) | Act::Tests(_) | Act::Exits(_) | Act::Binds(_) => Ok(None),
-            Act::Runs(name, _) => match head_named(self.heads, name) {
+            Act::Runs(name, _) => match self.heads.named(name) {
                 Some(_) => Ok(None),
                 None => Ok(Some(*name)),
             },
@@ -50,21 +52,17 @@ impl Check for UnknownModule<'_> {
 /// `AllocError`, as a check answers it.
 pub fn first_missing<'a>(
     alloc: Global,
-    heads: &'a [Head<'a>],
+    heads: &'a Heads<'a>,
     main: &Identifier,
 ) -> Result<Option<Identifier>, AllocError>
     ensures { IfOk result (λ name. name ≡ first_missing (map program_of heads.now) main.now) }
 {
-    match head_named(heads, main) {
+    match heads.named(main) {
         Some(_) => {
             let table = NameTable::new(alloc);
-            first_in_bodies(
-                alloc,
-                &table,
-                &[],
-                &UnknownModule { heads: &*heads },
-                &*heads,
-            )
+            let none = KeptNames::none(alloc);
+            let check = UnknownModule { heads: &*heads };
+            first_in_bodies(alloc, &table, &none, &check, &*heads)
         }
         None => Ok(Some(*main)),
     }

@@ -5,8 +5,10 @@ ghost use Rattle.est_modules.specs.Occurrences.{first_of, occurrences};
 ghost use Rattle.est_modules.specs.NameTables.{IsTable};
 
 use est_modules::head::Head;
+use est_modules::heads::Heads;
+use est_modules::kept_names::KeptNames;
 use est_modules::name_table::NameTable;
-use est_modules::open_names::{Kept, OpenNames};
+use est_modules::open_names::OpenNames;
 use est_modules::scope::{Act, Scope};
 use est_modules::visit::Visitor;
 use est_modules::walk::walk_body;
@@ -20,7 +22,7 @@ pub trait Check {
     ghost use Rattle.est_modules.specs.Occurrences.{Occurrence};
     ghost use Rattle.est_modules.specs.OpenNames.{IsOpen};
     ghost use Rattle.est_modules.specs.declared.name_table.NameTable.{NameTable};
-    ghost use Rattle.est_modules.specs.declared.open_names.Kept.{Kept};
+    ghost use Rattle.est_modules.specs.declared.kept_names.Kept.{Kept};
     ghost use Rattle.est_modules.specs.Scopes.{act_of, binders_of};
 
     /// The name of the fault at an occurrence in a module, if it is one.
@@ -91,7 +93,7 @@ pub fn first_in_body<'a, C: Check>(
     check: &'a C,
     alloc: Global,
     table: &NameTable<'_>,
-    kept: &[Kept],
+    kept: &KeptNames<'_>,
     home: &'a Head<'a>,
 ) -> Result<Option<Identifier>, AllocError>
     requires fits { C.fits check.now table.now kept.now }
@@ -116,16 +118,16 @@ pub fn first_in_body<'a, C: Check>(
 pub fn first_in_bodies<'a, C: Check>(
     alloc: Global,
     table: &NameTable<'_>,
-    kept: &[Kept],
+    kept: &KeptNames<'_>,
     check: &'a C,
-    heads: &'a [Head<'a>],
+    heads: &'a Heads<'a>,
 ) -> Result<Option<Identifier>, AllocError>
     requires fits { C.fits check.now table.now kept.now }
     requires table { IsTable table.now }
     ensures { IfOk result (λ name. name ≡ first_in_bodies (C.fault check.now) (map program_of
         heads.now)) }
 {
-    for home in heads {
+    for home in heads.modules() {
         if let Some(name) = first_in_body(&*check, alloc, table, kept, &*home)? {
             return Ok(Some(name));
         }

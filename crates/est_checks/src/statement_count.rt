@@ -18,8 +18,7 @@ ghost use Rattle.est_checks.specs.Inner.Numbers.{number_of, numbers_of, IsFilled
 
 use crate::word_count::test_words;
 use est_kernel::limits::MOST_STATEMENTS;
-use est_modules::head::Head;
-use est_modules::module_order::place_named;
+use est_modules::heads::Heads;
 use est_modules::place_order::Order;
 use est_syntax::tree::{Branches, Sequence, Statement, Test, Unit};
 use est_text::identifier::Identifier;
@@ -33,7 +32,7 @@ pub const TOO_MANY: u16 = MOST_STATEMENTS + 1;
 /// place.
 #[derive(Clone, Copy)]
 struct Numbers<'a> {
-    heads: &'a [Head<'a>],
+    heads: &'a Heads<'a>,
     numbers: &'a [u16],
 }
 
@@ -44,7 +43,7 @@ struct Numbers<'a> {
 /// Memory was refused.
 pub fn count_statements(
     alloc: Global,
-    heads: &[Head<'_>],
+    heads: &Heads<'_>,
     order: &Order,
     main: &Identifier,
 ) -> Result<Option<u16>, AllocError>
@@ -67,11 +66,11 @@ pub fn count_statements(
 }
 
 /// The numbers of all modules, each worked out after those of the modules that it runs.
-fn count_modules(alloc: Global, heads: &[Head<'_>], order: &[usize]) -> Result<Vec<u16>, AllocError>
+fn count_modules(alloc: Global, heads: &Heads<'_>, order: &[usize]) -> Result<Vec<u16>, AllocError>
     requires { IsOrderOf (map program_of heads.now) order.now }
     ensures { IfOk result (λ numbers. IsFilled (map program_of heads.now) order.now numbers.items) }
 {
-    let mut numbers = vec![in alloc; 0; heads.len()]?;
+    let mut numbers = vec![in alloc; 0; heads.modules().len()]?;
     for place in order {
         let number = count_body(heads, &numbers, *place);
         numbers[*place] = number;
@@ -80,13 +79,13 @@ fn count_modules(alloc: Global, heads: &[Head<'_>], order: &[usize]) -> Result<V
 }
 
 /// The number of the module at a place.
-fn count_body(heads: &[Head<'_>], numbers: &[u16], place: usize) -> u16
+fn count_body(heads: &Heads<'_>, numbers: &[u16], place: usize) -> u16
     requires { place < length heads.now }
     ensures { (p : Program) → slice_get (map program_of heads.now) place ≡ Some p
         → result ≡ min TOO_MANY (counted (number_of (map program_of heads.now) numbers.now)
         p.body) }
 {
-    let head = &heads[place];
+    let head = &heads.modules()[place];
     count_statement(&Numbers { heads, numbers }, head.body)
 }
 
@@ -104,7 +103,7 @@ pub fn sum(first: u16, second: u16) -> u16
 fn number_of_module(numbers: &Numbers<'_>, name: &Identifier) -> u16
     ensures { result ≡ min TOO_MANY (numbers_of numbers.now name.now) }
 {
-    match place_named(numbers.heads, name) {
+    match numbers.heads.place(name) {
         Some(place) => match numbers.numbers.get(place) {
             Some(number) => (*number).min(TOO_MANY),
             None => 0,

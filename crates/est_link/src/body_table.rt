@@ -6,7 +6,7 @@ ghost use Rattle.est_modules.specs.Modules.{program_of, program_named};
 ghost use Rattle.est_reduce.specs.Views.{body_of};
 
 use crate::flatten::{Linked, Linker, Place, flat_statement};
-use est_modules::head::{Head, head_named};
+use est_modules::heads::Heads;
 use est_modules::scope::Scope;
 use est_reduce::body::Body;
 use est_text::identifier::Identifier;
@@ -16,14 +16,14 @@ use std::alloc::{AllocError, Global};
 #[tactic(auto, using(crate::proofs::Places::body_found))]
 fn body_at(
     alloc: Global,
-    heads: &[Head<'_>],
+    heads: &Heads<'_>,
     bodies: &[Linked],
     name: &Identifier,
 ) -> Result<Body, AllocError>
     ensures { IfOk result (λ b. body_of b ≡ body_linked (map program_of heads.now) (bodies_of
         bodies.now) (program_named (map program_of heads.now) name.now)) }
 {
-    match head_named(heads, name) {
+    match heads.named(name) {
         Some(home) => {
             let linker = Linker {
                 alloc,
@@ -44,7 +44,7 @@ fn body_at(
 /// The flat bodies of modules, of which each stands after those that it runs.
 pub fn bodies_along(
     alloc: Global,
-    heads: &[Head<'_>],
+    heads: &Heads<'_>,
     names: &[Identifier],
 ) -> Result<Vec<Linked>, AllocError>
     requires { AreBottomUp (map program_of heads.now) names.now }

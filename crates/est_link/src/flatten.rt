@@ -23,7 +23,9 @@ ghost use Rattle.est_reduce.specs.Views.{bound_query as query_view};
 use crate::bindings::{Binding, count, locals_around, signal_at, trap_at};
 use crate::bound_bodies::{bind_body, emitted};
 use crate::found_tests::find_test;
-use est_modules::head::{Declared, Head, head_named};
+use est_modules::head::{Declared, Head};
+use est_modules::heads::Heads;
+use est_modules::renamings::RunRenamings;
 use est_modules::scope::Scope;
 use est_reduce::body::{Body, BoundSignal, BoundTest, Wait};
 use est_syntax::tree::{Branches, Delay, Renaming, Sequence, Statement, Test, Unit};
@@ -45,7 +47,7 @@ pub struct Linker<'a> {
     /// Where memory for the body is taken.
     pub alloc: Global,
     /// The modules.
-    pub heads: &'a [Head<'a>],
+    pub heads: &'a Heads<'a>,
     /// The flat bodies.
     pub bodies: &'a [Linked],
     /// The module.
@@ -61,11 +63,11 @@ pub fn linked_named<'a>(bodies: &'a [Linked], name: &Identifier) -> Option<&'a L
 
 /// The interface of the module that is run.
 #[tactic(auto, using(crate::proofs::Places::interface_found))]
-fn interface_run<'a>(heads: &'a [Head<'_>], name: &Identifier) -> &'a [Declared]
+fn interface_run<'a>(heads: &'a Heads<'_>, name: &Identifier) -> &'a [Declared]
     ensures { result.now ≡ interface_run (program_named (map program_of heads.now) name.now) }
 {
-    match head_named(heads, name) {
-        Some(head) => head.interface.as_slice(),
+    match heads.named(name) {
+        Some(head) => head.interface.signals(),
         None => &[],
     }
 }
@@ -84,12 +86,13 @@ fn run(
         (locals_around (binders_of scope.now)) (bodies_of linker.now.bodies.now name.now)) }
 {
     let interface = interface_run(linker.heads, name);
+    let renamings = RunRenamings::of(linker.alloc, renamings)?;
     let binding = Binding {
         alloc: linker.alloc,
         home: &*linker.home,
         scope: &*scope,
         locals: locals_around(scope)?,
-        renamings: &*renamings,
+        renamings: &renamings,
         interface,
     };
     match linked_named(linker.bodies, name) {

@@ -7,6 +7,7 @@ pub mod OrderLemmas
 pub mod OrderPlaces
 pub mod Ordering
 pub mod Passing
+pub mod Placing
 pub mod Positions
 pub mod SearchLemmas
 pub mod Standing

@@ -15,8 +15,9 @@ ghost use Rattle.est_modules.specs.OpenNames.{IsOpen};
 ghost use Rattle.est_modules.specs.Scopes.{binders_of};
 ghost use Rattle.est_modules.specs.Walks.{passed, passed_branches, past_test};
 
+use crate::kept_names::KeptNames;
 use crate::name_table::NameTable;
-use crate::open_names::{Kept, OpenNames};
+use crate::open_names::OpenNames;
 use crate::scope::{Act, Scope};
 use crate::test_walk::walk_test;
 use crate::visit::Visitor;
@@ -185,12 +186,12 @@ fn walk_statement<V: Visitor>(
 ///
 /// What a visit answers, or `AllocError` where memory is refused for the names that are kept.
 #[tactic(auto, using(crate::proofs::Passing::passed_fold))]
-pub fn walk_body<V: Visitor>(
+pub fn walk_body<'a, V: Visitor>(
     visitor: &V,
     seen: &mut V::Seen,
     alloc: Global,
-    table: &NameTable<'_>,
-    kept: &[Kept],
+    table: &NameTable<'a>,
+    kept: &KeptNames<'a>,
     body: &Statement,
 ) -> Result<(), AllocError>
     requires fits { V.fits visitor.now table.now kept.now }

@@ -11,7 +11,7 @@ ghost use Rattle.est_checks.specs.BadRenamings.{bad_renaming_at};
 ghost use Rattle.est_checks.specs.UnknownNames.{unknown_at};
 
 use est_checks::bad_renamings::BadRename;
-use est_checks::emission::Emission;
+use est_checks::emission::Emissions;
 use est_checks::fault::LinkFault;
 use est_checks::lawless_relations::first_lawless;
 use est_checks::missing_modules::first_missing;
@@ -19,7 +19,10 @@ use est_checks::place_check::{Check, first_in_bodies, first_in_body};
 use est_checks::unknown_names::UnknownName;
 use est_checks::unseen_names::unseen_of;
 use est_checks::{duplicates, input_emissions};
-use est_modules::head::{Head, head_named};
+use est_modules::bound_names::further_names;
+use est_modules::head::Head;
+use est_modules::heads::Heads;
+use est_modules::kept_names::KeptNames;
 use est_modules::name_table::{NameTable, numbered};
 use est_modules::open_names::OpenNames;
 use est_modules::scope::{Act, Scope};
@@ -33,7 +36,7 @@ use std::alloc::{AllocError, Global};
 /// `AllocError` where memory is refused for the names that were met.
 pub fn first_duplicate<'a>(
     alloc: Global,
-    heads: &'a [Head<'a>],
+    heads: &'a Heads<'a>,
 ) -> Result<Option<Identifier>, AllocError>
     ensures { IfOk result (λ name. name ≡ first_duplicate (map program_of heads.now)) }
 {
@@ -48,21 +51,28 @@ pub fn first_duplicate<'a>(
 /// `AllocError`, as a check answers it.
 pub fn first_bad_renaming<'a>(
     alloc: Global,
-    heads: &'a [Head<'a>],
+    heads: &'a Heads<'a>,
 ) -> Result<Option<Identifier>, AllocError>
     ensures { IfOk result (λ name. name ≡ first_in_bodies (bad_renaming_at
         (map program_of heads.now)) (map program_of heads.now)) }
 {
     let names = NameTable::new(alloc);
-    first_in_bodies(alloc, &names, &[], &BadRename { heads: &*heads }, &*heads)
+    let none = KeptNames::none(alloc);
+    let check = BadRename {
+        alloc,
+        heads: &*heads,
+    };
+    first_in_bodies(alloc, &names, &none, &check, &*heads)
 }
 
 /// The check for names that aren't visible where they are used. It is asked of the places in one
 /// module.
 #[derive(Clone, Copy)]
 pub struct Unknown<'a> {
+    /// Where memory for names is taken.
+    pub alloc: Global,
     /// The modules of the library.
-    pub heads: &'a [Head<'a>],
+    pub heads: &'a Heads<'a>,
     /// The module.
     pub home: &'a Head<'a>,
 }
@@ -88,6 +98,7 @@ impl Check for Unknown<'_> {
         scope: &Scope<'_>,
     ) -> Result<Option<Identifier>, AllocError> {
         let names = UnknownName {
+            alloc: self.alloc,
             heads: self.heads,
             home: self.home,
         };
@@ -99,7 +110,7 @@ impl Check for Unknown<'_> {
 fn unknown_in<'a>(
     alloc: Global,
     table: &NameTable<'_>,
-    heads: &'a [Head<'a>],
+    heads: &'a Heads<'a>,
     home: &'a Head<'a>,
 ) -> Result<Option<Identifier>, AllocError>
     requires { IsTable table.now }
@@ -107,7 +118,8 @@ fn unknown_in<'a>(
         (program_of home.now)) (occurrences [] (program_of home.now).body)) }
 {
     let kept = unseen_of(alloc, table, &*heads, &*home)?;
-    first_in_body(&Unknown { heads, home }, alloc, table, &kept, &*home)
+    let check = Unknown { alloc, heads, home };
+    first_in_body(&check, alloc, table, &kept, &*home)
 }
 
 /// The first name of a library that isn't visible where it is used.
@@ -117,13 +129,14 @@ fn unknown_in<'a>(
 /// `AllocError` where memory is refused for names.
 pub fn first_unknown<'a>(
     alloc: Global,
-    heads: &'a [Head<'a>],
+    heads: &'a Heads<'a>,
 ) -> Result<Option<Identifier>, AllocError>
     ensures { IfOk result (λ name. name ≡ first_in_bodies (unknown_at (map program_of heads.now))
         (map program_of heads.now)) }
 {
-    let table = numbered(alloc, &*heads)?;
-    for home in heads {
+    let further = further_names(alloc, heads)?;
+    let table = numbered(alloc, &*heads, &further)?;
+    for home in heads.modules() {
         if let Some(name) = unknown_in(alloc, &table, &*heads, &*home)? {
             return Ok(Some(name));
         }
@@ -139,13 +152,14 @@ pub fn first_unknown<'a>(
 /// `AllocError` where memory is refused for names.
 pub fn first_refused<'a>(
     alloc: Global,
-    heads: &'a [Head<'a>],
-    table: &'a [Emission],
+    heads: &'a Heads<'a>,
+    table: &'a Emissions<'a>,
 ) -> Result<Option<Identifier>, AllocError>
     ensures { IfOk result (λ name. name ≡ first_in_bodies (refused_at (map program_of heads.now)
         (emitted_of table.now)) (map program_of heads.now)) }
 {
-    let names = numbered(alloc, &*heads)?;
+    let further = further_names(alloc, heads)?;
+    let names = numbered(alloc, &*heads, &further)?;
     input_emissions::first_refused(alloc, &names, heads, table)
 }
 
@@ -167,7 +181,7 @@ fn lawless_number(alloc: Global, main: Option<&Head<'_>>) -> Result<Option<usize
 /// `AllocError` where memory is refused for the names that were met.
 pub fn fault_before_order<'a>(
     alloc: Global,
-    heads: &'a [Head<'a>],
+    heads: &'a Heads<'a>,
     main: &str,
 ) -> Result<Option<LinkFault>, AllocError>
     ensures { IfOk result (λ fault. fault ≡ fault_before_order (map program_of heads.now)
@@ -193,9 +207,9 @@ pub fn fault_before_order<'a>(
 /// `AllocError` where memory is refused.
 pub fn fault_after_order<'a>(
     alloc: Global,
-    heads: &'a [Head<'a>],
+    heads: &'a Heads<'a>,
     main: &Identifier,
-    table: &'a [Emission],
+    table: &'a Emissions<'a>,
 ) -> Result<Option<LinkFault>, AllocError>
     ensures { IfOk result (λ fault. fault ≡ fault_after_order (map program_of heads.now) main.now
         (emitted_of table.now)) }
@@ -209,7 +223,7 @@ pub fn fault_after_order<'a>(
     if let Some(name) = first_refused(alloc, &*heads, &*table)? {
         return Ok(Some(LinkFault::EmitInput(name)));
     }
-    match lawless_number(alloc, head_named(heads, main))? {
+    match lawless_number(alloc, heads.named(main))? {
         Some(number) => Ok(Some(LinkFault::Semantics(number))),
         None => Ok(None),
     }

@@ -22,7 +22,7 @@ returns-in-Some c =
     let base = barred_by (map program_of c.args.check.now.heads.now) em input in
     let o = c.args.kept.now in
     c.first_left.ensures (base m) bs c.requires.open.1 c.requires.open.2
-    (kept_found o.table.now base m o.modules.now c.in-Some.left.now c.requires.open.0 (sym c.in-Some.ensures))
+    (kept_found o.table.now base m o.modules.now c.in-Some.left.now c.requires.open.0.kept (sym c.in-Some.ensures))
     ∙ ap (λ q. find (λ n. not (is_renamed rs n)) (open_at bs (barred_in (em m) input q))) c.requires.named
     ∙ sym (first_barred em p bs c.args.renamings.now m (program_of c.args.run.now).interface
     (sym c.binds_input.ensures ∙ c.if-binds_input.false))
