@@ -1,8 +1,9 @@
+pub mod Binding
 pub mod Descending
 pub mod Lists
 pub mod NameSets
-pub mod Opening
 pub mod Numbering
+pub mod Opening
 pub mod OrderLemmas
 pub mod OrderPlaces
 pub mod Ordering
@@ -11,5 +12,5 @@ pub mod Placing
 pub mod Positions
 pub mod SearchLemmas
 pub mod Standing
-pub mod Testing
 pub mod TestPassing
+pub mod Testing

@@ -13,7 +13,7 @@ use Rattle.est_modules.specs.NameTables.{number_in, is_numbered, IsTable}
 use Rattle.est_modules.specs.OpenNames.{Tells}
 use Rattle.est_modules.specs.Visible.{stands_in}
 use Rattle.est_modules.specs.declared.name_table.NameTable.{NameTable}
-use Rattle.est_modules.proofs.Testing.{same_bytes, equal_bytes, some_same}
+use Rattle.est_modules.proofs.Testing.{same_bytes, equal_bytes, or_left, or_right, some_same}
 
 cases_bool : (b : Bool) → (b ≡ true) ⊎ (b ≡ false)
 cases_bool true = inl refl
@@ -94,7 +94,7 @@ grown_table t new s is none grown updates = record {
   ];
 }
 
-told_other : (b : Bool) → b ≡ (b || false)
+pub told_other : (b : Bool) → b ≡ (b || false)
 told_other true = refl
 told_other false = refl
 
@@ -112,6 +112,12 @@ numbered_still t s u i true same at =
     let has : number_in t u ≡ Some i = ap (number_in t) (sym (same_bytes s u same)) ∙ at in
     ap is_some has ∙ sym (ap (λ (o : Option ℕ). is_some o || true) has)
 numbered_still t s u i false other at = told_other (is_numbered t u)
+
+-- a name that is declared, or `tick`, has a number
+pub numbered_by : (old listed now declared tick : Bool) → now ≡ (old || listed) → (tick ≡ true → listed ≡ true)
+    → (declared || tick) ≡ true → (now || declared) ≡ true
+numbered_by old listed now true tick e has h = or_right now true refl
+numbered_by old listed now false tick e has h = or_left now false (e ∙ or_right old listed (has h))
 
 -- ---- rows
 

@@ -1,10 +1,10 @@
 -- First places of names in lists.
 use Rattle.std.proofs.Common.{◌≡◌, ℕ, suc, ◌+◌, List, [], ◌∷◌, ◌++◌, length, map, Bool, true, false, cond, Option, Some}
-use Rattle.std.proofs.Common.{None, option_map, ◌||◌, refl, ap, sym, ◌∙◌, arith}
-use Rattle.std.proofs.lemmas.Option.{none-some}
-use Rattle.std.specs.List.{find, list_any, position, slice_get}
+use Rattle.std.proofs.Common.{None, option_map, ◌||◌, ◌<◌, ◌≤◌, Bor, refl, ap, sym, ◌∙◌, arith}
+use Rattle.std.proofs.lemmas.Option.{none-some, slice_get_past, slice_get_read}
+use Rattle.std.specs.List.{find, list_any, position, slice_get, HoldsAt}
 use Rattle.std.specs.Prelude.{is_some}
-use Rattle.std.specs.Option.{option_or}
+use Rattle.std.specs.Option.{option_or, MatchOption}
 use Rattle.std.specs.Str.{bytes_eq}
 use Rattle.est_modules.specs.FirstPlaces.{first_place, AreFirstPlaces}
 use Rattle.est_modules.specs.declared.first_places.FirstPlaces.{FirstPlaces}
@@ -87,6 +87,13 @@ got_here p y ys false None rest i e = absurd (none-some i e)
 got_here p y ys false (Some j) rest i e =
     let next : i ≡ suc j = omega (arith, some_same (j + 1) i e) in
     get_next y ys j i next ∙ rest j refl
+
+-- what a slice answers for a place
+pub got_there : {X : Type 0} (o : Option (Bor X)) (xs : List X) (i : ℕ)
+    → MatchOption o (length xs ≤ i) (λ x. (i < length xs) × HoldsAt (λ y. x.now ≡ y) xs i)
+    → option_map (λ x. x.now) o ≡ slice_get xs i
+got_there None xs i past = sym (slice_get_past xs i past)
+got_there (Some x) xs i there = sym (slice_get_read xs (length xs) i x.now refl there.0 (there.1 x.now))
 
 -- what stands at the first place is what is found
 pub got_found : {X : Type 0} (p : X → Bool) (xs : List X) (i : ℕ) → position p xs ≡ Some i

@@ -1,7 +1,7 @@
 use Rattle.std.proofs.Common.{◌∙◌, sym}
 use Rattle.std.specs.Str.{bytes_eq}
 use Rattle.est_syntax.specs.declared.tree.Renaming.{Renaming}
-use Rattle.est_modules.proofs.Placing.{got_found, none_got, place_is}
+use Rattle.est_modules.proofs.Placing.{got_found, got_there, none_got, place_is}
 use Rattle.est_modules.proofs.renamings.RunRenamings.named.Goals as goal
 
 pub returns-in-Some : goal.returns-in-Some
@@ -10,7 +10,7 @@ returns-in-Some c =
     let s = c.args.signal.now in
     let xs = t.renamings.now in
     rw (← c.self.view_is)
-    (c.get.ensures
+    (got_there c.get.result xs c.in-Some.place c.get.ensures.lookup.3
     ∙ got_found (λ (x : Renaming). bytes_eq x.inner s) xs c.in-Some.place
     (sym (place_is (λ (x : Renaming). x.inner) t.places xs s c.self.invariant) ∙ sym c.in-Some.ensures))
 
