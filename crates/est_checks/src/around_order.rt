@@ -29,9 +29,9 @@ use std::alloc::{AllocError, Global};
 /// # Errors
 ///
 /// The first fault; or memory was refused for the names that were met.
-pub fn check_before_order<'a>(
+pub fn check_before_order(
     alloc: Global,
-    heads: &'a Heads<'a>,
+    heads: &Heads<'_>,
     main: &str,
 ) -> Result<Identifier, LinkFault>
     ensures name { IfOk result (λ name. name ≡ main.now) }
@@ -67,10 +67,10 @@ fn lawless_number(alloc: Global, main: Option<&Head<'_>>) -> Result<Option<usize
 /// # Errors
 ///
 /// `AllocError` where memory is refused for names.
-pub fn fault_of_names<'a>(
+pub fn fault_of_names(
     alloc: Global,
     names: &NameTable<'_>,
-    heads: &'a Heads<'a>,
+    heads: &Heads<'_>,
 ) -> Result<Option<LinkFault>, AllocError>
     requires { IsTable names.now }
     ensures { IfOk result (λ fault. fault ≡ fault_of_names (map program_of heads.now)) }
@@ -99,9 +99,9 @@ pub fn fault_of_names<'a>(
 pub fn fault_of_emissions<'a>(
     alloc: Global,
     names: &NameTable<'_>,
-    heads: &'a Heads<'a>,
+    heads: &'a Heads<'_>,
     main: &Identifier,
-    table: &'a Emissions<'a>,
+    table: &'a Emissions<'_>,
 ) -> Result<Option<LinkFault>, AllocError>
     requires { IsTable names.now }
     ensures { IfOk result (λ fault. fault ≡ fault_of_emissions (map program_of heads.now) main.now

@@ -80,14 +80,14 @@ fn bad_in_run(
 /// The check for renamings whose right name is no interface signal of the module that is run, or
 /// stands on the right twice.
 #[derive(Clone, Copy)]
-pub struct BadRename<'a> {
+pub struct BadRename<'a, 'b> {
     /// Where memory for names is taken.
     pub alloc: Global,
     /// The modules of the library.
-    pub heads: &'a Heads<'a>,
+    pub heads: &'a Heads<'b>,
 }
 
-impl Check for BadRename<'_> {
+impl Check for BadRename<'_, '_> {
     ghost use Rattle.std.specs.Prelude.{⊤, map};
     ghost use Rattle.est_modules.specs.Modules.{program_of};
     ghost use Rattle.est_checks.specs.BadRenamings.{bad_renaming_at};
@@ -99,7 +99,7 @@ impl Check for BadRename<'_> {
     fn fault(
         &self,
         _home: &Head<'_>,
-        _kept: &OpenNames<'_, '_>,
+        _kept: &OpenNames<'_, '_, '_>,
         act: &Act<'_>,
         _scope: &Scope<'_>,
     ) -> Result<Option<Identifier>, AllocError> {

@@ -78,16 +78,16 @@ fn barred_in(
 /// Of a module that is run, the interface names that it emits and that are inputs of the module
 /// that runs it, or `tick`.
 #[derive(Clone, Copy)]
-struct Barred<'a, 'b> {
+struct Barred<'a, 'b, 'c, 'd> {
     /// The modules of the library.
-    heads: &'a Heads<'a>,
+    heads: &'a Heads<'b>,
     /// What each emits.
-    table: &'a Emissions<'a>,
+    table: &'a Emissions<'c>,
     /// The inputs of the module that runs them.
-    inputs: &'a NameSet<'b>,
+    inputs: &'a NameSet<'d>,
 }
 
-impl Choice for Barred<'_, '_> {
+impl Choice for Barred<'_, '_, '_, '_> {
     ghost use Rattle.std.specs.Prelude.{map};
     ghost use Rattle.est_modules.specs.Modules.{program_of};
     ghost use Rattle.est_modules.specs.NameSets.{has};
@@ -121,10 +121,10 @@ impl Choice for Barred<'_, '_> {
 pub fn barred_of<'a>(
     alloc: Global,
     numbers: &NameTable<'_>,
-    heads: &'a Heads<'a>,
+    heads: &'a Heads<'_>,
     home: &Head<'_>,
-    inputs: &NameSet<'_>,
-    table: &'a Emissions<'a>,
+    inputs: &'a NameSet<'_>,
+    table: &'a Emissions<'_>,
 ) -> Result<KeptNames<'a>, AllocError>
     requires { (s : List ℕ) → has inputs.now s ≡ is_input (program_of home.now).interface s }
     ensures { IfOk result (λ kept. AreKept numbers.now (barred_by (map program_of heads.now)

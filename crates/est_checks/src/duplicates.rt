@@ -82,7 +82,7 @@ impl Check for DuplicateLocal {
     fn fault(
         &self,
         _home: &Head<'_>,
-        _kept: &OpenNames<'_, '_>,
+        _kept: &OpenNames<'_, '_, '_>,
         act: &Act<'_>,
         _scope: &Scope<'_>,
     ) -> Result<Option<Identifier>, AllocError> {
@@ -94,7 +94,7 @@ impl Check for DuplicateLocal {
 }
 
 /// The first signal of a module that is declared a second time, or is `tick`.
-fn redeclared_in<'a>(alloc: Global, home: &'a Head<'a>) -> Result<Option<Identifier>, AllocError>
+fn redeclared_in(alloc: Global, home: &Head<'_>) -> Result<Option<Identifier>, AllocError>
     ensures { IfOk result (λ name. name ≡ redeclared_in (program_of home.now)) }
 {
     if let Some(name) = redeclared_signal(alloc, home.interface.signals())? {
@@ -110,7 +110,7 @@ fn redeclared_in<'a>(alloc: Global, home: &'a Head<'a>) -> Result<Option<Identif
 fn duplicate_of<'a>(
     alloc: Global,
     met: &mut NameSet<'a>,
-    home: &'a Head<'a>,
+    home: &'a Head<'_>,
 ) -> Result<Option<Identifier>, AllocError>
     ensures found { IfOk result (λ name. (seen : List (List ℕ))
         → ((s : List ℕ) → has met.old s ≡ stands_in seen s)
@@ -130,10 +130,7 @@ fn duplicate_of<'a>(
 /// # Errors
 ///
 /// `AllocError` where memory is refused for the names that were met.
-pub fn first_duplicate<'a>(
-    alloc: Global,
-    heads: &'a Heads<'a>,
-) -> Result<Option<Identifier>, AllocError>
+pub fn first_duplicate(alloc: Global, heads: &Heads<'_>) -> Result<Option<Identifier>, AllocError>
     ensures { IfOk result (λ name. name ≡ first_duplicate (map program_of heads.now)) }
 {
     let modules = heads.modules();

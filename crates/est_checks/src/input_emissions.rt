@@ -28,8 +28,8 @@ use std::alloc::{AllocError, Global};
 
 #[tactic(auto, unfolding(crate::specs::Emissions::is_refused))]
 fn is_refused(
-    check: &EmitInput<'_>,
-    kept: &OpenNames<'_, '_>,
+    check: &EmitInput<'_, '_, '_, '_>,
+    kept: &OpenNames<'_, '_, '_>,
     scope: &Scope<'_>,
     signal: &Identifier,
 ) -> bool
@@ -42,8 +42,8 @@ fn is_refused(
 
 #[tactic(auto, unfolding(crate::specs::Emissions::is_refused_in_run))]
 fn is_refused_in_run(
-    check: &EmitInput<'_>,
-    kept: &OpenNames<'_, '_>,
+    check: &EmitInput<'_, '_, '_, '_>,
+    kept: &OpenNames<'_, '_, '_>,
     scope: &Scope<'_>,
     renamings: &RunRenamings<'_>,
     name: &Identifier,
@@ -59,8 +59,8 @@ fn is_refused_in_run(
 }
 
 fn refused_signal<'a>(
-    check: &EmitInput<'_>,
-    kept: &OpenNames<'_, '_>,
+    check: &EmitInput<'_, '_, '_, '_>,
+    kept: &OpenNames<'_, '_, '_>,
     scope: &Scope<'_>,
     renamings: &RunRenamings<'_>,
     name: &Identifier,
@@ -84,8 +84,8 @@ fn refused_signal<'a>(
 /// The caller's name for the first interface signal of a module that is run for which a run of it
 /// is refused.
 fn refused_name(
-    check: &EmitInput<'_>,
-    kept: &OpenNames<'_, '_>,
+    check: &EmitInput<'_, '_, '_, '_>,
+    kept: &OpenNames<'_, '_, '_>,
     scope: &Scope<'_>,
     renamings: &RunRenamings<'_>,
     name: &Identifier,
@@ -106,8 +106,8 @@ fn refused_name(
 /// Whether a renaming binds a signal that the module which is run emits to an input of the caller,
 /// or to `tick`.
 fn binds_input(
-    check: &EmitInput<'_>,
-    kept: &OpenNames<'_, '_>,
+    check: &EmitInput<'_, '_, '_, '_>,
+    kept: &OpenNames<'_, '_, '_>,
     scope: &Scope<'_>,
     renamings: &[Renaming],
     name: &Identifier,
@@ -123,8 +123,8 @@ fn binds_input(
 /// The same name, found among the names that were kept: where no renaming is at fault, a run is
 /// refused for those that it does not rename.
 fn refused_of(
-    check: &EmitInput<'_>,
-    kept: &OpenNames<'_, '_>,
+    check: &EmitInput<'_, '_, '_, '_>,
+    kept: &OpenNames<'_, '_, '_>,
     scope: &Scope<'_>,
     renamings: &[Renaming],
     name: &Identifier,
@@ -148,8 +148,8 @@ fn refused_of(
 }
 
 fn refused_in_run(
-    check: &EmitInput<'_>,
-    kept: &OpenNames<'_, '_>,
+    check: &EmitInput<'_, '_, '_, '_>,
+    kept: &OpenNames<'_, '_, '_>,
     scope: &Scope<'_>,
     renamings: &[Renaming],
     name: &Identifier,
@@ -168,20 +168,20 @@ fn refused_in_run(
 /// The check for emissions of inputs and of `tick`, by statements and by runs. It is asked of the
 /// places in one module.
 #[derive(Clone, Copy)]
-pub struct EmitInput<'a> {
+pub struct EmitInput<'a, 'b, 'c, 'd> {
     /// Where memory for names is taken.
     pub alloc: Global,
     /// The modules of the library.
-    pub heads: &'a Heads<'a>,
+    pub heads: &'a Heads<'b>,
     /// The module.
-    pub home: &'a Head<'a>,
+    pub home: &'a Head<'b>,
     /// The inputs of the module.
-    pub inputs: &'a NameSet<'a>,
+    pub inputs: &'a NameSet<'c>,
     /// What each module emits.
-    pub table: &'a Emissions<'a>,
+    pub table: &'a Emissions<'d>,
 }
 
-impl Check for EmitInput<'_> {
+impl Check for EmitInput<'_, '_, '_, '_> {
     ghost use Rattle.std.specs.Prelude.{map};
     ghost use Rattle.est_modules.specs.Modules.{program_of};
     ghost use Rattle.est_checks.specs.Emissions.{refused_at, emitted_of};
@@ -195,7 +195,7 @@ impl Check for EmitInput<'_> {
     fn fault(
         &self,
         _home: &Head<'_>,
-        kept: &OpenNames<'_, '_>,
+        kept: &OpenNames<'_, '_, '_>,
         act: &Act<'_>,
         scope: &Scope<'_>,
     ) -> Result<Option<Identifier>, AllocError> {
@@ -214,12 +214,12 @@ impl Check for EmitInput<'_> {
 }
 
 /// The first input, or `tick`, that a module emits.
-fn refused_in<'a>(
+fn refused_in<'a, 'b>(
     alloc: Global,
     names: &NameTable<'_>,
-    heads: &'a Heads<'a>,
-    home: &'a Head<'a>,
-    table: &'a Emissions<'a>,
+    heads: &'a Heads<'b>,
+    home: &'a Head<'b>,
+    table: &'a Emissions<'_>,
 ) -> Result<Option<Identifier>, AllocError>
     requires { IsTable names.now }
     ensures { IfOk result (λ name. name ≡ first_of (refused_at (map program_of heads.now)
@@ -246,8 +246,8 @@ fn refused_in<'a>(
 pub fn first_refused<'a>(
     alloc: Global,
     names: &NameTable<'_>,
-    heads: &'a Heads<'a>,
-    table: &'a Emissions<'a>,
+    heads: &'a Heads<'_>,
+    table: &'a Emissions<'_>,
 ) -> Result<Option<Identifier>, AllocError>
     requires { IsTable names.now }
     ensures { IfOk result (λ name. name ≡ first_in_bodies (refused_at (map program_of heads.now)

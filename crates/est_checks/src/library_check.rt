@@ -24,7 +24,7 @@ use est_text::identifier::Identifier;
 use std::alloc::Global;
 
 /// The order of the modules. A module that is recursive is at fault.
-fn order_of<'a>(alloc: Global, heads: &'a Heads<'a>) -> Result<Order, LinkFault>
+fn order_of(alloc: Global, heads: &Heads<'_>) -> Result<Order, LinkFault>
     ensures order { IfOk result (λ order. IsOrderOf (map program_of heads.now) order) }
     ensures ok { OnOk result (NoneIsRecursive (run_rows (map program_of heads.now))) }
     ensures err { IfErr result (IsOrderFault (map program_of heads.now)) }
@@ -39,8 +39,8 @@ fn order_of<'a>(alloc: Global, heads: &'a Heads<'a>) -> Result<Order, LinkFault>
 /// The checks from that of emissions on. No module uses a name that isn't visible.
 fn check_emissions<'a>(
     alloc: Global,
-    names: &'a NameTable<'a>,
-    heads: &'a Heads<'a>,
+    names: &'a NameTable<'_>,
+    heads: &'a Heads<'_>,
     order: &Order,
     main: &Identifier,
 ) -> Result<(), LinkFault>
@@ -60,9 +60,9 @@ fn check_emissions<'a>(
 }
 
 /// The checks from that of renamings on.
-fn check_names<'a>(
+fn check_names(
     alloc: Global,
-    heads: &'a Heads<'a>,
+    heads: &Heads<'_>,
     order: &Order,
     main: &Identifier,
 ) -> Result<(), LinkFault>
@@ -79,11 +79,7 @@ fn check_names<'a>(
 }
 
 /// The checks from that of recursive runs on.
-fn check_runs<'a>(
-    alloc: Global,
-    heads: &'a Heads<'a>,
-    main: &Identifier,
-) -> Result<Order, LinkFault>
+fn check_runs(alloc: Global, heads: &Heads<'_>, main: &Identifier) -> Result<Order, LinkFault>
     requires { first_duplicate (map program_of heads.now) ≡ None }
     ensures order { IfOk result (λ order. IsOrderOf (map program_of heads.now) order) }
     ensures found { Finds (IsFirstOf (run_checks (map program_of heads.now) main.now)) result }
@@ -99,9 +95,9 @@ fn check_runs<'a>(
 /// # Errors
 ///
 /// The first fault, or `Memory`.
-pub fn check_library<'a>(
+pub fn check_library(
     alloc: Global,
-    heads: &'a Heads<'a>,
+    heads: &Heads<'_>,
     main: &str,
 ) -> Result<(Identifier, Order), LinkFault>
     ensures name { IfOk result (λ checked. checked.0 ≡ main.now) }

@@ -15,11 +15,11 @@ use std::alloc::{AllocError, Global};
 
 /// The check for runs of modules that aren't there.
 #[derive(Clone, Copy)]
-struct UnknownModule<'a> {
-    heads: &'a Heads<'a>,
+struct UnknownModule<'a, 'b> {
+    heads: &'a Heads<'b>,
 }
 
-impl Check for UnknownModule<'_> {
+impl Check for UnknownModule<'_, '_> {
     ghost use Rattle.std.specs.Prelude.{⊤, map};
     ghost use Rattle.est_modules.specs.Modules.{program_of};
     ghost use Rattle.est_checks.specs.MissingModules.{missing_at};
@@ -31,7 +31,7 @@ impl Check for UnknownModule<'_> {
     fn fault(
         &self,
         _home: &Head<'_>,
-        _kept: &OpenNames<'_, '_>,
+        _kept: &OpenNames<'_, '_, '_>,
         act: &Act<'_>,
         _scope: &Scope<'_>,
     ) -> Result<Option<Identifier>, AllocError> {
@@ -50,9 +50,9 @@ impl Check for UnknownModule<'_> {
 /// # Errors
 ///
 /// `AllocError`, as a check answers it.
-pub fn first_missing<'a>(
+pub fn first_missing(
     alloc: Global,
-    heads: &'a Heads<'a>,
+    heads: &Heads<'_>,
     main: &Identifier,
 ) -> Result<Option<Identifier>, AllocError>
     ensures { IfOk result (λ name. name ≡ first_missing (map program_of heads.now) main.now) }

@@ -41,7 +41,7 @@ use std::alloc::{AllocError, Global};
 /// the run hides it.
 fn note_number(
     noted: &mut Vec<bool>,
-    kept: &OpenNames<'_, '_>,
+    kept: &OpenNames<'_, '_, '_>,
     renamings: &RunRenamings<'_>,
     number: usize,
 )
@@ -56,7 +56,7 @@ fn note_number(
 /// The same of each name that is kept of the module.
 fn note_numbers(
     noted: &mut Vec<bool>,
-    kept: &OpenNames<'_, '_>,
+    kept: &OpenNames<'_, '_, '_>,
     renamings: &RunRenamings<'_>,
     numbers: &[usize],
 )
@@ -69,7 +69,7 @@ fn note_numbers(
 }
 
 /// Notes a name, unless a `signal` around the place declares it.
-fn note_name(noted: &mut Vec<bool>, kept: &OpenNames<'_, '_>, name: &Identifier)
+fn note_name(noted: &mut Vec<bool>, kept: &OpenNames<'_, '_, '_>, name: &Identifier)
     ensures { (bs : List Binder) → IsTable kept.now.table.now
         → Tells kept.now.table.now (is_local bs) kept.now.hidden.items
         → noted.new.items ≡ row_at noted.old.items (number_in kept.now.table.now name.now)
@@ -85,7 +85,7 @@ fn note_name(noted: &mut Vec<bool>, kept: &OpenNames<'_, '_>, name: &Identifier)
 /// Notes the names that a run emits by itself.
 fn note_open(
     noted: &mut Vec<bool>,
-    kept: &OpenNames<'_, '_>,
+    kept: &OpenNames<'_, '_, '_>,
     renamings: &RunRenamings<'_>,
     names: &[Identifier],
 )
@@ -105,8 +105,8 @@ fn note_open(
 /// that takes one look-up in a row for each.
 fn note_names(
     noted: &mut Vec<bool>,
-    sent: &Sent<'_, '_>,
-    kept: &OpenNames<'_, '_>,
+    sent: &Sent<'_, '_, '_, '_, '_>,
+    kept: &OpenNames<'_, '_, '_>,
     scope: &Scope<'_>,
     renamings: &RunRenamings<'_>,
     run: &Head<'_>,
@@ -131,7 +131,7 @@ fn note_names(
 fn note_renamed(
     noted: &mut Vec<bool>,
     table: &Emissions<'_>,
-    kept: &OpenNames<'_, '_>,
+    kept: &OpenNames<'_, '_, '_>,
     renamings: &[Renaming],
     renamed: &RunRenamings<'_>,
     run: &Head<'_>,
@@ -153,8 +153,8 @@ fn note_renamed(
 /// Notes what a run emits, if its module is there.
 fn note_run(
     noted: &mut Vec<bool>,
-    sent: &Sent<'_, '_>,
-    kept: &OpenNames<'_, '_>,
+    sent: &Sent<'_, '_, '_, '_, '_>,
+    kept: &OpenNames<'_, '_, '_>,
     scope: &Scope<'_>,
     name: &Identifier,
     renamings: &[Renaming],
@@ -175,14 +175,14 @@ fn note_run(
 
 /// Notes what a module emits.
 #[derive(Clone, Copy)]
-struct Sent<'a, 'b> {
+struct Sent<'a, 'b, 'c, 'd, 'e> {
     alloc: Global,
-    heads: &'a Heads<'a>,
-    table: &'a Emissions<'a>,
-    names: &'a NameTable<'b>,
+    heads: &'a Heads<'b>,
+    table: &'a Emissions<'c>,
+    names: &'d NameTable<'e>,
 }
 
-impl<'a, 'b> Visitor for Sent<'a, 'b> {
+impl Visitor for Sent<'_, '_, '_, '_, '_> {
     ghost use Rattle.std.specs.Prelude.{List, Bool, map};
     ghost use Rattle.est_modules.specs.Modules.{program_of};
     ghost use Rattle.est_checks.specs.Emissions.{emitted_of};
@@ -203,7 +203,7 @@ impl<'a, 'b> Visitor for Sent<'a, 'b> {
     fn visit(
         &self,
         seen: &mut Vec<bool>,
-        kept: &OpenNames<'_, '_>,
+        kept: &OpenNames<'_, '_, '_>,
         act: &Act<'_>,
         scope: &Scope<'_>,
     ) -> Result<(), AllocError> {
@@ -263,11 +263,11 @@ fn add_signals<'a>(
 /// # Errors
 ///
 /// `AllocError` where memory is refused for names.
-fn emissions_of<'a>(
+fn emissions_of<'a, 'b>(
     alloc: Global,
     names: &'a NameTable<'_>,
-    heads: &Heads<'_>,
-    table: &Emissions<'_>,
+    heads: &'b Heads<'_>,
+    table: &'b Emissions<'_>,
     home: &Head<'_>,
 ) -> Result<NameSet<'a>, AllocError>
     requires table { IsTable names.now }
@@ -298,7 +298,7 @@ fn emissions_of<'a>(
 fn add_module<'a>(
     alloc: Global,
     names: &'a NameTable<'_>,
-    heads: &'a Heads<'a>,
+    heads: &'a Heads<'_>,
     table: &mut Emissions<'a>,
     place: usize,
 ) -> Result<(), AllocError>
@@ -326,7 +326,7 @@ fn add_module<'a>(
 pub fn emissions_along<'a>(
     alloc: Global,
     names: &'a NameTable<'_>,
-    heads: &'a Heads<'a>,
+    heads: &'a Heads<'_>,
     order: &[usize],
 ) -> Result<Emissions<'a>, AllocError>
     requires table { IsTable names.now }

@@ -39,7 +39,7 @@ pub trait Check {
     fn fault(
         &self,
         home: &Head<'_>,
-        kept: &OpenNames<'_, '_>,
+        kept: &OpenNames<'_, '_, '_>,
         act: &Act<'_>,
         scope: &Scope<'_>,
     ) -> Result<Option<Identifier>, AllocError>
@@ -50,12 +50,12 @@ pub trait Check {
 
 /// Keeps the first fault that a check finds in a module.
 #[derive(Clone, Copy)]
-struct First<'a, C> {
+struct First<'a, 'b, C> {
     check: &'a C,
-    home: &'a Head<'a>,
+    home: &'a Head<'b>,
 }
 
-impl<C: Check> Visitor for First<'_, C> {
+impl<C: Check> Visitor for First<'_, '_, C> {
     ghost use Rattle.std.specs.Prelude.{ℕ, List, Option};
     ghost use Rattle.std.specs.Option.{option_or};
     ghost use Rattle.est_modules.specs.Modules.{program_of};
@@ -73,7 +73,7 @@ impl<C: Check> Visitor for First<'_, C> {
     fn visit(
         &self,
         seen: &mut Option<Identifier>,
-        kept: &OpenNames<'_, '_>,
+        kept: &OpenNames<'_, '_, '_>,
         act: &Act<'_>,
         scope: &Scope<'_>,
     ) -> Result<(), AllocError> {
@@ -94,7 +94,7 @@ pub fn first_in_body<'a, C: Check>(
     alloc: Global,
     table: &NameTable<'_>,
     kept: &KeptNames<'_>,
-    home: &'a Head<'a>,
+    home: &'a Head<'_>,
 ) -> Result<Option<Identifier>, AllocError>
     requires fits { C.fits check.now table.now kept.now }
     requires table { IsTable table.now }
@@ -120,7 +120,7 @@ pub fn first_in_bodies<'a, C: Check>(
     table: &NameTable<'_>,
     kept: &KeptNames<'_>,
     check: &'a C,
-    heads: &'a Heads<'a>,
+    heads: &'a Heads<'_>,
 ) -> Result<Option<Identifier>, AllocError>
     requires fits { C.fits check.now table.now kept.now }
     requires table { IsTable table.now }

@@ -72,14 +72,14 @@ pub fn emitted_run(
 
 /// Of a module that is run, the interface names that it emits.
 #[derive(Clone, Copy)]
-struct Emitted<'a> {
+struct Emitted<'a, 'b, 'c> {
     /// The modules of the library.
-    heads: &'a Heads<'a>,
+    heads: &'a Heads<'b>,
     /// What each emits.
-    table: &'a Emissions<'a>,
+    table: &'a Emissions<'c>,
 }
 
-impl Choice for Emitted<'_> {
+impl Choice for Emitted<'_, '_, '_> {
     ghost use Rattle.std.specs.Prelude.{map};
     ghost use Rattle.est_modules.specs.Modules.{program_of};
     ghost use Rattle.est_checks.specs.Emissions.{emitted_of};
@@ -100,9 +100,9 @@ impl Choice for Emitted<'_> {
 pub fn sent_of<'a>(
     alloc: Global,
     names: &NameTable<'_>,
-    heads: &'a Heads<'a>,
+    heads: &'a Heads<'_>,
     home: &Head<'_>,
-    table: &'a Emissions<'a>,
+    table: &'a Emissions<'_>,
 ) -> Result<KeptNames<'a>, AllocError>
     ensures { IfOk result (λ kept. AreKept names.now (sent_by (map program_of heads.now)
         (emitted_of table.now)) kept) }

@@ -57,7 +57,7 @@ pub fn kept_of<'a, C: Choice>(
     choice: &C,
     alloc: Global,
     table: &NameTable<'_>,
-    heads: &'a Heads<'a>,
+    heads: &'a Heads<'_>,
     home: &Head<'_>,
 ) -> Result<KeptNames<'a>, AllocError>
     ensures { IfOk result (λ kept. AreKept table.now (C.chosen choice.now) kept) }

@@ -26,8 +26,8 @@ use est_text::identifier::Identifier;
 use std::alloc::{AllocError, Global};
 
 fn unknown_renaming(
-    check: &UnknownName<'_>,
-    kept: &OpenNames<'_, '_>,
+    check: &UnknownName<'_, '_>,
+    kept: &OpenNames<'_, '_, '_>,
     scope: &Scope<'_>,
     renamings: &[Renaming],
 ) -> Option<Identifier>
@@ -44,8 +44,8 @@ fn unknown_renaming(
 
 #[tactic(auto, unfolding(crate::specs::UnknownNames::is_unbound))]
 fn is_unbound(
-    check: &UnknownName<'_>,
-    kept: &OpenNames<'_, '_>,
+    check: &UnknownName<'_, '_>,
+    kept: &OpenNames<'_, '_, '_>,
     scope: &Scope<'_>,
     renamings: &RunRenamings<'_>,
     name: &Identifier,
@@ -58,8 +58,8 @@ fn is_unbound(
 }
 
 fn unbound_name(
-    check: &UnknownName<'_>,
-    kept: &OpenNames<'_, '_>,
+    check: &UnknownName<'_, '_>,
+    kept: &OpenNames<'_, '_, '_>,
     scope: &Scope<'_>,
     renamings: &RunRenamings<'_>,
     interface: &[Declared],
@@ -85,8 +85,8 @@ fn unbound_name(
 /// names that neither the module that runs it nor a `signal` around the run declares are looked at,
 /// if they were kept.
 fn unbound_in(
-    check: &UnknownName<'_>,
-    kept: &OpenNames<'_, '_>,
+    check: &UnknownName<'_, '_>,
+    kept: &OpenNames<'_, '_, '_>,
     scope: &Scope<'_>,
     renamings: &RunRenamings<'_>,
     name: &Identifier,
@@ -106,8 +106,8 @@ fn unbound_in(
 }
 
 fn unknown_in_run(
-    check: &UnknownName<'_>,
-    kept: &OpenNames<'_, '_>,
+    check: &UnknownName<'_, '_>,
+    kept: &OpenNames<'_, '_, '_>,
     scope: &Scope<'_>,
     renamings: &[Renaming],
     name: &Identifier,
@@ -131,16 +131,16 @@ fn unknown_in_run(
 /// or on the left of a renaming; a trap that is exited; an interface signal of a module that is run
 /// without renaming it. It is asked of the places in one module.
 #[derive(Clone, Copy)]
-pub struct UnknownName<'a> {
+pub struct UnknownName<'a, 'b> {
     /// Where memory for names is taken.
     pub alloc: Global,
     /// The modules of the library.
-    pub heads: &'a Heads<'a>,
+    pub heads: &'a Heads<'b>,
     /// The module.
-    pub home: &'a Head<'a>,
+    pub home: &'a Head<'b>,
 }
 
-impl Check for UnknownName<'_> {
+impl Check for UnknownName<'_, '_> {
     ghost use Rattle.std.specs.Prelude.{map};
     ghost use Rattle.est_modules.specs.Modules.{program_of};
     ghost use Rattle.est_checks.specs.Inner.Looking.{LooksFor};
@@ -154,7 +154,7 @@ impl Check for UnknownName<'_> {
     fn fault(
         &self,
         _home: &Head<'_>,
-        kept: &OpenNames<'_, '_>,
+        kept: &OpenNames<'_, '_, '_>,
         act: &Act<'_>,
         scope: &Scope<'_>,
     ) -> Result<Option<Identifier>, AllocError> {
@@ -178,11 +178,11 @@ impl Check for UnknownName<'_> {
 }
 
 /// The first name of a module that isn't visible where it is used.
-fn unknown_in<'a>(
+fn unknown_in<'a, 'b>(
     alloc: Global,
     table: &NameTable<'_>,
-    heads: &'a Heads<'a>,
-    home: &'a Head<'a>,
+    heads: &'a Heads<'b>,
+    home: &'a Head<'b>,
 ) -> Result<Option<Identifier>, AllocError>
     requires { IsTable table.now }
     ensures { IfOk result (λ name. name ≡ first_of (unknown_at (map program_of heads.now)
@@ -198,10 +198,10 @@ fn unknown_in<'a>(
 /// # Errors
 ///
 /// `AllocError` where memory is refused for names.
-pub fn first_unknown<'a>(
+pub fn first_unknown(
     alloc: Global,
     table: &NameTable<'_>,
-    heads: &'a Heads<'a>,
+    heads: &Heads<'_>,
 ) -> Result<Option<Identifier>, AllocError>
     requires { IsTable table.now }
     ensures { IfOk result (λ name. name ≡ first_in_bodies (unknown_at (map program_of heads.now))

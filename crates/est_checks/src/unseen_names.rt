@@ -36,14 +36,14 @@ fn unseen_names(
 /// Of a module that is run, the interface names that the module which runs it does not declare,
 /// `tick` aside.
 #[derive(Clone, Copy)]
-struct Unseen<'a, 'b> {
+struct Unseen<'a, 'b, 'c> {
     /// The modules of the library.
-    heads: &'a Heads<'a>,
+    heads: &'a Heads<'b>,
     /// The interface of the module that runs them.
-    seen: &'b Interface<'b>,
+    seen: &'a Interface<'c>,
 }
 
-impl Choice for Unseen<'_, '_> {
+impl Choice for Unseen<'_, '_, '_> {
     ghost use Rattle.std.specs.Prelude.{map};
     ghost use Rattle.est_modules.specs.Modules.{is_declared, program_of};
     ghost use Rattle.est_checks.specs.Unseen.{unseen_by};
@@ -68,8 +68,8 @@ impl Choice for Unseen<'_, '_> {
 pub fn unseen_of<'a>(
     alloc: Global,
     table: &NameTable<'_>,
-    heads: &'a Heads<'a>,
-    home: &Head<'_>,
+    heads: &'a Heads<'_>,
+    home: &'a Head<'_>,
 ) -> Result<KeptNames<'a>, AllocError>
     ensures { IfOk result (λ kept. AreKept table.now (unseen_by (map program_of heads.now)
         (is_declared (program_of home.now).interface)) kept) }

@@ -45,7 +45,7 @@ impl Visitor for BoundNames {
     fn visit(
         &self,
         seen: &mut Vec<Identifier>,
-        _kept: &OpenNames<'_, '_>,
+        _kept: &OpenNames<'_, '_, '_>,
         act: &Act<'_>,
         _scope: &Scope<'_>,
     ) -> Result<(), AllocError> {

@@ -30,11 +30,11 @@ fn note(places: &mut Vec<usize>, place: Option<usize>) -> Result<(), AllocError>
 
 /// Notes the places of the modules that are run.
 #[derive(Clone, Copy)]
-struct RunPlaces<'a> {
-    heads: &'a Heads<'a>,
+struct RunPlaces<'a, 'b> {
+    heads: &'a Heads<'b>,
 }
 
-impl Visitor for RunPlaces<'_> {
+impl Visitor for RunPlaces<'_, '_> {
     ghost use Rattle.std.specs.Prelude.{ℕ, List, ⊤, ◌++◌, map};
     ghost use Rattle.est_modules.specs.Modules.{program_of};
     ghost use Rattle.est_modules.specs.ModuleOrders.{place_run};
@@ -52,7 +52,7 @@ impl Visitor for RunPlaces<'_> {
     fn visit(
         &self,
         seen: &mut Vec<usize>,
-        _kept: &OpenNames<'_, '_>,
+        _kept: &OpenNames<'_, '_, '_>,
         act: &Act<'_>,
         _scope: &Scope<'_>,
     ) -> Result<(), AllocError> {
@@ -64,9 +64,9 @@ impl Visitor for RunPlaces<'_> {
 }
 
 /// The places of the modules that a module runs, in the order of the text.
-pub fn places_run<'a>(
+pub fn places_run(
     alloc: Global,
-    heads: &'a Heads<'a>,
+    heads: &Heads<'_>,
     home: &Head<'_>,
 ) -> Result<Vec<usize>, AllocError>
     ensures { IfOk result (λ places. places.items ≡ places_run (map program_of heads.now)
@@ -81,7 +81,7 @@ pub fn places_run<'a>(
 }
 
 /// The same of each module.
-fn run_rows<'a>(alloc: Global, heads: &'a Heads<'a>) -> Result<Vec<Vec<usize>>, AllocError>
+fn run_rows(alloc: Global, heads: &Heads<'_>) -> Result<Vec<Vec<usize>>, AllocError>
     ensures { IfOk result (λ rows. rows_of rows.items ≡ run_rows (map program_of heads.now)) }
 {
     let mut rows = Vec::new(alloc);
@@ -98,7 +98,7 @@ fn run_rows<'a>(alloc: Global, heads: &'a Heads<'a>) -> Result<Vec<Vec<usize>>, 
 ///
 /// `Recursive` with the place of the first module, in the order of the text, from which a chain of
 /// runs leads back to it, where there is one; or memory was refused.
-pub fn order_heads<'a>(alloc: Global, heads: &'a Heads<'a>) -> Result<Order, OrderFault>
+pub fn order_heads(alloc: Global, heads: &Heads<'_>) -> Result<Order, OrderFault>
     ensures order { IfOk result (λ order. IsOrderOf (map program_of heads.now) order) }
     ensures ok { OnOk result (NoneIsRecursive (run_rows (map program_of heads.now))) }
     ensures err { IfErr result (λ fault. IsFaultOf (run_rows (map program_of heads.now)) fault) }

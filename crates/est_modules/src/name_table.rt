@@ -109,7 +109,7 @@ fn add_names<'a>(table: &mut NameTable<'a>, names: &'a [Identifier]) -> Result<(
 /// `AllocError` where memory is refused.
 pub fn numbered<'a>(
     alloc: Global,
-    heads: &'a Heads<'a>,
+    heads: &'a Heads<'_>,
     further: &'a [Identifier],
 ) -> Result<NameTable<'a>, AllocError>
     requires { stands_in further.now (codes "tick") ≡ true }

@@ -24,10 +24,10 @@ use std::alloc::{AllocError, Global};
 /// The names that are kept, at a place: those that a `signal` around it declares are hidden. That
 /// is worked out once for each `signal`, by one look-up for each name that it declares.
 #[derive(Drop)]
-pub struct OpenNames<'a, 'b> {
+pub struct OpenNames<'a, 'b, 'c> {
     alloc: Global,
     table: &'a NameTable<'b>,
-    modules: &'a KeptNames<'b>,
+    modules: &'a KeptNames<'c>,
     hidden: Vec<bool>,
 }
 
@@ -65,7 +65,7 @@ fn hide_declared(hidden: &mut [bool], table: &NameTable<'_>, names: &Names)
     hide_names(hidden, table, &names.later);
 }
 
-impl<'a, 'b> OpenNames<'a, 'b> {
+impl<'a, 'b, 'c> OpenNames<'a, 'b, 'c> {
     /// Outermost in a module no name is hidden.
     ///
     /// # Errors
@@ -74,8 +74,8 @@ impl<'a, 'b> OpenNames<'a, 'b> {
     pub fn outermost(
         alloc: Global,
         table: &'a NameTable<'b>,
-        modules: &'a KeptNames<'b>,
-    ) -> Result<OpenNames<'a, 'b>, AllocError>
+        modules: &'a KeptNames<'c>,
+    ) -> Result<OpenNames<'a, 'b, 'c>, AllocError>
         requires { IsTable table.now }
         ensures same { IfOk result (λ found. IsSame found table.now modules.now) }
         ensures hidden { IfOk result (λ found. Tells table.now (is_local []) found.hidden.items) }
@@ -93,7 +93,7 @@ impl<'a, 'b> OpenNames<'a, 'b> {
     /// # Errors
     ///
     /// `AllocError` where memory is refused.
-    pub fn inside(&self, names: &Names) -> Result<OpenNames<'a, 'b>, AllocError>
+    pub fn inside(&self, names: &Names) -> Result<OpenNames<'a, 'b, 'c>, AllocError>
         requires { IsTable self.now.table.now }
         ensures same { IfOk result (λ inner. IsSame inner self.now.table.now self.now.modules.now) }
         ensures hidden { IfOk result (λ inner. (bs : List Binder) → Tells self.now.table.now
@@ -172,11 +172,11 @@ impl<'a, 'b> OpenNames<'a, 'b> {
     }
 
     /// The first number of a list whose name is neither hidden nor renamed.
-    fn left_number<'c>(
+    fn left_number<'n>(
         &self,
-        numbers: &'c [usize],
+        numbers: &'n [usize],
         renamings: &RunRenamings<'_>,
-    ) -> Option<&'c usize>
+    ) -> Option<&'n usize>
         ensures { option_map (λ i. i.now) result ≡ find (is_left (map renaming_view
             renamings.now) self.now) numbers.now }
     {

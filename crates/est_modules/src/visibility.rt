@@ -86,7 +86,7 @@ pub fn has_signals(scope: &Scope<'_>) -> bool
 /// Whether a signal of this name is visible at a place in the module `home`.
 pub fn is_visible(
     home: &Head<'_>,
-    kept: &OpenNames<'_, '_>,
+    kept: &OpenNames<'_, '_, '_>,
     scope: &Scope<'_>,
     signal: &Identifier,
 ) -> bool

@@ -36,7 +36,7 @@ pub trait Visitor {
     fn visit(
         &self,
         seen: &mut Self::Seen,
-        kept: &OpenNames<'_, '_>,
+        kept: &OpenNames<'_, '_, '_>,
         act: &Act<'_>,
         scope: &Scope<'_>,
     ) -> Result<(), AllocError>

@@ -29,7 +29,7 @@ use std::alloc::{AllocError, Global};
 fn walk_unit<V: Visitor>(
     visitor: &V,
     seen: &mut V::Seen,
-    kept: &OpenNames<'_, '_>,
+    kept: &OpenNames<'_, '_, '_>,
     scope: &Scope<'_>,
     unit: &Unit,
 ) -> Result<(), AllocError>
@@ -82,7 +82,7 @@ fn walk_unit<V: Visitor>(
 fn walk_watched<V: Visitor>(
     visitor: &V,
     seen: &mut V::Seen,
-    kept: &OpenNames<'_, '_>,
+    kept: &OpenNames<'_, '_, '_>,
     scope: &Scope<'_>,
     body: &Statement,
     test: &Test,
@@ -101,7 +101,7 @@ fn walk_watched<V: Visitor>(
 fn walk_delayed<V: Visitor>(
     visitor: &V,
     seen: &mut V::Seen,
-    kept: &OpenNames<'_, '_>,
+    kept: &OpenNames<'_, '_, '_>,
     scope: &Scope<'_>,
     test: &Test,
     body: &Statement,
@@ -120,7 +120,7 @@ fn walk_delayed<V: Visitor>(
 fn walk_branches<V: Visitor>(
     visitor: &V,
     seen: &mut V::Seen,
-    kept: &OpenNames<'_, '_>,
+    kept: &OpenNames<'_, '_, '_>,
     scope: &Scope<'_>,
     branches: &Branches,
 ) -> Result<(), AllocError>
@@ -144,7 +144,7 @@ fn walk_branches<V: Visitor>(
 fn walk_sequence<V: Visitor>(
     visitor: &V,
     seen: &mut V::Seen,
-    kept: &OpenNames<'_, '_>,
+    kept: &OpenNames<'_, '_, '_>,
     scope: &Scope<'_>,
     sequence: &Sequence,
 ) -> Result<(), AllocError>
@@ -164,7 +164,7 @@ fn walk_sequence<V: Visitor>(
 fn walk_statement<V: Visitor>(
     visitor: &V,
     seen: &mut V::Seen,
-    kept: &OpenNames<'_, '_>,
+    kept: &OpenNames<'_, '_, '_>,
     scope: &Scope<'_>,
     statement: &Statement,
 ) -> Result<(), AllocError>
@@ -186,12 +186,12 @@ fn walk_statement<V: Visitor>(
 ///
 /// What a visit answers, or `AllocError` where memory is refused for the names that are kept.
 #[tactic(auto, using(crate::proofs::Passing::passed_fold))]
-pub fn walk_body<'a, V: Visitor>(
+pub fn walk_body<V: Visitor>(
     visitor: &V,
     seen: &mut V::Seen,
     alloc: Global,
-    table: &NameTable<'a>,
-    kept: &KeptNames<'a>,
+    table: &NameTable<'_>,
+    kept: &KeptNames<'_>,
     body: &Statement,
 ) -> Result<(), AllocError>
     requires fits { V.fits visitor.now table.now kept.now }

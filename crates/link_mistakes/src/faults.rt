@@ -93,7 +93,7 @@ impl Check for Unknown<'_> {
     fn fault(
         &self,
         home: &Head<'_>,
-        kept: &OpenNames<'_, '_>,
+        kept: &OpenNames<'_, '_, '_>,
         act: &Act<'_>,
         scope: &Scope<'_>,
     ) -> Result<Option<Identifier>, AllocError> {
