@@ -15,4 +15,5 @@ pub mod Seeing
 pub mod Sending
 pub mod Sums
 pub mod Unbinding
+pub mod Twice
 pub mod Uniqueness

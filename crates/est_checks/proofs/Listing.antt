@@ -73,8 +73,8 @@ past_is ds (implies a b) = refl
 pub lawless_listed : (offered : List ℕ → Bool) (ds : List Declared) (rs : List (Bor Relation)) {ts : List RelationTree}
     → ((s : List ℕ) → offered s ≡ is_offerable ds s) → map (λ (r : Bor Relation). relation_view r.now) rs ≡ ts
     → position (λ (r : Bor Relation). is_past offered (relation_view r.now)) rs ≡ position (is_lawless ds) ts
-lawless_listed offered ds rs same e =
+lawless_listed offered ds rs {ts} same e =
     sym (position_map (is_past offered) (λ (r : Bor Relation). relation_view r.now) rs)
     ∙ ap (position (is_past offered)) e
-    ∙ ap (λ (f : RelationTree → Bool). position f _)
+    ∙ ap (λ (f : RelationTree → Bool). position f ts)
     (fun_ext (λ r. ap (λ (f : List ℕ → Bool). is_past f r) (fun_ext same) ∙ past_is ds r))

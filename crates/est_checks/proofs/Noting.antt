@@ -1,15 +1,18 @@
 -- What is noted of what a module emits is all of it.
 use Rattle.std.proofs.Common.{◌≡◌, ◌<◌, ◌⊎◌, inl, inr, ◌||◌, ◌&&◌, not, ℕ, zero, suc, ◌+◌, ◌++◌, take, replicate, List}
 use Rattle.std.proofs.Common.{[], ◌∷◌, map, length, slice_set, slice_index_or, nat_lt, Option, Some, None, Bool, true}
-use Rattle.std.proofs.Common.{false, cond, refl, ap, sym, ◌∙◌, subst, arith}
+use Rattle.std.proofs.Common.{get_or, false, cond, refl, ap, sym, ◌∙◌, subst, arith}
 use Rattle.std.proofs.lemmas.Bool.{false≢true}
 use Rattle.std.proofs.lemmas.Bool.{lt-ltb}
 use Rattle.std.proofs.lemmas.List.{length-set, get_or-set_same, get_or-set_other, length-replicate}
 use Rattle.std.proofs.lemmas.Option.{none-some, slice_get_within}
+use Rattle.std.proofs.lemmas.List.Sums.{fold_more}
 use Rattle.std.specs.List.{list_any, find, fold, slice_get}
 use Rattle.std.specs.Prelude.{codes, is_some}
 use Rattle.std.specs.Str.{bytes_eq}
 use Rattle.est_syntax.specs.Tree.{RenamingTree}
+use Rattle.est_syntax.specs.Views.{renaming_view}
+use Rattle.est_syntax.specs.declared.tree.Renaming.{Renaming}
 use Rattle.est_modules.specs.Modules.{Program, program_named, is_declared}
 use Rattle.est_modules.specs.Occurrences.{Binder, Act, emits, tests, exits, binds, runs, Occurrence}
 use Rattle.est_modules.specs.NameTables.{number_in, is_numbered, IsTable}
@@ -17,6 +20,7 @@ use Rattle.est_modules.specs.OpenNames.{AreNumbers, Tells}
 use Rattle.est_modules.specs.Renamings.{is_renamed, renamed, callers_name}
 use Rattle.est_modules.specs.declared.name_table.NameTable.{NameTable}
 use Rattle.est_modules.specs.declared.open_names.OpenNames.{OpenNames}
+use Rattle.est_modules.proofs.Lists.{more}
 use Rattle.est_modules.proofs.Opening.{left_is}
 use Rattle.est_modules.specs.Visible.{is_local, is_tick, stands_in}
 use Rattle.est_modules.specs.declared.head.Declared.{Declared}
@@ -26,7 +30,7 @@ use Rattle.est_checks.specs.Inner.Noted.{in_row, row_with, row_by_numbers, row_a
 use Rattle.est_checks.specs.Inner.Noted.{row_by_renaming, row_by_renamings, row_by_run, row_by_act, row_after}
 use Rattle.est_checks.proofs.Deciding.{both, either}
 use Rattle.est_checks.proofs.Leaving.{and_false, distributed, one_left, sent_is}
-use Rattle.est_modules.proofs.Testing.{or_left, or_right, or_other, and_both, not_true, same_bytes, turned}
+use Rattle.est_modules.proofs.Testing.{or_left, or_right, or_other, and_both, not_true, same_bytes}
 use Rattle.est_modules.proofs.Testing.{or_parts, equal_bytes, some_same, found_passes, any_at}
 
 -- ---- tests
@@ -40,7 +44,13 @@ same_tests true b f g = sym (f refl)
 same_tests false true f g = g refl
 same_tests false false f g = refl
 
-of_not : (b : Bool) → not b ≡ true → b ≡ false
+turned : (a b : List ℕ) → bytes_eq a b ≡ bytes_eq b a
+turned a b =
+    same_tests (bytes_eq a b) (bytes_eq b a)
+    (λ h. subst (λ n. bytes_eq n a ≡ true) (same_bytes a b h) (equal_bytes a))
+    (λ h. subst (λ n. bytes_eq n b ≡ true) (same_bytes b a h) (equal_bytes b))
+
+pub of_not : (b : Bool) → not b ≡ true → b ≡ false
 of_not true h = absurd (false≢true h)
 of_not false h = refl
 
@@ -303,6 +313,25 @@ numbers_names o bs rs row (n ∷ ns) (i ∷ js) is tells e =
     ∙ numbers_names o bs rs (row_with row i g) ns js is tells (ap rest_of e)
     ∙ ap (λ x. row_by_names t bs rs (row_at row x g) ns) (sym at)
 
+-- the names of a run, one after another
+pub names_more : (t : NameTable) (bs : List Binder) (rs : List RenamingTree) (row : List Bool) (ns : List (List ℕ))
+    (k : ℕ) (n : List ℕ) → n ≡ get_or ns k n → k < length ns
+    → row_at (row_by_names t bs rs row (take k ns)) (number_in t n) (goes bs rs n)
+    ≡ row_by_names t bs rs row (take (k + 1) ns)
+names_more t bs rs row ns k n at room =
+    ap (λ (m : List ℕ). row_at (row_by_names t bs rs row (take k ns)) (number_in t m) (goes bs rs m)) at
+    ∙ sym (fold_more (λ (r : List Bool) (m : List ℕ). row_at r (number_in t m) (goes bs rs m)) row ns k n room)
+
+-- a name that is not renamed goes where no `signal` declares it, and one that is renamed doesn't
+pub goes_on : (bs : List Binder) (rs : List RenamingTree) (n : List ℕ) → is_renamed rs n ≡ false
+    → not (is_local bs n) ≡ goes bs rs n
+goes_on bs rs n h =
+    sym (ap (λ b. not (is_local bs n) && not b) h ∙ and_true (not (is_local bs n)))
+
+pub goes_not : (bs : List Binder) (rs : List RenamingTree) (n : List ℕ) → is_renamed rs n ≡ true
+    → goes bs rs n ≡ false
+goes_not bs rs n h = ap (λ b. not (is_local bs n) && not b) h ∙ and_false (not (is_local bs n))
+
 room_kept : (t : NameTable) (row new : List Bool) → length new ≡ length row → HasRoom t row → HasRoom t new
 room_kept t row new e room s i at = omega (arith, room s i at, e)
 
@@ -359,6 +388,24 @@ renamings_length t em bs q rs row [] = refl
 renamings_length t em bs q rs row (r ∷ some) =
     renamings_length t em bs q rs (row_by_renaming t em bs q rs row r) some
     ∙ renaming_length t bs row (renamed rs r.inner) (sends em q r)
+
+fold_last : {A B : Type 0} (f : B → A → B) (a : B) (xs : List A) (x : A) → fold f a (xs ++ x ∷ []) ≡ f (fold f a xs) x
+fold_last f a [] x = refl
+fold_last f a (y ∷ ys) x = fold_last f (f a y) ys x
+
+-- the renamings of a run, one after another
+pub renamings_more : (t : NameTable) (em : List ℕ → List ℕ → Bool) (bs : List Binder) (q : Program)
+    (rs : List RenamingTree) (row : List Bool) (all : List Renaming) (k : ℕ) (r : Renaming) → r ≡ get_or all k r
+    → k < length all
+    → row_by_renaming t em bs q rs (row_by_renamings t em bs q rs row (map renaming_view (take k all)))
+    (renaming_view r)
+    ≡ row_by_renamings t em bs q rs row (map renaming_view (take (k + 1) all))
+renamings_more t em bs q rs row all k r at room =
+    let front = map renaming_view (take k all) in
+    let old = row_by_renamings t em bs q rs row front in
+    ap (λ (x : Renaming). row_by_renaming t em bs q rs old (renaming_view x)) at
+    ∙ sym (fold_last (row_by_renaming t em bs q rs) row front (renaming_view (get_or all k r)))
+    ∙ ap (row_by_renamings t em bs q rs row) (more renaming_view all k (k + 1) r room (omega arith))
 
 -- the row after renamings
 row_renamings : (t : NameTable) (em : List ℕ → List ℕ → Bool) (bs : List Binder) (q : Program)
@@ -485,6 +532,12 @@ noted_all ps em t row os s is e =
     (ap (λ (r : List Bool). in_row r (number_in t s)) e ∙ none_in_row (length t.names.items) (number_in t s))
 
 -- ---- the set of what is noted
+
+-- one name more of an interface
+pub set_more : (old noted before here : Bool)
+    → ((old || (noted && before)) || (noted && here)) ≡ (old || (noted && (before || here)))
+set_more old noted before here =
+    or_assoc old (noted && before) (noted && here) ∙ ap (λ b. old || b) (distributed noted before here)
 
 swapped : (a b : Bool) → (a || b) ≡ (b || a)
 swapped true true = refl

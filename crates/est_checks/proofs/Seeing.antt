@@ -1,23 +1,24 @@
 -- A module that uses no name that isn't visible emits no others than it declares, or `tick`.
 use Rattle.std.proofs.Common.{◌≡◌, ◌||◌, ◌&&◌, not, inl, inr, ℕ, List, Option, Some, None, Bool, true, false, option_map}
-use Rattle.std.proofs.Common.{refl, ap, sym, ◌∙◌, subst}
+use Rattle.std.proofs.Common.{◌<◌, length, get_or, map, refl, ap, sym, ◌∙◌, subst}
 use Rattle.std.proofs.lemmas.Bool.{false≢true, true≢false}
-use Rattle.std.proofs.lemmas.Option.{none-some}
-use Rattle.std.specs.List.{list_any, find}
+use Rattle.std.proofs.lemmas.Option.{none-some, slice_get_read, slice_get-map}
+use Rattle.std.specs.List.{list_any, find, slice_get}
 use Rattle.std.specs.Option.{option_or}
 use Rattle.std.specs.Str.{bytes_eq}
 use Rattle.est_syntax.specs.Tree.{RenamingTree}
-use Rattle.est_modules.specs.Modules.{Program, program_named, is_declared}
+use Rattle.est_modules.specs.Modules.{Program, program_named, program_of, is_declared}
 use Rattle.est_modules.specs.Occurrences.{Binder, Act, emits, tests, exits, binds, runs, Occurrence, first_of}
 use Rattle.est_modules.specs.Renamings.{is_renamed, renamed, callers_name}
 use Rattle.est_modules.specs.Visible.{is_local, is_tick, is_visible}
 use Rattle.est_modules.specs.declared.head.Declared.{Declared}
+use Rattle.est_modules.specs.declared.head.Head.{Head}
 use Rattle.est_modules.proofs.Standing.{first_none}
 use Rattle.est_modules.proofs.Testing.{or_other, or_none_parts, map_none, none_found, none_at, other_fails, not_false}
-use Rattle.est_modules.proofs.Testing.{same_bytes}
+use Rattle.est_modules.proofs.Testing.{any_at, or_left, or_right, same_bytes}
 use Rattle.est_checks.specs.Emissions.{emits_in_run, emits_by, emits_here}
 use Rattle.est_checks.specs.UnknownNames.{unless, is_unbound, unknown_renaming, unknown_in_run, unknown_act, unknown_at}
-use Rattle.est_checks.proofs.Deciding.{both}
+use Rattle.est_checks.proofs.Deciding.{both, either}
 use Rattle.est_checks.proofs.Noting.{any_found, cases_bool, keeps_name, of_not}
 
 -- the module declares the name, or it is `tick`
@@ -98,3 +99,26 @@ seen_along ps em p os s none sent =
     let parts = both (not (is_local o.around s)) (emits_by ps em s o.act) f.3 in
     seen_by ps em p o.around o.act s (first_none (unknown_at ps p) os f.0 o none f.2)
     (of_not (is_local o.around s) parts.0) parts.1
+
+-- ---- the module at a place
+
+-- a head of the code
+pub head_at : (hs found : List Head) (i : ℕ) (h : Head) → found ≡ hs → i < length hs → h ≡ get_or found i h
+    → slice_get (map program_of hs) i ≡ Some (program_of h)
+head_at hs found i h same room at =
+    slice_get-map program_of hs i
+    ∙ ap (option_map program_of)
+    (slice_get_read hs (length hs) i h refl room (at ∙ ap (λ (xs : List Head). get_or xs i h) same))
+
+-- a name that it declares has a number, where all that are declared have one
+pub numbered_here : (ps : List Program) (i : ℕ) (p : Program) (s : List ℕ) (numbered : Bool)
+    → slice_get ps i ≡ Some p
+    → ((list_any (λ (p : Program). is_declared p.interface s) ps || is_tick s) ≡ true → numbered ≡ true)
+    → is_outer p s ≡ true → numbered ≡ true
+numbered_here ps i p s numbered at all h =
+    let declared = λ (p : Program). is_declared p.interface s in
+    all
+    (elim (either (is_declared p.interface s) (is_tick s) h) [
+      | inl own ↦ or_left (list_any declared ps) (is_tick s) (any_at declared ps i p at own)
+      | inr tick ↦ or_right (list_any declared ps) (is_tick s) tick
+    ])

@@ -19,17 +19,17 @@ use std::alloc::{AllocError, Global};
 
 /// A `run`: the place where it stands, its renamings, and the interface of the module that is run.
 #[derive(Clone, Copy)]
-pub struct Binding<'a> {
+pub struct Binding<'a, 'b, 'c> {
     /// Where memory for what it is replaced by is taken.
     pub alloc: Global,
     /// The module in whose body the `run` stands.
-    pub home: &'a Head<'a>,
+    pub home: &'a Head<'b>,
     /// The binders around it.
     pub scope: &'a Scope<'a>,
     /// How many local signals they are.
     pub locals: u32,
     /// Its renamings.
-    pub renamings: &'a RunRenamings<'a>,
+    pub renamings: &'a RunRenamings<'c>,
     /// The interface of the module that is run.
     pub interface: &'a [Declared],
 }
@@ -150,7 +150,7 @@ pub fn trap_at(scope: &Scope<'_>, name: &Identifier) -> Result<u32, AllocError>
 
 /// The signal that an interface signal of the module that is run stands for. Only names that are
 /// met are looked up.
-pub fn interface_bound(binding: &Binding<'_>, index: u32) -> Result<BoundTest, AllocError>
+pub fn interface_bound(binding: &Binding<'_, '_, '_>, index: u32) -> Result<BoundTest, AllocError>
     ensures { IfOk result (λ t. query_view t ≡ get_or (binding_of binding.now) index tick) }
 {
     match binding.interface.get(index as usize) {

@@ -20,9 +20,9 @@ use est_text::identifier::Identifier;
 use std::alloc::{AllocError, Global};
 
 /// The flat main module of modules of which no check has a fault, by an order of them.
-fn flat_module<'a>(
+fn flat_module(
     alloc: Global,
-    heads: &'a Heads<'a>,
+    heads: &Heads<'_>,
     order: &Order,
     main: &Identifier,
 ) -> Result<Flat, AllocError>
@@ -38,7 +38,7 @@ fn flat_module<'a>(
 }
 
 /// The flat main module of modules, or their first fault.
-fn link_heads<'a>(alloc: Global, heads: &'a Heads<'a>, main: &str) -> Result<Flat, LinkFault>
+fn link_heads(alloc: Global, heads: &Heads<'_>, main: &str) -> Result<Flat, LinkFault>
     ensures first { Finds (IsFirstFault (map program_of heads.now) main.now) result }
     ensures flat { IfOk result (λ f. IsFlatOf (map program_of heads.now) main.now (flat_of f)) }
 {

@@ -44,9 +44,9 @@ fn take_body(mut bodies: Vec<Linked>, name: &Identifier) -> Body
 /// # Errors
 ///
 /// `AllocError` where memory is refused.
-pub fn linked_body<'a>(
+pub fn linked_body(
     alloc: Global,
-    heads: &'a Heads<'a>,
+    heads: &Heads<'_>,
     order: &Order,
     main: &Identifier,
 ) -> Result<Body, AllocError>

@@ -21,11 +21,7 @@ fn is_in(set: &[usize], place: usize) -> bool
 }
 
 /// The places of the modules that the module at a place runs.
-fn places_at<'a>(
-    alloc: Global,
-    heads: &'a Heads<'a>,
-    place: usize,
-) -> Result<Vec<usize>, AllocError>
+fn places_at(alloc: Global, heads: &Heads<'_>, place: usize) -> Result<Vec<usize>, AllocError>
     requires { place < length heads.now }
     ensures { IfOk result (λ places. (p : Program)
         → slice_get (map program_of heads.now) place ≡ Some p
@@ -35,9 +31,9 @@ fn places_at<'a>(
 }
 
 /// The set of the places of the module at `main` and of those that it runs, and so on.
-pub fn needed_places<'a>(
+pub fn needed_places(
     alloc: Global,
-    heads: &'a Heads<'a>,
+    heads: &Heads<'_>,
     order: &[usize],
     main: usize,
 ) -> Result<Vec<usize>, AllocError>

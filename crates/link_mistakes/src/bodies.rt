@@ -27,9 +27,9 @@ use std::alloc::{AllocError, Global};
 /// # Errors
 ///
 /// `AllocError` where memory is refused.
-pub fn linked_body<'a>(
+pub fn linked_body(
     alloc: Global,
-    heads: &'a Heads<'a>,
+    heads: &Heads<'_>,
     order: &Order,
     main: &Identifier,
 ) -> Result<Body, AllocError>

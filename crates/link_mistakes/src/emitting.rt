@@ -23,9 +23,9 @@ use std::alloc::{AllocError, Global};
 /// # Errors
 ///
 /// `AllocError` where memory is refused for names.
-pub fn emits<'a>(
+pub fn emits(
     alloc: Global,
-    heads: &'a Heads<'a>,
+    heads: &Heads<'_>,
     order: &Order,
     name: &Identifier,
     signal: &Identifier,

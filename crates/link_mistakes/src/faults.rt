@@ -34,9 +34,9 @@ use std::alloc::{AllocError, Global};
 /// # Errors
 ///
 /// `AllocError` where memory is refused for the names that were met.
-pub fn first_duplicate<'a>(
+pub fn first_duplicate(
     alloc: Global,
-    heads: &'a Heads<'a>,
+    heads: &Heads<'_>,
 ) -> Result<Option<Identifier>, AllocError>
     ensures { IfOk result (λ name. name ≡ first_duplicate (map program_of heads.now)) }
 {
@@ -49,9 +49,9 @@ pub fn first_duplicate<'a>(
 /// # Errors
 ///
 /// `AllocError`, as a check answers it.
-pub fn first_bad_renaming<'a>(
+pub fn first_bad_renaming(
     alloc: Global,
-    heads: &'a Heads<'a>,
+    heads: &Heads<'_>,
 ) -> Result<Option<Identifier>, AllocError>
     ensures { IfOk result (λ name. name ≡ first_in_bodies (bad_renaming_at
         (map program_of heads.now)) (map program_of heads.now)) }
@@ -68,16 +68,16 @@ pub fn first_bad_renaming<'a>(
 /// The check for names that aren't visible where they are used. It is asked of the places in one
 /// module.
 #[derive(Clone, Copy)]
-pub struct Unknown<'a> {
+pub struct Unknown<'a, 'b> {
     /// Where memory for names is taken.
     pub alloc: Global,
     /// The modules of the library.
-    pub heads: &'a Heads<'a>,
+    pub heads: &'a Heads<'b>,
     /// The module.
-    pub home: &'a Head<'a>,
+    pub home: &'a Head<'b>,
 }
 
-impl Check for Unknown<'_> {
+impl Check for Unknown<'_, '_> {
     ghost use Rattle.std.specs.Prelude.{map};
     ghost use Rattle.est_modules.specs.Modules.{program_of, is_declared};
     ghost use Rattle.est_modules.specs.OpenNames.{AreKept};
@@ -107,11 +107,11 @@ impl Check for Unknown<'_> {
 }
 
 /// The first name of a module that isn't visible where it is used.
-fn unknown_in<'a>(
+fn unknown_in<'a, 'b>(
     alloc: Global,
     table: &NameTable<'_>,
-    heads: &'a Heads<'a>,
-    home: &'a Head<'a>,
+    heads: &'a Heads<'b>,
+    home: &'a Head<'b>,
 ) -> Result<Option<Identifier>, AllocError>
     requires { IsTable table.now }
     ensures { IfOk result (λ name. name ≡ first_of (unknown_at (map program_of heads.now)
@@ -127,9 +127,9 @@ fn unknown_in<'a>(
 /// # Errors
 ///
 /// `AllocError` where memory is refused for names.
-pub fn first_unknown<'a>(
+pub fn first_unknown(
     alloc: Global,
-    heads: &'a Heads<'a>,
+    heads: &Heads<'_>,
 ) -> Result<Option<Identifier>, AllocError>
     ensures { IfOk result (λ name. name ≡ first_in_bodies (unknown_at (map program_of heads.now))
         (map program_of heads.now)) }
@@ -152,8 +152,8 @@ pub fn first_unknown<'a>(
 /// `AllocError` where memory is refused for names.
 pub fn first_refused<'a>(
     alloc: Global,
-    heads: &'a Heads<'a>,
-    table: &'a Emissions<'a>,
+    heads: &'a Heads<'_>,
+    table: &'a Emissions<'_>,
 ) -> Result<Option<Identifier>, AllocError>
     ensures { IfOk result (λ name. name ≡ first_in_bodies (refused_at (map program_of heads.now)
         (emitted_of table.now)) (map program_of heads.now)) }
@@ -179,9 +179,9 @@ fn lawless_number(alloc: Global, main: Option<&Head<'_>>) -> Result<Option<usize
 /// # Errors
 ///
 /// `AllocError` where memory is refused for the names that were met.
-pub fn fault_before_order<'a>(
+pub fn fault_before_order(
     alloc: Global,
-    heads: &'a Heads<'a>,
+    heads: &Heads<'_>,
     main: &str,
 ) -> Result<Option<LinkFault>, AllocError>
     ensures { IfOk result (λ fault. fault ≡ fault_before_order (map program_of heads.now)
@@ -207,9 +207,9 @@ pub fn fault_before_order<'a>(
 /// `AllocError` where memory is refused.
 pub fn fault_after_order<'a>(
     alloc: Global,
-    heads: &'a Heads<'a>,
+    heads: &'a Heads<'_>,
     main: &Identifier,
-    table: &'a Emissions<'a>,
+    table: &'a Emissions<'_>,
 ) -> Result<Option<LinkFault>, AllocError>
     ensures { IfOk result (λ fault. fault ≡ fault_after_order (map program_of heads.now) main.now
         (emitted_of table.now)) }

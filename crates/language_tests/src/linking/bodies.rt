@@ -69,7 +69,7 @@ fn last_act(body: &Body) -> Act {
 }
 
 /// The flat body of the main module.
-fn body_of<'a>(alloc: Global, heads: &'a Heads<'a>, main: &Identifier) -> Result<Body, Fail> {
+fn body_of(alloc: Global, heads: &Heads<'_>, main: &Identifier) -> Result<Body, Fail> {
     if first_duplicate(alloc, &*heads)?.is_some()
         || first_missing(alloc, &*heads, main)?.is_some()
     {

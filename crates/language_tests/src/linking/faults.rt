@@ -371,9 +371,9 @@ const EMITTED: [(&str, &[&str], &[&str]); 2] = [
 ];
 
 /// Fails where a module of a library emits others of these names.
-fn expect_emissions<'a>(
+fn expect_emissions(
     alloc: Global,
-    heads: &'a Heads<'a>,
+    heads: &Heads<'_>,
     name: &str,
     signals: &[&str],
 ) -> Result<(), Fail> {

@@ -1,0 +1,8 @@
+use Rattle.std.proofs.Common.{map}
+use Rattle.est_checks.specs.Emissions.{emitted_of}
+use Rattle.est_checks.specs.Inner.Sent.{AreSent}
+use Rattle.est_modules.specs.Modules.{program_of}
+use Rattle.est_checks.proofs.module_emissions.emissions_along.Given as goal
+
+abbrev pub invariant-loop-place : goal.invariant-loop-place
+invariant-loop-place l = AreSent (map program_of l.heads) l.order l.place-index (emitted_of l.table)
