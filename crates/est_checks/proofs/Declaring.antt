@@ -1,5 +1,5 @@
 -- Names that are declared a second time, along lists of the code.
-use Rattle.std.proofs.Common.{◌≡◌, ℕ, suc, ◌<◌, List, [], ◌∷◌, ◌++◌, Option, Some, None, refl, ap, sym, ◌∙◌, map}
+use Rattle.std.proofs.Common.{◌≡◌, ℕ, suc, ◌<◌, List, Option, Some, None, refl, ap, sym, ◌∙◌, map}
 use Rattle.std.proofs.Common.{length, get_or, take, drop, ◌||◌, ◌+◌}
 use Rattle.std.proofs.Math.Seq.{drop-cons}
 use Rattle.std.proofs.lemmas.List.Folds.{list_any_more}

@@ -1,6 +1,6 @@
 -- What checks find along lists of the code.
 use mathlib.Core.Path.{fun_ext}
-use Rattle.std.proofs.Common.{◌≡◌, Bor, not, ℕ, ◌+◌, List, Option, Some, None, Bool, refl, ap, sym, ◌∙◌, map, option_map}
+use Rattle.std.proofs.Common.{◌≡◌, Bor, not, ℕ, List, Option, Some, None, Bool, refl, ap, sym, ◌∙◌, map, option_map}
 use Rattle.std.specs.List.{find, position}
 use Rattle.est_syntax.specs.Tree.{RenamingTree, RelationTree, excludes, implies}
 use Rattle.est_syntax.specs.Views.{renaming_view, relation_view}

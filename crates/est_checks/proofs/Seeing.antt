@@ -1,10 +1,9 @@
 -- A module that uses no name that isn't visible emits no others than it declares, or `tick`.
 use Rattle.std.proofs.Common.{◌≡◌, ◌||◌, ◌&&◌, not, inl, inr, ℕ, List, Option, Some, None, Bool, true, false, option_map}
-use Rattle.std.proofs.Common.{◌<◌, length, get_or, map, refl, ap, sym, ◌∙◌, subst}
+use Rattle.std.proofs.Common.{◌<◌, length, get_or, map, refl, ap, sym, ◌∙◌}
 use Rattle.std.proofs.lemmas.Bool.{false≢true, true≢false}
 use Rattle.std.proofs.lemmas.Option.{none-some, slice_get_read, slice_get-map}
 use Rattle.std.specs.List.{list_any, find, slice_get}
-use Rattle.std.specs.Option.{option_or}
 use Rattle.std.specs.Str.{bytes_eq}
 use Rattle.est_syntax.specs.Tree.{RenamingTree}
 use Rattle.est_modules.specs.Modules.{Program, program_named, program_of, is_declared}
@@ -19,7 +18,7 @@ use Rattle.est_modules.proofs.Testing.{any_at, or_left, or_right, same_bytes}
 use Rattle.est_checks.specs.Emissions.{emits_in_run, emits_by, emits_here}
 use Rattle.est_checks.specs.UnknownNames.{unless, is_unbound, unknown_renaming, unknown_in_run, unknown_act, unknown_at}
 use Rattle.est_checks.proofs.Deciding.{both, either}
-use Rattle.est_checks.proofs.Noting.{any_found, cases_bool, keeps_name, of_not}
+use Rattle.est_checks.proofs.Noting.{any_found, keeps_name, of_not}
 
 -- the module declares the name, or it is `tick`
 abbrev pub is_outer : Program → List ℕ → Bool

@@ -1,4 +1,4 @@
-use Rattle.std.proofs.Common.{◌∙◌, ◌||◌, ◌≡◌, List, ℕ, ap, sym, map, length, filter, nat_lt, subst}
+use Rattle.std.proofs.Common.{◌∙◌, ◌||◌, List, ap, sym, length, filter, nat_lt}
 use Rattle.std.proofs.lemmas.List.{take_all}
 use Rattle.std.specs.Str.{bytes_eq}
 use Rattle.est_syntax.specs.Tree.{RenamingTree}

@@ -1,4 +1,4 @@
-use Rattle.std.proofs.Common.{◌≡◌, ℕ, List, length, map, take, filter, nat_lt}
+use Rattle.std.proofs.Common.{◌≡◌, ℕ, List, length, take, filter, nat_lt}
 use Rattle.std.specs.Str.{bytes_eq}
 use Rattle.est_syntax.specs.declared.tree.Renaming.{Renaming}
 use Rattle.est_modules.specs.NameSets.{has}

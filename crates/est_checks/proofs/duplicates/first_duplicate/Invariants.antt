@@ -11,6 +11,6 @@ invariant-loop-index l =
     let name = λ (h : Head). h.name in
     record {
       found : duplicate_after [] (map program_of l.modules) ≡ duplicate_after (map name (take l.index l.modules))
-      (map program_of (drop l.index l.modules));
+          (map program_of (drop l.index l.modules));
       met : (s : List ℕ) → has l.met s ≡ stands_in (map name (take l.index l.modules)) s;
     }

@@ -1,11 +1,10 @@
-use Rattle.std.proofs.Common.{◌∙◌, ◌<◌, List, [], length, map, cond, ap, sym, subst}
+use Rattle.std.proofs.Common.{◌∙◌, [], map, cond, ap, sym}
 use Rattle.std.proofs.lemmas.Result.{on_ok_weaker}
 use Rattle.std.specs.List.{list_any}
 use Rattle.std.specs.Str.{bytes_eq}
 use Rattle.est_modules.specs.Modules.{Program, program_of}
 use Rattle.est_modules.specs.NameTables.{is_numbered}
 use Rattle.est_modules.specs.Occurrences.{first_of, occurrences}
-use Rattle.est_modules.specs.declared.head.Head.{Head}
 use Rattle.est_modules.proofs.Standing.{first_none}
 use Rattle.est_modules.proofs.Testing.{some_same}
 use Rattle.est_checks.specs.Emissions.{emitted_of, emits_here}

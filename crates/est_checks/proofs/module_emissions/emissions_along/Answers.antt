@@ -1,7 +1,6 @@
-use Rattle.std.proofs.Common.{sym, subst, map, slice_index, arith}
+use Rattle.std.proofs.Common.{map, slice_index, arith}
 use Rattle.std.proofs.lemmas.List.{length-map}
 use Rattle.est_checks.specs.Emissions.{emitted_of}
-use Rattle.est_checks.specs.Inner.Sent.{AreSent}
 use Rattle.est_modules.specs.Modules.{program_of}
 use Rattle.est_modules.proofs.Standing.{order_within, program_at}
 use Rattle.est_checks.proofs.Sending.{sending_begins, sending_goes_on, sending_ends}
