@@ -79,7 +79,8 @@ keeps_name rs n h = ap (λ o. callers_name o n) (none_any (λ (r : RenamingTree)
 
 -- a renaming of these binds to the name what the module that is run emits
 abbrev pub sends_renamed : (List ℕ → List ℕ → Bool) → Program → List RenamingTree → List RenamingTree → List ℕ → Bool
-sends_renamed emitted q rs some s = list_any (λ (r : RenamingTree). sends emitted q r && bytes_eq (renamed rs r.inner) s) some
+sends_renamed emitted q rs some s =
+    list_any (λ (r : RenamingTree). sends emitted q r && bytes_eq (renamed rs r.inner) s) some
 
 sent_apart : (em : List ℕ → List ℕ → Bool) (q : Program) (rs : List RenamingTree) (s : List ℕ)
     → emits_in_run em s rs (Some q) ≡ true
@@ -422,7 +423,8 @@ row_renamings t em bs q rs row (r ∷ some) u is room =
     ∙ ap (λ b. b || (is_numbered t u && (not (is_local bs u) && sends_renamed em q rs some u)))
     (renaming_at t bs row m u (sends em q r) is room)
     ∙ joined (in_row row (number_in t u)) (is_numbered t u) (not (is_local bs u) && here)
-    (not (is_local bs u) && sends_renamed em q rs some u) (not (is_local bs u) && (here || sends_renamed em q rs some u))
+    (not (is_local bs u) && sends_renamed em q rs some u)
+        (not (is_local bs u) && (here || sends_renamed em q rs some u))
     (distributed (not (is_local bs u)) here (sends_renamed em q rs some u))
 
 -- ---- what is noted after an act
@@ -498,7 +500,8 @@ noted_along ps em t row (o ∷ os) s is room =
     let rest = list_any (emits_here ps em s) os in
     noted_along ps em t next os s is (room_kept t row next (act_length ps em t row o.around o.act) room)
     ∙ ap (λ b. b || (is_numbered t s && rest)) (act_noted ps em t row o.around o.act s is room)
-    ∙ joined (in_row row (number_in t s)) (is_numbered t s) (emits_here ps em s o) rest (emits_here ps em s o || rest) refl
+    ∙ joined (in_row row (number_in t s)) (is_numbered t s) (emits_here ps em s o) rest
+    (emits_here ps em s o || rest) refl
 
 -- ---- from the first occurrence on
 

@@ -1,6 +1,6 @@
 -- A module that uses no name that isn't visible emits no others than it declares, or `tick`.
-use Rattle.std.proofs.Common.{◌≡◌, ◌||◌, ◌&&◌, not, inl, inr, ℕ, List, Option, Some, None, Bool, true, false, option_map}
-use Rattle.std.proofs.Common.{◌<◌, length, get_or, map, refl, ap, sym, ◌∙◌}
+use Rattle.std.proofs.Common.{◌≡◌, ◌||◌, ◌&&◌, not, inl, inr, ℕ, List, Option, Some, None, Bool, true, false}
+use Rattle.std.proofs.Common.{option_map, ◌<◌, length, get_or, map, refl, ap, sym, ◌∙◌}
 use Rattle.std.proofs.lemmas.Bool.{false≢true, true≢false}
 use Rattle.std.proofs.lemmas.Option.{none-some, slice_get_read, slice_get-map}
 use Rattle.std.specs.List.{list_any, find, slice_get}
@@ -67,7 +67,8 @@ seen_in_run em p bs s rs (Some q) h free sent =
     let parts = or_none_parts (unknown_renaming p bs rs)
     (option_map (λ (d : Declared). d.name) (find (λ (d : Declared). is_unbound p bs rs d.name) q.interface)) h in
     let lefts = none_found (λ (r : RenamingTree). not (is_visible p bs r.outer)) rs
-    (map_none (λ (r : RenamingTree). r.outer) (find (λ (r : RenamingTree). not (is_visible p bs r.outer)) rs) parts.0) in
+    (map_none (λ (r : RenamingTree). r.outer) (find (λ (r : RenamingTree). not (is_visible p bs r.outer)) rs)
+        parts.0) in
     let names = none_found (λ (d : Declared). is_unbound p bs rs d.name) q.interface
     (map_none (λ (d : Declared). d.name) (find (λ (d : Declared). is_unbound p bs rs d.name) q.interface) parts.1) in
     let f = any_found (λ (d : Declared). em q.name d.name && bytes_eq (renamed rs d.name) s) q.interface sent in

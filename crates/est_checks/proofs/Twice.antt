@@ -1,6 +1,6 @@
 -- Names that renamings have on the right, and those that more than one has there.
-use Rattle.std.proofs.Common.{◌≡◌, ◌||◌, ℕ, ◌+◌, ◌<◌, List, length, filter, take, get_or, nat_lt, Bool, true, false, cond}
-use Rattle.std.proofs.Common.{refl, ap, sym, ◌∙◌, arith}
+use Rattle.std.proofs.Common.{◌≡◌, ◌||◌, ℕ, ◌+◌, ◌<◌, List, length, filter, take, get_or, nat_lt, Bool, true, false}
+use Rattle.std.proofs.Common.{cond, refl, ap, sym, ◌∙◌, arith}
 use Rattle.std.proofs.lemmas.Bool.Decides.{nat_tests}
 use Rattle.std.proofs.lemmas.List.Filters.{length-filter_more}
 use Rattle.std.specs.Str.{bytes_eq}

@@ -1,6 +1,6 @@
 //! What a module emits of the signals that its callers see.
-ghost use Rattle.std.specs.Prelude.{◌≡◌, ℕ, ◌<◌, List, [], length, map, slice_get, Some, None, true};
-ghost use Rattle.std.specs.Prelude.{not, ◌||◌, ◌&&◌, OnOk, IfOk, if◌then◌else◌};
+ghost use Rattle.std.specs.Prelude.{◌≡◌, ℕ, ◌<◌, List, [], length, map, slice_get, Some, None};
+ghost use Rattle.std.specs.Prelude.{true, not, ◌||◌, ◌&&◌, OnOk, IfOk, if◌then◌else◌};
 ghost use Rattle.std.specs.List.{list_any};
 ghost use Rattle.std.specs.Str.{bytes_eq};
 ghost use Rattle.est_syntax.specs.Views.{renaming_view};

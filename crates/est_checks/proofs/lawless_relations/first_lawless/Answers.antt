@@ -18,5 +18,6 @@ returns c =
     (position (λ (r : Bor Relation). is_past offered (relation_view r.now)) rs)) c.deref.ensures.value
     ∙ ap (option_map (λ (i : ℕ). i + 1))
     (lawless_listed offered _ c.in_ok-relations.relations.items c.in_ok-offered.ensures c.in_ok-relations.ensures)
-    ∙ ap (λ (ds : List Declared). option_map (λ (i : ℕ). i + 1) (position (is_lawless ds) (program_of c.args.home.now).relations))
+    ∙ ap (λ (ds : List Declared). option_map (λ (i : ℕ). i + 1)
+    (position (is_lawless ds) (program_of c.args.home.now).relations))
     c.signals.ensures

@@ -25,7 +25,8 @@ returns c s =
     let own = with_own c.deref-2.result.now c.signals.result.now in
     let first = c.in_ok-noted.ensures.items_if_clones_equal (λ y e. e) ∙ ap (λ n. replicate n false) c.len.ensures in
     c.in_ok-add_signals.ensures s
-    ∙ ap (λ b. b || own) (c.in_ok-add_noted.ensures s ∙ ap (λ b. b || with_tick c.deref.result.now n) (c.new-set.ensures s))
+    ∙ ap (λ b. b || own)
+    (c.in_ok-add_noted.ensures s ∙ ap (λ b. b || with_tick c.deref.result.now n) (c.new-set.ensures s))
     ∙ ap (λ (r : List Bool). with_tick r n || own) c.deref.ensures.value
     ∙ ap (λ (r : List Bool). with_tick row n || with_own r c.signals.result.now) c.deref-2.ensures.value
     ∙ ap (λ (ds : List Declared). with_tick row n || with_own row ds) c.signals.ensures
