@@ -62,7 +62,6 @@ pub fn linked_named<'a>(bodies: &'a [Linked], name: &Identifier) -> Option<&'a L
 }
 
 /// The interface of the module that is run.
-#[tactic(auto, using(crate::proofs::Places::interface_found))]
 fn interface_run<'a>(heads: &'a Heads<'_>, name: &Identifier) -> &'a [Declared]
     ensures { result.now ≡ interface_run (program_named (map program_of heads.now) name.now) }
 {
