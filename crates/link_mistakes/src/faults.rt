@@ -34,10 +34,7 @@ use std::alloc::{AllocError, Global};
 /// # Errors
 ///
 /// `AllocError` where memory is refused for the names that were met.
-pub fn first_duplicate(
-    alloc: Global,
-    heads: &Heads<'_>,
-) -> Result<Option<Identifier>, AllocError>
+pub fn first_duplicate(alloc: Global, heads: &Heads<'_>) -> Result<Option<Identifier>, AllocError>
     ensures { IfOk result (λ name. name ≡ first_duplicate (map program_of heads.now)) }
 {
     duplicates::first_duplicate(alloc, heads)
@@ -127,10 +124,7 @@ fn unknown_in<'a, 'b>(
 /// # Errors
 ///
 /// `AllocError` where memory is refused for names.
-pub fn first_unknown(
-    alloc: Global,
-    heads: &Heads<'_>,
-) -> Result<Option<Identifier>, AllocError>
+pub fn first_unknown(alloc: Global, heads: &Heads<'_>) -> Result<Option<Identifier>, AllocError>
     ensures { IfOk result (λ name. name ≡ first_in_bodies (unknown_at (map program_of heads.now))
         (map program_of heads.now)) }
 {
