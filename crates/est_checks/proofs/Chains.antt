@@ -1,5 +1,5 @@
 -- Chains of runs, by the names of modules and by their places.
-use Rattle.std.proofs.Common.{◌≡◌, ℕ, ◌+◌, ◌<◌, inl, inr, List, [], ◌∷◌, ◌++◌, length, slice_index_or, Option, Some}
+use Rattle.std.proofs.Common.{◌≡◌, ℕ, inl, inr, List, [], ◌∷◌, slice_index_or, Option, Some}
 use Rattle.std.proofs.Common.{None, option_to_list, Contains, refl, ap, sym, ◌∙◌, subst, arith}
 use Rattle.std.proofs.lemmas.List.{length-map, get_or-map}
 use Rattle.std.proofs.lemmas.List.Elements.{Contains-append_right, Contains-append_cases, Contains-push_cases}
@@ -8,7 +8,7 @@ use Rattle.std.specs.List.{flat_map, slice_get}
 use Rattle.std.specs.Str.{bytes_eq}
 use Rattle.est_syntax.specs.Tree.{RenamingTree}
 use Rattle.est_checks.specs.Duplicates.{first_duplicate}
-use Rattle.est_checks.specs.RecursiveRuns.{HasRun, LeadsTo, at_once, further, RunsItself, IsFirstOnItself}
+use Rattle.est_checks.specs.RecursiveRuns.{HasRun, LeadsTo, at_once, further, IsFirstOnItself}
 use Rattle.est_checks.specs.RecursiveRuns.{IsFirstRecursion}
 use Rattle.est_modules.specs.Modules.{Program, program_named}
 use Rattle.est_modules.specs.ModuleOrders.{place_named, place_run, places_run, run_rows}

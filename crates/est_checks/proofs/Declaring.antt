@@ -1,19 +1,15 @@
 -- Names that are declared a second time, along lists of the code.
-use Rattle.std.proofs.Common.{◌≡◌, ℕ, suc, ◌<◌, List, [], ◌∷◌, ◌++◌, Option, Some, None, refl, ap, sym, ◌∙◌, map}
-use Rattle.std.proofs.Common.{length, get_or, take, drop}
-use Rattle.std.proofs.Math.Seq.{drop-cons, take-suc}
-use Rattle.std.proofs.lemmas.List.{map-append}
+use Rattle.std.proofs.Common.{◌≡◌, ℕ, suc, ◌<◌, List, Option, Some, None, refl, ap, sym, ◌∙◌, map}
+use Rattle.std.proofs.Common.{length, get_or, take, drop, ◌||◌, ◌+◌}
+use Rattle.std.proofs.Math.Seq.{drop-cons}
+use Rattle.std.proofs.lemmas.List.Folds.{list_any_more}
+use Rattle.std.specs.Str.{bytes_eq}
+use Rattle.est_modules.specs.Visible.{stands_in}
 use Rattle.std.specs.Option.{option_or}
 use Rattle.est_modules.specs.Modules.{program_of}
+use Rattle.est_modules.proofs.Lists.{any_map, more}
 use Rattle.est_checks.specs.Duplicates.{duplicate_of, duplicate_after}
 use Rattle.est_modules.specs.declared.head.Head.{Head}
-
--- a list of which i were taken goes on with the next
-pub more : {X Y : Type 0} (f : X → Y) (xs : List X) (i j : ℕ) (d : X) → i < length xs → j ≡ suc i
-    → map f (take i xs) ++ f (get_or xs i d) ∷ [] ≡ map f (take j xs)
-more f xs i j d lt next =
-    sym (ap (λ k. map f (take k xs)) next ∙ ap (map f) (take-suc xs i d lt)
-    ∙ map-append f (take i xs) (get_or xs i d ∷ []))
 
 -- ---- modules of a library
 
@@ -44,3 +40,13 @@ pub module_passed : (hs : List Head) (i j : ℕ) (d : Head) → i < length hs �
     → None ≡ duplicate_of (map module_name (take i hs)) (program_of (get_or hs i d))
     → modules_left hs i ≡ modules_left hs j
 module_passed hs i j d lt next e = next_module hs i j d lt next ∙ ap (λ o. option_or o (modules_left hs j)) (sym e)
+
+-- the names of the first modules, and that of one more
+pub names_next : (hs : List Head) (k : ℕ) (d : Head) (s : List ℕ) → d ≡ get_or hs k d → k < length hs
+    → (stands_in (map module_name (take k hs)) s || bytes_eq d.name s)
+    ≡ stands_in (map module_name (take (k + 1) hs)) s
+names_next hs k d s at lt =
+    ap (λ (h : Head). stands_in (map module_name (take k hs)) s || bytes_eq h.name s) at
+    ∙ ap (λ b. b || bytes_eq (get_or hs k d).name s) (any_map (λ (m : List ℕ). bytes_eq m s) module_name (take k hs))
+    ∙ sym (any_map (λ (m : List ℕ). bytes_eq m s) module_name (take (k + 1) hs)
+    ∙ list_any_more (λ (h : Head). bytes_eq (module_name h) s) hs k d lt)

@@ -15,8 +15,9 @@ use Rattle.est_checks.specs.Emissions.{AreEmissions, first_refused}
 use Rattle.est_checks.specs.FirstFaults.{Check, Finds, IsFirstFault, IsFirstOf, IsFirstRefused}
 use Rattle.est_checks.specs.FirstFaults.{IsLimitPassed, checks, limit_passed_by}
 use Rattle.est_checks.specs.Inner.Recursion.{IsOrderFault}
-use Rattle.est_checks.specs.Inner.Stages.{IsLimitFault, limit_checks, name_checks, run_checks}
-use Rattle.est_checks.specs.LinkFaults.{fault_before_order, fault_after_order, lawless_number}
+use Rattle.est_checks.specs.Inner.Stages.{IsLimitFault, emission_checks, fault_of_emissions, fault_of_names}
+use Rattle.est_checks.specs.Inner.Stages.{limit_checks, name_checks, run_checks}
+use Rattle.est_checks.specs.LinkFaults.{fault_before_order, lawless_number}
 use Rattle.est_checks.specs.LinkFaults.{misnamed_main}
 use Rattle.est_modules.specs.Modules.{Program, program_named, first_in_bodies}
 use Rattle.est_modules.specs.ModuleOrders.{places_run, run_rows}
@@ -81,33 +82,58 @@ limits ps main found h =
     last TooLarge (IsLimitPassed ps main) (limit_passed_by (program_named ps main) (h.counts main))
     (record { counts = h.counts; are = h.are; is = refl }) found found (sym h.is) (λ f e. e) (λ e. e)
 
-names : (ps : List Program) (main : List ℕ) (em : List ℕ → List ℕ → Bool) → AreEmissions ps em
-    → (r found : Option LinkFault) → fault_after_order ps main em ≡ r
+emissions : (ps : List Program) (main : List ℕ) (em : List ℕ → List ℕ → Bool) → AreEmissions ps em
+    → (r found : Option LinkFault) → fault_of_emissions ps main em ≡ r
     → ((f : LinkFault) → r ≡ Some f → found ≡ Some f) → (r ≡ None → IsFirstOf (limit_checks ps main) found)
-    → IsFirstOf (name_checks ps main) found
-names ps main em are r found e told next =
-    step BadRename (λ name. first_in_bodies (bad_renaming_at ps) ps ≡ name) (first_in_bodies (bad_renaming_at ps) ps)
-    refl _ r found e told
-    (λ e. step UnknownName (λ name. first_in_bodies (unknown_at ps) ps ≡ name) (first_in_bodies (unknown_at ps) ps)
-    refl _ r found e told
-    (λ e. step EmitInput (IsFirstRefused ps) (first_refused ps em)
+    → IsFirstOf (emission_checks ps main) found
+emissions ps main em are r found e told next =
+    step EmitInput (IsFirstRefused ps) (first_refused ps em)
     (record { emitted = em; emissions = are; is = refl }) _ r found e told
     (λ e. last Semantics (λ number. lawless_number (program_named ps main) ≡ number)
-    (lawless_number (program_named ps main)) refl r found e told next)))
+    (lawless_number (program_named ps main)) refl r found e told next)
 
--- the checks after the order find a fault
-pub names_here : (ps : List Program) (main : List ℕ) (em : List ℕ → List ℕ → Bool) (fault : LinkFault)
-    → AreEmissions ps em → Some fault ≡ fault_after_order ps main em → IsFirstOf (name_checks ps main) (Some fault)
-names_here ps main em fault are e =
-    names ps main em are (Some fault) (Some fault) (sym e) (λ f same. same)
+-- the checks of emissions and of relations find a fault
+pub emissions_here : (ps : List Program) (main : List ℕ) (em : List ℕ → List ℕ → Bool) (fault : LinkFault)
+    → AreEmissions ps em → Some fault ≡ fault_of_emissions ps main em
+    → IsFirstOf (emission_checks ps main) (Some fault)
+emissions_here ps main em fault are e =
+    emissions ps main em are (Some fault) (Some fault) (sym e) (λ f same. same)
     (λ none. absurd (none-some fault (sym none)))
 
 -- they find none, and the limits are asked
-pub names_next : (ps : List Program) (main : List ℕ) (em : List ℕ → List ℕ → Bool) → AreEmissions ps em
-    → None ≡ fault_after_order ps main em → (found : Option LinkFault) → IsLimitFault ps main found
+pub emissions_next : (ps : List Program) (main : List ℕ) (em : List ℕ → List ℕ → Bool) → AreEmissions ps em
+    → None ≡ fault_of_emissions ps main em → (found : Option LinkFault) → IsLimitFault ps main found
+    → IsFirstOf (emission_checks ps main) found
+emissions_next ps main em are e found h =
+    emissions ps main em are None found (sym e) (λ f some. absurd (none-some f some)) (λ none. limits ps main found h)
+
+names : (ps : List Program) (main : List ℕ) (r found : Option LinkFault) → fault_of_names ps ≡ r
+    → ((f : LinkFault) → r ≡ Some f → found ≡ Some f) → (r ≡ None → IsFirstOf (emission_checks ps main) found)
     → IsFirstOf (name_checks ps main) found
-names_next ps main em are e found h =
-    names ps main em are None found (sym e) (λ f some. absurd (none-some f some)) (λ none. limits ps main found h)
+names ps main r found e told next =
+    step BadRename (λ name. first_in_bodies (bad_renaming_at ps) ps ≡ name) (first_in_bodies (bad_renaming_at ps) ps)
+    refl _ r found e told
+    (λ e. last UnknownName (λ name. first_in_bodies (unknown_at ps) ps ≡ name) (first_in_bodies (unknown_at ps) ps)
+    refl r found e told next)
+
+-- the checks of renamings and of names find a fault
+pub names_here : (ps : List Program) (main : List ℕ) (fault : LinkFault) → Some fault ≡ fault_of_names ps
+    → IsFirstOf (name_checks ps main) (Some fault)
+names_here ps main fault e =
+    names ps main (Some fault) (Some fault) (sym e) (λ f same. same) (λ none. absurd (none-some fault (sym none)))
+
+-- they find none, and emissions are asked
+pub names_next : (ps : List Program) (main : List ℕ) → None ≡ fault_of_names ps → (found : Option LinkFault)
+    → IsFirstOf (emission_checks ps main) found → IsFirstOf (name_checks ps main) found
+names_next ps main e found h =
+    names ps main None found (sym e) (λ f some. absurd (none-some f some)) (λ none. h)
+
+-- no name is unknown then
+pub names_known : (ps : List Program) → None ≡ fault_of_names ps → first_in_bodies (unknown_at ps) ps ≡ None
+names_known ps e =
+    map_none UnknownName (first_in_bodies (unknown_at ps) ps)
+    (or_none_parts (option_map BadRename (first_in_bodies (bad_renaming_at ps) ps))
+    (option_map UnknownName (first_in_bodies (unknown_at ps) ps)) (sym e)).1
 
 -- a recursive module is found
 pub runs_here : (ps : List Program) (main : List ℕ) (fault : LinkFault) → first_duplicate ps ≡ None

@@ -10,11 +10,16 @@ use Rattle.est_modules.specs.Modules.{Program, program_named}
 use Rattle.est_modules.specs.declared.head.Declared.{Declared}
 use Rattle.est_modules.proofs.Testing.{same_bytes, found_passes}
 
-and_false : (b : Bool) → (b && false) ≡ false
+pub and_false : (b : Bool) → (b && false) ≡ false
 and_false true = refl
 and_false false = refl
 
-distributed : (a b c : Bool) → ((a && b) || (a && c)) ≡ (a && (b || c))
+-- where no element passes, none is left
+pub none_left : {X : Type 0} (p : X → Bool) (xs : List X) → ((x : X) → p x ≡ false) → filter p xs ≡ []
+none_left p [] none = refl
+none_left p (x ∷ xs) none = ap (λ b. cond b (x ∷ filter p xs) (filter p xs)) (none x) ∙ none_left p xs none
+
+pub distributed : (a b c : Bool) → ((a && b) || (a && c)) ≡ (a && (b || c))
 distributed true b c = refl
 distributed false b c = refl
 

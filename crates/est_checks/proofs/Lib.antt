@@ -11,7 +11,9 @@ pub mod Listing
 pub mod Noting
 pub mod OneName
 pub mod RunsThere
+pub mod Seeing
 pub mod Sending
 pub mod Sums
 pub mod Unbinding
+pub mod Twice
 pub mod Uniqueness

@@ -1,35 +1,37 @@
 -- What is noted of what a module emits is all of it.
-use mathlib.Core.Path.{fun_ext}
 use Rattle.std.proofs.Common.{◌≡◌, ◌<◌, ◌⊎◌, inl, inr, ◌||◌, ◌&&◌, not, ℕ, zero, suc, ◌+◌, ◌++◌, take, replicate, List}
 use Rattle.std.proofs.Common.{[], ◌∷◌, map, length, slice_set, slice_index_or, nat_lt, Option, Some, None, Bool, true}
-use Rattle.std.proofs.Common.{false, cond, refl, ap, sym, ◌∙◌, subst, arith}
+use Rattle.std.proofs.Common.{get_or, false, cond, refl, ap, sym, ◌∙◌, subst, arith}
 use Rattle.std.proofs.lemmas.Bool.{false≢true}
-use Rattle.std.proofs.lemmas.Bool.{cases_eq, lt-ltb}
-use Rattle.std.proofs.lemmas.List.{length-set, get_or-set_same, get_or-set_other, get_or-take, length-replicate}
+use Rattle.std.proofs.lemmas.Bool.{lt-ltb}
+use Rattle.std.proofs.lemmas.List.{length-set, get_or-set_same, get_or-set_other, length-replicate}
 use Rattle.std.proofs.lemmas.Option.{none-some, slice_get_within}
+use Rattle.std.proofs.lemmas.List.Sums.{fold_more}
 use Rattle.std.specs.List.{list_any, find, fold, slice_get}
+use Rattle.std.specs.Prelude.{codes, is_some}
 use Rattle.std.specs.Str.{bytes_eq}
 use Rattle.est_syntax.specs.Tree.{RenamingTree}
+use Rattle.est_syntax.specs.Views.{renaming_view}
+use Rattle.est_syntax.specs.declared.tree.Renaming.{Renaming}
 use Rattle.est_modules.specs.Modules.{Program, program_named, is_declared}
 use Rattle.est_modules.specs.Occurrences.{Binder, Act, emits, tests, exits, binds, runs, Occurrence}
-use Rattle.est_modules.specs.NameTables.{number_in, IsTable}
-use Rattle.est_modules.specs.OpenNames.{AreNumbers, AreKept, Tells}
+use Rattle.est_modules.specs.NameTables.{number_in, is_numbered, IsTable}
+use Rattle.est_modules.specs.OpenNames.{AreNumbers, Tells}
 use Rattle.est_modules.specs.Renamings.{is_renamed, renamed, callers_name}
 use Rattle.est_modules.specs.declared.name_table.NameTable.{NameTable}
-use Rattle.est_modules.specs.declared.open_names.Kept.{Kept}
 use Rattle.est_modules.specs.declared.open_names.OpenNames.{OpenNames}
-use Rattle.est_modules.proofs.Opening.{kept_found, left_is}
-use Rattle.est_modules.specs.Visible.{is_local, stands_in}
+use Rattle.est_modules.proofs.Lists.{more}
+use Rattle.est_modules.proofs.Opening.{left_is}
+use Rattle.est_modules.specs.Visible.{is_local, is_tick, stands_in}
 use Rattle.est_modules.specs.declared.head.Declared.{Declared}
 use Rattle.est_checks.specs.Emissions.{emits_in_run, emits_by, emits_here}
 use Rattle.est_checks.specs.Inner.Emitted.{sent_by}
-use Rattle.est_checks.specs.Inner.Noted.{Noted, in_row, is_noted, row_with, row_by_numbers, row_at, row_by_names, goes}
-use Rattle.est_checks.specs.Inner.Noted.{sends_renamed, kept_named, noted_names, noted_renamed, noted_run, noted_act}
-use Rattle.est_checks.specs.Inner.Noted.{noted_after}
+use Rattle.est_checks.specs.Inner.Noted.{in_row, row_with, row_by_numbers, row_at, row_by_names, goes, sends}
+use Rattle.est_checks.specs.Inner.Noted.{row_by_renaming, row_by_renamings, row_by_run, row_by_act, row_after}
 use Rattle.est_checks.proofs.Deciding.{both, either}
-use Rattle.est_checks.proofs.Leaving.{one_left, sent_is}
-use Rattle.est_modules.proofs.Testing.{or_parts, or_left, or_right, or_other, and_both, not_true, same_bytes}
-use Rattle.est_modules.proofs.Testing.{equal_bytes, some_same, found_passes, any_at}
+use Rattle.est_checks.proofs.Leaving.{and_false, distributed, one_left, sent_is}
+use Rattle.est_modules.proofs.Testing.{or_left, or_right, or_other, and_both, not_true, same_bytes}
+use Rattle.est_modules.proofs.Testing.{or_parts, equal_bytes, some_same, found_passes, any_at}
 
 -- ---- tests
 
@@ -42,7 +44,13 @@ same_tests true b f g = sym (f refl)
 same_tests false true f g = g refl
 same_tests false false f g = refl
 
-of_not : (b : Bool) → not b ≡ true → b ≡ false
+turned : (a b : List ℕ) → bytes_eq a b ≡ bytes_eq b a
+turned a b =
+    same_tests (bytes_eq a b) (bytes_eq b a)
+    (λ h. subst (λ n. bytes_eq n a ≡ true) (same_bytes a b h) (equal_bytes a))
+    (λ h. subst (λ n. bytes_eq n b ≡ true) (same_bytes b a h) (equal_bytes b))
+
+pub of_not : (b : Bool) → not b ≡ true → b ≡ false
 of_not true h = absurd (false≢true h)
 of_not false h = refl
 
@@ -69,9 +77,14 @@ keeps_name rs n h = ap (λ o. callers_name o n) (none_any (λ (r : RenamingTree)
 
 -- ---- what a run emits: names that it doesn't rename, and others by its renamings
 
+-- a renaming of these binds to the name what the module that is run emits
+abbrev pub sends_renamed : (List ℕ → List ℕ → Bool) → Program → List RenamingTree → List RenamingTree → List ℕ → Bool
+sends_renamed emitted q rs some s =
+    list_any (λ (r : RenamingTree). sends emitted q r && bytes_eq (renamed rs r.inner) s) some
+
 sent_apart : (em : List ℕ → List ℕ → Bool) (q : Program) (rs : List RenamingTree) (s : List ℕ)
     → emits_in_run em s rs (Some q) ≡ true
-    → ((not (is_renamed rs s) && emits_in_run em s [] (Some q)) || sends_renamed em q rs s) ≡ true
+    → ((not (is_renamed rs s) && emits_in_run em s [] (Some q)) || sends_renamed em q rs rs s) ≡ true
 sent_apart em q rs s h =
     let f = any_found (λ (d : Declared). em q.name d.name && bytes_eq (renamed rs d.name) s) q.interface h in
     let d : Declared = f.1 in
@@ -87,7 +100,7 @@ sent_apart em q rs s h =
           let sends : em q.name r.inner ≡ true = subst (λ n. em q.name n ≡ true) (sym same) parts.0 in
           let named : bytes_eq (renamed rs r.inner) s ≡ true =
           subst (λ n. bytes_eq (renamed rs n) s ≡ true) (sym same) parts.1 in
-          or_right (not (is_renamed rs s) && emits_in_run em s [] (Some q)) (sends_renamed em q rs s)
+          or_right (not (is_renamed rs s) && emits_in_run em s [] (Some q)) (sends_renamed em q rs rs s)
           (any_at (λ (r : RenamingTree). (is_declared q.interface r.inner && em q.name r.inner)
           && bytes_eq (renamed rs r.inner) s) rs g.0 r g.2
           (and_both (is_declared q.interface r.inner && em q.name r.inner) (bytes_eq (renamed rs r.inner) s)
@@ -100,15 +113,15 @@ sent_apart em q rs s h =
           any_at (λ (e : Declared). em q.name e.name && bytes_eq e.name s) q.interface f.0 d f.2
           (and_both (em q.name d.name) (bytes_eq d.name s) parts.0
           (subst (λ n. bytes_eq d.name n ≡ true) is_s (equal_bytes d.name))) in
-          or_left (not (is_renamed rs s) && emits_in_run em s [] (Some q)) (sends_renamed em q rs s)
+          or_left (not (is_renamed rs s) && emits_in_run em s [] (Some q)) (sends_renamed em q rs rs s)
           (and_both (not (is_renamed rs s)) (emits_in_run em s [] (Some q)) free plain)
     ]
 
 sent_whole : (em : List ℕ → List ℕ → Bool) (q : Program) (rs : List RenamingTree) (s : List ℕ)
-    → ((not (is_renamed rs s) && emits_in_run em s [] (Some q)) || sends_renamed em q rs s) ≡ true
+    → ((not (is_renamed rs s) && emits_in_run em s [] (Some q)) || sends_renamed em q rs rs s) ≡ true
     → emits_in_run em s rs (Some q) ≡ true
 sent_whole em q rs s h =
-    elim (either (not (is_renamed rs s) && emits_in_run em s [] (Some q)) (sends_renamed em q rs s) h) [
+    elim (either (not (is_renamed rs s) && emits_in_run em s [] (Some q)) (sends_renamed em q rs rs s) h) [
       | inl own ↦
           let parts = both (not (is_renamed rs s)) (emits_in_run em s [] (Some q)) own in
           let f = any_found (λ (d : Declared). em q.name d.name && bytes_eq d.name s) q.interface parts.1 in
@@ -142,13 +155,9 @@ sent_whole em q rs s h =
 abbrev pub HasRoom : NameTable → List Bool → Type 0
 HasRoom t row = (s : List ℕ) (i : ℕ) → number_in t s ≡ Some i → i < length row
 
-and_true : (b : Bool) → (b && true) ≡ b
+pub and_true : (b : Bool) → (b && true) ≡ b
 and_true true = refl
 and_true false = refl
-
-and_false : (b : Bool) → (b && false) ≡ false
-and_false true = refl
-and_false false = refl
 
 pub nothing_more : (b : Bool) → b ≡ (b || false)
 nothing_more true = refl
@@ -220,6 +229,62 @@ row_step t row n u i g is room at =
     (lt-ltb i (length row) room)
     ∙ one_number t row n u i (slice_index_or row i false) g refl is room at
 
+-- ---- one name
+
+-- a number that one name has counts for the names that are the same
+numbered_same : (t : NameTable) (n u : List ℕ) (i : ℕ) (b g : Bool) → bytes_eq n u ≡ b → number_in t n ≡ Some i
+    → (g && b) ≡ (is_numbered t u && (g && b))
+numbered_same t n u i true g same at =
+    sym (ap (λ x. x && (g && true)) (ap is_some (ap (number_in t) (sym (same_bytes n u same)) ∙ at)))
+numbered_same t n u i false g other at =
+    and_false g ∙ sym (ap (λ x. is_numbered t u && x) (and_false g) ∙ and_false (is_numbered t u))
+
+unnumbered : (t : NameTable) (row : List Bool) (n u : List ℕ) (g b : Bool) → bytes_eq n u ≡ b → number_in t n ≡ None
+    → in_row row (number_in t u) ≡ (in_row row (number_in t u) || (is_numbered t u && (g && b)))
+unnumbered t row n u g true same none =
+    subst (λ (o : Option ℕ). in_row row o ≡ (in_row row o || (is_some o && (g && true))))
+    (sym (ap (number_in t) (sym (same_bytes n u same)) ∙ none)) refl
+unnumbered t row n u g false other none =
+    nothing_more (in_row row (number_in t u))
+    ∙ ap (λ x. in_row row (number_in t u) || x)
+    (sym (ap (λ x. is_numbered t u && x) (and_false g) ∙ and_false (is_numbered t u)))
+
+name_at : (t : NameTable) (row : List Bool) (n u : List ℕ) (g : Bool) (o : Option ℕ) → number_in t n ≡ o → IsTable t
+    → HasRoom t row → in_row (row_at row o g) (number_in t u)
+    ≡ (in_row row (number_in t u) || (is_numbered t u && (g && bytes_eq n u)))
+name_at t row n u g None e is room = unnumbered t row n u g (bytes_eq n u) refl e
+name_at t row n u g (Some i) e is room =
+    row_step t row n u i g is (room n i e) e
+    ∙ ap (λ x. in_row row (number_in t u) || x) (numbered_same t n u i (bytes_eq n u) g refl e)
+
+-- the row after a name that goes, or doesn't
+name_step : (t : NameTable) (row : List Bool) (n u : List ℕ) (g : Bool) → IsTable t → HasRoom t row
+    → in_row (row_at row (number_in t n) g) (number_in t u)
+    ≡ (in_row row (number_in t u) || (is_numbered t u && (g && bytes_eq n u)))
+name_step t row n u g is room = name_at t row n u g (number_in t n) refl is room
+
+-- a test of one of two names that are the same
+pub at_same : (f : List ℕ → Bool) (n u : List ℕ) (b : Bool) → bytes_eq n u ≡ b → (f n && b) ≡ (f u && b)
+at_same f n u true same = ap (λ m. f m && true) (same_bytes n u same)
+at_same f n u false other = and_false (f n) ∙ sym (and_false (f u))
+
+-- the row after a name, unless a `signal` around its place declares it
+outer_step : (t : NameTable) (row : List Bool) (bs : List Binder) (n u : List ℕ) → IsTable t → HasRoom t row
+    → in_row (row_at row (number_in t n) (not (is_local bs n))) (number_in t u)
+    ≡ (in_row row (number_in t u) || (is_numbered t u && (not (is_local bs u) && bytes_eq n u)))
+outer_step t row bs n u is room =
+    name_step t row n u (not (is_local bs n)) is room
+    ∙ ap (λ x. in_row row (number_in t u) || (is_numbered t u && x))
+    (at_same (λ m. not (is_local bs m)) n u (bytes_eq n u) refl)
+
+off : (b : Bool) (row : List Bool) (i : ℕ) → cond (b && false) (slice_set row i true) row ≡ row
+off b row i = ap (λ x. cond x (slice_set row i true) row) (and_false b)
+
+-- the row after a name that doesn't go
+pub row_off : (row : List Bool) (o : Option ℕ) → row_at row o false ≡ row
+row_off row None = refl
+row_off row (Some i) = off (nat_lt i (length row) && not (slice_index_or row i false)) row i
+
 -- ---- the names of a run
 
 abbrev rest_of : {X : Type 0} → List X → List X
@@ -249,6 +314,25 @@ numbers_names o bs rs row (n ∷ ns) (i ∷ js) is tells e =
     ∙ numbers_names o bs rs (row_with row i g) ns js is tells (ap rest_of e)
     ∙ ap (λ x. row_by_names t bs rs (row_at row x g) ns) (sym at)
 
+-- the names of a run, one after another
+pub names_more : (t : NameTable) (bs : List Binder) (rs : List RenamingTree) (row : List Bool) (ns : List (List ℕ))
+    (k : ℕ) (n : List ℕ) → n ≡ get_or ns k n → k < length ns
+    → row_at (row_by_names t bs rs row (take k ns)) (number_in t n) (goes bs rs n)
+    ≡ row_by_names t bs rs row (take (k + 1) ns)
+names_more t bs rs row ns k n at room =
+    ap (λ (m : List ℕ). row_at (row_by_names t bs rs row (take k ns)) (number_in t m) (goes bs rs m)) at
+    ∙ sym (fold_more (λ (r : List Bool) (m : List ℕ). row_at r (number_in t m) (goes bs rs m)) row ns k n room)
+
+-- a name that is not renamed goes where no `signal` declares it, and one that is renamed doesn't
+pub goes_on : (bs : List Binder) (rs : List RenamingTree) (n : List ℕ) → is_renamed rs n ≡ false
+    → not (is_local bs n) ≡ goes bs rs n
+goes_on bs rs n h =
+    sym (ap (λ b. not (is_local bs n) && not b) h ∙ and_true (not (is_local bs n)))
+
+pub goes_not : (bs : List Binder) (rs : List RenamingTree) (n : List ℕ) → is_renamed rs n ≡ true
+    → goes bs rs n ≡ false
+goes_not bs rs n h = ap (λ b. not (is_local bs n) && not b) h ∙ and_false (not (is_local bs n))
+
 room_kept : (t : NameTable) (row new : List Bool) → length new ≡ length row → HasRoom t row → HasRoom t new
 room_kept t row new e room s i at = omega (arith, room s i at, e)
 
@@ -262,134 +346,164 @@ names_length t bs rs row [] = refl
 names_length t bs rs row (n ∷ ns) =
     names_length t bs rs (row_at row (number_in t n) (goes bs rs n)) ns ∙ at_length row (number_in t n) (goes bs rs n)
 
+-- what is noted with one more name, or with none
+joined : (r n a b c : Bool) → (a || b) ≡ c → ((r || (n && a)) || (n && b)) ≡ (r || (n && c))
+joined r n a b c e =
+    or_assoc r (n && a) (n && b) ∙ ap (λ x. r || x) (distributed n a b) ∙ ap (λ x. r || (n && x)) e
+
+never : (r n g : Bool) → r ≡ (r || (n && (g && false)))
+never r n g =
+    nothing_more r ∙ ap (λ x. r || x) (sym (ap (λ x. n && x) (and_false g) ∙ and_false n))
+
 -- the row after the names of a run
 row_names : (t : NameTable) (bs : List Binder) (rs : List RenamingTree) (row : List Bool) (names : List (List ℕ))
-    (numbers : List ℕ) (u : List ℕ) → IsTable t → HasRoom t row → AreNumbers t names numbers
-    → in_row (row_by_names t bs rs row names) (number_in t u)
-    ≡ (in_row row (number_in t u) || (goes bs rs u && stands_in names u))
-row_names t bs rs row [] numbers u is room e = nothing_more (in_row row (number_in t u))
-    ∙ ap (λ b. in_row row (number_in t u) || b) (sym (and_false (goes bs rs u)))
-row_names t bs rs row (n ∷ ns) [] u is room e = absurd (cons≢nil (number_in t n) (map (number_in t) ns) (sym e))
-row_names t bs rs row (n ∷ ns) (i ∷ js) u is room e =
-    let at : number_in t n ≡ Some i = number_of t n ns i js e in
+    (u : List ℕ) → IsTable t → HasRoom t row → in_row (row_by_names t bs rs row names) (number_in t u)
+    ≡ (in_row row (number_in t u) || (is_numbered t u && (goes bs rs u && stands_in names u)))
+row_names t bs rs row [] u is room = never (in_row row (number_in t u)) (is_numbered t u) (goes bs rs u)
+row_names t bs rs row (n ∷ ns) u is room =
     let g = goes bs rs n in
-    ap (λ x. in_row (row_by_names t bs rs (row_at row x g) ns) (number_in t u)) at
-    ∙ row_names t bs rs (row_with row i g) ns js u is (room_kept t row (row_with row i g) (with_length row i g) room)
-    (ap rest_of e)
-    ∙ ap (λ b. b || (goes bs rs u && stands_in ns u)) (row_step t row n u i g is (room n i at) at)
-    ∙ or_assoc (in_row row (number_in t u)) (g && bytes_eq n u) (goes bs rs u && stands_in ns u)
-    ∙ ap (λ b. in_row row (number_in t u) || b) (one_left (goes bs rs) n u (stands_in ns u) (bytes_eq n u) refl)
+    let next = row_at row (number_in t n) g in
+    row_names t bs rs next ns u is (room_kept t row next (at_length row (number_in t n) g) room)
+    ∙ ap (λ b. b || (is_numbered t u && (goes bs rs u && stands_in ns u))) (name_step t row n u g is room)
+    ∙ joined (in_row row (number_in t u)) (is_numbered t u) (g && bytes_eq n u) (goes bs rs u && stands_in ns u)
+    (goes bs rs u && (bytes_eq n u || stands_in ns u))
+    (one_left (goes bs rs) n u (stands_in ns u) (bytes_eq n u) refl)
+
+-- ---- the renamings of a run
+
+renaming_at : (t : NameTable) (bs : List Binder) (row : List Bool) (m u : List ℕ) (b : Bool) → IsTable t
+    → HasRoom t row → in_row (cond b (row_at row (number_in t m) (not (is_local bs m))) row) (number_in t u)
+    ≡ (in_row row (number_in t u) || (is_numbered t u && (not (is_local bs u) && (b && bytes_eq m u))))
+renaming_at t bs row m u true is room = outer_step t row bs m u is room
+renaming_at t bs row m u false is room = never (in_row row (number_in t u)) (is_numbered t u) (not (is_local bs u))
+
+renaming_length : (t : NameTable) (bs : List Binder) (row : List Bool) (m : List ℕ) (b : Bool)
+    → length (cond b (row_at row (number_in t m) (not (is_local bs m))) row) ≡ length row
+renaming_length t bs row m true = at_length row (number_in t m) (not (is_local bs m))
+renaming_length t bs row m false = refl
+
+renamings_length : (t : NameTable) (em : List ℕ → List ℕ → Bool) (bs : List Binder) (q : Program)
+    (rs : List RenamingTree) (row : List Bool) (some : List RenamingTree)
+    → length (row_by_renamings t em bs q rs row some) ≡ length row
+renamings_length t em bs q rs row [] = refl
+renamings_length t em bs q rs row (r ∷ some) =
+    renamings_length t em bs q rs (row_by_renaming t em bs q rs row r) some
+    ∙ renaming_length t bs row (renamed rs r.inner) (sends em q r)
+
+fold_last : {A B : Type 0} (f : B → A → B) (a : B) (xs : List A) (x : A) → fold f a (xs ++ x ∷ []) ≡ f (fold f a xs) x
+fold_last f a [] x = refl
+fold_last f a (y ∷ ys) x = fold_last f (f a y) ys x
+
+-- the renamings of a run, one after another
+pub renamings_more : (t : NameTable) (em : List ℕ → List ℕ → Bool) (bs : List Binder) (q : Program)
+    (rs : List RenamingTree) (row : List Bool) (all : List Renaming) (k : ℕ) (r : Renaming) → r ≡ get_or all k r
+    → k < length all
+    → row_by_renaming t em bs q rs (row_by_renamings t em bs q rs row (map renaming_view (take k all)))
+    (renaming_view r)
+    ≡ row_by_renamings t em bs q rs row (map renaming_view (take (k + 1) all))
+renamings_more t em bs q rs row all k r at room =
+    let front = map renaming_view (take k all) in
+    let old = row_by_renamings t em bs q rs row front in
+    ap (λ (x : Renaming). row_by_renaming t em bs q rs old (renaming_view x)) at
+    ∙ sym (fold_last (row_by_renaming t em bs q rs) row front (renaming_view (get_or all k r)))
+    ∙ ap (row_by_renamings t em bs q rs row) (more renaming_view all k (k + 1) r room (omega arith))
+
+-- the row after renamings
+row_renamings : (t : NameTable) (em : List ℕ → List ℕ → Bool) (bs : List Binder) (q : Program)
+    (rs : List RenamingTree) (row : List Bool) (some : List RenamingTree) (u : List ℕ) → IsTable t → HasRoom t row
+    → in_row (row_by_renamings t em bs q rs row some) (number_in t u)
+    ≡ (in_row row (number_in t u) || (is_numbered t u && (not (is_local bs u) && sends_renamed em q rs some u)))
+row_renamings t em bs q rs row [] u is room =
+    never (in_row row (number_in t u)) (is_numbered t u) (not (is_local bs u))
+row_renamings t em bs q rs row (r ∷ some) u is room =
+    let m = renamed rs r.inner in
+    let next = row_by_renaming t em bs q rs row r in
+    let here = sends em q r && bytes_eq m u in
+    row_renamings t em bs q rs next some u is (room_kept t row next (renaming_length t bs row m (sends em q r)) room)
+    ∙ ap (λ b. b || (is_numbered t u && (not (is_local bs u) && sends_renamed em q rs some u)))
+    (renaming_at t bs row m u (sends em q r) is room)
+    ∙ joined (in_row row (number_in t u)) (is_numbered t u) (not (is_local bs u) && here)
+    (not (is_local bs u) && sends_renamed em q rs some u)
+        (not (is_local bs u) && (here || sends_renamed em q rs some u))
+    (distributed (not (is_local bs u)) here (sends_renamed em q rs some u))
 
 -- ---- what is noted after an act
 
-all_or : (b : Bool) → (b || true) ≡ true
-all_or true = refl
-all_or false = refl
+both_ways : (l n e x : Bool) → (((not l && not n) && e) || (not l && x)) ≡ (not l && ((not n && e) || x))
+both_ways true n e x = refl
+both_ways false true e x = refl
+both_ways false false e x = refl
 
-by_row : (r o l n e x : Bool) → ((r || ((not l && not n) && e)) || (o || (not l && x)))
-    ≡ ((r || o) || (not l && ((not n && e) || x)))
-by_row true o l n e x = refl
-by_row false true l n e x = all_or ((not l && not n) && e)
-by_row false false true n e x = refl
-by_row false false false true e x = refl
-by_row false false false false e x = refl
-
-by_names : (r o l n e x : Bool) → (r || ((o || ((not l && not n) && e)) || (not l && x)))
-    ≡ ((r || o) || (not l && ((not n && e) || x)))
-by_names true o l n e x = refl
-by_names false true l n e x = refl
-by_names false false true n e x = refl
-by_names false false false true e x = refl
-by_names false false false false e x = refl
-
-silent : (a l : Bool) → a ≡ (a || (not l && false))
-silent true l = refl
-silent false true = refl
-silent false false = refl
-
-names_found : (em : List ℕ → List ℕ → Bool) (t : NameTable) (k : Noted) (bs : List Binder) (rs : List RenamingTree)
-    (q : Program) (names : List (List ℕ)) (o : Option Kept) (s : List ℕ) → IsTable t → HasRoom t k.row
-    → ((kept : Kept) → o ≡ Some kept → AreNumbers t names kept.numbers.items)
-    → is_noted t (noted_renamed em bs rs q (noted_names t bs rs names k o)) s
-    ≡ (is_noted t k s
-    || (not (is_local bs s) && ((not (is_renamed rs s) && stands_in names s) || sends_renamed em q rs s)))
-names_found em t k bs rs q names (Some kept) s is room are =
-    ap (λ b. b || (k.others s || (not (is_local bs s) && sends_renamed em q rs s)))
-    (row_names t bs rs k.row names kept.numbers.items s is room (are kept refl))
-    ∙ by_row (in_row k.row (number_in t s)) (k.others s) (is_local bs s) (is_renamed rs s) (stands_in names s)
-    (sends_renamed em q rs s)
-names_found em t k bs rs q names None s is room are =
-    by_names (in_row k.row (number_in t s)) (k.others s) (is_local bs s) (is_renamed rs s) (stands_in names s)
-    (sends_renamed em q rs s)
-
-names_run : (ps : List Program) (em : List ℕ → List ℕ → Bool) (t : NameTable) (ks : List Kept) (k : Noted)
-    (bs : List Binder) (rs : List RenamingTree) (m s : List ℕ) (found : Option Program) → program_named ps m ≡ found
-    → IsTable t → AreKept t (sent_by ps em) ks → HasRoom t k.row
-    → is_noted t (noted_run ps em t ks k bs rs found) s
-    ≡ (is_noted t k s || (not (is_local bs s) && emits_in_run em s rs found))
-names_run ps em t ks k bs rs m s None e is are room = silent (is_noted t k s) (is_local bs s)
-names_run ps em t ks k bs rs m s (Some q) e is are room =
+run_noted : (ps : List Program) (em : List ℕ → List ℕ → Bool) (t : NameTable) (row : List Bool) (bs : List Binder)
+    (rs : List RenamingTree) (m u : List ℕ) (found : Option Program) → program_named ps m ≡ found → IsTable t
+    → HasRoom t row → in_row (row_by_run ps em t bs rs row found) (number_in t u)
+    ≡ (in_row row (number_in t u) || (is_numbered t u && (not (is_local bs u) && emits_in_run em u rs found)))
+run_noted ps em t row bs rs m u None e is room =
+    never (in_row row (number_in t u)) (is_numbered t u) (not (is_local bs u))
+run_noted ps em t row bs rs m u (Some q) e is room =
     let named : q.name ≡ m = same_bytes q.name m (found_passes (λ (p : Program). bytes_eq p.name m) ps q e) in
     let found : program_named ps q.name ≡ Some q = ap (program_named ps) named ∙ e in
-    names_found em t k bs rs q (sent_by ps em q.name) (kept_named ks q.name) s is room
-    (λ kept at. kept_found t (sent_by ps em) q.name ks kept are at)
-    ∙ ap (λ b. is_noted t k s || (not (is_local bs s) && ((not (is_renamed rs s) && b) || sends_renamed em q rs s)))
-    (sent_is ps em q.name q s found)
-    ∙ ap (λ b. is_noted t k s || (not (is_local bs s) && b))
-    (sym (same_tests (emits_in_run em s rs (Some q)) _ (sent_apart em q rs s) (sent_whole em q rs s)))
+    let names = sent_by ps em q.name in
+    let next = row_by_names t bs rs row names in
+    let r = in_row row (number_in t u) in
+    let n = is_numbered t u in
+    let l = is_local bs u in
+    row_renamings t em bs q rs next rs u is (room_kept t row next (names_length t bs rs row names) room)
+    ∙ ap (λ b. b || (n && (not l && sends_renamed em q rs rs u))) (row_names t bs rs row names u is room)
+    ∙ joined r n (goes bs rs u && stands_in names u) (not l && sends_renamed em q rs rs u)
+    (not l && ((not (is_renamed rs u) && stands_in names u) || sends_renamed em q rs rs u))
+    (both_ways l (is_renamed rs u) (stands_in names u) (sends_renamed em q rs rs u))
+    ∙ ap (λ b. r || (n && (not l && ((not (is_renamed rs u) && b) || sends_renamed em q rs rs u))))
+    (sent_is ps em q.name q u found)
+    ∙ ap (λ b. r || (n && (not l && b)))
+    (sym (same_tests (emits_in_run em u rs (Some q)) _ (sent_apart em q rs u) (sent_whole em q rs u)))
 
-names_act : (ps : List Program) (em : List ℕ → List ℕ → Bool) (t : NameTable) (ks : List Kept) (k : Noted)
-    (bs : List Binder) (act : Act) (s : List ℕ) → IsTable t → AreKept t (sent_by ps em) ks → HasRoom t k.row
-    → is_noted t (noted_act ps em t ks k bs act) s ≡ (is_noted t k s || (not (is_local bs s) && emits_by ps em s act))
-names_act ps em t ks k bs (emits n) s is are room = sym
-    (or_assoc (in_row k.row (number_in t s)) (k.others s) (not (is_local bs s) && bytes_eq n s))
-names_act ps em t ks k bs (tests n) s is are room = silent (is_noted t k s) (is_local bs s)
-names_act ps em t ks k bs (exits n) s is are room = silent (is_noted t k s) (is_local bs s)
-names_act ps em t ks k bs (binds ns) s is are room = silent (is_noted t k s) (is_local bs s)
-names_act ps em t ks k bs (runs m rs) s is are room = names_run ps em t ks k bs rs m s
-    (program_named ps m) refl is are room
+act_noted : (ps : List Program) (em : List ℕ → List ℕ → Bool) (t : NameTable) (row : List Bool) (bs : List Binder)
+    (act : Act) (u : List ℕ) → IsTable t → HasRoom t row
+    → in_row (row_by_act ps em t row bs act) (number_in t u)
+    ≡ (in_row row (number_in t u) || (is_numbered t u && (not (is_local bs u) && emits_by ps em u act)))
+act_noted ps em t row bs (emits n) u is room = outer_step t row bs n u is room
+act_noted ps em t row bs (tests n) u is room =
+    never (in_row row (number_in t u)) (is_numbered t u) (not (is_local bs u))
+act_noted ps em t row bs (exits n) u is room =
+    never (in_row row (number_in t u)) (is_numbered t u) (not (is_local bs u))
+act_noted ps em t row bs (binds ns) u is room =
+    never (in_row row (number_in t u)) (is_numbered t u) (not (is_local bs u))
+act_noted ps em t row bs (runs m rs) u is room = run_noted ps em t row bs rs m u (program_named ps m) refl is room
 
-found_length : (t : NameTable) (bs : List Binder) (rs : List RenamingTree) (names : List (List ℕ)) (k : Noted)
-    (o : Option Kept) → length (noted_names t bs rs names k o).row ≡ length k.row
-found_length t bs rs names k None = refl
-found_length t bs rs names k (Some kept) = names_length t bs rs k.row names
+run_length : (ps : List Program) (em : List ℕ → List ℕ → Bool) (t : NameTable) (row : List Bool) (bs : List Binder)
+    (rs : List RenamingTree) (found : Option Program) → length (row_by_run ps em t bs rs row found) ≡ length row
+run_length ps em t row bs rs None = refl
+run_length ps em t row bs rs (Some q) =
+    renamings_length t em bs q rs (row_by_names t bs rs row (sent_by ps em q.name)) rs
+    ∙ names_length t bs rs row (sent_by ps em q.name)
 
-run_length : (ps : List Program) (em : List ℕ → List ℕ → Bool) (t : NameTable) (ks : List Kept) (k : Noted)
-    (bs : List Binder) (rs : List RenamingTree) (found : Option Program)
-    → length (noted_run ps em t ks k bs rs found).row ≡ length k.row
-run_length ps em t ks k bs rs None = refl
-run_length ps em t ks k bs rs (Some q) = found_length t bs rs (sent_by ps em q.name) k (kept_named ks q.name)
+act_length : (ps : List Program) (em : List ℕ → List ℕ → Bool) (t : NameTable) (row : List Bool) (bs : List Binder)
+    (act : Act) → length (row_by_act ps em t row bs act) ≡ length row
+act_length ps em t row bs (emits n) = at_length row (number_in t n) (not (is_local bs n))
+act_length ps em t row bs (tests n) = refl
+act_length ps em t row bs (exits n) = refl
+act_length ps em t row bs (binds ns) = refl
+act_length ps em t row bs (runs m rs) = run_length ps em t row bs rs (program_named ps m)
 
-act_length : (ps : List Program) (em : List ℕ → List ℕ → Bool) (t : NameTable) (ks : List Kept) (k : Noted)
-    (bs : List Binder) (act : Act) → length (noted_act ps em t ks k bs act).row ≡ length k.row
-act_length ps em t ks k bs (emits n) = refl
-act_length ps em t ks k bs (tests n) = refl
-act_length ps em t ks k bs (exits n) = refl
-act_length ps em t ks k bs (binds ns) = refl
-act_length ps em t ks k bs (runs m rs) = run_length ps em t ks k bs rs (program_named ps m)
+none_any_more : (r n : Bool) → r ≡ (r || (n && false))
+none_any_more r n = nothing_more r ∙ ap (λ x. r || x) (sym (and_false n))
 
--- after a list those before it are noted, and those that an occurrence of the list emits
-pub noted_along : (ps : List Program) (em : List ℕ → List ℕ → Bool) (t : NameTable) (ks : List Kept) (k : Noted)
-    (os : List Occurrence) (s : List ℕ) → IsTable t → AreKept t (sent_by ps em) ks → HasRoom t k.row
-    → is_noted t (fold (noted_after ps em t ks) k os) s ≡ (is_noted t k s || list_any (emits_here ps em s) os)
-noted_along ps em t ks k [] s is are room = nothing_more (is_noted t k s)
-noted_along ps em t ks k (o ∷ os) s is are room =
-    let next = noted_after ps em t ks k o in
-    noted_along ps em t ks next os s is are (room_kept t k.row next.row (act_length ps em t ks k o.around o.act) room)
-    ∙ ap (λ b. b || list_any (emits_here ps em s) os) (names_act ps em t ks k o.around o.act s is are room)
-    ∙ or_assoc (is_noted t k s) (emits_here ps em s o) (list_any (emits_here ps em s) os)
+-- after a list those before it are noted, and those with a number that an occurrence of the list emits
+noted_along : (ps : List Program) (em : List ℕ → List ℕ → Bool) (t : NameTable) (row : List Bool)
+    (os : List Occurrence) (s : List ℕ) → IsTable t → HasRoom t row
+    → in_row (fold (row_after ps em t) row os) (number_in t s)
+    ≡ (in_row row (number_in t s) || (is_numbered t s && list_any (emits_here ps em s) os))
+noted_along ps em t row [] s is room = none_any_more (in_row row (number_in t s)) (is_numbered t s)
+noted_along ps em t row (o ∷ os) s is room =
+    let next = row_after ps em t row o in
+    let rest = list_any (emits_here ps em s) os in
+    noted_along ps em t next os s is (room_kept t row next (act_length ps em t row o.around o.act) room)
+    ∙ ap (λ b. b || (is_numbered t s && rest)) (act_noted ps em t row o.around o.act s is room)
+    ∙ joined (in_row row (number_in t s)) (is_numbered t s) (emits_here ps em s o) rest
+    (emits_here ps em s o || rest) refl
 
--- ---- the steps of the code
-
--- a value of these parts
-abbrev pub noted : List Bool → (List ℕ → Bool) → Noted
-noted r o = record { row = r; others = o }
-
--- what is noted is the same where its row is and its other names
-pub same_noted : (k l : Noted) → k.row ≡ l.row → ((s : List ℕ) → k.others s ≡ l.others s) → k ≡ l
-same_noted k l a b = ap (λ r. noted r k.others) a ∙ ap (noted l.row) (fun_ext b)
-
--- ---- before the first occurrence
+-- ---- from the first occurrence on
 
 none_set : (n i : ℕ) → slice_index_or (replicate n false) i false ≡ false
 none_set zero i = refl
@@ -400,14 +514,7 @@ none_in_row : (n : ℕ) (o : Option ℕ) → in_row (replicate n false) o ≡ fa
 none_in_row n None = refl
 none_in_row n (Some i) = none_set n i
 
-pub noted_nothing : (t : NameTable) (row : List Bool) (others : List (List ℕ)) (s : List ℕ) (n : ℕ)
-    → row ≡ replicate n false → others ≡ [] → is_noted t (noted row (stands_in others)) s ≡ false
-noted_nothing t row others s n e none =
-    ap (λ r. in_row r (number_in t s) || stands_in others s) e
-    ∙ ap (λ b. b || stands_in others s) (none_in_row n (number_in t s))
-    ∙ ap (λ xs. stands_in xs s) none
-
-pub room_at_first : (t : NameTable) (row : List Bool) → IsTable t → row ≡ replicate (length t.names.items) false
+room_at_first : (t : NameTable) (row : List Bool) → IsTable t → row ≡ replicate (length t.names.items) false
     → HasRoom t row
 room_at_first t row is e s i at =
     omega (
@@ -417,82 +524,48 @@ room_at_first t row is e s i at =
       ap length e,
     )
 
--- ---- names of numbers, one after another
+-- what is noted of a module is what it emits of the names that have a number
+pub noted_all : (ps : List Program) (em : List ℕ → List ℕ → Bool) (t : NameTable) (row : List Bool)
+    (os : List Occurrence) (s : List ℕ) → IsTable t → row ≡ replicate (length t.names.items) false
+    → in_row (fold (row_after ps em t) row os) (number_in t s)
+    ≡ (is_numbered t s && list_any (emits_here ps em s) os)
+noted_all ps em t row os s is e =
+    noted_along ps em t row os s is (room_at_first t row is e)
+    ∙ ap (λ b. b || (is_numbered t s && list_any (emits_here ps em s) os))
+    (ap (λ (r : List Bool). in_row r (number_in t s)) e ∙ none_in_row (length t.names.items) (number_in t s))
 
--- the name is this one, if there is one
-abbrev pub is_named : Option (List ℕ) → List ℕ → Bool
-is_named None s = false
-is_named (Some n) s = bytes_eq n s
+-- ---- the set of what is noted
 
-not_named : (t : NameTable) (s : List ℕ) (i : ℕ) (o : Option (List ℕ)) → IsTable t → slice_get t.names.items i ≡ o
-    → (number_in t s ≡ Some i → ⊥) → is_named o s ≡ false
-not_named t s i None is at other = refl
-not_named t s i (Some n) is at other = elim (cases_bool (bytes_eq n s)) [
-  | inl so ↦ absurd (other (ap (number_in t) (sym (same_bytes n s so)) ∙ is.numbered n i at))
-  | inr not_so ↦ not_so
-]
+-- one name more of an interface
+pub set_more : (old noted before here : Bool)
+    → ((old || (noted && before)) || (noted && here)) ≡ (old || (noted && (before || here)))
+set_more old noted before here =
+    or_assoc old (noted && before) (noted && here) ∙ ap (λ b. old || b) (distributed noted before here)
 
-front_same : (row : List Bool) (i j : ℕ) → (j ≡ i → ⊥) → slice_index_or (take (suc i) row) j false
-    ≡ slice_index_or (take i row) j false
-front_same [] zero j other = refl
-front_same [] (suc i) j other = refl
-front_same (x ∷ xs) zero zero other = absurd (other refl)
-front_same (x ∷ xs) zero (suc j) other = refl
-front_same (x ∷ xs) (suc i) zero other = refl
-front_same (x ∷ xs) (suc i) (suc j) other = front_same xs i j (λ e. other (ap suc e))
+swapped : (a b : Bool) → (a || b) ≡ (b || a)
+swapped true true = refl
+swapped true false = refl
+swapped false true = refl
+swapped false false = refl
 
-front_past : (row : List Bool) (i : ℕ) → slice_index_or (take i row) i false ≡ false
-front_past [] zero = refl
-front_past [] (suc i) = refl
-front_past (x ∷ xs) zero = refl
-front_past (x ∷ xs) (suc i) = front_past xs i
+all_of : (d t n e : Bool) → (e ≡ true → (d || t) ≡ true) → ((d || t) ≡ true → n ≡ true)
+    → (((n && e) && t) || ((n && e) && d)) ≡ e
+all_of d t n false seen numbered = ap (λ x. (x && t) || (x && d)) (and_false n)
+all_of d t n true seen numbered =
+    ap (λ x. ((x && true) && t) || ((x && true) && d)) (numbered (seen refl)) ∙ swapped t d ∙ seen refl
 
-next_at : (t : NameTable) (row : List Bool) (i : ℕ) (s : List ℕ) (o : Option (List ℕ)) (m : Option ℕ)
-    → number_in t s ≡ m → IsTable t → slice_get t.names.items i ≡ o
-    → in_row (take (suc i) row) m ≡ (in_row (take i row) m || (slice_index_or row i false && is_named o s))
-next_at t row i s o None e is at =
-    sym (ap (λ b. slice_index_or row i false && b) (not_named t s i o is at (λ h. absurd (none-some i (sym e ∙ h))))
-    ∙ and_false (slice_index_or row i false))
-next_at t row i s o (Some j) e is at = elim (cases_eq j i) [
-  | inl same ↦
-      let named : is_named o s ≡ true = ap (λ p. is_named p s) (sym at ∙ is.named s i (e ∙ ap Some same))
-      ∙ equal_bytes s in
-      ap (λ k. slice_index_or (take (suc i) row) k false) same
-      ∙ get_or-take (suc i) row i false (omega arith)
-      ∙ sym (ap (λ k. slice_index_or (take i row) k false || (slice_index_or row i false && is_named o s)) same
-      ∙ ap (λ b. b || (slice_index_or row i false && is_named o s)) (front_past row i)
-      ∙ ap (λ b. slice_index_or row i false && b) named
-      ∙ and_true (slice_index_or row i false))
-  | inr other ↦
-      front_same row i j other
-      ∙ nothing_more (slice_index_or (take i row) j false)
-      ∙ ap (λ b. slice_index_or (take i row) j false || b)
-      (sym (ap (λ b. slice_index_or row i false && b) (not_named t s i o is at (λ h. other (some_same j i (sym e ∙ h))))
-      ∙ and_false (slice_index_or row i false)))
-]
-
-swapped : (a b c : Bool) → ((a || b) || c) ≡ ((a || c) || b)
-swapped true b c = refl
-swapped false true true = refl
-swapped false true false = refl
-swapped false false true = refl
-swapped false false false = refl
-
--- one number more
-pub next_number : (t : NameTable) (row : List Bool) (i : ℕ) (s : List ℕ) (o : Option (List ℕ)) (b before old : Bool)
-    → IsTable t → slice_get t.names.items i ≡ o → slice_index_or row i false ≡ b
-    → before ≡ (in_row (take i row) (number_in t s) || old)
-    → (before || (b && is_named o s)) ≡ (in_row (take (i + 1) row) (number_in t s) || old)
-next_number t row i s o b before old is at e h =
-    let next : suc i ≡ i + 1 = omega arith in
-    ap (λ x. x || (b && is_named o s)) h
-    ∙ swapped (in_row (take i row) (number_in t s)) old (b && is_named o s)
-    ∙ ap (λ c. (in_row (take i row) (number_in t s) || (c && is_named o s)) || old) (sym e)
-    ∙ ap (λ x. x || old) (sym (next_at t row i s o (number_in t s) refl is at))
-    ∙ ap (λ (k : ℕ). in_row (take k row) (number_in t s) || old) next
-
--- a name is put behind others
-pub stands_more : (xs : List (List ℕ)) (n s : List ℕ) → stands_in (xs ++ n ∷ []) s ≡ (stands_in xs s || bytes_eq n s)
-stands_more [] n s = sym (nothing_more (bytes_eq n s))
-stands_more (x ∷ xs) n s = ap (λ b. bytes_eq x s || b) (stands_more xs n s)
-    ∙ sym (or_assoc (bytes_eq x s) (stands_in xs s) (bytes_eq n s))
+-- the set of the names that are noted and are declared, or `tick`, where only such names are emitted, and each of them
+-- has a number
+pub noted_set : (t : NameTable) (row : List Bool) (emitted declared : List ℕ → Bool) (s : List ℕ)
+    → ((u : List ℕ) → in_row row (number_in t u) ≡ (is_numbered t u && emitted u))
+    → (emitted s ≡ true → (declared s || is_tick s) ≡ true)
+    → ((declared s || is_tick s) ≡ true → is_numbered t s ≡ true)
+    → ((in_row row (number_in t (codes "tick")) && bytes_eq (codes "tick") s)
+    || (in_row row (number_in t s) && declared s)) ≡ emitted s
+noted_set t row emitted declared s noted seen numbered =
+    let r = in_row row (number_in t s) in
+    ap (λ b. b || (r && declared s))
+    (at_same (λ u. in_row row (number_in t u)) (codes "tick") s (bytes_eq (codes "tick") s) refl)
+    ∙ ap (λ b. (r && b) || (r && declared s)) (turned (codes "tick") s)
+    ∙ ap (λ b. (b && is_tick s) || (b && declared s)) (noted s)
+    ∙ all_of (declared s) (is_tick s) (is_numbered t s) (emitted s) seen numbered

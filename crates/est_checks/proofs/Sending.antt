@@ -13,7 +13,7 @@ use Rattle.std.specs.Str.{bytes_eq}
 use Rattle.est_syntax.specs.Tree.{RenamingTree}
 use Rattle.est_modules.specs.Visible.{stands_in}
 use Rattle.est_checks.specs.Duplicates.{duplicate_of, duplicate_after, first_duplicate}
-use Rattle.est_checks.specs.Emissions.{emitted_of, emits_in_run, emits_by, emits_here, IsEmitted, AreEmissions}
+use Rattle.est_checks.specs.Emissions.{emits_in_run, emits_by, emits_here, IsEmitted, AreEmissions}
 use Rattle.est_checks.specs.Inner.Sent.{AreSent, StandsBefore}
 use Rattle.est_modules.specs.Modules.{Program, program_named}
 use Rattle.est_modules.specs.Occurrences.{Act, emits, tests, exits, binds, runs, Occurrence, occurrences}
@@ -93,15 +93,10 @@ place_of_name seen (q ∷ qs) h (suc i) p at =
 
 -- ---- one more module
 
--- the table says besides what the module emits
+-- the table says of the module what it emits, and of others what another table says
 abbrev pub IsMore : List Program → (f g : List ℕ → List ℕ → Bool) → Program → Type 0
 IsMore ps f g q = (m s : List ℕ)
-    → g m s ≡ (f m s || (bytes_eq q.name m && list_any (emits_here ps f s) (occurrences [] q.body)))
-
-unchanged : (a b c : Bool) → b ≡ false → (a || (b && c)) ≡ a
-unchanged true b c h = refl
-unchanged false true c h = absurd (false≢true (sym h))
-unchanged false false c h = refl
+    → g m s ≡ cond (bytes_eq q.name m) (list_any (emits_here ps f s) (occurrences [] q.body)) (f m s)
 
 cases_bool : (b : Bool) → (b ≡ true) ⊎ (b ≡ false)
 cases_bool true = inl refl
@@ -123,8 +118,8 @@ same_runs ps order f g k i p q up distinct k_in below i_in q_at p_at more o stan
           let leads = run_is_run ps (slice_index order i) (slice_index order k) p o m p_at stands is_run place in
           absurd (omega (arith, below, up.after_runs i k i_in k_in leads))
       | inr other ↦
-          sym (more r.name t ∙ unchanged (f r.name t) (bytes_eq q.name r.name)
-          (list_any (emits_here ps f t) (occurrences [] q.body)) other)
+          sym (more r.name t
+          ∙ ap (λ b. cond b (list_any (emits_here ps f t) (occurrences [] q.body)) (f r.name t)) other)
     ]
 
 same_emissions : (ps : List Program) (order : List ℕ) (f g : List ℕ → List ℕ → Bool) (k i : ℕ) (p q : Program)
@@ -136,34 +131,12 @@ same_emissions ps order f g k i p q up distinct k_in below i_in q_at p_at more s
     same_any (emits_here ps f s) (emits_here ps g s) (occurrences [] p.body) (λ o stands.
     same_here ps f g s o (same_runs ps order f g k i p q up distinct k_in below i_in q_at p_at more o stands))
 
--- what is added to what was said already is said already
-added_again : (a b c : Bool) → a ≡ c → (a || (b && c)) ≡ c
-added_again true b c h = h
-added_again false true c h = refl
-added_again false false c h = h
-
--- what is added where nothing else was said
-added_new : (a b c : Bool) → b ≡ true → (a ≡ true → c ≡ true) → (a || (b && c)) ≡ c
-added_new true b c h k = sym (k refl)
-added_new false true c h k = refl
-added_new false false c h k = absurd (false≢true h)
-
 -- two modules of one name are one
 same_module : (ps : List Program) → first_duplicate ps ≡ None → (i j : ℕ) (p q : Program) → slice_get ps i ≡ Some p
     → slice_get ps j ≡ Some q → p.name ≡ q.name → p ≡ q
 same_module ps distinct i j p q p_at q_at e =
     some_same p q
     (sym (first_of_name [] ps distinct i p p_at) ∙ ap (program_named ps) e ∙ first_of_name [] ps distinct j q q_at)
-
--- the module that is added is said to emit nothing before, or what it emits
-said_before : (ps : List Program) (order : List ℕ) (f : List ℕ → List ℕ → Bool) (k i : ℕ) (p : Program)
-    → first_duplicate ps ≡ None → slice_get ps i ≡ Some p → AreSent ps order k f → (s : List ℕ) → f p.name s ≡ true
-    → list_any (emits_here ps f s) (occurrences [] p.body) ≡ true
-said_before ps order f k i p distinct p_at sent s said =
-    let w = sent.only p.name s said in
-    let same : w.program ≡ p = same_module ps distinct (slice_index order w.place) i w.program p w.there p_at w.named in
-    sym (subst (λ (r : Program). f r.name s ≡ list_any (emits_here ps f s) (occurrences [] r.body)) same
-    (sent.each w.place w.before w.program w.there s)) ∙ said
 
 one_more : (ps : List Program) (order : List ℕ) (f g : List ℕ → List ℕ → Bool) (k : ℕ) (q : Program)
     → IsOrderOf ps order → first_duplicate ps ≡ None → k < length order → slice_get ps (slice_index order k) ≡ Some q
@@ -172,64 +145,48 @@ one_more : (ps : List Program) (order : List ℕ) (f g : List ℕ → List ℕ �
 one_more ps order f g k q up distinct k_in q_at more sent i below p p_at s =
     let same = same_emissions ps order f g k i p q up distinct k_in below
     (omega (arith, below, k_in)) q_at p_at more s in
-    let mine : Bool = list_any (emits_here ps f s) (occurrences [] p.body) in
     let added : Bool = list_any (emits_here ps f s) (occurrences [] q.body) in
-    elim (cases_lt i k) [
-      | inl earlier ↦ (elim (cases_bool (bytes_eq q.name p.name)) [
-        | inl named ↦
-            let is_p : q ≡ p = same_module ps distinct (slice_index order k) (slice_index order i) q p q_at p_at
-            (same_bytes q.name p.name named) in
-            more p.name s
-            ∙ ap (λ (r : Program). f p.name s
-            || (bytes_eq q.name p.name && list_any (emits_here ps f s) (occurrences [] r.body))) is_p
-            ∙ added_again (f p.name s) (bytes_eq q.name p.name) mine (sent.each i earlier p p_at s)
-            ∙ same
-        | inr other ↦ more p.name s ∙ unchanged (f p.name s) (bytes_eq q.name p.name) added other
-            ∙ sent.each i earlier p p_at s ∙ same
-      ])
-      | inr last ↦
-          let is_k : k ≡ i = omega (arith, below, last) in
-          let is_p : q ≡ p = some_same q p (sym q_at ∙ ap (λ j. slice_get ps (slice_index order j)) is_k ∙ p_at) in
-          more p.name s
-          ∙ ap (λ (r : Program). f p.name s
-          || (bytes_eq r.name p.name && list_any (emits_here ps f s) (occurrences [] r.body))) is_p
-          ∙ added_new (f p.name s) (bytes_eq p.name p.name) mine (equal_bytes p.name)
-          (said_before ps order f k (slice_index order i) p distinct p_at sent s)
+    more p.name s ∙ elim (cases_bool (bytes_eq q.name p.name)) [
+      | inl named ↦
+          ap (λ b. cond b added (f p.name s)) named
+          ∙ ap (λ (r : Program). list_any (emits_here ps f s) (occurrences [] r.body))
+          (same_module ps distinct (slice_index order k) (slice_index order i) q p q_at p_at
+          (same_bytes q.name p.name named))
           ∙ same
+      | inr other ↦ (elim (cases_lt i k) [
+        | inl earlier ↦ ap (λ b. cond b added (f p.name s)) other ∙ sent.each i earlier p p_at s ∙ same
+        | inr last ↦
+            let is_k : k ≡ i = omega (arith, below, last) in
+            let is_p : q ≡ p = some_same q p (sym q_at ∙ ap (λ j. slice_get ps (slice_index order j)) is_k ∙ p_at) in
+            absurd (false≢true
+            (sym other ∙ subst (λ (r : Program). bytes_eq r.name p.name ≡ true) (sym is_p) (equal_bytes p.name)))
+      ])
     ]
-
-or_cases : (b c : Bool) → (b || c) ≡ true → (b ≡ true) ⊎ (c ≡ true)
-or_cases true c h = inl refl
-or_cases false c h = inr h
-
-and_first : (b c : Bool) → (b && c) ≡ true → b ≡ true
-and_first true c h = refl
-and_first false c h = absurd (false≢true h)
 
 one_only : (ps : List Program) (order : List ℕ) (f g : List ℕ → List ℕ → Bool) (k : ℕ) (q : Program)
     → slice_get ps (slice_index order k) ≡ Some q → IsMore ps f g q → AreSent ps order k f → (m s : List ℕ)
     → g m s ≡ true → StandsBefore ps order (k + 1) m
-one_only ps order f g k q q_at more sent m s said = elim
-    (or_cases (f m s) (bytes_eq q.name m && list_any (emits_here ps f s) (occurrences [] q.body))
-    (sym (more m s) ∙ said)) [
-      | inl old ↦
-          let w = sent.only m s old in
-          record {
-            place = w.place;
-            before = omega (arith, w.before);
-            program = w.program;
-            there = w.there;
-            named = w.named;
-          }
-      | inr new ↦
-          record {
-            place = k;
-            before = omega arith;
-            program = q;
-            there = q_at;
-            named = same_bytes q.name m (and_first (bytes_eq q.name m) _ new);
-          }
-    ]
+one_only ps order f g k q q_at more sent m s said = elim (cases_bool (bytes_eq q.name m)) [
+  | inl new ↦
+      record {
+        place = k;
+        before = omega arith;
+        program = q;
+        there = q_at;
+        named = same_bytes q.name m new;
+      }
+  | inr other ↦
+      let w = sent.only m s
+      (sym (ap (λ b. cond b (list_any (emits_here ps f s) (occurrences [] q.body)) (f m s)) other)
+      ∙ sym (more m s) ∙ said) in
+      record {
+        place = w.place;
+        before = omega (arith, w.before);
+        program = w.program;
+        there = w.there;
+        named = w.named;
+      }
+]
 
 -- one more module's emissions are said
 pub sending_goes_on : (ps : List Program) (order : List ℕ) (f g : List ℕ → List ℕ → Bool) (k : ℕ) (q : Program)
@@ -241,10 +198,11 @@ sending_goes_on ps order f g k q up distinct k_in q_at more sent = record {
 }
 
 -- before the first module nothing is said
-pub sending_begins : (ps : List Program) (order : List ℕ) → AreSent ps order 0 (emitted_of [])
-sending_begins ps order = record {
+pub sending_begins : (ps : List Program) (order : List ℕ) (f : List ℕ → List ℕ → Bool)
+    → ((m s : List ℕ) → f m s ≡ false) → AreSent ps order 0 f
+sending_begins ps order f none = record {
   each = λ i below p p_at. absurd (omega (arith, below));
-  only = λ m s said. absurd (false≢true said);
+  only = λ m s said. absurd (false≢true (sym (none m s) ∙ said));
 }
 
 -- behind the last one, what each module emits

@@ -1,7 +1,11 @@
 -- Emissions of inputs (this project's own form).
 use Rattle.std.specs.Prelude.{◌≡◌, ℕ, List, [], Bool, false, not, ◌||◌, ◌&&◌, Option, Some, None, option_map}
 use Rattle.std.specs.Prelude.{if◌then◌else◌}
+use Rattle.std.specs.Borrow.{Bor}
+use Rattle.std.specs.BTreeMap.{get_by}
+use Rattle.std.specs.Cmp.Lexicographic.{slice_cmp}
 use Rattle.std.specs.List.{list_any, find}
+use Rattle.std.specs.Ordering.{nat_cmp}
 use Rattle.std.specs.Str.{bytes_eq}
 use Rattle.est_syntax.specs.Tree.{RenamingTree}
 use Rattle.est_modules.specs.Occurrences.{Binder, Act, emits, tests, exits, binds, runs, Occurrence, occurrences}
@@ -10,7 +14,9 @@ use Rattle.est_modules.specs.Visible.{is_local, is_tick}
 use Rattle.est_modules.specs.Renamings.{renamed}
 use Rattle.est_modules.specs.Modules.{is_input}
 use Rattle.est_modules.specs.declared.head.Declared.{Declared}
-use Rattle.est_checks.specs.declared.emission.Emission.{Emission}
+use Rattle.est_modules.specs.NameSets.{has}
+use Rattle.est_modules.specs.declared.name_set.NameSet.{NameSet}
+use Rattle.est_checks.specs.declared.emission.Emissions.{Emissions}
 
 -- the module that is run emits an interface name that means this name of the caller
 abbrev pub emits_in_run : (List ℕ → List ℕ → Bool) → List ℕ → List RenamingTree → Option Program → Bool
@@ -35,6 +41,12 @@ IsEmitted ps emitted p = (s : List ℕ) → emitted p.name s ≡ list_any (emits
 -- what each module of a library emits
 abbrev pub AreEmissions : List Program → (List ℕ → List ℕ → Bool) → Type 0
 AreEmissions ps emitted = (m : List ℕ) (p : Program) → program_named ps m ≡ Some p → IsEmitted ps emitted p
+
+-- whether the module of a name emits a signal, by what each module emits
+pub record IsEmissionOf (ps : List Program) (m s : List ℕ) (emits : Bool) : Type 0 where
+  pub emitted : List ℕ → List ℕ → Bool
+  pub emissions : AreEmissions ps emitted
+  pub is : emitted m s ≡ emits
 
 -- the name means an input or `tick` in p
 unfoldable pub is_refused : Program → List Binder → List ℕ → Bool
@@ -68,6 +80,11 @@ refused_at ps emitted p o = refused_act ps emitted p o.around o.act
 abbrev pub first_refused : List Program → (List ℕ → List ℕ → Bool) → Option (List ℕ)
 first_refused ps emitted = first_in_bodies (refused_at ps emitted) ps
 
--- what a table says
-abbrev pub emitted_of : List Emission → List ℕ → List ℕ → Bool
-emitted_of es m s = list_any (λ (e : Emission). bytes_eq e.module_name m && bytes_eq e.signal s) es
+-- what a table says of a module
+abbrev pub emitted_in : Option NameSet → List ℕ → Bool
+emitted_in None s = false
+emitted_in (Some signals) s = has signals s
+
+-- the same of the module of a name
+abbrev pub emitted_of : Emissions → List ℕ → List ℕ → Bool
+emitted_of es m s = emitted_in (get_by (λ (k : Bor (List ℕ)). slice_cmp nat_cmp m k.now) es.modules) s

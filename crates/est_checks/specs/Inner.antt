@@ -1,7 +1,10 @@
+pub mod Barring
 pub mod Emitted
 pub mod Keeping
+pub mod Looking
 pub mod Noted
 pub mod Numbers
+pub mod Offers
 pub mod Recursion
 pub mod Sent
 pub mod Stages

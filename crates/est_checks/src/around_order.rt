@@ -4,19 +4,21 @@ ghost use Rattle.est_modules.specs.Modules.{program_of};
 ghost use Rattle.est_modules.specs.NameTables.{IsTable};
 ghost use Rattle.est_checks.specs.Emissions.{emitted_of};
 ghost use Rattle.est_checks.specs.FirstFaults.{Finds};
+ghost use Rattle.est_checks.specs.Inner.Stages.{fault_of_names, fault_of_emissions};
 ghost use Rattle.est_checks.specs.LinkFaults.{lawless_number, fault_before_order};
-ghost use Rattle.est_checks.specs.LinkFaults.{fault_after_order};
 
 use crate::bad_renamings::BadRename;
 use crate::duplicates::first_duplicate;
-use crate::emission::Emission;
+use crate::emission::Emissions;
 use crate::fault::LinkFault;
 use crate::input_emissions::first_refused;
 use crate::lawless_relations::first_lawless;
 use crate::missing_modules::first_missing;
 use crate::place_check::first_in_bodies;
 use crate::unknown_names::first_unknown;
-use est_modules::head::{Head, head_named};
+use est_modules::head::Head;
+use est_modules::heads::Heads;
+use est_modules::kept_names::KeptNames;
 use est_modules::name_table::NameTable;
 use est_text::identifier::Identifier;
 use std::alloc::{AllocError, Global};
@@ -27,9 +29,9 @@ use std::alloc::{AllocError, Global};
 /// # Errors
 ///
 /// The first fault; or memory was refused for the names that were met.
-pub fn check_before_order<'a>(
+pub fn check_before_order(
     alloc: Global,
-    heads: &'a [Head<'a>],
+    heads: &Heads<'_>,
     main: &str,
 ) -> Result<Identifier, LinkFault>
     ensures name { IfOk result (λ name. name ≡ main.now) }
@@ -59,36 +61,56 @@ fn lawless_number(alloc: Global, main: Option<&Head<'_>>) -> Result<Option<usize
     }
 }
 
-/// The first fault of the checks that come after the order of the modules: renamings, names that
-/// aren't visible, emissions of inputs, relations of the main module. The table says what each
-/// module emits.
+/// The first fault of the checks that come after the order of the modules and ask no emissions:
+/// renamings, names that aren't visible.
 ///
 /// # Errors
 ///
-/// `AllocError` where memory is refused for the list of the relations.
-pub fn fault_after_order<'a>(
+/// `AllocError` where memory is refused for names.
+pub fn fault_of_names(
     alloc: Global,
     names: &NameTable<'_>,
-    heads: &'a [Head<'a>],
-    main: &Identifier,
-    table: &'a [Emission],
+    heads: &Heads<'_>,
 ) -> Result<Option<LinkFault>, AllocError>
     requires { IsTable names.now }
-    ensures { IfOk result (λ fault. fault ≡ fault_after_order (map program_of heads.now) main.now
-        (emitted_of table.now)) }
+    ensures { IfOk result (λ fault. fault ≡ fault_of_names (map program_of heads.now)) }
 {
-    let none = NameTable::new(alloc);
-    let check = BadRename { heads: &*heads };
-    if let Some(name) = first_in_bodies(alloc, &none, &[], &check, &*heads)? {
+    let no_names = NameTable::new(alloc);
+    let none = KeptNames::none(alloc);
+    let check = BadRename {
+        alloc,
+        heads: &*heads,
+    };
+    if let Some(name) = first_in_bodies(alloc, &no_names, &none, &check, &*heads)? {
         return Ok(Some(LinkFault::BadRename(name)));
     }
-    if let Some(name) = first_unknown(alloc, names, &*heads)? {
-        return Ok(Some(LinkFault::UnknownName(name)));
+    match first_unknown(alloc, names, &*heads)? {
+        Some(name) => Ok(Some(LinkFault::UnknownName(name))),
+        None => Ok(None),
     }
+}
+
+/// The first fault of the next checks: emissions of inputs, relations of the main module. The table
+/// says what each module emits.
+///
+/// # Errors
+///
+/// `AllocError` where memory is refused for names or for the list of the relations.
+pub fn fault_of_emissions<'a>(
+    alloc: Global,
+    names: &NameTable<'_>,
+    heads: &'a Heads<'_>,
+    main: &Identifier,
+    table: &'a Emissions<'_>,
+) -> Result<Option<LinkFault>, AllocError>
+    requires { IsTable names.now }
+    ensures { IfOk result (λ fault. fault ≡ fault_of_emissions (map program_of heads.now) main.now
+        (emitted_of table.now)) }
+{
     if let Some(name) = first_refused(alloc, names, &*heads, &*table)? {
         return Ok(Some(LinkFault::EmitInput(name)));
     }
-    match lawless_number(alloc, head_named(heads, main))? {
+    match lawless_number(alloc, heads.named(main))? {
         Some(number) => Ok(Some(LinkFault::Semantics(number))),
         None => Ok(None),
     }

@@ -1,74 +1,93 @@
 //! Renamings that name no interface signal of the module that is run, or one twice.
-ghost use Rattle.std.specs.Prelude.{◌≡◌, map, option_map, length, filter};
+ghost use Rattle.std.specs.Prelude.{◌≡◌, ℕ, List, map, option_map, IfOk};
 ghost use Rattle.std.specs.List.{find};
-ghost use Rattle.std.specs.Str.{bytes_eq};
 ghost use Rattle.est_syntax.specs.Views.{renaming_view};
 ghost use Rattle.est_modules.specs.Modules.{program_of};
+ghost use Rattle.est_modules.specs.NameSets.{has};
 ghost use Rattle.est_checks.specs.BadRenamings.{is_renamed_twice, is_misnamed, bad_in_run};
 
 use crate::place_check::Check;
-use est_modules::head::{Head, head_named, is_declared};
+use est_modules::head::Head;
+use est_modules::heads::Heads;
+use est_modules::name_set::NameSet;
 use est_modules::open_names::OpenNames;
 use est_modules::scope::{Act, Scope};
 use est_syntax::tree::Renaming;
 use est_text::identifier::Identifier;
-use std::alloc::AllocError;
+use std::alloc::{AllocError, Global};
 
-fn count_inner(renamings: &[Renaming], signal: &Identifier) -> usize
-    ensures { result ≡ length (filter (λ r. bytes_eq r.inner signal.now) renamings.now) }
+/// The names that more than one renaming has on the right.
+fn renamed_twice<'a>(alloc: Global, renamings: &'a [Renaming]) -> Result<NameSet<'a>, AllocError>
+    ensures { IfOk result (λ names. (s : List ℕ) → has names s
+        ≡ is_renamed_twice (map renaming_view renamings.now) s) }
 {
-    renamings
-        .iter()
-        .filter(|renaming| renaming.inner.is(signal))
-        .count()
-}
-
-#[tactic(auto, using(est_modules::proofs::Lists::count_map))]
-fn is_renamed_twice(renamings: &[Renaming], signal: &Identifier) -> bool
-    ensures { result ≡ is_renamed_twice (map renaming_view renamings.now) signal.now }
-{
-    1 < count_inner(renamings, signal)
+    let mut once = NameSet::new(alloc);
+    let mut twice = NameSet::new(alloc);
+    for renaming in renamings {
+        if !once.insert(&renaming.inner)? {
+            twice.insert(&renaming.inner)?;
+        }
+    }
+    Ok(twice)
 }
 
 #[tactic(auto, unfolding(crate::specs::BadRenamings::is_misnamed))]
-fn is_misnamed(run: &Head<'_>, renamings: &[Renaming], signal: &Identifier) -> bool
+fn is_misnamed(
+    run: &Head<'_>,
+    twice: &NameSet<'_>,
+    renamings: &[Renaming],
+    signal: &Identifier,
+) -> bool
+    requires { (s : List ℕ) → has twice.now s
+        ≡ is_renamed_twice (map renaming_view renamings.now) s }
     ensures { result ≡ is_misnamed (program_of run.now) (map renaming_view renamings.now)
         signal.now }
 {
-    !is_declared(&run.interface, signal) || is_renamed_twice(renamings, signal)
+    !run.interface.declares(signal) || twice.contains(signal)
 }
 
-fn misnamed<'a>(run: &Head<'_>, renamings: &'a [Renaming]) -> Option<&'a Renaming>
+fn misnamed<'a>(
+    run: &Head<'_>,
+    twice: &NameSet<'_>,
+    renamings: &'a [Renaming],
+) -> Option<&'a Renaming>
+    requires { (s : List ℕ) → has twice.now s
+        ≡ is_renamed_twice (map renaming_view renamings.now) s }
     ensures { option_map (λ r. r.now) result ≡ find (λ r. is_misnamed (program_of run.now)
         (map renaming_view renamings.now) r.inner) renamings.now }
 {
-    renamings
-        .iter()
-        .find(|renaming| is_misnamed(run, renamings, &renaming.inner))
+    renamings.iter().find(|renaming| is_misnamed(run, twice, renamings, &renaming.inner))
 }
 
-fn bad_in_run(renamings: &[Renaming], run: Option<&Head<'_>>) -> Option<Identifier>
-    ensures { result ≡ bad_in_run (map renaming_view renamings.now)
-        (option_map (λ h. program_of h.now) run.entry) }
+fn bad_in_run(
+    alloc: Global,
+    renamings: &[Renaming],
+    run: Option<&Head<'_>>,
+) -> Result<Option<Identifier>, AllocError>
+    ensures { IfOk result (λ name. name ≡ bad_in_run (map renaming_view renamings.now)
+        (option_map (λ h. program_of h.now) run.entry)) }
 {
-    match run {
-        Some(run) => match misnamed(run, renamings) {
-            Some(renaming) => Some(renaming.inner),
-            None => None,
-        },
-        None => None,
+    let Some(run) = run else {
+        return Ok(None);
+    };
+    let twice = renamed_twice(alloc, renamings)?;
+    match misnamed(run, &twice, renamings) {
+        Some(renaming) => Ok(Some(renaming.inner)),
+        None => Ok(None),
     }
 }
 
 /// The check for renamings whose right name is no interface signal of the module that is run, or
 /// stands on the right twice.
 #[derive(Clone, Copy)]
-pub struct BadRename<'a> {
+pub struct BadRename<'a, 'b> {
+    /// Where memory for names is taken.
+    pub alloc: Global,
     /// The modules of the library.
-    pub heads: &'a [Head<'a>],
+    pub heads: &'a Heads<'b>,
 }
 
-impl Check for BadRename<'_> {
+impl Check for BadRename<'_, '_> {
     ghost use Rattle.std.specs.Prelude.{⊤, map};
     ghost use Rattle.est_modules.specs.Modules.{program_of};
     ghost use Rattle.est_checks.specs.BadRenamings.{bad_renaming_at};
@@ -80,13 +99,15 @@ impl Check for BadRename<'_> {
     fn fault(
         &self,
         _home: &Head<'_>,
-        _kept: &OpenNames<'_, '_>,
+        _kept: &OpenNames<'_, '_, '_>,
         act: &Act<'_>,
         _scope: &Scope<'_>,
     ) -> Result<Option<Identifier>, AllocError> {
         match act {
             Act::Emits(_) | Act::Tests(_) | Act::Exits(_) | Act::Binds(_) => Ok(None),
-            Act::Runs(name, renamings) => Ok(bad_in_run(renamings, head_named(self.heads, name))),
+            Act::Runs(name, renamings) => {
+                bad_in_run(self.alloc, renamings, self.heads.named(name))
+            }
         }
     }
 }

@@ -1,5 +1,5 @@
 //! Which interface names the modules emit that a module runs, and that are inputs of it.
-ghost use Rattle.std.specs.Prelude.{◌≡◌, ℕ, List, [], ◌&&◌, ◌||◌, filter, map, IfOk};
+ghost use Rattle.std.specs.Prelude.{◌≡◌, ℕ, List, ◌&&◌, ◌||◌, filter, map, IfOk};
 ghost use Rattle.est_checks.specs.Barred.{barred_by};
 ghost use Rattle.est_checks.specs.Emissions.{emitted_of};
 ghost use Rattle.est_modules.specs.Modules.{is_input, program_of};
@@ -7,21 +7,25 @@ ghost use Rattle.est_modules.specs.NameSets.{has};
 ghost use Rattle.est_modules.specs.OpenNames.{AreKept};
 ghost use Rattle.est_modules.specs.Visible.{is_tick};
 
-use crate::emission::Emission;
-use crate::run_emissions::sent_by;
+use crate::emission::Emissions;
 use crate::run_names::{Choice, kept_of};
-use est_modules::head::{Declared, Head, head_named};
+use est_modules::head::{Declared, Head};
+use est_modules::heads::Heads;
+use est_modules::kept_names::KeptNames;
 use est_modules::name_set::NameSet;
 use est_modules::name_table::NameTable;
-use est_modules::open_names::Kept;
 use est_modules::relations::is_input_kind;
 use est_modules::visibility::is_tick;
 use est_text::identifier::Identifier;
 use std::alloc::{AllocError, Global};
 
 /// The names of the inputs of an interface.
+///
+/// # Errors
+///
+/// `AllocError` where memory is refused.
 #[tactic(auto, unfolding(est_modules::specs::Modules::is_input))]
-fn inputs_of<'a>(alloc: Global, interface: &'a [Declared]) -> Result<NameSet<'a>, AllocError>
+pub fn inputs_of<'a>(alloc: Global, interface: &'a [Declared]) -> Result<NameSet<'a>, AllocError>
     ensures { IfOk result (λ names. (s : List ℕ) → has names s ≡ is_input interface.now s) }
 {
     let mut names = NameSet::new(alloc);
@@ -58,31 +62,32 @@ fn barred_names(
 fn barred_in(
     alloc: Global,
     inputs: &NameSet<'_>,
-    table: &[Emission],
+    table: &Emissions<'_>,
     name: &Identifier,
     interface: &[Declared],
 ) -> Result<Vec<Identifier>, AllocError>
     ensures { IfOk result (λ barred. barred.items ≡ filter (λ n. (has inputs.now n || is_tick n) &&
         emitted_of table.now name.now n) (map (λ d. d.name) interface.now)) }
 {
-    let emitted = sent_by(alloc, table, name)?;
-    let barred = barred_names(alloc, inputs, &emitted, interface)?;
-    Ok(barred)
+    match table.of_module(name) {
+        Some(emitted) => barred_names(alloc, inputs, emitted, interface),
+        None => Ok(Vec::new(alloc)),
+    }
 }
 
 /// Of a module that is run, the interface names that it emits and that are inputs of the module
 /// that runs it, or `tick`.
 #[derive(Clone, Copy)]
-struct Barred<'a, 'b> {
+struct Barred<'a, 'b, 'c, 'd> {
     /// The modules of the library.
-    heads: &'a [Head<'a>],
+    heads: &'a Heads<'b>,
     /// What each emits.
-    table: &'a [Emission],
+    table: &'a Emissions<'c>,
     /// The inputs of the module that runs them.
-    inputs: &'a NameSet<'b>,
+    inputs: &'a NameSet<'d>,
 }
 
-impl Choice for Barred<'_, '_> {
+impl Choice for Barred<'_, '_, '_, '_> {
     ghost use Rattle.std.specs.Prelude.{map};
     ghost use Rattle.est_modules.specs.Modules.{program_of};
     ghost use Rattle.est_modules.specs.NameSets.{has};
@@ -93,8 +98,14 @@ impl Choice for Barred<'_, '_> {
         (has c.inputs.now) };
 
     fn choose(&self, alloc: Global, name: &Identifier) -> Result<Vec<Identifier>, AllocError> {
-        match head_named(self.heads, name) {
-            Some(run) => barred_in(alloc, self.inputs, self.table, name, &run.interface),
+        match self.heads.named(name) {
+            Some(run) => barred_in(
+                alloc,
+                self.inputs,
+                self.table,
+                name,
+                run.interface.signals(),
+            ),
             None => Ok(Vec::new(alloc)),
         }
     }
@@ -110,19 +121,19 @@ impl Choice for Barred<'_, '_> {
 pub fn barred_of<'a>(
     alloc: Global,
     numbers: &NameTable<'_>,
-    heads: &'a [Head<'a>],
+    heads: &'a Heads<'_>,
     home: &Head<'_>,
-    table: &'a [Emission],
-) -> Result<Vec<Kept>, AllocError>
+    inputs: &'a NameSet<'_>,
+    table: &'a Emissions<'_>,
+) -> Result<KeptNames<'a>, AllocError>
+    requires { (s : List ℕ) → has inputs.now s ≡ is_input (program_of home.now).interface s }
     ensures { IfOk result (λ kept. AreKept numbers.now (barred_by (map program_of heads.now)
-        (emitted_of table.now) (is_input (program_of home.now).interface)) kept.items) }
+        (emitted_of table.now) (is_input (program_of home.now).interface)) kept) }
 {
-    let inputs = inputs_of(alloc, &home.interface)?;
     let choice = Barred {
         heads: &*heads,
         table: &*table,
-        inputs: &inputs,
+        inputs: &*inputs,
     };
-    let kept = kept_of(&choice, alloc, numbers, &*heads, home)?;
-    Ok(kept)
+    kept_of(&choice, alloc, numbers, &*heads, home)
 }

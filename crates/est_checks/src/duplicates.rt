@@ -1,14 +1,17 @@
 //! Names that are declared a second time, and `tick`.
-ghost use Rattle.std.specs.Prelude.{◌≡◌, ◌∷◌, [], map, IfOk};
-ghost use Rattle.std.specs.List.{list_any};
+ghost use Rattle.std.specs.Prelude.{◌≡◌, ℕ, List, None, ◌||◌, ◌∷◌, [], map, IfOk};
 ghost use Rattle.std.specs.Str.{bytes_eq};
 ghost use Rattle.est_syntax.specs.Views.{names_view};
 ghost use Rattle.est_modules.specs.Modules.{program_of};
+ghost use Rattle.est_modules.specs.NameSets.{has};
+ghost use Rattle.est_modules.specs.Visible.{stands_in};
 ghost use Rattle.est_checks.specs.Duplicates.{redeclared, redeclared_in, duplicate_of};
 ghost use Rattle.est_checks.specs.Duplicates.{first_duplicate};
 
 use crate::place_check::{Check, first_in_body};
 use est_modules::head::{Declared, Head};
+use est_modules::heads::Heads;
+use est_modules::kept_names::KeptNames;
 use est_modules::name_set::NameSet;
 use est_modules::name_table::NameTable;
 use est_modules::open_names::OpenNames;
@@ -79,7 +82,7 @@ impl Check for DuplicateLocal {
     fn fault(
         &self,
         _home: &Head<'_>,
-        _kept: &OpenNames<'_, '_>,
+        _kept: &OpenNames<'_, '_, '_>,
         act: &Act<'_>,
         _scope: &Scope<'_>,
     ) -> Result<Option<Identifier>, AllocError> {
@@ -91,34 +94,31 @@ impl Check for DuplicateLocal {
 }
 
 /// The first signal of a module that is declared a second time, or is `tick`.
-fn redeclared_in<'a>(alloc: Global, home: &'a Head<'a>) -> Result<Option<Identifier>, AllocError>
+fn redeclared_in(alloc: Global, home: &Head<'_>) -> Result<Option<Identifier>, AllocError>
     ensures { IfOk result (λ name. name ≡ redeclared_in (program_of home.now)) }
 {
-    if let Some(name) = redeclared_signal(alloc, &home.interface)? {
+    if let Some(name) = redeclared_signal(alloc, home.interface.signals())? {
         return Ok(Some(name));
     }
     let table = NameTable::new(alloc);
-    first_in_body(&DuplicateLocal { alloc }, alloc, &table, &[], &*home)
-}
-
-fn is_named(heads: &[Head<'_>], name: &Identifier) -> bool
-    ensures { result ≡ list_any (λ h. bytes_eq h.name name.now) heads.now }
-{
-    heads.iter().any(|head| head.name.is(name))
+    let none = KeptNames::none(alloc);
+    first_in_body(&DuplicateLocal { alloc }, alloc, &table, &none, &*home)
 }
 
 /// The module's name, if an earlier module has it; else the first of its signals that is declared
-/// twice.
-#[tactic(auto, using(est_modules::proofs::Lists::any_map))]
+/// twice. The names of the modules so far are in the set.
 fn duplicate_of<'a>(
     alloc: Global,
-    before: &'a [Head<'a>],
-    home: &'a Head<'a>,
+    met: &mut NameSet<'a>,
+    home: &'a Head<'_>,
 ) -> Result<Option<Identifier>, AllocError>
-    ensures { IfOk result (λ name. name ≡ duplicate_of (map (λ h. h.name) before.now) (program_of
-        home.now)) }
+    ensures found { IfOk result (λ name. (seen : List (List ℕ))
+        → ((s : List ℕ) → has met.old s ≡ stands_in seen s)
+        → name ≡ duplicate_of seen (program_of home.now)) }
+    ensures met { IfOk result (λ name. name ≡ None → (s : List ℕ)
+        → has met.new s ≡ (has met.old s || bytes_eq home.now.name s)) }
 {
-    if is_named(before, &home.name) {
+    if !met.insert(&home.name)? {
         return Ok(Some(home.name));
     }
     redeclared_in(alloc, home)
@@ -130,14 +130,13 @@ fn duplicate_of<'a>(
 /// # Errors
 ///
 /// `AllocError` where memory is refused for the names that were met.
-pub fn first_duplicate<'a>(
-    alloc: Global,
-    heads: &'a [Head<'a>],
-) -> Result<Option<Identifier>, AllocError>
+pub fn first_duplicate(alloc: Global, heads: &Heads<'_>) -> Result<Option<Identifier>, AllocError>
     ensures { IfOk result (λ name. name ≡ first_duplicate (map program_of heads.now)) }
 {
-    for index in 0..heads.len() {
-        if let Some(name) = duplicate_of(alloc, &heads[..index], &heads[index])? {
+    let modules = heads.modules();
+    let mut met = NameSet::new(alloc);
+    for index in 0..modules.len() {
+        if let Some(name) = duplicate_of(alloc, &mut met, &modules[index])? {
             return Ok(Some(name));
         }
     }

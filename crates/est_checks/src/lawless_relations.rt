@@ -1,54 +1,67 @@
 //! Relations of the main module with a member that is neither an input nor an inputoutput.
-ghost use Rattle.std.specs.Prelude.{◌≡◌, option_map, ◌+◌, not, IfOk};
+ghost use Rattle.std.specs.Prelude.{◌≡◌, ℕ, List, option_map, ◌+◌, not, IfOk};
 ghost use Rattle.std.specs.List.{list_any, position};
 ghost use Rattle.est_syntax.specs.Views.{relation_view};
 ghost use Rattle.est_modules.specs.Modules.{is_offerable, program_of};
-ghost use Rattle.est_checks.specs.LawlessRelations.{is_lawless, first_lawless};
+ghost use Rattle.est_modules.specs.NameSets.{has};
+ghost use Rattle.est_checks.specs.Inner.Offers.{is_past};
+ghost use Rattle.est_checks.specs.LawlessRelations.{first_lawless};
 
 use est_modules::head::{Declared, Head};
-use est_modules::relations::{is_offerable, relations_of};
+use est_modules::name_set::NameSet;
+use est_modules::relations::{is_offered_kind, relations_of};
 use est_syntax::tree::Relation;
 use est_text::identifier::Identifier;
 use std::alloc::{AllocError, Global};
 
-fn are_past_offers(interface: &[Declared], names: &[Identifier]) -> bool
-    ensures { result ≡ list_any (λ n. not (is_offerable interface.now n)) names.now }
+/// The names of the signals of an interface that may be offered.
+#[tactic(auto, unfolding(est_modules::specs::Modules::is_offerable))]
+fn offered_of<'a>(alloc: Global, interface: &'a [Declared]) -> Result<NameSet<'a>, AllocError>
+    ensures { IfOk result (λ names. (s : List ℕ) → has names s ≡ is_offerable interface.now s) }
 {
-    names.iter().any(|name| !is_offerable(interface, name))
+    let mut names = NameSet::new(alloc);
+    for declared in interface {
+        if is_offered_kind(declared.kind) {
+            names.insert(&declared.name)?;
+        }
+    }
+    Ok(names)
 }
 
-/// Whether a member of a relation is neither an input nor an inputoutput of the interface.
-pub fn is_lawless(interface: &[Declared], relation: &Relation) -> bool
-    ensures { result ≡ is_lawless interface.now (relation_view relation.now) }
+fn are_past_offers(offered: &NameSet<'_>, names: &[Identifier]) -> bool
+    ensures { result ≡ list_any (λ n. not (has offered.now n)) names.now }
+{
+    names.iter().any(|name| !offered.contains(name))
+}
+
+/// Whether a member of a relation is not among the names that may be offered.
+fn is_past(offered: &NameSet<'_>, relation: &Relation) -> bool
+    ensures { result ≡ is_past (has offered.now) (relation_view relation.now) }
 {
     match relation {
         Relation::Excludes(first, second, later) => {
-            !is_offerable(interface, first)
-                || !is_offerable(interface, second)
-                || are_past_offers(interface, later)
+            !offered.contains(first) || !offered.contains(second) || are_past_offers(offered, later)
         }
-        Relation::Implies(first, second) => {
-            !is_offerable(interface, first) || !is_offerable(interface, second)
-        }
+        Relation::Implies(first, second) => !offered.contains(first) || !offered.contains(second),
     }
 }
 
-fn lawless_place(interface: &[Declared], relations: &[&Relation]) -> Option<usize>
-    ensures { result ≡ position (λ r. is_lawless interface.now (relation_view r.now))
+fn lawless_place(offered: &NameSet<'_>, relations: &[&Relation]) -> Option<usize>
+    ensures { result ≡ position (λ r. is_past (has offered.now) (relation_view r.now))
         relations.now }
 {
     relations
         .iter()
-        .position(|relation| is_lawless(interface, relation))
+        .position(|relation| is_past(offered, relation))
 }
 
-/// The number, from 1, of the first of these relations with a member that is neither an input nor
-/// an inputoutput of the interface.
-fn lawless_number(interface: &[Declared], relations: &[&Relation]) -> Option<usize>
+/// The number, from 1, of the first of these relations with a member that is not among the names
+/// that may be offered.
+fn lawless_number(offered: &NameSet<'_>, relations: &[&Relation]) -> Option<usize>
     ensures { result ≡ option_map (λ i. i + 1)
-        (position (λ r. is_lawless interface.now (relation_view r.now)) relations.now) }
+        (position (λ r. is_past (has offered.now) (relation_view r.now)) relations.now) }
 {
-    match lawless_place(interface, relations) {
+    match lawless_place(offered, relations) {
         Some(place) => Some(place + 1),
         None => None,
     }
@@ -59,10 +72,11 @@ fn lawless_number(interface: &[Declared], relations: &[&Relation]) -> Option<usi
 ///
 /// # Errors
 ///
-/// `AllocError` where memory is refused for the list of its relations.
+/// `AllocError` where memory is refused for its relations or the names that may be offered.
 pub fn first_lawless(alloc: Global, home: &Head<'_>) -> Result<Option<usize>, AllocError>
     ensures { IfOk result (λ number. number ≡ first_lawless (program_of home.now)) }
 {
     let relations = relations_of(alloc, home.declarations)?;
-    Ok(lawless_number(&home.interface, &relations))
+    let offered = offered_of(alloc, home.interface.signals())?;
+    Ok(lawless_number(&offered, &relations))
 }

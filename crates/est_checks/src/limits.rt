@@ -9,7 +9,8 @@ ghost use Rattle.est_modules.specs.ModuleOrders.{IsOrderOf};
 use crate::fault::{Limit, LinkFault};
 use crate::statement_count::count_statements;
 use est_kernel::interface::MOST_SIGNALS;
-use est_modules::head::{Head, head_named};
+use est_modules::head::Head;
+use est_modules::heads::Heads;
 use est_modules::place_order::Order;
 use est_modules::relations::relations_of;
 use est_relations::relations::MOST_RELATIONS;
@@ -46,7 +47,7 @@ fn limit_passed_by(
     match main {
         Some(home) => {
             let relations = relations_of(alloc, home.declarations)?;
-            Ok(limit_passed(home.interface.len(), relations.len(), statements))
+            Ok(limit_passed(home.interface.signals().len(), relations.len(), statements))
         }
         None => Ok(None),
     }
@@ -59,7 +60,7 @@ fn limit_passed_by(
 /// `TooLarge` with the first limit that it passes; `Memory`.
 pub fn check_limits(
     alloc: Global,
-    heads: &[Head<'_>],
+    heads: &Heads<'_>,
     order: &Order,
     main: &Identifier,
 ) -> Result<(), LinkFault>
@@ -67,7 +68,7 @@ pub fn check_limits(
     ensures { Finds (IsLimitFault (map program_of heads.now) main.now) result }
 {
     let statements = count_statements(alloc, heads, order, main)?;
-    match limit_passed_by(alloc, head_named(heads, main), statements)? {
+    match limit_passed_by(alloc, heads.named(main), statements)? {
         Some(limit) => Err(LinkFault::TooLarge(limit)),
         None => Ok(()),
     }

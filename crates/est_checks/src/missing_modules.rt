@@ -4,7 +4,9 @@ ghost use Rattle.est_modules.specs.Modules.{program_of};
 ghost use Rattle.est_checks.specs.MissingModules.{first_missing};
 
 use crate::place_check::{Check, first_in_bodies};
-use est_modules::head::{Head, head_named};
+use est_modules::head::Head;
+use est_modules::heads::Heads;
+use est_modules::kept_names::KeptNames;
 use est_modules::name_table::NameTable;
 use est_modules::open_names::OpenNames;
 use est_modules::scope::{Act, Scope};
@@ -13,11 +15,11 @@ use std::alloc::{AllocError, Global};
 
 /// The check for runs of modules that aren't there.
 #[derive(Clone, Copy)]
-struct UnknownModule<'a> {
-    heads: &'a [Head<'a>],
+struct UnknownModule<'a, 'b> {
+    heads: &'a Heads<'b>,
 }
 
-impl Check for UnknownModule<'_> {
+impl Check for UnknownModule<'_, '_> {
     ghost use Rattle.std.specs.Prelude.{⊤, map};
     ghost use Rattle.est_modules.specs.Modules.{program_of};
     ghost use Rattle.est_checks.specs.MissingModules.{missing_at};
@@ -29,13 +31,13 @@ impl Check for UnknownModule<'_> {
     fn fault(
         &self,
         _home: &Head<'_>,
-        _kept: &OpenNames<'_, '_>,
+        _kept: &OpenNames<'_, '_, '_>,
         act: &Act<'_>,
         _scope: &Scope<'_>,
     ) -> Result<Option<Identifier>, AllocError> {
         match act {
             Act::Emits(_) | Act::Tests(_) | Act::Exits(_) | Act::Binds(_) => Ok(None),
-            Act::Runs(name, _) => match head_named(self.heads, name) {
+            Act::Runs(name, _) => match self.heads.named(name) {
                 Some(_) => Ok(None),
                 None => Ok(Some(*name)),
             },
@@ -48,23 +50,19 @@ impl Check for UnknownModule<'_> {
 /// # Errors
 ///
 /// `AllocError`, as a check answers it.
-pub fn first_missing<'a>(
+pub fn first_missing(
     alloc: Global,
-    heads: &'a [Head<'a>],
+    heads: &Heads<'_>,
     main: &Identifier,
 ) -> Result<Option<Identifier>, AllocError>
     ensures { IfOk result (λ name. name ≡ first_missing (map program_of heads.now) main.now) }
 {
-    match head_named(heads, main) {
+    match heads.named(main) {
         Some(_) => {
             let table = NameTable::new(alloc);
-            first_in_bodies(
-                alloc,
-                &table,
-                &[],
-                &UnknownModule { heads: &*heads },
-                &*heads,
-            )
+            let none = KeptNames::none(alloc);
+            let check = UnknownModule { heads: &*heads };
+            first_in_bodies(alloc, &table, &none, &check, &*heads)
         }
         None => Ok(Some(*main)),
     }

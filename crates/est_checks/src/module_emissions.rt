@@ -1,384 +1,343 @@
 //! What a module emits of the signals that its callers see.
-ghost use Rattle.std.specs.Prelude.{◌≡◌, ℕ, ◌<◌, List, [], length, map, slice_get, Some, None, not};
-ghost use Rattle.std.specs.Prelude.{◌||◌, filter, ◌&&◌, OnOk, IfOk, Bool};
+ghost use Rattle.std.specs.Prelude.{◌≡◌, ℕ, ◌<◌, List, [], length, map, slice_get, Some, None};
+ghost use Rattle.std.specs.Prelude.{true, not, ◌||◌, ◌&&◌, OnOk, IfOk, if◌then◌else◌};
 ghost use Rattle.std.specs.List.{list_any};
 ghost use Rattle.std.specs.Str.{bytes_eq};
 ghost use Rattle.est_syntax.specs.Views.{renaming_view};
 ghost use Rattle.est_modules.specs.Scopes.{binders_of};
 ghost use Rattle.est_modules.specs.Modules.{Program, program_of, program_named, is_declared};
-ghost use Rattle.est_modules.specs.Occurrences.{occurrences, emits, runs};
-ghost use Rattle.est_modules.specs.Visible.{is_local};
-ghost use Rattle.est_modules.specs.Renamings.{renamed};
-ghost use Rattle.est_modules.specs.Visible.{stands_in};
+ghost use Rattle.est_modules.specs.Modules.{first_in_bodies};
+ghost use Rattle.est_modules.specs.ModuleOrders.{IsOrderOf};
+ghost use Rattle.est_modules.specs.NameSets.{has};
+ghost use Rattle.est_modules.specs.NameTables.{AreNumbered, IsTable, is_numbered, number_in};
+ghost use Rattle.est_modules.specs.Occurrences.{Binder, occurrences, first_of};
+ghost use Rattle.est_modules.specs.OpenNames.{IsOpen, Tells, is_left};
+ghost use Rattle.est_modules.specs.Visible.{is_local, is_tick};
 ghost use Rattle.est_checks.specs.Duplicates.{first_duplicate};
 ghost use Rattle.est_checks.specs.Emissions.{emitted_of, emits_here, AreEmissions};
 ghost use Rattle.est_checks.specs.Inner.Emitted.{sent_by};
-ghost use Rattle.est_checks.specs.Inner.Noted.{noted_of, row_with, row_by_numbers, goes, in_row};
-ghost use Rattle.est_checks.specs.Inner.Noted.{noted_after};
 ghost use Rattle.est_checks.specs.Inner.Keeping.{Keeps};
-ghost use Rattle.est_checks.specs.Inner.Noted.{noted_run, noted_renamed, noted_names, kept_named};
-ghost use Rattle.est_modules.specs.NameTables.{IsTable, number_in};
-ghost use Rattle.est_modules.specs.OpenNames.{IsOpen, AreKept, is_left};
-ghost use Rattle.est_modules.specs.Renamings.{is_renamed};
-ghost use Rattle.est_modules.specs.declared.name_table.NameTable.{NameTable};
-ghost use Rattle.est_modules.specs.declared.open_names.Kept.{Kept};
-ghost use Rattle.est_modules.specs.ModuleOrders.{IsOrderOf};
+ghost use Rattle.est_checks.specs.Inner.Noted.{in_row, row_at, row_with, row_by_names};
+ghost use Rattle.est_checks.specs.Inner.Noted.{row_by_numbers, row_by_renamings, row_by_run};
+ghost use Rattle.est_checks.specs.UnknownNames.{unknown_at};
 
-use crate::emission::{Emission, is_emitted};
+use crate::emission::Emissions;
 use crate::run_emissions::{emitted_run, sent_of};
-use est_modules::head::{Head, head_named, is_declared};
+use est_modules::head::{Declared, Head};
+use est_modules::heads::Heads;
+use est_modules::name_set::NameSet;
 use est_modules::name_table::NameTable;
-use est_modules::open_names::{Kept, OpenNames};
-use est_modules::renamings::{callers_name, is_renamed};
+use est_modules::open_names::OpenNames;
+use est_modules::renamings::RunRenamings;
 use est_modules::scope::{Act, Scope};
-use est_modules::visibility::{is_local, stands_in};
+use est_modules::visibility::tick;
 use est_modules::visit::Visitor;
 use est_modules::walk::walk_body;
 use est_syntax::tree::Renaming;
 use est_text::identifier::Identifier;
 use std::alloc::{AllocError, Global};
 
-/// Adds the signal, unless it is local.
-fn add_outer(
-    seen: &mut Vec<Identifier>,
-    scope: &Scope<'_>,
-    signal: &Identifier,
-) -> Result<(), AllocError>
-    ensures { OnOk result ((s : List ℕ)
-        → stands_in seen.new.items s ≡ (stands_in seen.old.items s ||
-        (not (is_local (binders_of scope.now) s) && bytes_eq signal.now s))) }
-{
-    if is_local(scope, signal) || stands_in(seen, signal) {
-        return Ok(());
-    }
-    seen.push(*signal)?;
-    Ok(())
-}
-
-/// Adds the caller's names for those signals of a module that a run of it renames and that it
-/// emits.
-#[tactic(auto, using(est_modules::proofs::Lists::any_map))]
-fn add_renamed(
-    seen: &mut Vec<Identifier>,
-    table: &[Emission],
-    scope: &Scope<'_>,
-    renamings: &[Renaming],
-    run: &Head<'_>,
-) -> Result<(), AllocError>
-    ensures { OnOk result ((s : List ℕ)
-        → stands_in seen.new.items s ≡ (stands_in seen.old.items s ||
-        (not (is_local (binders_of scope.now) s) && list_any
-        (λ r. (is_declared run.now.interface.items r.inner && emitted_of table.now run.now.name
-        r.inner) && bytes_eq (renamed (map renaming_view renamings.now) r.inner) s)
-        renamings.now))) }
-{
-    for renaming in renamings {
-        if is_declared(&run.interface, &renaming.inner)
-            && is_emitted(table, &run.name, &renaming.inner)
-        {
-            add_outer(seen, scope, &callers_name(renamings, &renaming.inner))?;
-        }
-    }
-    Ok(())
-}
-
-/// What has been noted of what a module emits: names that have a number, and others.
-#[derive(Drop)]
-struct Notes {
-    numbered: Vec<bool>,
-    others: Vec<Identifier>,
-}
-
 /// Notes a name that a module which is run emits, unless the run renames it or a `signal` around
 /// the run hides it.
 fn note_number(
-    numbered: &mut Vec<bool>,
-    kept: &OpenNames<'_, '_>,
-    renamings: &[Renaming],
+    noted: &mut Vec<bool>,
+    kept: &OpenNames<'_, '_, '_>,
+    renamings: &RunRenamings<'_>,
     number: usize,
 )
-    ensures { numbered.new.items ≡ row_with numbered.old.items number
+    ensures { noted.new.items ≡ row_with noted.old.items number
         (is_left (map renaming_view renamings.now) kept.now number) }
 {
-    if number < numbered.len() && !numbered[number] && kept.is_left(renamings, number) {
-        numbered[number] = true;
+    if number < noted.len() && !noted[number] && kept.is_left(renamings, number) {
+        noted[number] = true;
     }
 }
 
 /// The same of each name that is kept of the module.
 fn note_numbers(
-    numbered: &mut Vec<bool>,
-    kept: &OpenNames<'_, '_>,
-    renamings: &[Renaming],
+    noted: &mut Vec<bool>,
+    kept: &OpenNames<'_, '_, '_>,
+    renamings: &RunRenamings<'_>,
     numbers: &[usize],
 )
-    ensures { numbered.new.items ≡ row_by_numbers (map renaming_view renamings.now) kept.now
-        numbered.old.items numbers.now }
+    ensures { noted.new.items ≡ row_by_numbers (map renaming_view renamings.now) kept.now
+        noted.old.items numbers.now }
 {
     for number in numbers {
-        note_number(numbered, kept, renamings, *number);
+        note_number(noted, kept, renamings, *number);
     }
 }
 
-/// Adds the names that a run emits by itself.
-fn add_open(
-    seen: &mut Vec<Identifier>,
-    scope: &Scope<'_>,
-    renamings: &[Renaming],
-    names: &[Identifier],
-) -> Result<(), AllocError>
-    ensures { OnOk result ((s : List ℕ)
-        → stands_in seen.new.items s ≡ (stands_in seen.old.items s ||
-        (goes (binders_of scope.now) (map renaming_view renamings.now) s &&
-        stands_in names.now s))) }
+/// Notes a name, unless a `signal` around the place declares it.
+fn note_name(noted: &mut Vec<bool>, kept: &OpenNames<'_, '_, '_>, name: &Identifier)
+    ensures { (bs : List Binder) → IsTable kept.now.table.now
+        → Tells kept.now.table.now (is_local bs) kept.now.hidden.items
+        → noted.new.items ≡ row_at noted.old.items (number_in kept.now.table.now name.now)
+        (not (is_local bs name.now)) }
 {
-    for name in names {
-        if !is_renamed(renamings, name) {
-            add_outer(seen, scope, name)?;
+    if let Some(number) = kept.number(name) {
+        if number < noted.len() && !noted[number] && kept.is_open(number) {
+            noted[number] = true;
         }
     }
-    Ok(())
+}
+
+/// Notes the names that a run emits by itself.
+fn note_open(
+    noted: &mut Vec<bool>,
+    kept: &OpenNames<'_, '_, '_>,
+    renamings: &RunRenamings<'_>,
+    names: &[Identifier],
+)
+    ensures { (bs : List Binder) → IsTable kept.now.table.now
+        → Tells kept.now.table.now (is_local bs) kept.now.hidden.items
+        → noted.new.items ≡ row_by_names kept.now.table.now bs (map renaming_view renamings.now)
+        noted.old.items names.now }
+{
+    for name in names {
+        if !renamings.is_renamed(name) {
+            note_name(noted, kept, name);
+        }
+    }
 }
 
 /// Notes what a run of a module emits by itself. Where the names that the module emits are kept,
 /// that takes one look-up in a row for each.
 fn note_names(
-    seen: &mut Notes,
-    sent: &Sent<'_, '_>,
-    kept: &OpenNames<'_, '_>,
+    noted: &mut Vec<bool>,
+    sent: &Sent<'_, '_, '_, '_, '_>,
+    kept: &OpenNames<'_, '_, '_>,
     scope: &Scope<'_>,
-    renamings: &[Renaming],
+    renamings: &RunRenamings<'_>,
     run: &Head<'_>,
 ) -> Result<(), AllocError>
     requires { IsOpen (Keeps sent.now) (binders_of scope.now) kept.now }
-    ensures { OnOk result (noted_of seen.new ≡ noted_names sent.now.names.now (binders_of scope.now)
-        (map renaming_view renamings.now) (sent_by (map program_of sent.now.heads.now)
-        (emitted_of sent.now.table.now) run.now.name) (noted_of seen.old)
-        (kept_named sent.now.kept.now run.now.name)) }
+    ensures { OnOk result (noted.new.items ≡ row_by_names kept.now.table.now (binders_of scope.now)
+        (map renaming_view renamings.now) noted.old.items (sent_by
+        (map program_of sent.now.heads.now) (emitted_of sent.now.table.now) run.now.name)) }
 {
     match kept.named(&run.name) {
-        Some(emitted) => {
-            note_numbers(&mut seen.numbered, kept, renamings, &emitted.numbers);
-            Ok(())
-        }
+        Some(emitted) => note_numbers(noted, kept, renamings, &emitted.numbers),
         None => {
             let names = emitted_run(sent.alloc, sent.heads, sent.table, &run.name)?;
-            add_open(&mut seen.others, scope, renamings, &names)?;
-            Ok(())
+            note_open(noted, kept, renamings, &names);
+        }
+    }
+    Ok(())
+}
+
+/// Notes the caller's names for those signals of a module that a run of it renames and that it
+/// emits.
+fn note_renamed(
+    noted: &mut Vec<bool>,
+    table: &Emissions<'_>,
+    kept: &OpenNames<'_, '_, '_>,
+    renamings: &[Renaming],
+    renamed: &RunRenamings<'_>,
+    run: &Head<'_>,
+)
+    requires { renamed.now ≡ renamings.now }
+    ensures { (bs : List Binder) → IsTable kept.now.table.now
+        → Tells kept.now.table.now (is_local bs) kept.now.hidden.items
+        → noted.new.items ≡ row_by_renamings kept.now.table.now (emitted_of table.now) bs
+        (program_of run.now) (map renaming_view renamings.now) noted.old.items
+        (map renaming_view renamings.now) }
+{
+    for renaming in renamings {
+        if run.interface.declares(&renaming.inner) && table.emits(&run.name, &renaming.inner) {
+            note_name(noted, kept, &renamed.callers_name(&renaming.inner));
         }
     }
 }
 
-/// Notes what a run of a module that is there emits.
-fn note_found(
-    seen: &mut Notes,
-    sent: &Sent<'_, '_>,
-    kept: &OpenNames<'_, '_>,
-    scope: &Scope<'_>,
-    renamings: &[Renaming],
-    run: &Head<'_>,
-) -> Result<(), AllocError>
-    requires { IsOpen (Keeps sent.now) (binders_of scope.now) kept.now }
-    ensures { OnOk result (noted_of seen.new ≡ noted_run (map program_of sent.now.heads.now)
-        (emitted_of sent.now.table.now) sent.now.names.now sent.now.kept.now (noted_of seen.old)
-        (binders_of scope.now) (map renaming_view renamings.now) (Some (program_of run.now))) }
-{
-    note_names(seen, sent, kept, scope, renamings, run)?;
-    add_renamed(&mut seen.others, sent.table, scope, renamings, run)?;
-    Ok(())
-}
-
 /// Notes what a run emits, if its module is there.
 fn note_run(
-    seen: &mut Notes,
-    sent: &Sent<'_, '_>,
-    kept: &OpenNames<'_, '_>,
+    noted: &mut Vec<bool>,
+    sent: &Sent<'_, '_, '_, '_, '_>,
+    kept: &OpenNames<'_, '_, '_>,
     scope: &Scope<'_>,
     name: &Identifier,
     renamings: &[Renaming],
 ) -> Result<(), AllocError>
     requires { IsOpen (Keeps sent.now) (binders_of scope.now) kept.now }
-    ensures { OnOk result (noted_of seen.new ≡ noted_run (map program_of sent.now.heads.now)
-        (emitted_of sent.now.table.now) sent.now.names.now sent.now.kept.now (noted_of seen.old)
-        (binders_of scope.now) (map renaming_view renamings.now)
+    ensures { OnOk result (noted.new.items ≡ row_by_run (map program_of sent.now.heads.now)
+        (emitted_of sent.now.table.now) kept.now.table.now (binders_of scope.now)
+        (map renaming_view renamings.now) noted.old.items
         (program_named (map program_of sent.now.heads.now) name.now)) }
 {
-    match head_named(sent.heads, name) {
-        Some(run) => note_found(seen, sent, kept, scope, renamings, run),
-        None => Ok(()),
+    if let Some(run) = sent.heads.named(name) {
+        let renamed = RunRenamings::of(sent.alloc, renamings)?;
+        note_names(noted, sent, kept, scope, &renamed, run)?;
+        note_renamed(noted, sent.table, kept, renamings, &renamed, run);
     }
-}
-
-/// Notes what a statement emits.
-fn note_emission(seen: &mut Notes, scope: &Scope<'_>, signal: &Identifier) -> Result<(), AllocError>
-    ensures { (ps : List Program) (em : List ℕ → List ℕ → Bool) (t : NameTable) (ks : List Kept)
-        → OnOk result (noted_of seen.new ≡ noted_after ps em t ks (noted_of seen.old) (record {
-          act = emits signal.now;
-          around = binders_of scope.now;
-        })) }
-{
-    add_outer(&mut seen.others, scope, signal)?;
     Ok(())
 }
 
 /// Notes what a module emits.
 #[derive(Clone, Copy)]
-struct Sent<'a, 'b> {
+struct Sent<'a, 'b, 'c, 'd, 'e> {
     alloc: Global,
-    heads: &'a [Head<'a>],
-    table: &'a [Emission],
-    names: &'a NameTable<'b>,
-    kept: &'a [Kept],
+    heads: &'a Heads<'b>,
+    table: &'a Emissions<'c>,
+    names: &'d NameTable<'e>,
 }
 
-impl<'a, 'b> Visitor for Sent<'a, 'b> {
-    ghost use Rattle.std.specs.Prelude.{map};
+impl Visitor for Sent<'_, '_, '_, '_, '_> {
+    ghost use Rattle.std.specs.Prelude.{List, Bool, map};
     ghost use Rattle.est_modules.specs.Modules.{program_of};
     ghost use Rattle.est_checks.specs.Emissions.{emitted_of};
     ghost use Rattle.est_checks.specs.Inner.Keeping.{Keeps};
-    ghost use Rattle.est_checks.specs.Inner.Noted.{Noted, noted_of, noted_after};
+    ghost use Rattle.est_checks.specs.Inner.Noted.{row_after};
 
-    type Seen = Notes;
+    type Seen = Vec<bool>;
 
-    ghost State = { Noted };
+    ghost State = { List Bool };
 
-    ghost state = { λ seen. noted_of seen };
+    ghost state = { λ seen. seen.items };
 
     ghost fits = { λ v. Keeps v };
 
-    ghost after = { λ v. noted_after (map program_of v.heads.now) (emitted_of v.table.now)
-        v.names.now v.kept.now };
+    ghost after = { λ v. row_after (map program_of v.heads.now) (emitted_of v.table.now)
+        v.names.now };
 
     fn visit(
         &self,
-        seen: &mut Notes,
-        kept: &OpenNames<'_, '_>,
+        seen: &mut Vec<bool>,
+        kept: &OpenNames<'_, '_, '_>,
         act: &Act<'_>,
         scope: &Scope<'_>,
     ) -> Result<(), AllocError> {
         match act {
-            Act::Emits(signal) => note_emission(seen, scope, signal),
-            Act::Tests(_) => Ok(()),
-            Act::Exits(_) => Ok(()),
-            Act::Binds(_) => Ok(()),
+            Act::Emits(signal) => {
+                note_name(seen, kept, signal);
+                Ok(())
+            }
+            Act::Tests(_) | Act::Exits(_) | Act::Binds(_) => Ok(()),
             Act::Runs(name, renamings) => note_run(seen, self, kept, scope, name, renamings),
         }
     }
 }
 
-/// Adds the names of a table whose numbers are in a row.
-fn add_numbered(
-    names: &mut Vec<Identifier>,
-    table: &NameTable<'_>,
-    row: &[bool],
+/// Puts a name into the set, if it was noted.
+fn add_noted<'a>(
+    set: &mut NameSet<'a>,
+    names: &'a NameTable<'_>,
+    noted: &[bool],
+    name: &Identifier,
 ) -> Result<(), AllocError>
-    requires { IsTable table.now }
-    ensures { OnOk result ((s : List ℕ) → stands_in names.new.items s ≡ (in_row row.now
-        (number_in table.now s) || stands_in names.old.items s)) }
+    requires { IsTable names.now }
+    ensures { OnOk result ((s : List ℕ) → has set.new s ≡ (has set.old s ||
+        (in_row noted.now (number_in names.now name.now) && bytes_eq name.now s))) }
 {
-    for number in 0..row.len() {
-        if row[number] {
-            if let Some(name) = table.name(number) {
-                names.push(*name)?;
+    if let Some(number) = names.number(name) {
+        if number < noted.len() && noted[number] {
+            if let Some(name) = names.name(number) {
+                set.insert(name)?;
             }
         }
     }
     Ok(())
 }
 
+/// Puts the names of an interface into the set that were noted.
+fn add_signals<'a>(
+    set: &mut NameSet<'a>,
+    names: &'a NameTable<'_>,
+    noted: &[bool],
+    interface: &[Declared],
+) -> Result<(), AllocError>
+    requires { IsTable names.now }
+    ensures { OnOk result ((s : List ℕ) → has set.new s ≡ (has set.old s ||
+        (in_row noted.now (number_in names.now s) && is_declared interface.now s))) }
+{
+    for declared in interface {
+        add_noted(set, names, noted, &declared.name)?;
+    }
+    Ok(())
+}
+
 /// What a module emits of the signals that its callers see, where the table says what those that it
-/// runs emit.
+/// runs emit. These are signals of its interface, or `tick`, since it uses no name that isn't
+/// visible.
 ///
 /// # Errors
 ///
-/// `AllocError` where memory is refused for the list.
-pub fn emissions_of<'a>(
+/// `AllocError` where memory is refused for names.
+fn emissions_of<'a, 'b>(
     alloc: Global,
-    names: &NameTable<'_>,
-    heads: &'a [Head<'a>],
-    table: &'a [Emission],
+    names: &'a NameTable<'_>,
+    heads: &'b Heads<'_>,
+    table: &'b Emissions<'_>,
     home: &Head<'_>,
-) -> Result<Vec<Identifier>, AllocError>
-    requires { IsTable names.now }
-    ensures { IfOk result (λ v. (s : List ℕ)
-        → stands_in v.items s ≡ list_any (emits_here (map program_of heads.now)
+) -> Result<NameSet<'a>, AllocError>
+    requires table { IsTable names.now }
+    requires numbered { (s : List ℕ) → (is_declared (program_of home.now).interface s || is_tick s)
+        ≡ true → is_numbered names.now s ≡ true }
+    requires known { first_of (unknown_at (map program_of heads.now) (program_of home.now))
+        (occurrences [] (program_of home.now).body) ≡ None }
+    ensures { IfOk result (λ set. (s : List ℕ)
+        → has set s ≡ list_any (emits_here (map program_of heads.now)
         (emitted_of table.now) s) (occurrences [] (program_of home.now).body)) }
 {
     let kept = sent_of(alloc, names, &*heads, home, &*table)?;
-    let mut seen = Notes {
-        numbered: vec![in alloc; false; names.len()]?,
-        others: Vec::new(alloc),
-    };
+    let mut noted = vec![in alloc; false; names.len()]?;
     let sent = Sent {
         alloc,
         heads: &*heads,
         table: &*table,
-        names,
-        kept: &kept,
+        names: &*names,
     };
-    walk_body(&sent, &mut seen, alloc, names, &kept, home.body)?;
-    let mut emitted = seen.others;
-    add_numbered(&mut emitted, names, &seen.numbered)?;
-    Ok(emitted)
-}
-
-/// Adds what a module emits to a table.
-fn add_emissions(
-    table: &mut Vec<Emission>,
-    module_name: &Identifier,
-    signals: &[Identifier],
-) -> Result<(), AllocError>
-    ensures { OnOk result ((m s : List ℕ)
-        → emitted_of table.new.items m s ≡ (emitted_of table.old.items m s ||
-        (bytes_eq module_name.now m && stands_in signals.now s))) }
-{
-    for signal in signals {
-        table.push(Emission {
-            module_name: *module_name,
-            signal: *signal,
-        })?;
-    }
-    Ok(())
+    walk_body(&sent, &mut noted, alloc, names, &kept, home.body)?;
+    let mut set = NameSet::new(alloc);
+    add_noted(&mut set, names, &noted, &tick())?;
+    add_signals(&mut set, names, &noted, home.interface.signals())?;
+    Ok(set)
 }
 
 /// Adds what the module at a place emits, where the table says what those that it runs emit.
 fn add_module<'a>(
     alloc: Global,
-    names: &NameTable<'_>,
-    heads: &'a [Head<'a>],
-    table: &mut Vec<Emission>,
+    names: &'a NameTable<'_>,
+    heads: &'a Heads<'_>,
+    table: &mut Emissions<'a>,
     place: usize,
 ) -> Result<(), AllocError>
     requires place { place < length heads.now }
     requires table { IsTable names.now }
+    requires numbered { AreNumbered names.now (map program_of heads.now) }
+    requires known { first_in_bodies (unknown_at (map program_of heads.now))
+        (map program_of heads.now) ≡ None }
     ensures { OnOk result ((p : Program) → slice_get (map program_of heads.now) place ≡ Some p
-        → (m s : List ℕ) → emitted_of table.new.items m s ≡ (emitted_of table.old.items m s ||
-        (bytes_eq p.name m && list_any (emits_here (map program_of heads.now)
-        (emitted_of table.old.items) s) (occurrences [] p.body)))) }
+        → (m s : List ℕ) → emitted_of table.new m s ≡ (if bytes_eq p.name m then list_any
+        (emits_here (map program_of heads.now) (emitted_of table.old) s) (occurrences [] p.body)
+        else emitted_of table.old m s)) }
 {
-    let home = &heads[place];
-    let signals = emissions_of(alloc, names, &*heads, &**table, home)?;
-    add_emissions(table, &home.name, &signals)
+    let home = &heads.modules()[place];
+    let signals = emissions_of(alloc, names, &*heads, &*table, home)?;
+    table.add(&home.name, signals)
 }
 
 /// What each module emits, worked out along an order in which each stands after those that it runs.
+/// No module uses a name that isn't visible, so it emits no more signals than it declares.
 ///
 /// # Errors
 ///
 /// `AllocError` where memory is refused for the table.
 pub fn emissions_along<'a>(
     alloc: Global,
-    names: &NameTable<'_>,
-    heads: &'a [Head<'a>],
+    names: &'a NameTable<'_>,
+    heads: &'a Heads<'_>,
     order: &[usize],
-) -> Result<Vec<Emission>, AllocError>
+) -> Result<Emissions<'a>, AllocError>
     requires table { IsTable names.now }
+    requires numbered { AreNumbered names.now (map program_of heads.now) }
+    requires known { first_in_bodies (unknown_at (map program_of heads.now))
+        (map program_of heads.now) ≡ None }
     requires order { IsOrderOf (map program_of heads.now) order.now }
     requires distinct { first_duplicate (map program_of heads.now) ≡ None }
-    ensures { IfOk result (λ table. AreEmissions (map program_of heads.now)
-        (emitted_of table.items)) }
+    ensures { IfOk result (λ table. AreEmissions (map program_of heads.now) (emitted_of table)) }
 {
-    let mut table = Vec::new(alloc);
+    let mut table = Emissions::new(alloc);
     for place in order {
         add_module(alloc, names, &*heads, &mut table, *place)?;
     }

@@ -5,8 +5,10 @@ ghost use Rattle.est_modules.specs.Occurrences.{first_of, occurrences};
 ghost use Rattle.est_modules.specs.NameTables.{IsTable};
 
 use est_modules::head::Head;
+use est_modules::heads::Heads;
+use est_modules::kept_names::KeptNames;
 use est_modules::name_table::NameTable;
-use est_modules::open_names::{Kept, OpenNames};
+use est_modules::open_names::OpenNames;
 use est_modules::scope::{Act, Scope};
 use est_modules::visit::Visitor;
 use est_modules::walk::walk_body;
@@ -20,7 +22,7 @@ pub trait Check {
     ghost use Rattle.est_modules.specs.Occurrences.{Occurrence};
     ghost use Rattle.est_modules.specs.OpenNames.{IsOpen};
     ghost use Rattle.est_modules.specs.declared.name_table.NameTable.{NameTable};
-    ghost use Rattle.est_modules.specs.declared.open_names.Kept.{Kept};
+    ghost use Rattle.est_modules.specs.declared.kept_names.Kept.{Kept};
     ghost use Rattle.est_modules.specs.Scopes.{act_of, binders_of};
 
     /// The name of the fault at an occurrence in a module, if it is one.
@@ -37,7 +39,7 @@ pub trait Check {
     fn fault(
         &self,
         home: &Head<'_>,
-        kept: &OpenNames<'_, '_>,
+        kept: &OpenNames<'_, '_, '_>,
         act: &Act<'_>,
         scope: &Scope<'_>,
     ) -> Result<Option<Identifier>, AllocError>
@@ -48,12 +50,12 @@ pub trait Check {
 
 /// Keeps the first fault that a check finds in a module.
 #[derive(Clone, Copy)]
-struct First<'a, C> {
+struct First<'a, 'b, C> {
     check: &'a C,
-    home: &'a Head<'a>,
+    home: &'a Head<'b>,
 }
 
-impl<C: Check> Visitor for First<'_, C> {
+impl<C: Check> Visitor for First<'_, '_, C> {
     ghost use Rattle.std.specs.Prelude.{ℕ, List, Option};
     ghost use Rattle.std.specs.Option.{option_or};
     ghost use Rattle.est_modules.specs.Modules.{program_of};
@@ -71,7 +73,7 @@ impl<C: Check> Visitor for First<'_, C> {
     fn visit(
         &self,
         seen: &mut Option<Identifier>,
-        kept: &OpenNames<'_, '_>,
+        kept: &OpenNames<'_, '_, '_>,
         act: &Act<'_>,
         scope: &Scope<'_>,
     ) -> Result<(), AllocError> {
@@ -91,8 +93,8 @@ pub fn first_in_body<'a, C: Check>(
     check: &'a C,
     alloc: Global,
     table: &NameTable<'_>,
-    kept: &[Kept],
-    home: &'a Head<'a>,
+    kept: &KeptNames<'_>,
+    home: &'a Head<'_>,
 ) -> Result<Option<Identifier>, AllocError>
     requires fits { C.fits check.now table.now kept.now }
     requires table { IsTable table.now }
@@ -116,16 +118,16 @@ pub fn first_in_body<'a, C: Check>(
 pub fn first_in_bodies<'a, C: Check>(
     alloc: Global,
     table: &NameTable<'_>,
-    kept: &[Kept],
+    kept: &KeptNames<'_>,
     check: &'a C,
-    heads: &'a [Head<'a>],
+    heads: &'a Heads<'_>,
 ) -> Result<Option<Identifier>, AllocError>
     requires fits { C.fits check.now table.now kept.now }
     requires table { IsTable table.now }
     ensures { IfOk result (λ name. name ≡ first_in_bodies (C.fault check.now) (map program_of
         heads.now)) }
 {
-    for home in heads {
+    for home in heads.modules() {
         if let Some(name) = first_in_body(&*check, alloc, table, kept, &*home)? {
             return Ok(Some(name));
         }

@@ -1,36 +1,20 @@
 //! Which interface names the modules emit that a module runs.
-ghost use Rattle.std.specs.Prelude.{◌≡◌, ℕ, List, filter, map, IfOk};
+ghost use Rattle.std.specs.Prelude.{◌≡◌, filter, map, IfOk};
 ghost use Rattle.est_checks.specs.Emissions.{emitted_of};
 ghost use Rattle.est_checks.specs.Inner.Emitted.{sent_by};
 ghost use Rattle.est_modules.specs.Modules.{program_of};
 ghost use Rattle.est_modules.specs.NameSets.{has};
 ghost use Rattle.est_modules.specs.OpenNames.{AreKept};
 
-use crate::emission::Emission;
+use crate::emission::Emissions;
 use crate::run_names::{Choice, kept_of};
-use est_modules::head::{Declared, Head, head_named};
+use est_modules::head::{Declared, Head};
+use est_modules::heads::Heads;
+use est_modules::kept_names::KeptNames;
 use est_modules::name_set::NameSet;
 use est_modules::name_table::NameTable;
-use est_modules::open_names::Kept;
 use est_text::identifier::Identifier;
 use std::alloc::{AllocError, Global};
-
-/// The signals that a module emits, as the table says.
-pub fn sent_by<'a>(
-    alloc: Global,
-    table: &'a [Emission],
-    name: &Identifier,
-) -> Result<NameSet<'a>, AllocError>
-    ensures { IfOk result (λ set. (s : List ℕ) → has set s ≡ emitted_of table.now name.now s) }
-{
-    let mut set = NameSet::new(alloc);
-    for emission in table {
-        if emission.module_name.is(name) {
-            set.insert(&emission.signal)?;
-        }
-    }
-    Ok(set)
-}
 
 /// The names of an interface that are in a set.
 fn names_in(
@@ -53,16 +37,17 @@ fn names_in(
 /// The names of an interface that a module emits, as the table says.
 fn emitted_in(
     alloc: Global,
-    table: &[Emission],
+    table: &Emissions<'_>,
     name: &Identifier,
     interface: &[Declared],
 ) -> Result<Vec<Identifier>, AllocError>
     ensures { IfOk result (λ names. names.items ≡ filter (emitted_of table.now name.now) (map
         (λ d. d.name) interface.now)) }
 {
-    let set = sent_by(alloc, table, name)?;
-    let names = names_in(alloc, &set, interface)?;
-    Ok(names)
+    match table.of_module(name) {
+        Some(signals) => names_in(alloc, signals, interface),
+        None => Ok(Vec::new(alloc)),
+    }
 }
 
 /// The interface names that the module of a name emits, as the table says.
@@ -72,29 +57,29 @@ fn emitted_in(
 /// `AllocError` where memory is refused for names.
 pub fn emitted_run(
     alloc: Global,
-    heads: &[Head<'_>],
-    table: &[Emission],
+    heads: &Heads<'_>,
+    table: &Emissions<'_>,
     name: &Identifier,
 ) -> Result<Vec<Identifier>, AllocError>
     ensures { IfOk result (λ names. names.items ≡ sent_by (map program_of heads.now) (emitted_of
         table.now) name.now) }
 {
-    match head_named(heads, name) {
-        Some(run) => emitted_in(alloc, table, name, &run.interface),
+    match heads.named(name) {
+        Some(run) => emitted_in(alloc, table, name, run.interface.signals()),
         None => Ok(Vec::new(alloc)),
     }
 }
 
 /// Of a module that is run, the interface names that it emits.
 #[derive(Clone, Copy)]
-struct Emitted<'a> {
+struct Emitted<'a, 'b, 'c> {
     /// The modules of the library.
-    heads: &'a [Head<'a>],
+    heads: &'a Heads<'b>,
     /// What each emits.
-    table: &'a [Emission],
+    table: &'a Emissions<'c>,
 }
 
-impl Choice for Emitted<'_> {
+impl Choice for Emitted<'_, '_, '_> {
     ghost use Rattle.std.specs.Prelude.{map};
     ghost use Rattle.est_modules.specs.Modules.{program_of};
     ghost use Rattle.est_checks.specs.Emissions.{emitted_of};
@@ -115,12 +100,12 @@ impl Choice for Emitted<'_> {
 pub fn sent_of<'a>(
     alloc: Global,
     names: &NameTable<'_>,
-    heads: &'a [Head<'a>],
+    heads: &'a Heads<'_>,
     home: &Head<'_>,
-    table: &'a [Emission],
-) -> Result<Vec<Kept>, AllocError>
+    table: &'a Emissions<'_>,
+) -> Result<KeptNames<'a>, AllocError>
     ensures { IfOk result (λ kept. AreKept names.now (sent_by (map program_of heads.now)
-        (emitted_of table.now)) kept.items) }
+        (emitted_of table.now)) kept) }
 {
     let choice = Emitted {
         heads: &*heads,

@@ -1,12 +1,15 @@
 //! Names that are kept of the modules that a module runs.
-ghost use Rattle.std.specs.Prelude.{OnOk, IfOk};
+ghost use Rattle.std.specs.Prelude.{OnOk, IfOk, map};
+ghost use Rattle.est_modules.specs.FirstPlaces.{AreFirstPlaces};
 ghost use Rattle.est_modules.specs.OpenNames.{AreKept};
 
+use est_modules::first_places::FirstPlaces;
 use est_modules::head::Head;
+use est_modules::heads::Heads;
+use est_modules::kept_names::{Kept, KeptNames, keep};
 use est_modules::module_order::places_run;
 use est_modules::name_set::NameSet;
 use est_modules::name_table::NameTable;
-use est_modules::open_names::{Kept, keep};
 use est_text::identifier::Identifier;
 use std::alloc::{AllocError, Global};
 
@@ -27,19 +30,22 @@ pub trait Choice {
 }
 
 /// Keeps the names that are chosen of the module of a name.
-fn keep_chosen<C: Choice>(
+fn keep_chosen<'a, C: Choice>(
     choice: &C,
     alloc: Global,
     table: &NameTable<'_>,
     kept: &mut Vec<Kept>,
-    name: &Identifier,
+    kept_places: &mut FirstPlaces<'a>,
+    name: &'a Identifier,
 ) -> Result<(), AllocError>
-    requires { AreKept table.now (C.chosen choice.now) kept.old.items }
-    ensures { OnOk result (AreKept table.now (C.chosen choice.now) kept.new.items) }
+    requires places { AreFirstPlaces kept_places.old (map (λ k. k.module_name) kept.old.items) }
+    requires kept { AreKept table.now (C.chosen choice.now) kept.old.items }
+    ensures places { OnOk result (AreFirstPlaces kept_places.new (map (λ k. k.module_name)
+        kept.new.items)) }
+    ensures kept { OnOk result (AreKept table.now (C.chosen choice.now) kept.new.items) }
 {
     let names = choice.choose(alloc, name)?;
-    keep(kept, alloc, table, name, &names)?;
-    Ok(())
+    keep(kept, kept_places, alloc, table, name, &names)
 }
 
 /// The modules that a module runs, each with the names that are chosen of it.
@@ -51,20 +57,21 @@ pub fn kept_of<'a, C: Choice>(
     choice: &C,
     alloc: Global,
     table: &NameTable<'_>,
-    heads: &'a [Head<'a>],
+    heads: &'a Heads<'_>,
     home: &Head<'_>,
-) -> Result<Vec<Kept>, AllocError>
-    ensures { IfOk result (λ kept. AreKept table.now (C.chosen choice.now) kept.items) }
+) -> Result<KeptNames<'a>, AllocError>
+    ensures { IfOk result (λ kept. AreKept table.now (C.chosen choice.now) kept) }
 {
-    let places = places_run(alloc, &*heads, home)?;
+    let modules = heads.modules();
     let mut met = NameSet::new(alloc);
     let mut kept = Vec::new(alloc);
-    for place in &places {
-        if let Some(run) = heads.get(*place) {
+    let mut kept_places = FirstPlaces::new(alloc);
+    for place in &places_run(alloc, &*heads, home)? {
+        if let Some(run) = modules.get(*place) {
             if met.insert(&run.name)? {
-                keep_chosen(choice, alloc, table, &mut kept, &run.name)?;
+                keep_chosen(choice, alloc, table, &mut kept, &mut kept_places, &run.name)?;
             }
         }
     }
-    Ok(kept)
+    Ok(KeptNames::of(kept, kept_places))
 }

@@ -18,8 +18,7 @@ ghost use Rattle.est_checks.specs.Inner.Numbers.{number_of, numbers_of, IsFilled
 
 use crate::word_count::test_words;
 use est_kernel::limits::MOST_STATEMENTS;
-use est_modules::head::Head;
-use est_modules::module_order::place_named;
+use est_modules::heads::Heads;
 use est_modules::place_order::Order;
 use est_syntax::tree::{Branches, Sequence, Statement, Test, Unit};
 use est_text::identifier::Identifier;
@@ -32,8 +31,8 @@ pub const TOO_MANY: u16 = MOST_STATEMENTS + 1;
 /// The modules, and the numbers of statements of those that were counted, each at its module's
 /// place.
 #[derive(Clone, Copy)]
-struct Numbers<'a> {
-    heads: &'a [Head<'a>],
+struct Numbers<'a, 'b> {
+    heads: &'a Heads<'b>,
     numbers: &'a [u16],
 }
 
@@ -44,7 +43,7 @@ struct Numbers<'a> {
 /// Memory was refused.
 pub fn count_statements(
     alloc: Global,
-    heads: &[Head<'_>],
+    heads: &Heads<'_>,
     order: &Order,
     main: &Identifier,
 ) -> Result<Option<u16>, AllocError>
@@ -54,7 +53,7 @@ pub fn count_statements(
     let numbers = count_modules(alloc, heads, order.places())?;
     let number = number_of_module(
         &Numbers {
-            heads,
+            heads: &*heads,
             numbers: &numbers,
         },
         main,
@@ -67,26 +66,26 @@ pub fn count_statements(
 }
 
 /// The numbers of all modules, each worked out after those of the modules that it runs.
-fn count_modules(alloc: Global, heads: &[Head<'_>], order: &[usize]) -> Result<Vec<u16>, AllocError>
+fn count_modules(alloc: Global, heads: &Heads<'_>, order: &[usize]) -> Result<Vec<u16>, AllocError>
     requires { IsOrderOf (map program_of heads.now) order.now }
     ensures { IfOk result (λ numbers. IsFilled (map program_of heads.now) order.now numbers.items) }
 {
-    let mut numbers = vec![in alloc; 0; heads.len()]?;
+    let mut numbers = vec![in alloc; 0; heads.modules().len()]?;
     for place in order {
-        let number = count_body(heads, &numbers, *place);
+        let number = count_body(&*heads, &numbers, *place);
         numbers[*place] = number;
     }
     Ok(numbers)
 }
 
 /// The number of the module at a place.
-fn count_body(heads: &[Head<'_>], numbers: &[u16], place: usize) -> u16
+fn count_body<'a>(heads: &'a Heads<'_>, numbers: &'a [u16], place: usize) -> u16
     requires { place < length heads.now }
     ensures { (p : Program) → slice_get (map program_of heads.now) place ≡ Some p
         → result ≡ min TOO_MANY (counted (number_of (map program_of heads.now) numbers.now)
         p.body) }
 {
-    let head = &heads[place];
+    let head = &heads.modules()[place];
     count_statement(&Numbers { heads, numbers }, head.body)
 }
 
@@ -101,10 +100,10 @@ pub fn sum(first: u16, second: u16) -> u16
 
 /// The number of a module that was counted before.
 #[tactic(auto, using(est_modules::proofs::Ordering::place_found))]
-fn number_of_module(numbers: &Numbers<'_>, name: &Identifier) -> u16
+fn number_of_module(numbers: &Numbers<'_, '_>, name: &Identifier) -> u16
     ensures { result ≡ min TOO_MANY (numbers_of numbers.now name.now) }
 {
-    match place_named(numbers.heads, name) {
+    match numbers.heads.place(name) {
         Some(place) => match numbers.numbers.get(place) {
             Some(number) => (*number).min(TOO_MANY),
             None => 0,
@@ -116,7 +115,7 @@ fn number_of_module(numbers: &Numbers<'_>, name: &Identifier) -> u16
 /// The statements of a unit.
 #[cycle(count)]
 #[tactic(auto, using(crate::proofs::Sums::capped))]
-fn count_unit(numbers: &Numbers<'_>, unit: &Unit) -> u16
+fn count_unit(numbers: &Numbers<'_, '_>, unit: &Unit) -> u16
     ensures { result ≡ min TOO_MANY (counted (numbers_of numbers.now)
         (unit_derived (unit_view unit.now))) }
 {
@@ -140,7 +139,7 @@ fn count_unit(numbers: &Numbers<'_>, unit: &Unit) -> u16
 /// The statements of a unit with a body and a test.
 #[cycle(count)]
 #[tactic(auto, using(crate::proofs::Sums::capped))]
-fn count_watched(numbers: &Numbers<'_>, test: &Test, body: &Statement) -> u16
+fn count_watched(numbers: &Numbers<'_, '_>, test: &Test, body: &Statement) -> u16
     ensures { result ≡ min TOO_MANY (test_words (test_view test.now) + counted
         (numbers_of numbers.now) (statement_derived (statement_view body.now)) + 1) }
 {
@@ -150,7 +149,7 @@ fn count_watched(numbers: &Numbers<'_>, test: &Test, body: &Statement) -> u16
 /// The statements of a test, with its branches.
 #[cycle(count)]
 #[tactic(auto, using(crate::proofs::Sums::capped))]
-fn count_test(numbers: &Numbers<'_>, test: &Test, branches: &Branches) -> u16
+fn count_test(numbers: &Numbers<'_, '_>, test: &Test, branches: &Branches) -> u16
     ensures { result ≡ min TOO_MANY (counted (numbers_of numbers.now)
         (branches_derived (test_view test.now) (branches_view branches.now))) }
 {
@@ -172,7 +171,7 @@ fn count_test(numbers: &Numbers<'_>, test: &Test, branches: &Branches) -> u16
 /// The statements of a sequence, each `;` one.
 #[cycle(count)]
 #[tactic(auto, using(crate::proofs::Sums::capped))]
-fn count_sequence(numbers: &Numbers<'_>, sequence: &Sequence) -> u16
+fn count_sequence(numbers: &Numbers<'_, '_>, sequence: &Sequence) -> u16
     ensures { result ≡ min TOO_MANY (counted (numbers_of numbers.now)
         (sequence_derived (sequence_view sequence.now))) }
 {
@@ -186,7 +185,7 @@ fn count_sequence(numbers: &Numbers<'_>, sequence: &Sequence) -> u16
 /// The statements of sequences side by side, each `||` one.
 #[cycle(count)]
 #[tactic(auto, using(crate::proofs::Sums::capped))]
-fn count_statement(numbers: &Numbers<'_>, statement: &Statement) -> u16
+fn count_statement(numbers: &Numbers<'_, '_>, statement: &Statement) -> u16
     ensures { result ≡ min TOO_MANY (counted (numbers_of numbers.now)
         (statement_derived (statement_view statement.now))) }
 {

@@ -1,9 +1,7 @@
 -- Places of elements, and statements along lists.
-use Rattle.std.proofs.Common.{◌≡◌, ℕ, ◌+◌, ◌<◌, List, [], ◌∷◌, length, map, drop, get_or, Some, option_map, refl, ap}
+use Rattle.std.proofs.Common.{◌≡◌, ℕ, ◌+◌, ◌<◌, List, [], ◌∷◌, length, map, drop, get_or, Some, refl, ap}
 use Rattle.std.proofs.Common.{sym, ◌∙◌, rules}
-use Rattle.std.specs.List.{find}
 use Rattle.std.proofs.lemmas.List.{at_drop_more}
-use Rattle.std.specs.Str.{bytes_eq}
 use Rattle.est_syntax.specs.Views.{unit_view, sequence_view, statement_view, units_of, sequences_of}
 use Rattle.est_syntax.specs.Tree.{sequence, statement}
 use Rattle.est_syntax.specs.declared.tree.Unit.{Unit}
@@ -14,13 +12,10 @@ use Rattle.est_syntax.specs.declared.tree.Branches.TheFolds.{the_lemmas}
 use Rattle.est_modules.specs.Derived.{Derived, unit_derived, sequence_derived, statement_derived, then_units}
 use Rattle.est_modules.specs.Derived.{beside_sequences}
 use Rattle.est_modules.specs.Occurrences.{Binder}
-use Rattle.est_modules.specs.Modules.{Program, program_of, program_named}
-use Rattle.est_modules.specs.declared.head.Head.{Head}
-use Rattle.est_modules.proofs.Lists.{program_found}
+use Rattle.est_modules.specs.Modules.{Program}
 use Rattle.est_reduce.specs.Bodies.{Body, seq, par}
-use Rattle.est_link.specs.Inner.Tables.{body_linked}
 use Rattle.est_link.specs.Inner.Joins.{joined_by, chained}
-use Rattle.est_link.specs.Linking.{interface_run, linked}
+use Rattle.est_link.specs.Linking.{linked}
 
 -- ---- statements one after another, and side by side
 
@@ -71,14 +66,3 @@ pub chained_more : {X : Type 0} (f : Body → Body → Body) (g : X → Body) (x
     → x ≡ get_or xs i x → chained f g (drop i xs) ≡ Some (joined_by f (g x) (chained f g (drop (i + 1) xs)))
 chained_more f g xs i x lt e = at_drop_more (chained f g) xs i x lt
     ∙ ap (λ y. Some (joined_by f (g y) (chained f g (drop (i + 1) xs)))) (sym e)
-
--- ---- the interface of a module that is run
-
-pub interface_found : (hs : List Head) (m : List ℕ) → interface_run (program_named (map program_of hs) m)
-    ≡ interface_run (option_map program_of (find (λ (h : Head). bytes_eq h.name m) hs))
-interface_found hs m = ap interface_run (program_found hs m)
-
-pub body_found : (hs : List Head) (bodies : List ℕ → Body) (m : List ℕ)
-    → body_linked (map program_of hs) bodies (program_named (map program_of hs) m)
-    ≡ body_linked (map program_of hs) bodies (option_map program_of (find (λ (h : Head). bytes_eq h.name m) hs))
-body_found hs bodies m = ap (body_linked (map program_of hs) bodies) (program_found hs m)

@@ -9,27 +9,27 @@ ghost use Rattle.est_reduce.specs.Views.{bound_query as query_view};
 ghost use Rattle.est_link.specs.Linking.{locals_around, signal_at, trap_at, of_interface};
 ghost use Rattle.est_link.specs.Inner.Binds.{binding_of};
 
-use est_modules::head::{Declared, Head};
-use est_modules::renamings::callers_name;
+use est_modules::head::{Declared, Head, Interface};
+use est_modules::renamings::RunRenamings;
 use est_modules::scope::Scope;
 use est_reduce::body::{BoundSignal, BoundTest};
-use est_syntax::tree::{Names, Renaming};
+use est_syntax::tree::Names;
 use est_text::identifier::Identifier;
 use std::alloc::{AllocError, Global};
 
 /// A `run`: the place where it stands, its renamings, and the interface of the module that is run.
 #[derive(Clone, Copy)]
-pub struct Binding<'a> {
+pub struct Binding<'a, 'b, 'c> {
     /// Where memory for what it is replaced by is taken.
     pub alloc: Global,
     /// The module in whose body the `run` stands.
-    pub home: &'a Head<'a>,
+    pub home: &'a Head<'b>,
     /// The binders around it.
     pub scope: &'a Scope<'a>,
     /// How many local signals they are.
     pub locals: u32,
     /// Its renamings.
-    pub renamings: &'a [Renaming],
+    pub renamings: &'a RunRenamings<'c>,
     /// The interface of the module that is run.
     pub interface: &'a [Declared],
 }
@@ -84,19 +84,12 @@ fn place_of(names: &Names, name: &Identifier) -> Result<Option<u32>, AllocError>
     }
 }
 
-/// The place of a name in an interface.
-fn place_declared(interface: &[Declared], name: &Identifier) -> Option<usize>
-    ensures { result ≡ position (λ d. bytes_eq d.name name.now) interface.now }
-{
-    interface.iter().position(|declared| declared.name.is(name))
-}
-
 /// The interface signal of a name.
-fn interface_signal(interface: &[Declared], name: &Identifier) -> Result<BoundTest, AllocError>
+fn interface_signal(interface: &Interface<'_>, name: &Identifier) -> Result<BoundTest, AllocError>
     ensures { IfOk result (λ t. query_view t ≡ of_interface (position
         (λ d. bytes_eq d.name name.now) interface.now)) }
 {
-    match place_declared(interface, name) {
+    match interface.place(name) {
         Some(place) => Ok(BoundTest::Of(BoundSignal::Outer(small(place)?))),
         None => Ok(BoundTest::Tick),
     }
@@ -157,12 +150,12 @@ pub fn trap_at(scope: &Scope<'_>, name: &Identifier) -> Result<u32, AllocError>
 
 /// The signal that an interface signal of the module that is run stands for. Only names that are
 /// met are looked up.
-pub fn interface_bound(binding: &Binding<'_>, index: u32) -> Result<BoundTest, AllocError>
+pub fn interface_bound(binding: &Binding<'_, '_, '_>, index: u32) -> Result<BoundTest, AllocError>
     ensures { IfOk result (λ t. query_view t ≡ get_or (binding_of binding.now) index tick) }
 {
     match binding.interface.get(index as usize) {
         Some(declared) => {
-            let name = callers_name(binding.renamings, &declared.name);
+            let name = binding.renamings.callers_name(&declared.name);
             signal_at(binding.home, binding.scope, &name)
         }
         None => Ok(BoundTest::Tick),

@@ -1,42 +1,46 @@
 //! The flat bodies of the modules that main runs, worked out bottom-up.
-ghost use Rattle.std.specs.Prelude.{◌≡◌, IfOk, map};
+ghost use Rattle.std.specs.Prelude.{◌≡◌, Some, IfOk, map};
 ghost use Rattle.est_link.specs.Inner.Needs.{AreBottomUp};
 ghost use Rattle.est_link.specs.Inner.Tables.{AreMade, bodies_of, body_linked};
 ghost use Rattle.est_modules.specs.Modules.{program_of, program_named};
 ghost use Rattle.est_reduce.specs.Views.{body_of};
 
 use crate::flatten::{Linked, Linker, Place, flat_statement};
-use est_modules::head::{Head, head_named};
+use est_modules::heads::Heads;
 use est_modules::scope::Scope;
 use est_reduce::body::Body;
 use est_text::identifier::Identifier;
 use std::alloc::{AllocError, Global};
 
+/// The flat body of the module of a linker.
+fn whole_body(linker: &Linker<'_, '_>) -> Result<Body, AllocError>
+    ensures { IfOk result (λ b. body_of b ≡ body_linked (map program_of linker.now.heads.now)
+        (bodies_of linker.now.bodies.now) (Some (program_of linker.now.home.now))) }
+{
+    let whole = Place {
+        linker: &*linker,
+        scope: &Scope::Module,
+    };
+    flat_statement(&whole, linker.home.body)
+}
+
 /// The flat body of the module of a name, by those of the modules that it runs.
-#[tactic(auto, using(crate::proofs::Places::body_found))]
-fn body_at(
+fn body_at<'a>(
     alloc: Global,
-    heads: &[Head<'_>],
-    bodies: &[Linked],
+    heads: &'a Heads<'_>,
+    bodies: &'a [Linked],
     name: &Identifier,
 ) -> Result<Body, AllocError>
     ensures { IfOk result (λ b. body_of b ≡ body_linked (map program_of heads.now) (bodies_of
         bodies.now) (program_named (map program_of heads.now) name.now)) }
 {
-    match head_named(heads, name) {
-        Some(home) => {
-            let linker = Linker {
-                alloc,
-                heads: &*heads,
-                bodies: &*bodies,
-                home,
-            };
-            let whole = Place {
-                linker: &linker,
-                scope: &Scope::Module,
-            };
-            flat_statement(&whole, home.body)
-        }
+    match heads.named(name) {
+        Some(home) => whole_body(&Linker {
+            alloc,
+            heads,
+            bodies,
+            home,
+        }),
         None => Ok(Body::Nothing),
     }
 }
@@ -44,7 +48,7 @@ fn body_at(
 /// The flat bodies of modules, of which each stands after those that it runs.
 pub fn bodies_along(
     alloc: Global,
-    heads: &[Head<'_>],
+    heads: &Heads<'_>,
     names: &[Identifier],
 ) -> Result<Vec<Linked>, AllocError>
     requires { AreBottomUp (map program_of heads.now) names.now }
@@ -53,7 +57,7 @@ pub fn bodies_along(
 {
     let mut bodies = Vec::new(alloc);
     for name in names {
-        let body = body_at(alloc, heads, &bodies, name)?;
+        let body = body_at(alloc, &*heads, &bodies, name)?;
         bodies.push(Linked { name: *name, body })?;
     }
     Ok(bodies)

@@ -27,7 +27,7 @@ pub fn emitted(test: BoundTest) -> BoundSignal
 }
 
 /// What a signal of the body stands for.
-fn bind_signal(binding: &Binding<'_>, signal: BoundSignal) -> Result<BoundTest, AllocError>
+fn bind_signal(binding: &Binding<'_, '_, '_>, signal: BoundSignal) -> Result<BoundTest, AllocError>
     ensures { IfOk result (λ t. query_view t ≡ signal_in_run (binding_of binding.now)
         binding.now.locals (name_view signal)) }
 {
@@ -40,7 +40,7 @@ fn bind_signal(binding: &Binding<'_>, signal: BoundSignal) -> Result<BoundTest, 
 }
 
 /// What is emitted in place of a signal of the body.
-fn bind_sent(binding: &Binding<'_>, signal: BoundSignal) -> Result<BoundSignal, AllocError>
+fn bind_sent(binding: &Binding<'_, '_, '_>, signal: BoundSignal) -> Result<BoundSignal, AllocError>
     ensures { IfOk result (λ n. name_view n ≡ emitted (signal_in_run (binding_of binding.now)
         binding.now.locals (name_view signal))) }
 {
@@ -50,7 +50,7 @@ fn bind_sent(binding: &Binding<'_>, signal: BoundSignal) -> Result<BoundSignal, 
 /// What is asked in place of a test of the body: each name of it is bound. It goes as deep as the
 /// expressions lie in one another.
 #[cycle(tests)]
-fn bind_test(binding: &Binding<'_>, test: &BoundTest) -> Result<BoundTest, AllocError>
+fn bind_test(binding: &Binding<'_, '_, '_>, test: &BoundTest) -> Result<BoundTest, AllocError>
     ensures { IfOk result (λ t. query_view t ≡ query_in_run (binding_of binding.now)
         binding.now.locals (query_view test.now)) }
 {
@@ -65,7 +65,7 @@ fn bind_test(binding: &Binding<'_>, test: &BoundTest) -> Result<BoundTest, Alloc
 /// The same of operands with this connective between them.
 #[cycle(tests)]
 fn bind_joined(
-    binding: &Binding<'_>,
+    binding: &Binding<'_, '_, '_>,
     connective: Connective,
     operands: &BoundOperands,
 ) -> Result<BoundTest, AllocError>
@@ -84,7 +84,7 @@ fn bind_joined(
 }
 
 /// What is waited for in place of a wait of the body.
-fn bind_wait(binding: &Binding<'_>, wait: &Wait) -> Result<Wait, AllocError>
+fn bind_wait(binding: &Binding<'_, '_, '_>, wait: &Wait) -> Result<Wait, AllocError>
     ensures immediate { IfOk result (λ w. w.immediate ≡ wait.now.immediate) }
     ensures test { IfOk result (λ w. query_view w.test
         ≡ query_in_run (binding_of binding.now) binding.now.locals (query_view wait.now.test)) }
@@ -98,7 +98,7 @@ fn bind_wait(binding: &Binding<'_>, wait: &Wait) -> Result<Wait, AllocError>
 /// A flat body whose interface signals stand for those that the `run` binds, inside the local
 /// signals around the `run`.
 #[cycle(bind)]
-pub fn bind_body(run: &Binding<'_>, flat: &Body) -> Result<Body, AllocError>
+pub fn bind_body(run: &Binding<'_, '_, '_>, flat: &Body) -> Result<Body, AllocError>
     ensures { IfOk result (λ f. body_of f ≡ body_in_run (binding_of run.now) run.now.locals
         (body_of flat.now)) }
 {
@@ -129,7 +129,7 @@ pub fn bind_body(run: &Binding<'_>, flat: &Body) -> Result<Body, AllocError>
 
 /// A body in a box, so bound.
 #[cycle(bind)]
-fn bind_box(run: &Binding<'_>, flat: &Body) -> Result<Box<Body>, AllocError>
+fn bind_box(run: &Binding<'_, '_, '_>, flat: &Body) -> Result<Box<Body>, AllocError>
     ensures { IfOk result (λ b. body_of b.value ≡ body_in_run (binding_of run.now) run.now.locals
         (body_of flat.now)) }
 {

@@ -23,7 +23,9 @@ ghost use Rattle.est_reduce.specs.Views.{bound_query as query_view};
 use crate::bindings::{Binding, count, locals_around, signal_at, trap_at};
 use crate::bound_bodies::{bind_body, emitted};
 use crate::found_tests::find_test;
-use est_modules::head::{Declared, Head, head_named};
+use est_modules::head::{Declared, Head};
+use est_modules::heads::Heads;
+use est_modules::renamings::RunRenamings;
 use est_modules::scope::Scope;
 use est_reduce::body::{Body, BoundSignal, BoundTest, Wait};
 use est_syntax::tree::{Branches, Delay, Renaming, Sequence, Statement, Test, Unit};
@@ -41,15 +43,15 @@ pub struct Linked {
 
 /// The modules, the flat bodies of those that are run, and the module whose body is made flat.
 #[derive(Clone, Copy)]
-pub struct Linker<'a> {
+pub struct Linker<'a, 'b> {
     /// Where memory for the body is taken.
     pub alloc: Global,
     /// The modules.
-    pub heads: &'a [Head<'a>],
+    pub heads: &'a Heads<'b>,
     /// The flat bodies.
     pub bodies: &'a [Linked],
     /// The module.
-    pub home: &'a Head<'a>,
+    pub home: &'a Head<'b>,
 }
 
 /// The entry of a name.
@@ -60,19 +62,18 @@ pub fn linked_named<'a>(bodies: &'a [Linked], name: &Identifier) -> Option<&'a L
 }
 
 /// The interface of the module that is run.
-#[tactic(auto, using(crate::proofs::Places::interface_found))]
-fn interface_run<'a>(heads: &'a [Head<'_>], name: &Identifier) -> &'a [Declared]
+fn interface_run<'a>(heads: &'a Heads<'_>, name: &Identifier) -> &'a [Declared]
     ensures { result.now ≡ interface_run (program_named (map program_of heads.now) name.now) }
 {
-    match head_named(heads, name) {
-        Some(head) => head.interface.as_slice(),
+    match heads.named(name) {
+        Some(head) => head.interface.signals(),
         None => &[],
     }
 }
 
 /// The flat statement of a `run`: the body of its module, its interface names bound.
 fn run(
-    linker: &Linker<'_>,
+    linker: &Linker<'_, '_>,
     scope: &Scope<'_>,
     name: &Identifier,
     renamings: &[Renaming],
@@ -84,12 +85,13 @@ fn run(
         (locals_around (binders_of scope.now)) (bodies_of linker.now.bodies.now name.now)) }
 {
     let interface = interface_run(linker.heads, name);
+    let renamings = RunRenamings::of(linker.alloc, renamings)?;
     let binding = Binding {
         alloc: linker.alloc,
         home: &*linker.home,
         scope: &*scope,
         locals: locals_around(scope)?,
-        renamings: &*renamings,
+        renamings: &renamings,
         interface,
     };
     match linked_named(linker.bodies, name) {
@@ -100,15 +102,15 @@ fn run(
 
 /// A place in the module whose body is made flat.
 #[derive(Clone, Copy)]
-pub struct Place<'a> {
+pub struct Place<'a, 'b> {
     /// The modules, and the module.
-    pub linker: &'a Linker<'a>,
+    pub linker: &'a Linker<'a, 'b>,
     /// The binders around the place.
     pub scope: &'a Scope<'a>,
 }
 
 /// The signal that a name means.
-pub fn find_signal(place: &Place<'_>, name: &Identifier) -> Result<BoundTest, AllocError>
+pub fn find_signal(place: &Place<'_, '_>, name: &Identifier) -> Result<BoundTest, AllocError>
     ensures { IfOk result (λ t. query_view t ≡ signal_at (program_of place.now.linker.now.home.now)
         (binders_of place.now.scope.now) name.now) }
 {
@@ -116,7 +118,7 @@ pub fn find_signal(place: &Place<'_>, name: &Identifier) -> Result<BoundTest, Al
 }
 
 /// The signal that the emission of a name means.
-fn find_sent(place: &Place<'_>, name: &Identifier) -> Result<BoundSignal, AllocError>
+fn find_sent(place: &Place<'_, '_>, name: &Identifier) -> Result<BoundSignal, AllocError>
     ensures { IfOk result (λ n. name_view n ≡ emitted (signal_at
         (program_of place.now.linker.now.home.now) (binders_of place.now.scope.now) name.now)) }
 {
@@ -124,7 +126,7 @@ fn find_sent(place: &Place<'_>, name: &Identifier) -> Result<BoundSignal, AllocE
 }
 
 /// What is waited for.
-fn find_wait(place: &Place<'_>, delay: &Delay) -> Result<Wait, AllocError>
+fn find_wait(place: &Place<'_, '_>, delay: &Delay) -> Result<Wait, AllocError>
     ensures immediate { IfOk result (λ w. w.immediate ≡ delay.now.immediate) }
     ensures test { IfOk result (λ w. query_view w.test
         ≡ asked_at (program_of place.now.linker.now.home.now) (binders_of place.now.scope.now)
@@ -138,7 +140,7 @@ fn find_wait(place: &Place<'_>, delay: &Delay) -> Result<Wait, AllocError>
 
 /// The flat statement of a unit.
 #[cycle(flat)]
-fn flat_unit(at: &Place<'_>, unit: &Unit) -> Result<Body, AllocError>
+fn flat_unit(at: &Place<'_, '_>, unit: &Unit) -> Result<Body, AllocError>
     ensures { IfOk result (λ f. body_of f ≡ linked (map program_of at.now.linker.now.heads.now)
         (bodies_of at.now.linker.now.bodies.now) (program_of at.now.linker.now.home.now)
         (binders_of at.now.scope.now) (unit_derived (unit_view unit.now))) }
@@ -176,7 +178,7 @@ fn flat_unit(at: &Place<'_>, unit: &Unit) -> Result<Body, AllocError>
 
 /// The flat statement of a test, with its branches.
 #[cycle(flat)]
-fn flat_test(at: &Place<'_>, test: &Test, branches: &Branches) -> Result<Body, AllocError>
+fn flat_test(at: &Place<'_, '_>, test: &Test, branches: &Branches) -> Result<Body, AllocError>
     ensures { IfOk result (λ f. body_of f ≡ linked (map program_of at.now.linker.now.heads.now)
         (bodies_of at.now.linker.now.bodies.now) (program_of at.now.linker.now.home.now)
         (binders_of at.now.scope.now) (branches_derived (test_view test.now)
@@ -220,7 +222,7 @@ fn beside(alloc: Global, p: Body, rest: Option<Body>) -> Result<Body, AllocError
 
 /// The flat statement of a sequence.
 #[cycle(flat)]
-fn flat_sequence(at: &Place<'_>, sequence: &Sequence) -> Result<Body, AllocError>
+fn flat_sequence(at: &Place<'_, '_>, sequence: &Sequence) -> Result<Body, AllocError>
     ensures { IfOk result (λ f. body_of f ≡ linked (map program_of at.now.linker.now.heads.now)
         (bodies_of at.now.linker.now.bodies.now) (program_of at.now.linker.now.home.now)
         (binders_of at.now.scope.now) (sequence_derived (sequence_view sequence.now))) }
@@ -239,7 +241,7 @@ fn flat_sequence(at: &Place<'_>, sequence: &Sequence) -> Result<Body, AllocError
 
 /// The flat statement of sequences side by side.
 #[cycle(flat)]
-pub fn flat_statement(at: &Place<'_>, statement: &Statement) -> Result<Body, AllocError>
+pub fn flat_statement(at: &Place<'_, '_>, statement: &Statement) -> Result<Body, AllocError>
     ensures { IfOk result (λ f. body_of f ≡ linked (map program_of at.now.linker.now.heads.now)
         (bodies_of at.now.linker.now.bodies.now) (program_of at.now.linker.now.home.now)
         (binders_of at.now.scope.now) (statement_derived (statement_view statement.now))) }
@@ -258,7 +260,7 @@ pub fn flat_statement(at: &Place<'_>, statement: &Statement) -> Result<Body, All
 
 /// The flat statement of sequences side by side, in a box.
 #[cycle(flat)]
-fn box_body(at: &Place<'_>, statement: &Statement) -> Result<Box<Body>, AllocError>
+fn box_body(at: &Place<'_, '_>, statement: &Statement) -> Result<Box<Body>, AllocError>
     ensures { IfOk result (λ b. body_of b.value ≡ linked (map program_of
         at.now.linker.now.heads.now) (bodies_of at.now.linker.now.bodies.now)
         (program_of at.now.linker.now.home.now) (binders_of at.now.scope.now)
@@ -270,7 +272,7 @@ fn box_body(at: &Place<'_>, statement: &Statement) -> Result<Box<Body>, AllocErr
 /// The flat statement of sequences side by side inside one binder more, in a box.
 #[cycle(flat)]
 fn box_inside(
-    at: &Place<'_>,
+    at: &Place<'_, '_>,
     scope: &Scope<'_>,
     statement: &Statement,
 ) -> Result<Box<Body>, AllocError>

@@ -11,7 +11,7 @@ use crate::linked_module::linked_body;
 use crate::main_module::main_module;
 use est_checks::fault::LinkFault;
 use est_checks::library_check::check_library;
-use est_modules::head::{Head, head_named};
+use est_modules::heads::Heads;
 use est_modules::library_heads::heads_of;
 use est_modules::place_order::Order;
 use est_reduce::flat::Flat;
@@ -20,9 +20,9 @@ use est_text::identifier::Identifier;
 use std::alloc::{AllocError, Global};
 
 /// The flat main module of modules of which no check has a fault, by an order of them.
-fn flat_module<'a>(
+fn flat_module(
     alloc: Global,
-    heads: &'a [Head<'a>],
+    heads: &Heads<'_>,
     order: &Order,
     main: &Identifier,
 ) -> Result<Flat, AllocError>
@@ -31,14 +31,14 @@ fn flat_module<'a>(
     ensures { IfOk result (λ f. IsFlatOf (map program_of heads.now) main.now (flat_of f)) }
 {
     let body = linked_body(alloc, &*heads, order, main)?;
-    let Some(home) = head_named(&*heads, main) else {
+    let Some(home) = heads.named(main) else {
         unreachable!();
     };
     main_module(alloc, home, body)
 }
 
 /// The flat main module of modules, or their first fault.
-fn link_heads<'a>(alloc: Global, heads: &'a [Head<'a>], main: &str) -> Result<Flat, LinkFault>
+fn link_heads(alloc: Global, heads: &Heads<'_>, main: &str) -> Result<Flat, LinkFault>
     ensures first { Finds (IsFirstFault (map program_of heads.now) main.now) result }
     ensures flat { IfOk result (λ f. IsFlatOf (map program_of heads.now) main.now (flat_of f)) }
 {

@@ -16,8 +16,7 @@ ghost use Rattle.est_reduce.specs.Views.{body_of};
 use crate::body_table::bodies_along;
 use crate::flatten::Linked;
 use crate::needed::{names_along, needed_places};
-use est_modules::head::Head;
-use est_modules::module_order::place_named;
+use est_modules::heads::Heads;
 use est_modules::place_order::Order;
 use est_reduce::body::Body;
 use est_text::identifier::Identifier;
@@ -45,9 +44,9 @@ fn take_body(mut bodies: Vec<Linked>, name: &Identifier) -> Body
 /// # Errors
 ///
 /// `AllocError` where memory is refused.
-pub fn linked_body<'a>(
+pub fn linked_body(
     alloc: Global,
-    heads: &'a [Head<'a>],
+    heads: &Heads<'_>,
     order: &Order,
     main: &Identifier,
 ) -> Result<Body, AllocError>
@@ -60,7 +59,7 @@ pub fn linked_body<'a>(
         → program_named (map program_of heads.now) main.now ≡ Some p
         → IsBound (declarations_of p) 0 0 (body_of b)) }
 {
-    match place_named(heads, main) {
+    match heads.place(main) {
         Some(place) => {
             let needed = needed_places(alloc, &*heads, order.places(), place)?;
             let names = names_along(alloc, heads, order.places(), &needed)?;

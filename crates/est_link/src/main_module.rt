@@ -129,7 +129,7 @@ pub fn main_module(alloc: Global, home: &Head<'_>, body: Body) -> Result<Flat, A
         (program_of home.now).relations f.relations) }
     ensures body { IfOk result (λ f. body_of f.body ≡ body_of body) }
 {
-    let interface = kernel_interface(alloc, &home.interface)?;
+    let interface = kernel_interface(alloc, home.interface.signals())?;
     let listed = relations_of(alloc, home.declarations)?;
     let relations = kernel_relations(alloc, &interface, &listed)?;
     Ok(Flat {

@@ -8,8 +8,8 @@ ghost use Rattle.est_modules.specs.Modules.{Program, program_of, first_in_bodies
 ghost use Rattle.est_modules.specs.ModuleOrders.{IsOrderOf, places_run};
 ghost use Rattle.est_checks.specs.MissingModules.{missing_at};
 
-use est_modules::head::Head;
-use est_modules::module_order::{name_at, places_run};
+use est_modules::heads::Heads;
+use est_modules::module_order::places_run;
 use est_text::identifier::Identifier;
 use std::alloc::{AllocError, Global};
 
@@ -21,23 +21,19 @@ fn is_in(set: &[usize], place: usize) -> bool
 }
 
 /// The places of the modules that the module at a place runs.
-fn places_at<'a>(
-    alloc: Global,
-    heads: &'a [Head<'a>],
-    place: usize,
-) -> Result<Vec<usize>, AllocError>
+fn places_at(alloc: Global, heads: &Heads<'_>, place: usize) -> Result<Vec<usize>, AllocError>
     requires { place < length heads.now }
     ensures { IfOk result (λ places. (p : Program)
         → slice_get (map program_of heads.now) place ≡ Some p
         → places.items ≡ places_run (map program_of heads.now) p) }
 {
-    places_run(alloc, &*heads, &heads[place])
+    places_run(alloc, &*heads, &heads.modules()[place])
 }
 
 /// The set of the places of the module at `main` and of those that it runs, and so on.
-pub fn needed_places<'a>(
+pub fn needed_places(
     alloc: Global,
-    heads: &'a [Head<'a>],
+    heads: &Heads<'_>,
     order: &[usize],
     main: usize,
 ) -> Result<Vec<usize>, AllocError>
@@ -61,7 +57,7 @@ pub fn needed_places<'a>(
 /// The names of the modules of a set, each after those of the modules that it runs.
 pub fn names_along(
     alloc: Global,
-    heads: &[Head<'_>],
+    heads: &Heads<'_>,
     order: &[usize],
     set: &[usize],
 ) -> Result<Vec<Identifier>, AllocError>
@@ -77,7 +73,7 @@ pub fn names_along(
     let mut names = Vec::new(alloc);
     for place in order {
         if is_in(set, *place) {
-            names.push(name_at(heads, *place))?;
+            names.push(heads.name_at(*place))?;
         }
     }
     Ok(names)

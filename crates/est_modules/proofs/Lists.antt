@@ -1,6 +1,9 @@
 -- Tests along lists that were mapped.
 use Rattle.std.proofs.Common.{◌≡◌, ◌||◌, ℕ, suc, List, [], ◌∷◌, Option, Some, None, Bool, true, false, cond, refl, ap}
-use Rattle.std.proofs.Common.{map, option_map, length, filter}
+use Rattle.std.proofs.Common.{map, option_map, length, filter, ◌++◌, ◌<◌, get_or, take, sym, ◌∙◌}
+use Rattle.std.proofs.Math.Seq.{take-suc}
+use Rattle.std.proofs.lemmas.List.{map-append}
+use Rattle.std.specs.Prelude.{is_some}
 use Rattle.std.specs.List.{list_any, find}
 use Rattle.std.specs.Str.{bytes_eq}
 use Rattle.est_syntax.specs.Tree.{RenamingTree}
@@ -52,3 +55,24 @@ renamed_is rs s = ap (λ o. callers_name o s) (find_map (λ (r : RenamingTree). 
 pub map_map : {X Y Z : Type 0} (g : Y → Z) (f : X → Y) (xs : List X) → map g (map f xs) ≡ map (λ x. g (f x)) xs
 map_map g f [] = refl
 map_map g f (x ∷ xs) = ap (λ ys. g (f x) ∷ ys) (map_map g f xs)
+
+-- a list of which i were taken goes on with the next
+pub more : {X Y : Type 0} (f : X → Y) (xs : List X) (i j : ℕ) (d : X) → i < length xs → j ≡ suc i
+    → map f (take i xs) ++ f (get_or xs i d) ∷ [] ≡ map f (take j xs)
+more f xs i j d lt next =
+    sym (ap (λ k. map f (take k xs)) next ∙ ap (map f) (take-suc xs i d lt)
+    ∙ map-append f (take i xs) (get_or xs i d ∷ []))
+
+-- what is found is there
+pub some_map : {X Y : Type 0} (f : X → Y) (o : Option X) → is_some (option_map f o) ≡ is_some o
+some_map f None = refl
+some_map f (Some x) = refl
+
+some_chosen : {X : Type 0} (b : Bool) (x : X) (o : Option X) → is_some (cond b (Some x) o) ≡ (b || is_some o)
+some_chosen true x o = refl
+some_chosen false x o = refl
+
+-- something is found where an element passes
+pub some_found : {X : Type 0} (p : X → Bool) (xs : List X) → is_some (find p xs) ≡ list_any p xs
+some_found p [] = refl
+some_found p (x ∷ xs) = some_chosen (p x) x (find p xs) ∙ ap (λ b. p x || b) (some_found p xs)

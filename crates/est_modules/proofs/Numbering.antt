@@ -1,18 +1,19 @@
 -- Names with numbers, and rows that tell something of each.
-use Rattle.std.proofs.Common.{◌≡◌, ◌<◌, ◌⊎◌, inl, inr, ◌||◌, ℕ, zero, suc, ◌+◌, List, [], ◌∷◌, ◌++◌, length, Some, None}
-use Rattle.std.proofs.Common.{Bool, true, false, cond, slice_set, replicate, get_or, take, refl, ap, sym, ◌∙◌, subst}
-use Rattle.std.proofs.Common.{arith}
+use Rattle.std.proofs.Common.{◌≡◌, ◌<◌, ◌⊎◌, inl, inr, ◌||◌, ℕ, zero, suc, ◌+◌, List, [], ◌∷◌, ◌++◌, length, Option}
+use Rattle.std.proofs.Common.{Some, None, Bool, true, false, cond, slice_set, replicate, get_or, take, refl, ap, sym}
+use Rattle.std.proofs.Common.{◌∙◌, subst, arith}
 use Rattle.std.proofs.lemmas.Bool.{false≢true}
 use Rattle.std.proofs.lemmas.List.{length-set, get_or-set_same, get_or-set_other, get_or-replicate, length-replicate}
 use Rattle.std.proofs.lemmas.List.Folds.{list_any_more}
 use Rattle.std.proofs.lemmas.Option.{none-some, slice_get_within, slice_get-get_or, get_or_from_slice_get}
-use Rattle.std.specs.List.{slice_get}
+use Rattle.std.specs.List.{list_any, slice_get}
+use Rattle.std.specs.Prelude.{is_some}
 use Rattle.std.specs.Str.{bytes_eq}
-use Rattle.est_modules.specs.NameTables.{number_in, IsTable}
+use Rattle.est_modules.specs.NameTables.{number_in, is_numbered, IsTable}
 use Rattle.est_modules.specs.OpenNames.{Tells}
 use Rattle.est_modules.specs.Visible.{stands_in}
 use Rattle.est_modules.specs.declared.name_table.NameTable.{NameTable}
-use Rattle.est_modules.proofs.Testing.{same_bytes, equal_bytes, some_same}
+use Rattle.est_modules.proofs.Testing.{same_bytes, equal_bytes, or_left, or_right, some_same}
 
 cases_bool : (b : Bool) → (b ≡ true) ⊎ (b ≡ false)
 cases_bool true = inl refl
@@ -93,11 +94,43 @@ grown_table t new s is none grown updates = record {
   ];
 }
 
+pub told_other : (b : Bool) → b ≡ (b || false)
+told_other true = refl
+told_other false = refl
+
+-- a name has a number where it had one, or was added
+pub numbered_cond : (b : Bool) (n : ℕ) (o : Option ℕ) → is_some (cond b (Some n) o) ≡ (is_some o || b)
+numbered_cond true n None = refl
+numbered_cond true n (Some i) = refl
+numbered_cond false n None = refl
+numbered_cond false n (Some i) = refl
+
+-- a name that had one is added
+pub numbered_still : (t : NameTable) (s u : List ℕ) (i : ℕ) (b : Bool) → bytes_eq s u ≡ b → number_in t s ≡ Some i
+    → is_numbered t u ≡ (is_numbered t u || b)
+numbered_still t s u i true same at =
+    let has : number_in t u ≡ Some i = ap (number_in t) (sym (same_bytes s u same)) ∙ at in
+    ap is_some has ∙ sym (ap (λ (o : Option ℕ). is_some o || true) has)
+numbered_still t s u i false other at = told_other (is_numbered t u)
+
+-- a name that is declared, or `tick`, has a number
+pub numbered_by : (old listed now declared tick : Bool) → now ≡ (old || listed) → (tick ≡ true → listed ≡ true)
+    → (declared || tick) ≡ true → (now || declared) ≡ true
+numbered_by old listed now true tick e has h = or_right now true refl
+numbered_by old listed now false tick e has h = or_left now false (e ∙ or_right old listed (has h))
+
 -- ---- rows
 
 or_assoc : (a b c : Bool) → ((a || b) || c) ≡ (a || (b || c))
 or_assoc true b c = refl
 or_assoc false b c = refl
+
+-- one element more of a list
+pub any_next : {X : Type 0} (a : Bool) (p : X → Bool) (xs : List X) (k : ℕ) (x : X) → x ≡ get_or xs k x
+    → k < length xs → ((a || list_any p (take k xs)) || p x) ≡ (a || list_any p (take (k + 1) xs))
+any_next a p xs k x at room =
+    or_assoc a (list_any p (take k xs)) (p x)
+    ∙ ap (λ b. a || b) (ap (λ y. list_any p (take k xs) || p y) at ∙ sym (list_any_more p xs k x room))
 
 -- one name more stands in the first names of a list
 pub stands_next : (f : List ℕ → Bool) (ns : List (List ℕ)) (k : ℕ) (s n : List ℕ) → n ≡ get_or ns k n → k < length ns
@@ -117,10 +150,6 @@ tells_one t b row is e s i h =
 told_so : (b : Bool) → true ≡ (b || true)
 told_so true = refl
 told_so false = refl
-
-told_other : (b : Bool) → b ≡ (b || false)
-told_other true = refl
-told_other false = refl
 
 -- a name with a number, which is told now
 told_more : (t : NameTable) (f : List ℕ → Bool) (row : List Bool) (s : List ℕ) (n : ℕ) (u : List ℕ) (i : ℕ) (b : Bool)

@@ -13,7 +13,7 @@ use Rattle.est_modules.specs.Renamings.{is_renamed}
 use Rattle.est_modules.specs.declared.name_table.NameTable.{NameTable}
 use Rattle.est_modules.specs.declared.open_names.OpenNames.{OpenNames}
 use Rattle.est_modules.specs.Visible.{is_local}
-use Rattle.est_modules.specs.declared.open_names.Kept.{Kept}
+use Rattle.est_modules.specs.declared.kept_names.Kept.{Kept}
 use Rattle.est_modules.proofs.Testing.{same_bytes, some_same}
 
 -- ---- lists from which names are taken

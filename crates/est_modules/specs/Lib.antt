@@ -1,4 +1,6 @@
+pub mod BoundNames
 pub mod Derived
+pub mod FirstPlaces
 pub mod Inner
 pub mod ModuleOrders
 pub mod Modules

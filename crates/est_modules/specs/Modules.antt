@@ -77,7 +77,7 @@ abbrev pub program_of : Head → Program
 program_of h =
     record {
       name = h.name;
-      interface = h.interface.items;
+      interface = h.interface;
       relations = relations_of (map declaration_view h.declarations.now);
       body = statement_derived (statement_view h.body.now);
     }

@@ -7,7 +7,7 @@ use Rattle.est_modules.specs.Occurrences.{Binder}
 use Rattle.est_modules.specs.Renamings.{is_renamed}
 use Rattle.est_modules.specs.Visible.{is_local}
 use Rattle.est_modules.specs.declared.name_table.NameTable.{NameTable}
-use Rattle.est_modules.specs.declared.open_names.Kept.{Kept}
+use Rattle.est_modules.specs.declared.kept_names.Kept.{Kept}
 use Rattle.est_modules.specs.declared.open_names.OpenNames.{OpenNames}
 
 -- each of the names has its number in the list

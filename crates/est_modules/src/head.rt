@@ -1,11 +1,14 @@
 //! Modules with their interfaces at hand.
-ghost use Rattle.std.specs.Prelude.{◌≡◌, map, option_map, Bool};
-ghost use Rattle.std.specs.List.{find};
+ghost use Rattle.std.specs.Prelude.{◌≡◌, map};
+ghost use Rattle.std.specs.List.{position};
 ghost use Rattle.std.specs.Str.{bytes_eq};
-ghost use Rattle.est_modules.specs.Modules.{program_of, program_named, is_declared};
+ghost use Rattle.est_modules.specs.FirstPlaces.{AreFirstPlaces};
+ghost use Rattle.est_modules.specs.Modules.{is_declared};
 
+use crate::first_places::FirstPlaces;
 use est_syntax::tree::{Declaration, Statement};
 use est_text::identifier::Identifier;
+use std::marker::Model;
 
 /// Whether a signal comes from outside, goes there, or both.
 #[derive(Clone, Copy, PartialEq, Eq, Debug)]
@@ -27,36 +30,67 @@ pub struct Declared {
     pub kind: Kind,
 }
 
+/// The signals of a module, in declaration order. A look-up of a name takes as many steps as their
+/// count has digits in binary. A contract sees the list of the signals.
+#[derive(Drop)]
+pub struct Interface<'a> {
+    declared: Vec<Declared>,
+    places: FirstPlaces<'a>,
+}
+
+impl<'a> Model for Interface<'a> {
+    ghost use Rattle.std.specs.Prelude.{List, map};
+    ghost use Rattle.est_modules.specs.FirstPlaces.{AreFirstPlaces};
+    ghost use Rattle.est_modules.specs.declared.head.Declared.{Declared};
+
+    ghost Value = { List Declared };
+
+    ghost view = { λ i. i.declared.items };
+
+    ghost invariant = { λ i. AreFirstPlaces i.places (map (λ d. d.name) i.declared.items) };
+}
+
+impl<'a> Interface<'a> {
+    /// The interface of these signals, of which the places are those of their names.
+    pub fn of(declared: Vec<Declared>, places: FirstPlaces<'a>) -> Interface<'a>
+        requires { AreFirstPlaces places (map (λ d. d.name) declared.items) }
+        ensures { result ≡ declared.items }
+    {
+        Interface { declared, places }
+    }
+
+    /// The signals.
+    pub fn signals(&self) -> &[Declared]
+        ensures { result.now ≡ self.now }
+    {
+        self.declared.as_slice()
+    }
+
+    /// The place of the first signal of a name.
+    pub fn place(&self, name: &Identifier) -> Option<usize>
+        ensures { result ≡ position (λ d. bytes_eq d.name name.now) self.now }
+    {
+        self.places.find(name)
+    }
+
+    /// Whether it has a signal of this name.
+    #[tactic(auto, using(crate::proofs::Placing::some_place))]
+    pub fn declares(&self, name: &Identifier) -> bool
+        ensures { result ≡ is_declared self.now name.now }
+    {
+        self.place(name).is_some()
+    }
+}
+
 /// A module, with its interface in declaration order.
 #[derive(Drop)]
 pub struct Head<'a> {
     /// Its name.
     pub name: Identifier,
     /// Its interface.
-    pub interface: Vec<Declared>,
+    pub interface: Interface<'a>,
     /// Its declarations, as they are written.
     pub declarations: &'a [Declaration],
     /// Its body.
     pub body: &'a Statement,
-}
-
-/// Whether an interface has this signal.
-pub fn is_declared(interface: &[Declared], signal: &Identifier) -> bool
-    ensures { result ≡ is_declared interface.now signal.now }
-{
-    interface.iter().any(|declared| declared.name.is(signal))
-}
-
-fn find_head<'a, 'b>(heads: &'b [Head<'a>], name: &Identifier) -> Option<&'b Head<'a>>
-    ensures { option_map (λ h. h.now) result ≡ find (λ h. bytes_eq h.name name.now) heads.now }
-{
-    heads.iter().find(|head| head.name.is(name))
-}
-
-/// The first module of a name.
-pub fn head_named<'a, 'b>(heads: &'b [Head<'a>], name: &Identifier) -> Option<&'b Head<'a>>
-    ensures { option_map (λ h. program_of h.now) result ≡ program_named (map program_of heads.now)
-        name.now }
-{
-    find_head(heads, name)
 }

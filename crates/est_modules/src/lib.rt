@@ -12,7 +12,11 @@
 //! reached from it, and no stack beyond its own.
 #![tactic(auto)]
 
+pub mod bound_names;
+pub mod first_places;
 pub mod head;
+pub mod heads;
+pub mod kept_names;
 pub mod library_heads;
 pub mod module_order;
 pub mod name_set;

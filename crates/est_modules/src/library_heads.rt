@@ -1,57 +1,93 @@
 //! The modules of a library with their interfaces at hand.
-ghost use Rattle.std.specs.Prelude.{◌≡◌, ◌++◌, OnOk, IfOk, map};
+ghost use Rattle.std.specs.Prelude.{◌≡◌, ◌∷◌, [], ◌++◌, OnOk, IfOk, map};
 ghost use Rattle.est_syntax.specs.Views.{names_view, declaration_view, module_view, library_view};
+ghost use Rattle.est_modules.specs.FirstPlaces.{AreFirstPlaces};
 ghost use Rattle.est_modules.specs.Modules.{with_kind, declared_by, interface_of, program_of};
 ghost use Rattle.est_modules.specs.Modules.{module_program, programs_of};
 
-use crate::head::{Declared, Head, Kind};
+use crate::first_places::FirstPlaces;
+use crate::head::{Declared, Head, Interface, Kind};
+use crate::heads::Heads;
 use est_syntax::tree::{Declaration, Library, Module, Names};
+use est_text::identifier::Identifier;
 use std::alloc::{AllocError, Global};
 
-/// Adds the names of one declaration, all of one kind.
-fn add_names(interface: &mut Vec<Declared>, kind: Kind, names: &Names) -> Result<(), AllocError>
-    ensures { OnOk result (interface.new.items ≡ interface.old.items ++ with_kind kind (names_view
-        names.now)) }
+/// Adds a signal.
+fn add_signal<'a>(
+    declared: &mut Vec<Declared>,
+    places: &mut FirstPlaces<'a>,
+    kind: Kind,
+    name: &'a Identifier,
+) -> Result<(), AllocError>
+    requires { AreFirstPlaces places.old (map (λ d. d.name) declared.old.items) }
+    ensures places { OnOk result (AreFirstPlaces places.new (map (λ d. d.name)
+        declared.new.items)) }
+    ensures declared { OnOk result (declared.new.items ≡ declared.old.items
+        ++ record { name = name.now; kind = kind } ∷ []) }
 {
-    let name = names.first;
-    interface.push(Declared { name, kind })?;
+    places.add(name, declared.len())?;
+    declared.push(Declared { name: *name, kind })?;
+    Ok(())
+}
+
+/// Adds the names of one declaration, all of one kind.
+fn add_names<'a>(
+    declared: &mut Vec<Declared>,
+    places: &mut FirstPlaces<'a>,
+    kind: Kind,
+    names: &'a Names,
+) -> Result<(), AllocError>
+    requires { AreFirstPlaces places.old (map (λ d. d.name) declared.old.items) }
+    ensures places { OnOk result (AreFirstPlaces places.new (map (λ d. d.name)
+        declared.new.items)) }
+    ensures declared { OnOk result (declared.new.items ≡ declared.old.items ++ with_kind kind
+        (names_view names.now)) }
+{
+    add_signal(declared, places, kind, &names.first)?;
     for name in &names.later {
-        interface.push(Declared { name: *name, kind })?;
+        add_signal(declared, places, kind, name)?;
     }
     Ok(())
 }
 
 /// Adds the signals that a declaration declares.
-fn add_signals(interface: &mut Vec<Declared>, declaration: &Declaration) -> Result<(), AllocError>
-    ensures { OnOk result (interface.new.items ≡ interface.old.items ++ declared_by
+fn add_signals<'a>(
+    declared: &mut Vec<Declared>,
+    places: &mut FirstPlaces<'a>,
+    declaration: &'a Declaration,
+) -> Result<(), AllocError>
+    requires { AreFirstPlaces places.old (map (λ d. d.name) declared.old.items) }
+    ensures places { OnOk result (AreFirstPlaces places.new (map (λ d. d.name)
+        declared.new.items)) }
+    ensures declared { OnOk result (declared.new.items ≡ declared.old.items ++ declared_by
         (declaration_view declaration.now)) }
 {
     match declaration {
-        Declaration::Input(names) => add_names(interface, Kind::Input, names),
-        Declaration::Output(names) => add_names(interface, Kind::Output, names),
-        Declaration::InputOutput(names) => add_names(interface, Kind::InputOutput, names),
+        Declaration::Input(names) => add_names(declared, places, Kind::Input, names),
+        Declaration::Output(names) => add_names(declared, places, Kind::Output, names),
+        Declaration::InputOutput(names) => add_names(declared, places, Kind::InputOutput, names),
         Declaration::Relations(_, _) => Ok(()),
     }
 }
 
 /// The interface signals of declarations, in the order of the text.
-fn interface_of(alloc: Global, declarations: &[Declaration]) -> Result<Vec<Declared>, AllocError>
-    ensures { IfOk result (λ interface. interface.items ≡ interface_of (map declaration_view
+fn interface_of<'a>(
+    alloc: Global,
+    declarations: &'a [Declaration],
+) -> Result<Interface<'a>, AllocError>
+    ensures { IfOk result (λ interface. interface ≡ interface_of (map declaration_view
         declarations.now)) }
 {
-    let mut interface = Vec::new(alloc);
+    let mut declared = Vec::new(alloc);
+    let mut places = FirstPlaces::new(alloc);
     for declaration in declarations {
-        add_signals(&mut interface, declaration)?;
+        add_signals(&mut declared, &mut places, declaration)?;
     }
-    Ok(interface)
+    Ok(Interface::of(declared, places))
 }
 
 /// A module with its interface at hand.
-///
-/// # Errors
-///
-/// `AllocError` where memory is refused.
-pub fn head_of<'a>(alloc: Global, declared: &'a Module) -> Result<Head<'a>, AllocError>
+fn head_of<'a>(alloc: Global, declared: &'a Module) -> Result<Head<'a>, AllocError>
     ensures { IfOk result (λ head. program_of head ≡ module_program (module_view declared.now)) }
 {
     Ok(Head {
@@ -62,19 +98,37 @@ pub fn head_of<'a>(alloc: Global, declared: &'a Module) -> Result<Head<'a>, Allo
     })
 }
 
+/// Adds a module.
+fn add_module<'a>(
+    heads: &mut Vec<Head<'a>>,
+    places: &mut FirstPlaces<'a>,
+    alloc: Global,
+    declared: &'a Module,
+) -> Result<(), AllocError>
+    requires { AreFirstPlaces places.old (map (λ h. h.name) heads.old.items) }
+    ensures places { OnOk result (AreFirstPlaces places.new (map (λ h. h.name) heads.new.items)) }
+    ensures heads { OnOk result (map program_of heads.new.items ≡ map program_of heads.old.items
+        ++ module_program (module_view declared.now) ∷ []) }
+{
+    places.add(&declared.name, heads.len())?;
+    heads.push(head_of(alloc, declared)?)?;
+    Ok(())
+}
+
 /// The modules of a library, in the order of the text.
 ///
 /// # Errors
 ///
 /// `AllocError` where memory is refused.
-pub fn heads_of<'a>(alloc: Global, library: &'a Library) -> Result<Vec<Head<'a>>, AllocError>
-    ensures { IfOk result (λ heads. map program_of heads.items
-        ≡ programs_of (library_view library.now)) }
+pub fn heads_of<'a>(alloc: Global, library: &'a Library) -> Result<Heads<'a>, AllocError>
+    ensures { IfOk result (λ heads. map program_of heads ≡ programs_of (library_view
+        library.now)) }
 {
     let mut heads = Vec::new(alloc);
-    heads.push(head_of(alloc, &library.first)?)?;
+    let mut places = FirstPlaces::new(alloc);
+    add_module(&mut heads, &mut places, alloc, &library.first)?;
     for later in &library.later {
-        heads.push(head_of(alloc, &*later)?)?;
+        add_module(&mut heads, &mut places, alloc, &*later)?;
     }
-    Ok(heads)
+    Ok(Heads::of(heads, places))
 }

@@ -1,14 +1,14 @@
 //! The order in which the modules of a library can be worked out, each after those that it runs.
-ghost use Rattle.std.specs.Prelude.{◌≡◌, ◌<◌, Some, length, ◌++◌, map, IfOk, IfErr, OnOk};
-ghost use Rattle.std.specs.List.{position, slice_get};
+ghost use Rattle.std.specs.Prelude.{◌≡◌, ◌++◌, map, IfOk, IfErr, OnOk};
 ghost use Rattle.std.specs.Option.{option_to_list};
-ghost use Rattle.std.specs.Str.{bytes_eq};
 ghost use Rattle.est_modules.specs.RunRows.{rows_of};
 ghost use Rattle.est_modules.specs.PlaceOrders.{NoneIsRecursive, IsFaultOf};
-ghost use Rattle.est_modules.specs.Modules.{Program, program_of};
+ghost use Rattle.est_modules.specs.Modules.{program_of};
 ghost use Rattle.est_modules.specs.ModuleOrders.{IsOrderOf, run_rows, places_run};
 
 use crate::head::Head;
+use crate::heads::Heads;
+use crate::kept_names::KeptNames;
 use crate::name_table::NameTable;
 use crate::open_names::OpenNames;
 use crate::order_fault::OrderFault;
@@ -16,24 +16,7 @@ use crate::place_order::{Order, order_modules};
 use crate::scope::{Act, Scope};
 use crate::visit::Visitor;
 use crate::walk::walk_body;
-use est_text::identifier::Identifier;
 use std::alloc::{AllocError, Global};
-
-/// The place of the first module of a name.
-pub fn place_named(heads: &[Head<'_>], name: &Identifier) -> Option<usize>
-    ensures { result ≡ position (λ h. bytes_eq h.name name.now) heads.now }
-{
-    heads.iter().position(|head| head.name.is(name))
-}
-
-/// The name of the module at a place.
-pub fn name_at(heads: &[Head<'_>], place: usize) -> Identifier
-    requires { place < length heads.now }
-    ensures { (p : Program) → slice_get (map program_of heads.now) place ≡ Some p
-        → result ≡ p.name }
-{
-    heads[place].name
-}
 
 /// Adds a place to the list, if there is one.
 fn note(places: &mut Vec<usize>, place: Option<usize>) -> Result<(), AllocError>
@@ -47,11 +30,11 @@ fn note(places: &mut Vec<usize>, place: Option<usize>) -> Result<(), AllocError>
 
 /// Notes the places of the modules that are run.
 #[derive(Clone, Copy)]
-struct RunPlaces<'a> {
-    heads: &'a [Head<'a>],
+struct RunPlaces<'a, 'b> {
+    heads: &'a Heads<'b>,
 }
 
-impl Visitor for RunPlaces<'_> {
+impl Visitor for RunPlaces<'_, '_> {
     ghost use Rattle.std.specs.Prelude.{ℕ, List, ⊤, ◌++◌, map};
     ghost use Rattle.est_modules.specs.Modules.{program_of};
     ghost use Rattle.est_modules.specs.ModuleOrders.{place_run};
@@ -69,21 +52,21 @@ impl Visitor for RunPlaces<'_> {
     fn visit(
         &self,
         seen: &mut Vec<usize>,
-        _kept: &OpenNames<'_, '_>,
+        _kept: &OpenNames<'_, '_, '_>,
         act: &Act<'_>,
         _scope: &Scope<'_>,
     ) -> Result<(), AllocError> {
         match act {
             Act::Emits(_) | Act::Tests(_) | Act::Exits(_) | Act::Binds(_) => Ok(()),
-            Act::Runs(name, _) => note(seen, place_named(self.heads, name)),
+            Act::Runs(name, _) => note(seen, self.heads.place(name)),
         }
     }
 }
 
 /// The places of the modules that a module runs, in the order of the text.
-pub fn places_run<'a>(
+pub fn places_run(
     alloc: Global,
-    heads: &'a [Head<'a>],
+    heads: &Heads<'_>,
     home: &Head<'_>,
 ) -> Result<Vec<usize>, AllocError>
     ensures { IfOk result (λ places. places.items ≡ places_run (map program_of heads.now)
@@ -92,16 +75,17 @@ pub fn places_run<'a>(
     let mut places = Vec::new(alloc);
     let visitor = RunPlaces { heads: &*heads };
     let table = NameTable::new(alloc);
-    walk_body(&visitor, &mut places, alloc, &table, &[], home.body)?;
+    let none = KeptNames::none(alloc);
+    walk_body(&visitor, &mut places, alloc, &table, &none, home.body)?;
     Ok(places)
 }
 
 /// The same of each module.
-fn run_rows<'a>(alloc: Global, heads: &'a [Head<'a>]) -> Result<Vec<Vec<usize>>, AllocError>
+fn run_rows(alloc: Global, heads: &Heads<'_>) -> Result<Vec<Vec<usize>>, AllocError>
     ensures { IfOk result (λ rows. rows_of rows.items ≡ run_rows (map program_of heads.now)) }
 {
     let mut rows = Vec::new(alloc);
-    for home in heads {
+    for home in heads.modules() {
         rows.push(places_run(alloc, &*heads, home)?)?;
     }
     Ok(rows)
@@ -114,7 +98,7 @@ fn run_rows<'a>(alloc: Global, heads: &'a [Head<'a>]) -> Result<Vec<Vec<usize>>,
 ///
 /// `Recursive` with the place of the first module, in the order of the text, from which a chain of
 /// runs leads back to it, where there is one; or memory was refused.
-pub fn order_heads<'a>(alloc: Global, heads: &'a [Head<'a>]) -> Result<Order, OrderFault>
+pub fn order_heads(alloc: Global, heads: &Heads<'_>) -> Result<Order, OrderFault>
     ensures order { IfOk result (λ order. IsOrderOf (map program_of heads.now) order) }
     ensures ok { OnOk result (NoneIsRecursive (run_rows (map program_of heads.now))) }
     ensures err { IfErr result (λ fault. IsFaultOf (run_rows (map program_of heads.now)) fault) }

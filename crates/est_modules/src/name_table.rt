@@ -1,9 +1,14 @@
 //! Names with numbers.
-ghost use Rattle.std.specs.Prelude.{◌≡◌, IfOk, OnOk, option_map, length};
+ghost use Rattle.std.specs.Prelude.{◌≡◌, ℕ, List, IfOk, OnOk, ◌||◌, true, option_map, length, map};
+ghost use Rattle.std.specs.Prelude.{codes};
 ghost use Rattle.std.specs.List.{slice_get};
-ghost use Rattle.est_modules.specs.NameTables.{number_in, IsTable};
+ghost use Rattle.std.specs.Str.{bytes_eq};
+ghost use Rattle.est_modules.specs.Modules.{is_declared, program_of};
+ghost use Rattle.est_modules.specs.NameTables.{AreNumbered, IsTable, is_numbered, number_in};
+ghost use Rattle.est_modules.specs.Visible.{stands_in};
 
-use crate::head::{Declared, Head};
+use crate::head::Declared;
+use crate::heads::Heads;
 use est_text::identifier::Identifier;
 use std::alloc::{AllocError, Global};
 use std::collections::BTreeMap;
@@ -34,7 +39,9 @@ impl<'a> NameTable<'a> {
     /// `AllocError` where memory is refused.
     pub fn add(&mut self, name: &'a Identifier) -> Result<(), AllocError>
         requires { IsTable self.old }
-        ensures { OnOk result (IsTable self.new) }
+        ensures table { OnOk result (IsTable self.new) }
+        ensures has { OnOk result ((s : List ℕ) → is_numbered self.new s ≡ (is_numbered self.old s
+            || bytes_eq name.now s)) }
     {
         if let None = self.number(name) {
             let number = self.len();
@@ -69,28 +76,50 @@ impl<'a> NameTable<'a> {
     }
 }
 
-/// The names of the interfaces of modules, each with a number.
-///
-/// # Errors
-///
-/// `AllocError` where memory is refused.
-pub fn numbered<'a>(alloc: Global, heads: &'a [Head<'a>]) -> Result<NameTable<'a>, AllocError>
-    ensures { IfOk result (λ table. IsTable table) }
-{
-    let mut table = NameTable::new(alloc);
-    for head in heads {
-        add_names(&mut table, &head.interface)?;
-    }
-    Ok(table)
-}
-
 /// Gives a number to each name of an interface.
-fn add_names<'a>(table: &mut NameTable<'a>, interface: &'a [Declared]) -> Result<(), AllocError>
+fn add_interface<'a>(table: &mut NameTable<'a>, interface: &'a [Declared]) -> Result<(), AllocError>
     requires { IsTable table.old }
-    ensures { OnOk result (IsTable table.new) }
+    ensures table { OnOk result (IsTable table.new) }
+    ensures has { OnOk result ((s : List ℕ) → is_numbered table.new s ≡ (is_numbered table.old s
+        || is_declared interface.now s)) }
 {
     for declared in interface {
         table.add(&declared.name)?;
     }
     Ok(())
+}
+
+/// Gives a number to each name of a list.
+fn add_names<'a>(table: &mut NameTable<'a>, names: &'a [Identifier]) -> Result<(), AllocError>
+    requires { IsTable table.old }
+    ensures table { OnOk result (IsTable table.new) }
+    ensures has { OnOk result ((s : List ℕ) → is_numbered table.new s ≡ (is_numbered table.old s
+        || stands_in names.now s)) }
+{
+    for name in names {
+        table.add(name)?;
+    }
+    Ok(())
+}
+
+/// The names of the interfaces of modules and further names, each with a number.
+///
+/// # Errors
+///
+/// `AllocError` where memory is refused.
+pub fn numbered<'a>(
+    alloc: Global,
+    heads: &'a Heads<'_>,
+    further: &'a [Identifier],
+) -> Result<NameTable<'a>, AllocError>
+    requires { stands_in further.now (codes "tick") ≡ true }
+    ensures table { IfOk result (λ table. IsTable table) }
+    ensures numbered { IfOk result (λ table. AreNumbered table (map program_of heads.now)) }
+{
+    let mut table = NameTable::new(alloc);
+    add_names(&mut table, further)?;
+    for head in heads.modules() {
+        add_interface(&mut table, head.interface.signals())?;
+    }
+    Ok(table)
 }

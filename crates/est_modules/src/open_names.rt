@@ -1,92 +1,33 @@
 //! Names of the modules that are run, as far as no `signal` around a place declares them.
-ghost use Rattle.std.specs.Prelude.{◌≡◌, ℕ, Bool, List, [], ◌∷◌, ◌||◌, not, IfOk, IfSome, OnOk};
+ghost use Rattle.std.specs.Prelude.{◌≡◌, ℕ, Bool, List, [], ◌∷◌, ◌||◌, not, IfOk, is_some};
 ghost use Rattle.std.specs.Prelude.{option_map, map};
 ghost use Rattle.std.specs.List.{find};
 ghost use Rattle.std.specs.Str.{bytes_eq};
 ghost use Rattle.est_syntax.specs.Views.{names_view, renaming_view};
-ghost use Rattle.est_modules.specs.NameTables.{IsTable};
+ghost use Rattle.est_modules.specs.NameTables.{number_in, IsTable};
 ghost use Rattle.est_modules.specs.Occurrences.{Binder, signals};
-ghost use Rattle.est_modules.specs.OpenNames.{AreNumbers, AreKept, Tells, IsSame, open_at};
+ghost use Rattle.est_modules.specs.OpenNames.{AreNumbers, Tells, IsSame, open_at};
 ghost use Rattle.est_modules.specs.OpenNames.{open_name, is_left};
 ghost use Rattle.est_modules.specs.Renamings.{is_renamed};
+ghost use Rattle.est_modules.specs.Scopes.{binders_of};
 ghost use Rattle.est_modules.specs.Visible.{is_local, stands_in};
-ghost use Rattle.est_modules.specs.declared.name_table.NameTable.{NameTable};
-ghost use Rattle.est_modules.specs.declared.open_names.Kept.{Kept};
 
+use crate::kept_names::{Kept, KeptNames};
 use crate::name_table::NameTable;
-use crate::renamings::is_renamed;
-use est_syntax::tree::{Names, Renaming};
+use crate::renamings::RunRenamings;
+use crate::scope::Scope;
+use crate::visibility::is_local;
+use est_syntax::tree::Names;
 use est_text::identifier::Identifier;
 use std::alloc::{AllocError, Global};
-
-/// The names that are kept of a module.
-#[derive(Drop)]
-pub struct Kept {
-    /// The name of the module.
-    pub module_name: Identifier,
-    /// The numbers of the names, in their order.
-    pub numbers: Vec<usize>,
-}
-
-/// The numbers of names, if each has one.
-fn numbers_of(
-    alloc: Global,
-    table: &NameTable<'_>,
-    names: &[Identifier],
-) -> Result<Option<Vec<usize>>, AllocError>
-    ensures { IfOk result (λ found. IfSome found (λ numbers. AreNumbers table.now names.now
-        numbers.items)) }
-{
-    let mut numbers = Vec::new(alloc);
-    for name in names {
-        match table.number(name) {
-            Some(number) => numbers.push(number)?,
-            None => return Ok(None),
-        }
-    }
-    Ok(Some(numbers))
-}
-
-fn find_kept<'a>(modules: &'a [Kept], name: &Identifier) -> Option<&'a Kept>
-    ensures { option_map (λ k. k.now) result ≡ find (λ k. bytes_eq k.module_name name.now)
-        modules.now }
-{
-    modules.iter().find(|kept| kept.module_name.is(name))
-}
-
-/// Keeps names of a module, if each of them has a number.
-///
-/// # Errors
-///
-/// `AllocError` where memory is refused.
-pub fn keep(
-    modules: &mut Vec<Kept>,
-    alloc: Global,
-    table: &NameTable<'_>,
-    module_name: &Identifier,
-    names: &[Identifier],
-) -> Result<(), AllocError>
-    ensures { OnOk result ((base : List ℕ → List (List ℕ))
-        → AreKept table.now base modules.old.items → names.now ≡ base module_name.now
-        → AreKept table.now base modules.new.items) }
-{
-    if let Some(numbers) = numbers_of(alloc, table, names)? {
-        let module_name = *module_name;
-        modules.push(Kept {
-            module_name,
-            numbers,
-        })?;
-    }
-    Ok(())
-}
 
 /// The names that are kept, at a place: those that a `signal` around it declares are hidden. That
 /// is worked out once for each `signal`, by one look-up for each name that it declares.
 #[derive(Drop)]
-pub struct OpenNames<'a, 'b> {
+pub struct OpenNames<'a, 'b, 'c> {
     alloc: Global,
     table: &'a NameTable<'b>,
-    modules: &'a [Kept],
+    modules: &'a KeptNames<'c>,
     hidden: Vec<bool>,
 }
 
@@ -124,7 +65,7 @@ fn hide_declared(hidden: &mut [bool], table: &NameTable<'_>, names: &Names)
     hide_names(hidden, table, &names.later);
 }
 
-impl<'a, 'b> OpenNames<'a, 'b> {
+impl<'a, 'b, 'c> OpenNames<'a, 'b, 'c> {
     /// Outermost in a module no name is hidden.
     ///
     /// # Errors
@@ -133,8 +74,8 @@ impl<'a, 'b> OpenNames<'a, 'b> {
     pub fn outermost(
         alloc: Global,
         table: &'a NameTable<'b>,
-        modules: &'a [Kept],
-    ) -> Result<OpenNames<'a, 'b>, AllocError>
+        modules: &'a KeptNames<'c>,
+    ) -> Result<OpenNames<'a, 'b, 'c>, AllocError>
         requires { IsTable table.now }
         ensures same { IfOk result (λ found. IsSame found table.now modules.now) }
         ensures hidden { IfOk result (λ found. Tells table.now (is_local []) found.hidden.items) }
@@ -152,7 +93,7 @@ impl<'a, 'b> OpenNames<'a, 'b> {
     /// # Errors
     ///
     /// `AllocError` where memory is refused.
-    pub fn inside(&self, names: &Names) -> Result<OpenNames<'a, 'b>, AllocError>
+    pub fn inside(&self, names: &Names) -> Result<OpenNames<'a, 'b, 'c>, AllocError>
         requires { IsTable self.now.table.now }
         ensures same { IfOk result (λ inner. IsSame inner self.now.table.now self.now.modules.now) }
         ensures hidden { IfOk result (λ inner. (bs : List Binder) → Tells self.now.table.now
@@ -183,26 +124,59 @@ impl<'a, 'b> OpenNames<'a, 'b> {
         }
     }
 
+    /// Whether a number is that of a name that is not hidden.
+    pub fn is_open(&self, number: usize) -> bool
+        ensures { result ≡ is_some (open_name self.now number) }
+    {
+        self.open_name(number).is_some()
+    }
+
+    /// The number of a name.
+    pub fn number(&self, name: &Identifier) -> Option<usize>
+        ensures { result ≡ number_in self.now.table.now name.now }
+    {
+        self.table.number(name)
+    }
+
+    /// Whether a `signal` around the place declares a name. A name without a number is looked for
+    /// in each of them.
+    pub fn is_local(&self, scope: &Scope<'_>, name: &Identifier) -> bool
+        requires { Tells self.now.table.now (is_local (binders_of scope.now))
+            self.now.hidden.items }
+        ensures { result ≡ is_local (binders_of scope.now) name.now }
+    {
+        if let Some(number) = self.number(name) {
+            if let Some(hidden) = self.hidden.get(number) {
+                return *hidden;
+            }
+        }
+        is_local(scope, name)
+    }
+
     /// What is kept of the module of a name.
     pub fn named(&self, name: &Identifier) -> Option<&Kept>
         ensures { option_map (λ k. k.now) result ≡ find (λ k. bytes_eq k.module_name name.now)
             self.now.modules.now }
     {
-        find_kept(self.modules, name)
+        self.modules.named(name)
     }
 
     /// Whether a name is neither hidden nor renamed.
-    pub fn is_left(&self, renamings: &[Renaming], number: usize) -> bool
+    pub fn is_left(&self, renamings: &RunRenamings<'_>, number: usize) -> bool
         ensures { result ≡ is_left (map renaming_view renamings.now) self.now number }
     {
         match self.open_name(number) {
-            Some(name) => !is_renamed(renamings, name),
+            Some(name) => !renamings.is_renamed(name),
             None => false,
         }
     }
 
     /// The first number of a list whose name is neither hidden nor renamed.
-    fn left_number<'c>(&self, numbers: &'c [usize], renamings: &[Renaming]) -> Option<&'c usize>
+    fn left_number<'n>(
+        &self,
+        numbers: &'n [usize],
+        renamings: &RunRenamings<'_>,
+    ) -> Option<&'n usize>
         ensures { option_map (λ i. i.now) result ≡ find (is_left (map renaming_view
             renamings.now) self.now) numbers.now }
     {
@@ -212,7 +186,7 @@ impl<'a, 'b> OpenNames<'a, 'b> {
     }
 
     /// The first of the names that are kept of a module which is neither hidden nor renamed.
-    pub fn first_left(&self, kept: &Kept, renamings: &[Renaming]) -> Option<Identifier>
+    pub fn first_left(&self, kept: &Kept, renamings: &RunRenamings<'_>) -> Option<Identifier>
         ensures { (names : List (List ℕ)) (bs : List Binder) → IsTable self.now.table.now
             → Tells self.now.table.now (is_local bs) self.now.hidden.items
             → AreNumbers self.now.table.now names kept.now.numbers.items

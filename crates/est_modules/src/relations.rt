@@ -1,12 +1,11 @@
 //! The signals of a module that may be offered, and its relations.
 ghost use Rattle.std.specs.Prelude.{◌≡◌, ◌∷◌, ◌++◌, map, ◌+◌, OnOk, IfOk};
 ghost use Rattle.est_syntax.specs.Views.{relation_view, declaration_view};
-ghost use Rattle.est_modules.specs.Modules.{is_input, is_input_kind, is_offerable};
-ghost use Rattle.est_modules.specs.Modules.{is_offered_kind, related_by, relations_of};
+ghost use Rattle.est_modules.specs.Modules.{is_input_kind, is_offered_kind, related_by};
+ghost use Rattle.est_modules.specs.Modules.{relations_of};
 
-use crate::head::{Declared, Kind};
+use crate::head::Kind;
 use est_syntax::tree::{Declaration, Relation};
-use est_text::identifier::Identifier;
 use std::alloc::{AllocError, Global};
 
 /// Whether it is that of an input alone, which may not be emitted.
@@ -27,22 +26,6 @@ pub fn is_offered_kind(kind: Kind) -> bool
         Kind::Input | Kind::InputOutput => true,
         Kind::Output => false,
     }
-}
-
-/// Whether an interface has a signal of this name that may be offered.
-#[tactic(auto, unfolding(crate::specs::Modules::is_offerable))]
-pub fn is_offerable(interface: &[Declared], signal: &Identifier) -> bool
-    ensures { result ≡ is_offerable interface.now signal.now }
-{
-    interface.iter().any(|declared| declared.name.is(signal) && is_offered_kind(declared.kind))
-}
-
-/// Whether an interface has an input of this name, and no inputoutput.
-#[tactic(auto, unfolding(crate::specs::Modules::is_input))]
-pub fn is_input(interface: &[Declared], signal: &Identifier) -> bool
-    ensures { result ≡ is_input interface.now signal.now }
-{
-    interface.iter().any(|declared| declared.name.is(signal) && is_input_kind(declared.kind))
 }
 
 /// Adds the relations of a list.

@@ -21,7 +21,7 @@ use std::alloc::AllocError;
 fn walk_literal<V: Visitor>(
     visitor: &V,
     seen: &mut V::Seen,
-    kept: &OpenNames<'_, '_>,
+    kept: &OpenNames<'_, '_, '_>,
     scope: &Scope<'_>,
     literal: &Literal,
 ) -> Result<(), AllocError>
@@ -42,7 +42,7 @@ fn walk_literal<V: Visitor>(
 fn walk_conjunction<V: Visitor>(
     visitor: &V,
     seen: &mut V::Seen,
-    kept: &OpenNames<'_, '_>,
+    kept: &OpenNames<'_, '_, '_>,
     scope: &Scope<'_>,
     conjunction: &Conjunction,
 ) -> Result<(), AllocError>
@@ -63,7 +63,7 @@ fn walk_conjunction<V: Visitor>(
 fn walk_expression<V: Visitor>(
     visitor: &V,
     seen: &mut V::Seen,
-    kept: &OpenNames<'_, '_>,
+    kept: &OpenNames<'_, '_, '_>,
     scope: &Scope<'_>,
     expression: &Expression,
 ) -> Result<(), AllocError>
@@ -83,7 +83,7 @@ fn walk_expression<V: Visitor>(
 pub fn walk_test<V: Visitor>(
     visitor: &V,
     seen: &mut V::Seen,
-    kept: &OpenNames<'_, '_>,
+    kept: &OpenNames<'_, '_, '_>,
     scope: &Scope<'_>,
     test: &Test,
 ) -> Result<(), AllocError>

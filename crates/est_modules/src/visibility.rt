@@ -1,16 +1,28 @@
 //! What a name means at a place.
-ghost use Rattle.std.specs.Prelude.{◌≡◌};
+ghost use Rattle.std.specs.Prelude.{◌≡◌, codes};
 ghost use Rattle.est_syntax.specs.Views.{names_view};
 ghost use Rattle.est_modules.specs.Scopes.{binders_of};
 ghost use Rattle.est_modules.specs.Modules.{program_of};
+ghost use Rattle.est_modules.specs.OpenNames.{Tells};
 ghost use Rattle.est_modules.specs.Visible.{stands_in};
 ghost use Rattle.est_modules.specs.Visible.{has_signals};
 ghost use Rattle.est_modules.specs.Visible.{is_tick, is_among, is_local, is_trap, is_visible};
 
-use crate::head::{Head, is_declared};
+use crate::head::Head;
+use crate::open_names::OpenNames;
 use crate::scope::Scope;
 use est_syntax::tree::Names;
 use est_text::identifier::Identifier;
+
+/// The name `tick`.
+pub fn tick() -> Identifier
+    ensures { result ≡ codes "tick" }
+{
+    match Identifier::from_text("tick") {
+        Some(tick) => tick,
+        None => unreachable!(),
+    }
+}
 
 /// Whether a name is `tick`, the signal that is present in every instant and is nowhere declared.
 pub fn is_tick(name: &Identifier) -> bool
@@ -72,8 +84,14 @@ pub fn has_signals(scope: &Scope<'_>) -> bool
 }
 
 /// Whether a signal of this name is visible at a place in the module `home`.
-pub fn is_visible(home: &Head<'_>, scope: &Scope<'_>, signal: &Identifier) -> bool
+pub fn is_visible(
+    home: &Head<'_>,
+    kept: &OpenNames<'_, '_, '_>,
+    scope: &Scope<'_>,
+    signal: &Identifier,
+) -> bool
+    requires { Tells kept.now.table.now (is_local (binders_of scope.now)) kept.now.hidden.items }
     ensures { result ≡ is_visible (program_of home.now) (binders_of scope.now) signal.now }
 {
-    is_local(scope, signal) || is_declared(&home.interface, signal) || is_tick(signal)
+    kept.is_local(scope, signal) || home.interface.declares(signal) || is_tick(signal)
 }

@@ -10,7 +10,7 @@ pub trait Visitor {
     ghost use Rattle.est_modules.specs.Occurrences.{Occurrence};
     ghost use Rattle.est_modules.specs.OpenNames.{IsOpen};
     ghost use Rattle.est_modules.specs.declared.name_table.NameTable.{NameTable};
-    ghost use Rattle.est_modules.specs.declared.open_names.Kept.{Kept};
+    ghost use Rattle.est_modules.specs.declared.kept_names.Kept.{Kept};
     ghost use Rattle.est_modules.specs.Scopes.{act_of, binders_of};
 
     /// What has been learned so far.
@@ -36,7 +36,7 @@ pub trait Visitor {
     fn visit(
         &self,
         seen: &mut Self::Seen,
-        kept: &OpenNames<'_, '_>,
+        kept: &OpenNames<'_, '_, '_>,
         act: &Act<'_>,
         scope: &Scope<'_>,
     ) -> Result<(), AllocError>

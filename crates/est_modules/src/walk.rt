@@ -15,8 +15,9 @@ ghost use Rattle.est_modules.specs.OpenNames.{IsOpen};
 ghost use Rattle.est_modules.specs.Scopes.{binders_of};
 ghost use Rattle.est_modules.specs.Walks.{passed, passed_branches, past_test};
 
+use crate::kept_names::KeptNames;
 use crate::name_table::NameTable;
-use crate::open_names::{Kept, OpenNames};
+use crate::open_names::OpenNames;
 use crate::scope::{Act, Scope};
 use crate::test_walk::walk_test;
 use crate::visit::Visitor;
@@ -28,7 +29,7 @@ use std::alloc::{AllocError, Global};
 fn walk_unit<V: Visitor>(
     visitor: &V,
     seen: &mut V::Seen,
-    kept: &OpenNames<'_, '_>,
+    kept: &OpenNames<'_, '_, '_>,
     scope: &Scope<'_>,
     unit: &Unit,
 ) -> Result<(), AllocError>
@@ -81,7 +82,7 @@ fn walk_unit<V: Visitor>(
 fn walk_watched<V: Visitor>(
     visitor: &V,
     seen: &mut V::Seen,
-    kept: &OpenNames<'_, '_>,
+    kept: &OpenNames<'_, '_, '_>,
     scope: &Scope<'_>,
     body: &Statement,
     test: &Test,
@@ -100,7 +101,7 @@ fn walk_watched<V: Visitor>(
 fn walk_delayed<V: Visitor>(
     visitor: &V,
     seen: &mut V::Seen,
-    kept: &OpenNames<'_, '_>,
+    kept: &OpenNames<'_, '_, '_>,
     scope: &Scope<'_>,
     test: &Test,
     body: &Statement,
@@ -119,7 +120,7 @@ fn walk_delayed<V: Visitor>(
 fn walk_branches<V: Visitor>(
     visitor: &V,
     seen: &mut V::Seen,
-    kept: &OpenNames<'_, '_>,
+    kept: &OpenNames<'_, '_, '_>,
     scope: &Scope<'_>,
     branches: &Branches,
 ) -> Result<(), AllocError>
@@ -143,7 +144,7 @@ fn walk_branches<V: Visitor>(
 fn walk_sequence<V: Visitor>(
     visitor: &V,
     seen: &mut V::Seen,
-    kept: &OpenNames<'_, '_>,
+    kept: &OpenNames<'_, '_, '_>,
     scope: &Scope<'_>,
     sequence: &Sequence,
 ) -> Result<(), AllocError>
@@ -163,7 +164,7 @@ fn walk_sequence<V: Visitor>(
 fn walk_statement<V: Visitor>(
     visitor: &V,
     seen: &mut V::Seen,
-    kept: &OpenNames<'_, '_>,
+    kept: &OpenNames<'_, '_, '_>,
     scope: &Scope<'_>,
     statement: &Statement,
 ) -> Result<(), AllocError>
@@ -190,7 +191,7 @@ pub fn walk_body<V: Visitor>(
     seen: &mut V::Seen,
     alloc: Global,
     table: &NameTable<'_>,
-    kept: &[Kept],
+    kept: &KeptNames<'_>,
     body: &Statement,
 ) -> Result<(), AllocError>
     requires fits { V.fits visitor.now table.now kept.now }

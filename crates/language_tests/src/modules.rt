@@ -1,10 +1,9 @@
 //! Modules that run each other: their order, and the number of statements of the linked module.
 use crate::told::expect_told;
 use est_checks::statement_count::count_statements;
-use est_modules::head::Head;
+use est_modules::library_heads::heads_of;
 use est_modules::module_order::order_heads;
 use est_syntax::parse::parse;
-use est_syntax::tree::{Library, Module};
 use est_text::lex::lex;
 use std::alloc::Global;
 use std::process::Abort;
@@ -21,36 +20,15 @@ const DOUBLING: &str = "module M: [run A; run A; run A; run A; run A; run A; run
     module I: run J; run J end module module J: run K; run K end module \
     module K: run L; run L end module module L: pause end module";
 
-fn head_of<'a>(alloc: Global, module: &'a Module) -> Head<'a> {
-    Head {
-        name: module.name,
-        interface: Vec::new(alloc),
-        declarations: module.declarations.as_slice(),
-        body: &module.body,
-    }
-}
-
-/// The modules of a library, whose interfaces are not asked for here.
-fn heads_of<'a>(rt: &impl Abort, alloc: Global, library: &'a Library) -> Vec<Head<'a>> {
-    let mut heads = Vec::new(alloc);
-    heads
-        .push(head_of(alloc, &library.first))
-        .expect(rt, "room");
-    for module in &library.later {
-        heads.push(head_of(alloc, module)).expect(rt, "room");
-    }
-    heads
-}
-
 /// The number of statements of the linked module at a place, which the limit may refuse, or why the
 /// modules of the text have no order.
 fn counted(rt: &impl Abort, alloc: Global, text: &str, place: usize) -> String {
     let tokens = lex(alloc, text).expect(rt, "tokens");
     let library = parse(alloc, &tokens).expect(rt, "a library");
-    let heads = heads_of(rt, alloc, &library);
+    let heads = heads_of(alloc, &library).expect(rt, "room");
     let words = match order_heads(alloc, &heads) {
         Ok(order) => {
-            let main = heads.get(place).expect(rt, "a module");
+            let main = heads.modules().get(place).expect(rt, "a module");
             let count = count_statements(alloc, &heads, &order, &main.name).expect(rt, "room");
             format!(in alloc; "{count:?}")
         }

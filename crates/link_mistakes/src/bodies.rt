@@ -14,7 +14,7 @@ ghost use Rattle.est_syntax.specs.Views.{library_view};
 
 use est_checks::fault::LinkFault;
 use est_link::{link, linked_module};
-use est_modules::head::Head;
+use est_modules::heads::Heads;
 use est_modules::place_order::Order;
 use est_reduce::body::Body;
 use est_reduce::flat::Flat;
@@ -27,9 +27,9 @@ use std::alloc::{AllocError, Global};
 /// # Errors
 ///
 /// `AllocError` where memory is refused.
-pub fn linked_body<'a>(
+pub fn linked_body(
     alloc: Global,
-    heads: &'a [Head<'a>],
+    heads: &Heads<'_>,
     order: &Order,
     main: &Identifier,
 ) -> Result<Body, AllocError>

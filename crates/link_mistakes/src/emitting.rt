@@ -1,45 +1,60 @@
 //! What modules emit, and by which names.
-ghost use Rattle.std.specs.Prelude.{◌≡◌, ℕ, List, [], map, IfOk};
-ghost use Rattle.std.specs.List.{list_any};
-ghost use Rattle.est_modules.specs.Visible.{stands_in};
-ghost use Rattle.est_checks.specs.Emissions.{emitted_of, emits_here};
-ghost use Rattle.est_modules.specs.Modules.{program_of};
-ghost use Rattle.est_modules.specs.Occurrences.{occurrences};
+ghost use Rattle.std.specs.Prelude.{◌≡◌, None, map, IfOk};
+ghost use Rattle.est_checks.specs.Duplicates.{first_duplicate};
+ghost use Rattle.est_checks.specs.Emissions.{IsEmissionOf};
+ghost use Rattle.est_checks.specs.UnknownNames.{unknown_at};
+ghost use Rattle.est_modules.specs.Modules.{first_in_bodies, program_of};
+ghost use Rattle.est_modules.specs.ModuleOrders.{IsOrderOf};
 ghost use Rattle.est_modules.specs.Renamings.{renamed};
 ghost use Rattle.est_syntax.specs.Views.{renaming_view};
 
-use est_checks::emission::Emission;
-use est_checks::module_emissions;
-use est_modules::head::Head;
+use est_checks::module_emissions::emissions_along;
+use est_modules::bound_names::further_names;
+use est_modules::heads::Heads;
 use est_modules::name_table::numbered;
-use est_modules::renamings;
+use est_modules::place_order::Order;
+use est_modules::renamings::RunRenamings;
 use est_syntax::tree::Renaming;
 use est_text::identifier::Identifier;
 use std::alloc::{AllocError, Global};
 
-/// What a module emits of the signals that its callers see, where the table says what those that it
-/// runs emit.
+/// Whether the module of a name emits a signal that its callers see.
 ///
 /// # Errors
 ///
-/// `AllocError` where memory is refused for the list.
-pub fn emissions_of<'a>(
+/// `AllocError` where memory is refused for names.
+pub fn emits(
     alloc: Global,
-    heads: &'a [Head<'a>],
-    table: &'a [Emission],
-    home: &Head<'_>,
-) -> Result<Vec<Identifier>, AllocError>
-    ensures { IfOk result (λ v. (s : List ℕ)
-        → stands_in v.items s ≡ list_any (emits_here (map program_of heads.now)
-        (emitted_of table.now) s) (occurrences [] (program_of home.now).body)) }
+    heads: &Heads<'_>,
+    order: &Order,
+    name: &Identifier,
+    signal: &Identifier,
+) -> Result<bool, AllocError>
+    requires order { IsOrderOf (map program_of heads.now) order.now }
+    requires distinct { first_duplicate (map program_of heads.now) ≡ None }
+    requires known { first_in_bodies (unknown_at (map program_of heads.now))
+        (map program_of heads.now) ≡ None }
+    ensures { IfOk result (IsEmissionOf (map program_of heads.now) name.now signal.now) }
 {
-    let names = numbered(alloc, &*heads)?;
-    module_emissions::emissions_of(alloc, &names, heads, table, home)
+    let further = further_names(alloc, heads)?;
+    let names = numbered(alloc, &*heads, &further)?;
+    let table = emissions_along(alloc, &names, &*heads, order.places())?;
+    Ok(table.emits(name, signal))
 }
 
 /// The caller's name for a signal of the module that is run.
-pub fn callers_name(renamings: &[Renaming], name: &Identifier) -> Identifier
-    ensures { result ≡ renamed (map renaming_view renamings.now) name.now }
+///
+/// # Errors
+///
+/// `AllocError` where memory is refused for the names that are renamed.
+pub fn callers_name(
+    alloc: Global,
+    renamings: &[Renaming],
+    name: &Identifier,
+) -> Result<Identifier, AllocError>
+    ensures { IfOk result (λ n. n ≡ renamed (map renaming_view renamings.now) name.now) }
 {
-    renamings::callers_name(renamings, name)
+    let list = renamings;
+    let renamings = RunRenamings::of(alloc, list)?;
+    Ok(renamings.callers_name(name))
 }

@@ -11,7 +11,7 @@ ghost use Rattle.est_checks.specs.BadRenamings.{bad_renaming_at};
 ghost use Rattle.est_checks.specs.UnknownNames.{unknown_at};
 
 use est_checks::bad_renamings::BadRename;
-use est_checks::emission::Emission;
+use est_checks::emission::Emissions;
 use est_checks::fault::LinkFault;
 use est_checks::lawless_relations::first_lawless;
 use est_checks::missing_modules::first_missing;
@@ -19,7 +19,10 @@ use est_checks::place_check::{Check, first_in_bodies, first_in_body};
 use est_checks::unknown_names::UnknownName;
 use est_checks::unseen_names::unseen_of;
 use est_checks::{duplicates, input_emissions};
-use est_modules::head::{Head, head_named};
+use est_modules::bound_names::further_names;
+use est_modules::head::Head;
+use est_modules::heads::Heads;
+use est_modules::kept_names::KeptNames;
 use est_modules::name_table::{NameTable, numbered};
 use est_modules::open_names::OpenNames;
 use est_modules::scope::{Act, Scope};
@@ -31,10 +34,7 @@ use std::alloc::{AllocError, Global};
 /// # Errors
 ///
 /// `AllocError` where memory is refused for the names that were met.
-pub fn first_duplicate<'a>(
-    alloc: Global,
-    heads: &'a [Head<'a>],
-) -> Result<Option<Identifier>, AllocError>
+pub fn first_duplicate(alloc: Global, heads: &Heads<'_>) -> Result<Option<Identifier>, AllocError>
     ensures { IfOk result (λ name. name ≡ first_duplicate (map program_of heads.now)) }
 {
     duplicates::first_duplicate(alloc, heads)
@@ -46,28 +46,35 @@ pub fn first_duplicate<'a>(
 /// # Errors
 ///
 /// `AllocError`, as a check answers it.
-pub fn first_bad_renaming<'a>(
+pub fn first_bad_renaming(
     alloc: Global,
-    heads: &'a [Head<'a>],
+    heads: &Heads<'_>,
 ) -> Result<Option<Identifier>, AllocError>
     ensures { IfOk result (λ name. name ≡ first_in_bodies (bad_renaming_at
         (map program_of heads.now)) (map program_of heads.now)) }
 {
     let names = NameTable::new(alloc);
-    first_in_bodies(alloc, &names, &[], &BadRename { heads: &*heads }, &*heads)
+    let none = KeptNames::none(alloc);
+    let check = BadRename {
+        alloc,
+        heads: &*heads,
+    };
+    first_in_bodies(alloc, &names, &none, &check, &*heads)
 }
 
 /// The check for names that aren't visible where they are used. It is asked of the places in one
 /// module.
 #[derive(Clone, Copy)]
-pub struct Unknown<'a> {
+pub struct Unknown<'a, 'b> {
+    /// Where memory for names is taken.
+    pub alloc: Global,
     /// The modules of the library.
-    pub heads: &'a [Head<'a>],
+    pub heads: &'a Heads<'b>,
     /// The module.
-    pub home: &'a Head<'a>,
+    pub home: &'a Head<'b>,
 }
 
-impl Check for Unknown<'_> {
+impl Check for Unknown<'_, '_> {
     ghost use Rattle.std.specs.Prelude.{map};
     ghost use Rattle.est_modules.specs.Modules.{program_of, is_declared};
     ghost use Rattle.est_modules.specs.OpenNames.{AreKept};
@@ -83,11 +90,12 @@ impl Check for Unknown<'_> {
     fn fault(
         &self,
         home: &Head<'_>,
-        kept: &OpenNames<'_, '_>,
+        kept: &OpenNames<'_, '_, '_>,
         act: &Act<'_>,
         scope: &Scope<'_>,
     ) -> Result<Option<Identifier>, AllocError> {
         let names = UnknownName {
+            alloc: self.alloc,
             heads: self.heads,
             home: self.home,
         };
@@ -96,18 +104,19 @@ impl Check for Unknown<'_> {
 }
 
 /// The first name of a module that isn't visible where it is used.
-fn unknown_in<'a>(
+fn unknown_in<'a, 'b>(
     alloc: Global,
     table: &NameTable<'_>,
-    heads: &'a [Head<'a>],
-    home: &'a Head<'a>,
+    heads: &'a Heads<'b>,
+    home: &'a Head<'b>,
 ) -> Result<Option<Identifier>, AllocError>
     requires { IsTable table.now }
     ensures { IfOk result (λ name. name ≡ first_of (unknown_at (map program_of heads.now)
         (program_of home.now)) (occurrences [] (program_of home.now).body)) }
 {
     let kept = unseen_of(alloc, table, &*heads, &*home)?;
-    first_in_body(&Unknown { heads, home }, alloc, table, &kept, &*home)
+    let check = Unknown { alloc, heads, home };
+    first_in_body(&check, alloc, table, &kept, &*home)
 }
 
 /// The first name of a library that isn't visible where it is used.
@@ -115,15 +124,13 @@ fn unknown_in<'a>(
 /// # Errors
 ///
 /// `AllocError` where memory is refused for names.
-pub fn first_unknown<'a>(
-    alloc: Global,
-    heads: &'a [Head<'a>],
-) -> Result<Option<Identifier>, AllocError>
+pub fn first_unknown(alloc: Global, heads: &Heads<'_>) -> Result<Option<Identifier>, AllocError>
     ensures { IfOk result (λ name. name ≡ first_in_bodies (unknown_at (map program_of heads.now))
         (map program_of heads.now)) }
 {
-    let table = numbered(alloc, &*heads)?;
-    for home in heads {
+    let further = further_names(alloc, heads)?;
+    let table = numbered(alloc, &*heads, &further)?;
+    for home in heads.modules() {
         if let Some(name) = unknown_in(alloc, &table, &*heads, &*home)? {
             return Ok(Some(name));
         }
@@ -139,13 +146,14 @@ pub fn first_unknown<'a>(
 /// `AllocError` where memory is refused for names.
 pub fn first_refused<'a>(
     alloc: Global,
-    heads: &'a [Head<'a>],
-    table: &'a [Emission],
+    heads: &'a Heads<'_>,
+    table: &'a Emissions<'_>,
 ) -> Result<Option<Identifier>, AllocError>
     ensures { IfOk result (λ name. name ≡ first_in_bodies (refused_at (map program_of heads.now)
         (emitted_of table.now)) (map program_of heads.now)) }
 {
-    let names = numbered(alloc, &*heads)?;
+    let further = further_names(alloc, heads)?;
+    let names = numbered(alloc, &*heads, &further)?;
     input_emissions::first_refused(alloc, &names, heads, table)
 }
 
@@ -165,9 +173,9 @@ fn lawless_number(alloc: Global, main: Option<&Head<'_>>) -> Result<Option<usize
 /// # Errors
 ///
 /// `AllocError` where memory is refused for the names that were met.
-pub fn fault_before_order<'a>(
+pub fn fault_before_order(
     alloc: Global,
-    heads: &'a [Head<'a>],
+    heads: &Heads<'_>,
     main: &str,
 ) -> Result<Option<LinkFault>, AllocError>
     ensures { IfOk result (λ fault. fault ≡ fault_before_order (map program_of heads.now)
@@ -193,9 +201,9 @@ pub fn fault_before_order<'a>(
 /// `AllocError` where memory is refused.
 pub fn fault_after_order<'a>(
     alloc: Global,
-    heads: &'a [Head<'a>],
+    heads: &'a Heads<'_>,
     main: &Identifier,
-    table: &'a [Emission],
+    table: &'a Emissions<'_>,
 ) -> Result<Option<LinkFault>, AllocError>
     ensures { IfOk result (λ fault. fault ≡ fault_after_order (map program_of heads.now) main.now
         (emitted_of table.now)) }
@@ -209,7 +217,7 @@ pub fn fault_after_order<'a>(
     if let Some(name) = first_refused(alloc, &*heads, &*table)? {
         return Ok(Some(LinkFault::EmitInput(name)));
     }
-    match lawless_number(alloc, head_named(heads, main))? {
+    match lawless_number(alloc, heads.named(main))? {
         Some(number) => Ok(Some(LinkFault::Semantics(number))),
         None => Ok(None),
     }

@@ -3,12 +3,11 @@ use Rattle.std.specs.Prelude.{◌≡◌, List, map}
 use Rattle.est_modules.specs.Modules.{program_of}
 use Rattle.est_modules.specs.OpenNames.{AreKept}
 use Rattle.est_modules.specs.declared.name_table.NameTable.{NameTable}
-use Rattle.est_modules.specs.declared.open_names.Kept.{Kept}
+use Rattle.est_modules.specs.declared.kept_names.Kept.{Kept}
 use Rattle.est_checks.specs.Emissions.{emitted_of}
 use Rattle.est_checks.specs.Inner.Emitted.{sent_by}
 use Rattle.est_checks.specs.declared.module_emissions.Sent.{Sent}
 
 -- the names are those of the table, and what is kept of each module is what it emits
 abbrev pub Keeps : Sent → NameTable → List Kept → Type 0
-Keeps v t ks = (t ≡ v.names.now) × (ks ≡ v.kept.now) × AreKept t
-    (sent_by (map program_of v.heads.now) (emitted_of v.table.now)) ks
+Keeps v t ks = (t ≡ v.names.now) × AreKept t (sent_by (map program_of v.heads.now) (emitted_of v.table.now)) ks

@@ -1,8 +1,10 @@
 -- The last of the checks of a library, as far as a stage of the code asks them (this project's own form).
-use Rattle.std.specs.Prelude.{◌≡◌, ℕ, List, Option, option_map}
+use Rattle.std.specs.Prelude.{◌≡◌, ℕ, List, Bool, Option, option_map}
+use Rattle.std.specs.Option.{option_or}
 use Rattle.refusal_rules.specs.Rules.{Rules, accept, ◌▸◌}
 use Rattle.est_checks.specs.BadRenamings.{bad_renaming_at}
 use Rattle.est_checks.specs.Counting.{AreCounts}
+use Rattle.est_checks.specs.Emissions.{first_refused}
 use Rattle.est_checks.specs.FirstFaults.{Check, IsFirstRefused, IsLimitPassed, limit_passed_by}
 use Rattle.est_checks.specs.LinkFaults.{lawless_number}
 use Rattle.est_checks.specs.RecursiveRuns.{IsFirstRecursion}
@@ -18,18 +20,35 @@ pub record IsLimitFault (ps : List Program) (main : List ℕ) (found : Option Li
   pub are : AreCounts ps counts
   pub is : found ≡ option_map TooLarge (limit_passed_by (program_named ps main) (counts main))
 
+-- the first fault of the checks of renamings and of names
+abbrev pub fault_of_names : List Program → Option LinkFault
+fault_of_names ps =
+    option_or (option_map BadRename (first_in_bodies (bad_renaming_at ps) ps))
+    (option_map UnknownName (first_in_bodies (unknown_at ps) ps))
+
+-- the same of those of emissions and of relations, by what each module emits
+abbrev pub fault_of_emissions : List Program → List ℕ → (List ℕ → List ℕ → Bool) → Option LinkFault
+fault_of_emissions ps main emitted =
+    option_or (option_map EmitInput (first_refused ps emitted))
+    (option_map Semantics (lawless_number (program_named ps main)))
+
 -- the last check
 abbrev pub limit_checks : List Program → List ℕ → Rules LinkFault
 limit_checks ps main = Check TooLarge (IsLimitPassed ps main) ▸ accept
+
+-- the checks from that of emissions on
+abbrev pub emission_checks : List Program → List ℕ → Rules LinkFault
+emission_checks ps main =
+    Check EmitInput (IsFirstRefused ps)
+    ▸ Check Semantics (λ number. lawless_number (program_named ps main) ≡ number)
+    ▸ limit_checks ps main
 
 -- the checks from that of renamings on
 abbrev pub name_checks : List Program → List ℕ → Rules LinkFault
 name_checks ps main =
     Check BadRename (λ name. first_in_bodies (bad_renaming_at ps) ps ≡ name)
     ▸ Check UnknownName (λ name. first_in_bodies (unknown_at ps) ps ≡ name)
-    ▸ Check EmitInput (IsFirstRefused ps)
-    ▸ Check Semantics (λ number. lawless_number (program_named ps main) ≡ number)
-    ▸ limit_checks ps main
+    ▸ emission_checks ps main
 
 -- the checks from that of recursive runs on
 abbrev pub run_checks : List Program → List ℕ → Rules LinkFault

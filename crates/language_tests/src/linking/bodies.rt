@@ -1,7 +1,7 @@
 //! Libraries and the flat body of their main module.
 use est_checks::duplicates::first_duplicate;
 use est_checks::missing_modules::first_missing;
-use est_modules::head::Head;
+use est_modules::heads::Heads;
 use est_modules::library_heads::heads_of;
 use est_modules::module_order::order_heads;
 use est_reduce::body::{Body, BoundSignal};
@@ -69,7 +69,7 @@ fn last_act(body: &Body) -> Act {
 }
 
 /// The flat body of the main module.
-fn body_of<'a>(alloc: Global, heads: &'a [Head<'a>], main: &Identifier) -> Result<Body, Fail> {
+fn body_of(alloc: Global, heads: &Heads<'_>, main: &Identifier) -> Result<Body, Fail> {
     if first_duplicate(alloc, &*heads)?.is_some()
         || first_missing(alloc, &*heads, main)?.is_some()
     {

@@ -1,14 +1,17 @@
 //! Libraries and the first fault of their checks.
-use est_checks::emission::Emission;
+use est_checks::duplicates::first_duplicate;
+use est_checks::emission::Emissions;
 use est_checks::fault::LinkFault;
-use est_modules::head::Head;
+use est_modules::heads::Heads;
 use est_modules::library_heads::heads_of;
+use est_modules::module_order::order_heads;
+use est_modules::name_set::NameSet;
 use est_syntax::parse::parse;
 use est_syntax::tree::Renaming;
 use est_text::identifier::Identifier;
 use est_text::lex::lex;
-use link_mistakes::emitting::{callers_name, emissions_of};
-use link_mistakes::faults::{fault_after_order, fault_before_order};
+use link_mistakes::emitting::{callers_name, emits};
+use link_mistakes::faults::{fault_before_order, fault_after_order, first_unknown};
 use std::alloc::Global;
 use std::test::Fail;
 
@@ -243,14 +246,12 @@ const LAWLESS: [(&str, usize); 4] = [
     ),
 ];
 
-/// What N emits in the libraries of the tables.
-fn table() -> Option<[Emission; 1]> {
-    let module_name = Identifier::from_text("N")?;
-    let signal = Identifier::from_text("A")?;
-    Some([Emission {
-        module_name,
-        signal,
-    }])
+/// The name of a text, which is an identifier.
+fn named(text: &str) -> Result<Identifier, Fail> {
+    match Identifier::from_text(text) {
+        Some(name) => Ok(name),
+        None => Err(Fail::from("no name")),
+    }
 }
 
 /// The kind and the name of a fault; of a lawless relation no more than that it is one.
@@ -270,17 +271,18 @@ fn told(fault: LinkFault) -> Option<(Kind, Identifier)> {
 }
 
 /// The first fault of a library whose main module is M: of the checks before the order of its
-/// modules, and of those after it.
+/// modules, and of those after it, where N is told to emit A.
 fn faults_of(alloc: Global, text: &str) -> Result<(Option<LinkFault>, Option<LinkFault>), Fail> {
     let tokens = lex(alloc, text)?;
     let library = parse(alloc, &tokens)?;
     let heads = heads_of(alloc, &library)?;
-    let Some(main) = Identifier::from_text("M") else {
-        return Err(Fail::from("no name"));
-    };
-    let Some(emissions) = table() else {
-        return Err(Fail::from("no name"));
-    };
+    let main = named("M")?;
+    let run = named("N")?;
+    let signal = named("A")?;
+    let mut signals = NameSet::new(alloc);
+    signals.insert(&signal)?;
+    let mut emissions = Emissions::new(alloc);
+    emissions.add(&run, signals)?;
     let before = fault_before_order(alloc, &heads, "M")?;
     let after = fault_after_order(alloc, &heads, &main, &emissions)?;
     Ok((before, after))
@@ -349,36 +351,15 @@ fn libraries_without_a_fault_pass(rt: HostRuntime) -> Result<(), Fail> {
     Ok(())
 }
 
-/// Fails where a module emits other names, or in another order: first those of its statements and
-/// those that its runs rename, as they are met, and then the others of its runs, by their numbers.
-fn expect_emissions(
-    alloc: Global,
-    heads: &[Head<'_>],
-    table: &[Emission],
-    home: &Head<'_>,
-    names: &[&str],
-) -> Result<(), Fail> {
-    let found = emissions_of(alloc, &*heads, &*table, home)?;
-    if found.len() != names.len()
-        || !found
-            .iter()
-            .zip(names.iter())
-            .all(|(one, name)| one.as_str() == *name)
-    {
-        return Err(Fail::from(format!(in alloc; "{found:?} in place of {names:?}")?));
-    }
-    Ok(())
-}
-
-/// Libraries of a module N and one that runs it, what N emits, and what the other emits where N is
-/// told to emit A.
+/// Libraries of a module N and one that runs it, what N emits of A, B, O and P, and what the other
+/// emits.
 const EMITTED: [(&str, &[&str], &[&str]); 2] = [
-    // by one run A, and by the other the O that stands for it
+    // by one run A, and by the other the O and the A that stand for A and P
     (
         "module N: output A, B, P; emit A; sustain P || present B then emit A end end module \
         module M: output A, B, O, P; signal P in run N end; run N [signal O/A, A/P] end module",
         &["A", "P"],
-        &["O", "A"],
+        &["A", "O"],
     ),
     // by a run after the end of the `signal` that hides it
     (
@@ -389,53 +370,53 @@ const EMITTED: [(&str, &[&str], &[&str]); 2] = [
     ),
 ];
 
-/// Fails where the modules of a library of the table emit other names.
-fn expect_emitted(
+/// Fails where a module of a library emits others of these names.
+fn expect_emissions(
     alloc: Global,
-    text: &str,
-    of_run: &[&str],
-    of_home: &[&str],
+    heads: &Heads<'_>,
+    name: &str,
+    signals: &[&str],
 ) -> Result<(), Fail> {
-    let tokens = lex(alloc, text)?;
-    let library = parse(alloc, &tokens)?;
-    let heads = heads_of(alloc, &library)?;
-    let Some(table) = table() else {
-        return Err(Fail::from("no name"));
-    };
-    match heads.as_slice() {
-        [run, home] => {
-            expect_emissions(alloc, &heads, &[], run, of_run)?;
-            expect_emissions(alloc, &heads, &table, home, of_home)
-        }
-        _ => Err(Fail::from("not two modules")),
+    if first_duplicate(alloc, &*heads)?.is_some() || first_unknown(alloc, &*heads)?.is_some() {
+        return Err(Fail::from("a name is at fault"));
     }
+    let Ok(order) = order_heads(alloc, &*heads) else {
+        return Err(Fail::from("no order"));
+    };
+    for signal in ["A", "B", "O", "P"] {
+        let sent = emits(alloc, &*heads, &order, &named(name)?, &named(signal)?)?;
+        if sent != signals.contains(&signal) {
+            return Err(Fail::from(format!(in alloc; "{name}, {signal}: {sent}")?));
+        }
+    }
+    Ok(())
 }
 
 #[test]
 fn callers_see_what_is_emitted(rt: HostRuntime) -> Result<(), Fail> {
+    let alloc = rt.alloc();
     for (text, of_run, of_home) in EMITTED {
-        expect_emitted(rt.alloc(), text, of_run, of_home)?;
+        let tokens = lex(alloc, text)?;
+        let library = parse(alloc, &tokens)?;
+        let heads = heads_of(alloc, &library)?;
+        expect_emissions(alloc, &heads, "N", of_run)?;
+        expect_emissions(alloc, &heads, "M", of_home)?;
     }
     Ok(())
 }
 
 /// In `[signal A/B, B/C]` the names of the caller stand on the left: A for B, and B for C.
 #[test]
-fn callers_names_stand_on_the_left(_rt: HostRuntime) -> Result<(), Fail> {
-    let (Some(a), Some(b), Some(c)) = (
-        Identifier::from_text("A"),
-        Identifier::from_text("B"),
-        Identifier::from_text("C"),
-    ) else {
-        return Err(Fail::from("no name"));
-    };
+fn callers_names_stand_on_the_left(rt: HostRuntime) -> Result<(), Fail> {
+    let alloc = rt.alloc();
+    let (a, b, c) = (named("A")?, named("B")?, named("C")?);
     let renamings = [
         Renaming { outer: a, inner: b },
         Renaming { outer: b, inner: c },
     ];
-    if callers_name(&renamings, &a) != a
-        || callers_name(&renamings, &b) != a
-        || callers_name(&renamings, &c) != b
+    if callers_name(alloc, &renamings, &a)? != a
+        || callers_name(alloc, &renamings, &b)? != a
+        || callers_name(alloc, &renamings, &c)? != b
     {
         return Err(Fail::from("another name"));
     }

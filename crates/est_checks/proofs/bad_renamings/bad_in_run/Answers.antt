@@ -9,7 +9,7 @@ returns-in-Some-misnamed c =
     (bad_found (program_of c.in-Some.run'.now) c.args.renamings.now (Some c.in-Some-misnamed.renaming.now)
     (cc c.in-Some-misnamed.ensures))
 
-pub returns-in-None-misnamed : goal.returns-in-None-misnamed
-returns-in-None-misnamed c =
+pub returns : goal.returns
+returns c =
     rw c.in-Some.is
-    (bad_found (program_of c.in-Some.run'.now) c.args.renamings.now None (cc c.in-None-misnamed.ensures))
+    (bad_found (program_of c.in-Some.run'.now) c.args.renamings.now None (cc c.in-None.ensures))

@@ -1,7 +1,6 @@
-use Rattle.std.proofs.Common.{sym, subst, map, slice_index, arith}
+use Rattle.std.proofs.Common.{map, slice_index, arith}
 use Rattle.std.proofs.lemmas.List.{length-map}
 use Rattle.est_checks.specs.Emissions.{emitted_of}
-use Rattle.est_checks.specs.Inner.Sent.{AreSent}
 use Rattle.est_modules.specs.Modules.{program_of}
 use Rattle.est_modules.proofs.Standing.{order_within, program_at}
 use Rattle.est_checks.proofs.Sending.{sending_begins, sending_goes_on, sending_ends}
@@ -18,9 +17,8 @@ add_module-requires-clause-place c =
 
 pub loop-place-init : goal.loop-place-init
 loop-place-init c =
-    let ps = map program_of c.args.heads.now in
-    subst (λ es. AreSent ps c.args.order.now 0 (emitted_of es)) (sym c.new-table.ensures.items)
-    (sending_begins ps c.args.order.now)
+    sending_begins (map program_of c.args.heads.now) c.args.order.now (emitted_of c.new-table.result)
+    c.new-table.ensures
 
 pub loop-place-preserved : goal.loop-place-preserved
 loop-place-preserved c =
@@ -28,10 +26,10 @@ loop-place-preserved c =
     let order = c.args.order.now in
     let k = c.loop-place.place-index in
     let at = program_at ps (slice_index order k) (order_within ps order k c.requires.order c.loop-place-test.true) in
-    sending_goes_on ps order (emitted_of c.loop-place.table.items) _ k at.0 c.requires.order c.requires.distinct
+    sending_goes_on ps order (emitted_of c.loop-place.table) _ k at.0 c.requires.order c.requires.distinct
     c.loop-place-test.true at.1 (c.in_ok-add_module.ensures at.0 at.1) c.loop-place.invariant
 
 pub returns : goal.returns
-returns c = sending_ends (map program_of c.args.heads.now) c.args.order.now
-    (emitted_of c.loop-place.table.items) c.loop-place.place-index c.requires.order
-    (omega (arith, c.loop-place-test.false)) c.loop-place.invariant
+returns c =
+    sending_ends (map program_of c.args.heads.now) c.args.order.now (emitted_of c.loop-place.table)
+    c.loop-place.place-index c.requires.order (omega (arith, c.loop-place-test.false)) c.loop-place.invariant

@@ -5,4 +5,4 @@ use Rattle.est_modules.specs.Modules.{program_of}
 use Rattle.est_checks.proofs.module_emissions.emissions_along.Given as goal
 
 abbrev pub invariant-loop-place : goal.invariant-loop-place
-invariant-loop-place l = AreSent (map program_of l.heads) l.order l.place-index (emitted_of l.table.items)
+invariant-loop-place l = AreSent (map program_of l.heads) l.order l.place-index (emitted_of l.table)

@@ -1,9 +1,11 @@
-use mathlib.Core.Path.{fun_ext}
-use Rattle.std.proofs.Common.{ap, ◌∙◌, map, filter}
+use Rattle.std.proofs.Common.{sym, ◌∙◌, map}
 use Rattle.est_modules.specs.declared.head.Declared.{Declared}
+use Rattle.est_checks.specs.Emissions.{emitted_of}
+use Rattle.est_checks.proofs.Leaving.{none_left}
 use Rattle.est_checks.proofs.run_emissions.emitted_in.Goals as goal
 
-pub returns : goal.returns
-returns c =
-    c.in_ok-names.ensures ∙ ap (λ f. filter f (map (λ (d : Declared). d.name) c.args.interface.now))
-    (fun_ext c.in_ok-set.ensures)
+pub returns-in-None : goal.returns-in-None
+returns-in-None c =
+    c.new.ensures.items
+    ∙ sym (none_left (emitted_of c.args.table.now c.args.name.now)
+    (map (λ (d : Declared). d.name) c.args.interface.now) (λ n. sym (c.in-None.ensures n)))

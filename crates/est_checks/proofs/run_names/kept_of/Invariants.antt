@@ -1,5 +1,12 @@
+use Rattle.std.proofs.Common.{map}
+use Rattle.est_modules.specs.FirstPlaces.{AreFirstPlaces}
 use Rattle.est_modules.specs.OpenNames.{AreKept}
+use Rattle.est_modules.specs.declared.kept_names.Kept.{Kept}
 use Rattle.est_checks.proofs.run_names.kept_of.Given as goal
 
 abbrev pub invariant-loop-place : goal.invariant-loop-place
-invariant-loop-place g l = AreKept l.table (g.C.Choice.chosen l.choice) l.kept.items
+invariant-loop-place g l =
+    record {
+      places : AreFirstPlaces l.kept_places (map (λ (k : Kept). k.module_name) l.kept.items);
+      kept : AreKept l.table (g.C.Choice.chosen l.choice) l.kept.items;
+    }

@@ -12,11 +12,11 @@ use Rattle.est_checks.proofs.unknown_names.unbound_in.Goals as goal
 
 pub returns-in-Some : goal.returns-in-Some
 returns-in-Some c =
-    let p = program_of c.args.home.now in
+    let p = program_of c.args.check.now.home.now in
     let known = is_declared p.interface in
     let bs = binders_of c.args.scope.now in
     let rs = map renaming_view c.args.renamings.now in
-    let base = unseen_by (map program_of c.args.heads.now) known in
+    let base = unseen_by (map program_of c.args.check.now.heads.now) known in
     let m = c.args.name.now in
     let o = c.args.kept.now in
     c.first_left.ensures (base m) bs c.requires.outside.1 c.requires.outside.2

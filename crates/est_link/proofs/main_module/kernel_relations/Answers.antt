@@ -3,7 +3,7 @@ use Rattle.std.proofs.lemmas.List.{length-append}
 use Rattle.est_syntax.specs.Views.{relation_view}
 use Rattle.est_syntax.specs.declared.tree.Relation.{Relation}
 use Rattle.est_link.specs.MainModule.{AreRelations, IsRelation}
-use Rattle.est_checks.proofs.Declaring.{more}
+use Rattle.est_modules.proofs.Lists.{more}
 use Rattle.est_link.proofs.MainRelating.{one_related}
 use Rattle.est_link.proofs.main_module.kernel_relations.Goals as goal
 

@@ -13,8 +13,8 @@ pub invariant_of-result : goal.invariant_of-result
 invariant_of-result c =
     let p = program_of c.args.home.now in
     let rs = c.in_ok-relations.relations in
-    let interface = c.in_ok-interface.ensures ∙ ap (map declaration_of) c.deref.ensures.value in
-    let written = ap (map (λ (r : Bor Relation). relation_view r.now)) c.deref-2.ensures.value
+    let interface = c.in_ok-interface.ensures ∙ ap (map declaration_of) c.signals.ensures in
+    let written = ap (map (λ (r : Bor Relation). relation_view r.now)) c.deref.ensures.value
     ∙ c.in_ok-listed.ensures in
     let are = subst (λ ds. AreRelations ds p.relations rs) interface
     (subst (λ ts. AreRelations c.in_ok-interface.interface ts rs) written c.in_ok-relations.ensures) in

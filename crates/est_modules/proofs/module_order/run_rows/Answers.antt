@@ -1,4 +1,4 @@
-use Rattle.std.proofs.Common.{◌∙◌, ap, sym, map}
+use Rattle.std.proofs.Common.{◌∙◌, ◌≤◌, List, length, ap, subst, sym, map}
 use Rattle.std.proofs.lemmas.List.{take_all}
 use Rattle.std.proofs.lemmas.Simd.{map-map}
 use Rattle.est_modules.specs.Modules.{program_of}
@@ -10,5 +10,7 @@ pub returns : goal.returns
 returns c =
     let ps = map program_of c.args.heads.now in
     c.loop-home.invariant ∙ ap (map (λ (h : Head). places_run ps (program_of h)))
-    (take_all c.loop-home.home-index c.args.heads.now c.loop-home-test.false)
+    (take_all c.loop-home.home-index c.args.heads.now
+    (subst (λ (hs : List Head). length hs ≤ c.loop-home.home-index) c.modules-home-items.ensures
+    c.loop-home-test.false))
     ∙ sym (map-map (places_run ps) program_of c.args.heads.now)
