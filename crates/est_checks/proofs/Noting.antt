@@ -424,7 +424,7 @@ row_renamings t em bs q rs row (r ∷ some) u is room =
     (renaming_at t bs row m u (sends em q r) is room)
     ∙ joined (in_row row (number_in t u)) (is_numbered t u) (not (is_local bs u) && here)
     (not (is_local bs u) && sends_renamed em q rs some u)
-        (not (is_local bs u) && (here || sends_renamed em q rs some u))
+    (not (is_local bs u) && (here || sends_renamed em q rs some u))
     (distributed (not (is_local bs u)) here (sends_renamed em q rs some u))
 
 -- ---- what is noted after an act

@@ -68,7 +68,7 @@ seen_in_run em p bs s rs (Some q) h free sent =
     (option_map (λ (d : Declared). d.name) (find (λ (d : Declared). is_unbound p bs rs d.name) q.interface)) h in
     let lefts = none_found (λ (r : RenamingTree). not (is_visible p bs r.outer)) rs
     (map_none (λ (r : RenamingTree). r.outer) (find (λ (r : RenamingTree). not (is_visible p bs r.outer)) rs)
-        parts.0) in
+    parts.0) in
     let names = none_found (λ (d : Declared). is_unbound p bs rs d.name) q.interface
     (map_none (λ (d : Declared). d.name) (find (λ (d : Declared). is_unbound p bs rs d.name) q.interface) parts.1) in
     let f = any_found (λ (d : Declared). em q.name d.name && bytes_eq (renamed rs d.name) s) q.interface sent in

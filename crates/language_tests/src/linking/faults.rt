@@ -11,7 +11,7 @@ use est_syntax::tree::Renaming;
 use est_text::identifier::Identifier;
 use est_text::lex::lex;
 use link_mistakes::emitting::{callers_name, emits};
-use link_mistakes::faults::{fault_before_order, fault_after_order, first_unknown};
+use link_mistakes::faults::{fault_after_order, fault_before_order, first_unknown};
 use std::alloc::Global;
 use std::test::Fail;
 
