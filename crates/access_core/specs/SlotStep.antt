@@ -187,7 +187,8 @@ abbrev pub slot_rules : List Entry → (slot session : ℕ) → SlotCommand → 
 slot_rules entries slot session command journal =
     access_rules entries session (permission_of slot command) ▸▸ journal_rules entries slot session command journal
 
--- what a command does that no rule refuses: the reply, and the journal afterwards
+-- what follows the rules above: the reply, and the journal afterwards. For a load and an offer it is the reactor's
+-- answer, which may be a refusal
 abbrev pub Does : List Entry → (slot session : ℕ) → SlotCommand → (before : List SlotEntry) → Reply
     → (after : List SlotEntry) → Type 0
 Does entries slot session (Load main text) = Loads (stamp_of entries session) main text

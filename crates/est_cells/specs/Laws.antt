@@ -45,7 +45,7 @@ pub record EmitsAsMeant : Type 0 where
   pub may_resumed : (s : Statement) (bits : ℕ → Bool) (r : Status) (e : Env)
       → emits is_possible true s (resumed s bits r e) ≡ (can_at r (term_at s bits) e).signals
 
--- where the gates decide nothing more, all that the meaning decides is decided so
+-- if the gates decide nothing more, every cell that the meaning decides is decided, with that value
 pub record MeaningIsLeast : Type 0 where
   pub begun : (main : Bool) (s : Statement) (r g : Status) (e f : Env) (T : Sheet main s) → IsBelow r g → KnowsLess e f
       → Below main s (gates main s g f T) T → Below main s (begun main s r e) T
@@ -53,7 +53,7 @@ pub record MeaningIsLeast : Type 0 where
       → KnowsLess e f
       → Below true s (live_gates s bits g f T) T → Below true s (resumed s bits r e) T
 
--- what the gates decide, where all that is decided is as the meaning says, the meaning decides so
+-- if every decided cell agrees with the meaning, so does every cell that the gates decide from them
 pub record GatesAreSound : Type 0 where
   pub begun : (main : Bool) (s : Statement) (r g : Status) (e f : Env) (T : Sheet main s) → IsBelow g r → KnowsLess f e
       → Below main s T (begun main s r e) → Below main s (gates main s g f T) (begun main s r e)
@@ -78,9 +78,10 @@ pub record ValuesAreMeant : Type 0 where
   pub resumed_value : (s : Statement) (bits : ℕ → Bool) (e : Env) (o : Signals) (k : ℕ) (u : Term)
       (g : Gives (term_at s bits) e o k u) → resumed s bits Present e ≡ continues k (resumed_by s bits e o k u g)
 
--- Microsteps agree with Must and Can. Sound: a table in which all that is decided is as the meaning says, and every
--- cell is decided, has the values of the reaction. Complete: a table in which nothing more can be decided has an open
--- cell just where there is no reaction, and its outputs are those of the last round
+-- Microsteps agree with Must and Can. Sound: if every cell is decided, and agrees with the meaning, the cells have the
+-- values of the reaction. Complete: if nothing more can be decided and a cell is open, there is no reaction. Undecided:
+-- if nothing more can be decided, and every decided cell agrees with the meaning, the judged signals are those of the
+-- last round
 pub record MicrostepsAgree : Type 0 where
   pub sound : (j : JudgedSignals) → IsWithinPlaces j → (inputs : ℕ → Bool) (s : Statement) → IsLoopSafe (term_of s)
       → (x : State) → IsState s x → (T : Table s) → TableBelow j s T (table_meaning j inputs s x) → TableDecided j s T
@@ -112,7 +113,7 @@ pub record PausesFollow : Type 0 where
       → (e : Env) (o : Signals) (k : ℕ) (u : Term) (g : Gives (term_at s bits) e o k u)
       → NextAt s (term_at s bits) e o k (stays true s bits (continues k (resumed_by s bits e o k u g)))
 
--- the open table decides nothing that the meaning doesn't; and how many cells some sheets have
+-- the open table decides nothing that the meaning doesn't
 pub record OpenTableIsBelow : Type 0 where
   pub begun : (main : Bool) (s : Statement) (r : Status) (e : Env) (i : List Declaration) (d n : ℕ)
       → IsClosed i d n (term_of s)

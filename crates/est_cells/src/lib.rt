@@ -6,9 +6,9 @@
 //! a cell follows from others (`Gates`), what Must and Can say of each cell (`Meaning`, `Whole`),
 //! and its value in a reaction, by the derivation (`Values`, `Decided`).
 //!
-//! The functions of `laws` promise that these fit together. What the gates decide, Must and Can
-//! decide so; and where the gates decide nothing more, all that Must and Can decide is decided. So
-//! an engine that follows the gates until nothing changes has found the reaction, or there is none.
+//! The functions of `laws` promise that these fit together. What the gates decide agrees with Must
+//! and Can; and where the gates decide nothing more, all that Must and Can decide is decided. So an
+//! engine that follows the gates until nothing changes has found the reaction, or there is none.
 #![tactic(auto)]
 
 pub mod laws;

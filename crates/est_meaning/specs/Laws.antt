@@ -39,8 +39,8 @@ HasNoCode a = (k : ℕ) → a.codes k ≡ false
 
 -- Decided by Must. Why care: whether a step is refused, and what it shows, depends on nothing but what must be emitted.
 -- No guess is ever tried, and a refused step is one in which the program itself leaves something open. In every
--- environment, for a term whose loops' bodies take time: the rules react with a code exactly where Must has that code,
--- and they give nothing exactly where Must has none. Where they react, Must is that reaction and nothing else, and so
+-- environment, for a term whose loops' bodies take time: the rules react with a code exactly when Must has that code,
+-- and they give nothing exactly when Must has none. Where they react, Must is that reaction and nothing else, and so
 -- is Can
 pub record DecidedByMust : Type 0 where
   pub reacts : (t : Term) (e : Env) → IsLoopSafe t → (k : ℕ)
@@ -107,15 +107,15 @@ pub record RoundsComeToRest : Type 0 where
       → how_many j.has j.places ≤ m → known_after m j inputs t ≡ last_env j inputs t
   pub judged : (interface : List Declaration) (inputs : ℕ → Bool) → IsWithinPlaces (judged_signals interface inputs)
 
--- a status says whether a signal is there: it is decided, present exactly where the signal is there, absent exactly
--- where not
+-- a status says whether a signal is there: it is decided, present exactly when the signal is there, absent exactly when
+-- not
 pub record IsDecidedAs (v : Status) (is_there : Bool) : Type 0 where
   pub decided : v ≢ Unknown
   pub present : (v ≡ Present) ↔ (is_there ≡ true)
   pub absent : (v ≡ Absent) ↔ (is_there ≡ false)
 
 -- that `signal s in p` emits o and gives code k is a reaction of its body p, in the environment in which s has its own
--- status; and there s is present exactly where this reaction of the body emits it
+-- status; and there s is present exactly when this reaction of the body emits it
 pub record IsDecidedWithin (s : ℕ) (p : Term) (e : Env) (o : Signals) (k : ℕ) : Type 0 where
   pub emitted : Signals
   pub left : Term
@@ -125,10 +125,11 @@ pub record IsDecidedWithin (s : ℕ) (p : Term) (e : Env) (o : Signals) (k : ℕ
 
 -- Emitted is present. Why care: what a program finds out about a signal is what happens in that very instant. No test
 -- is ever answered by a presence that nothing brings about, nor by an absence that something contradicts. Where a term
--- reacts to the inputs of an instant, each judged signal is decided in the last environment: present exactly where the
--- reaction emits it, absent exactly where not, whatever was offered. A signal that is not judged, an input, is present
--- exactly where it was offered, whether the term reacts or not. And wherever the rules give `signal s in p` a reaction,
--- s is decided in the environment of p: present exactly where the reaction of p emits it
+-- reacts to the inputs of an instant, each judged signal is decided in the last environment: present exactly when the
+-- reaction emits it, absent exactly when not, whatever was offered. A signal that is not judged (an input, or an
+-- inputoutput that was offered) is present exactly when it was offered, whether the term reacts or not. And wherever
+-- the rules give `signal s in p` a reaction, s is decided in the environment of p: present exactly when the reaction of
+-- p emits it
 pub record EmittedIsPresent : Type 0 where
   pub judged : (j : JudgedSignals) → IsWithinPlaces j
       → (inputs : ℕ → Bool) (t : Term) (outputs : ℕ → Bool) (u : Term)

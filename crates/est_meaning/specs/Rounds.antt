@@ -18,8 +18,9 @@ abbrev pub judged_signals : List Declaration → (ℕ → Bool) → JudgedSignal
 judged_signals interface inputs =
     record { places = length interface; has = λ n. emittable interface n && not (inputs n) }
 
--- the first environment: judged signals are unknown; any other signal is present exactly where it is an input of the
--- instant. So an inputoutput that is offered is present and stays so, and one that is not offered starts as unknown
+-- the first environment: judged signals are unknown; any other signal is present exactly when it is an input of the
+-- instant. So an inputoutput that is offered is present and stays so, and one that is not offered starts as unknown.
+-- The entry of a local signal is never asked here: its binder sets it (`with_local`)
 unfoldable pub first_env : JudgedSignals → (ℕ → Bool) → Env
 first_env j inputs (outer n) = cond (j.has n) Unknown (verdict (inputs n) false)
 first_env j inputs (inner n) = Absent

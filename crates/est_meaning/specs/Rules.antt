@@ -1,5 +1,5 @@
--- The behaviour rules: how a term reacts once an environment is decided (Berry, The Constructive Semantics of Pure
--- Esterel).
+-- The behaviour rules: how a term reacts in an environment. Where it reaches a test or a local signal that is still
+-- unknown, it has no reaction (Berry, The Constructive Semantics of Pure Esterel).
 use Rattle.std.specs.Prelude.{◌≡◌, ◌≢◌, ℕ, zero, suc, ◌+◌, max}
 use Rattle.est_kernel.specs.Codes.{code_out_of_trap}
 use Rattle.est_kernel.specs.Term.{Query, Term, nothing, pause, emit, present, suspend, held, seq, loop, par, trap, exit}

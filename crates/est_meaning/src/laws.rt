@@ -9,7 +9,7 @@ ghost use Rattle.est_meaning.specs.Laws.{RoundsComeToRest, EmittedIsPresent, Pau
 /// Whether a step is refused, and what it shows, depends on nothing but what must be emitted: no
 /// guess is ever tried.
 ///
-/// Where loops' bodies take time, the rules have a reaction exactly where Must has a code; its
+/// Where loops' bodies take time, the rules have a reaction exactly when Must has a code; its
 /// signals and code are Must's.
 pub fn decided_by_must()
     ensures { DecidedByMust }
@@ -43,7 +43,7 @@ pub fn rounds_come_to_rest()
 /// What a program finds out about a signal is what happens in that very instant.
 ///
 /// A reaction's judged signals, and the local signals of its binders, are all decided: present
-/// exactly where they are emitted. Other signals are present exactly where they were offered.
+/// exactly when they are emitted. Other signals are present exactly when they were offered.
 pub fn emitted_is_present()
     ensures { EmittedIsPresent }
 {}

@@ -21,8 +21,8 @@ Heard x e l = (n : Name) → x n ≡ true → l n ≡ Unknown → e n ≡ Presen
 abbrev pub Seen : Signals → Env → Type 0
 Seen x l = (n : Name) → x n ≡ true → l n ≢ Unknown
 
--- what a sweep decides, either way, where all that is decided is as the meaning says, and the environment knows what
--- the meaning surely emits, the meaning decides so
+-- in either direction: if every decided cell agrees with the meaning, so does every cell that a sweep decides from
+-- them, provided that the environment knows what the meaning surely emits
 pub record SweepsAreSound : Type 0 where
   pub begun : (d : Direction) (main : Bool) (s : Statement) (r g : Status) (e l : Env) (T : Sheet main s) → IsBelow g r
       → KnowsLess l e
@@ -33,8 +33,8 @@ pub record SweepsAreSound : Type 0 where
       → Heard (emits is_sure true s (resumed s bits r e)) e l
       → Below true s T (resumed s bits r e) → Below true s (live_swept d s bits g l T) (resumed s bits r e)
 
--- where a sweep changes nothing, either way, all that is decided is as the meaning says, and what is surely emitted is
--- in no doubt, the gates decide nothing more
+-- in either direction: if a sweep changes nothing, every decided cell agrees with the meaning, and what is surely
+-- emitted is in no doubt, then the gates decide nothing more
 pub record SweepsComeToRest : Type 0 where
   pub begun : (d : Direction) (main : Bool) (s : Statement) (r g : Status) (e l : Env) (T : Sheet main s) → IsBelow g r
       → KnowsLess l e

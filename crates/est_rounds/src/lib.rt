@@ -1,6 +1,6 @@
 //! Reactions of kernels.
 //!
-//! `Engine` says what a reaction engine promises: an outcome exactly where the constructive
+//! `Engine` says what a reaction engine promises: an outcome exactly when the constructive
 //! semantics has a reaction, and else exactly the undecided outputs. `Rounds` keeps that promise
 //! for every kernel and takes no memory.
 #![tactic(auto)]
