@@ -51,7 +51,7 @@ pub fn stuck_exactly()
     one_module();
 }
 
-/// A command on a slot has one answer after the same journal: one reply, and one journal
+/// After the same journal, a command on a slot has one answer: one reply, and one journal
 /// afterwards, except that memory may be refused.
 pub fn one_slot_answer()
     ensures { (entries : List Entry) (slot session : ℕ) (command : SlotCommand)
@@ -96,7 +96,8 @@ pub fn ended_sessions_add_nothing()
     ended_sessions_stay_ended();
 }
 
-/// Refusals with equal numbers and equal fields are equal, where each object that they name is one.
+/// Refusals with equal numbers and equal fields are equal, if the objects that they name are
+/// objects.
 pub fn refusals_are_told_apart()
     ensures { (one other : Refusal) → NamesObjects one → NamesObjects other
         → TellsApart row_of one other }

@@ -67,7 +67,7 @@ pub fn list_statuses(
     Ok(shown)
 }
 
-/// Those of the signals that are seen.
+/// Of these signals, those that are seen.
 pub fn keep_seen(seen: u64, signals: u64) -> u64
     ensures { (place : ℕ) → bits result place ≡ (bits seen place && bits signals place) }
 {

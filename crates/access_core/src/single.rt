@@ -59,7 +59,7 @@ impl Model for Single {
         × LeavesRoom most_entries s.entries × AllFit s.entries };
 }
 
-/// The change that the command makes of the policy; a login makes none.
+/// The change by which a reply names the command; None for a login.
 pub fn change_of(command: &AdminCommand) -> Option<Change>
     ensures { result ≡ change_of command.now }
 {
@@ -83,7 +83,8 @@ pub fn change_of(command: &AdminCommand) -> Option<Change>
     }
 }
 
-/// Adds the entry to the list and takes it into the policy; where memory is refused, both stay.
+/// Adds the entry to the list and takes it into the policy. If memory is refused, both stay as they
+/// were.
 fn take_in(policy: &mut Policy, entries: &mut PolicyJournal, entry: Entry) -> Result<(), AllocError>
     ensures { MatchResult result
         (λ _. (entries.new ≡ entries.old ++ entry ∷ []) × (policy.new ≡ absorbed policy.old entry))
@@ -97,7 +98,7 @@ fn take_in(policy: &mut Policy, entries: &mut PolicyJournal, entry: Entry) -> Re
     Ok(())
 }
 
-/// The reply to the accepted entry, of this change or a login, that the policy took in last.
+/// The reply to an accepted entry that the policy has just taken in; `change` is None for a login.
 fn answer_accepted(policy: &Policy, change: Option<Change>) -> Reply
     ensures { (before : List Entry) (entry : Entry) → StandsFor policy.now (before ++ entry ∷ [])
         → change ≡ change_of entry.command

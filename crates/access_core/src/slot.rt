@@ -305,6 +305,7 @@ impl Slot {
         ensures step { ByRules (occupied self.old.journal ▸ accept) (Loads stamp main.now text.now)
             self.old.journal result self.new.journal }
     {
+        // The content is moved out; each arm puts it back.
         let empty = Content::Empty(Journal::new(self.alloc));
         match mem::replace(&mut self.content, empty) {
             Content::Empty(journal) => match Reactor::load(self.alloc, journal, stamp, main, text) {
@@ -346,6 +347,7 @@ impl Slot {
             self.old.journal)
             (Steps (stamp_of entries session)) self.old.journal result self.new.journal }
     {
+        // The content is moved out; each arm puts it back.
         let empty = Content::Empty(Journal::new(self.alloc));
         match mem::replace(&mut self.content, empty) {
             Content::Empty(journal) => {
@@ -384,6 +386,7 @@ impl Slot {
             (AddsEntry action.Unload Unloaded stamp)
             self.old.journal result self.new.journal }
     {
+        // The content is moved out; each arm puts it back.
         let empty = Content::Empty(Journal::new(self.alloc));
         match mem::replace(&mut self.content, empty) {
             Content::Empty(journal) => {
@@ -470,10 +473,10 @@ fn check_access(
     Err(Refusal::Policy(PolicyRefusal::Permission { operation, object }))
 }
 
-/// Asks whether this session may load the slot, at the policy as it is. Answers what the load's
-/// entry is to bear.
+/// Asks whether this session may load the slot, at the policy as it is. Answers the stamp that the
+/// load's entry gets.
 ///
-/// What a load does after this needs no policy: `load_admitted` does it, however long its text
+/// What a load does afterwards needs no policy: `load_admitted` does it, however long its text
 /// takes.
 ///
 /// # Errors
@@ -509,10 +512,10 @@ pub fn load_admitted(
 
 /// Answers a command, which this session gives to the slot, at the policy as it is.
 ///
-/// The session is to live, and to have the command's permission: `load` on the slot for a load and
-/// an unload, `step` on it for a step and a discard, `offer` on the signal, `audit` on the policy;
-/// a look needs none and shows what the session may observe. A refusal leaves the slot, and a
-/// command that is accepted adds its one entry, but for a look and an audit, which add none.
+/// The session has to live, and to have the command's permission: `load` on the slot for a load and
+/// an unload, `step` on it for a step and a discard, `offer` on the signal, `audit` on the policy.
+/// A look needs none, and shows what the session may observe. A refusal leaves the slot unchanged.
+/// An accepted command adds its one entry, but for a look and an audit, which add none.
 pub fn decide_slot(
     policy: &Policy,
     slot: &mut Slot,

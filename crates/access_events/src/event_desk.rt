@@ -1,4 +1,4 @@
-//! A desk, and what the seats by which its commands come have seen of its policy list.
+//! A desk, and for each seat how much of the policy list it has seen.
 ghost use Rattle.std.specs.Prelude.{◌≡◌, IfOk, slice_get, slice_index_or};
 ghost use Rattle.access_events.specs.Runs.{opening_world, journal_in, last_version, newest_known};
 ghost use Rattle.access_events.specs.Runs.{has_seen, EventStep};

@@ -69,9 +69,9 @@ pub fn looks_show_the_reaction()
     one_module();
 }
 
-/// Denial: the reply to an event is the first refusal, in the order of the event's rules, whose
-/// condition holds, with its fields; and no refusal exactly when none of them holds. Want of memory
-/// aside.
+/// Denial: unless memory is refused, the reply to an event is the first refusal, in the order of
+/// the event's rules, whose condition holds, with its fields; and it is no refusal exactly when
+/// none of them holds.
 pub fn denials_name_the_first_reason()
     ensures { InEachRun DenialsNameTheFirst }
 {}
@@ -97,7 +97,7 @@ pub fn headline()
 }
 
 /// A list of events has one run, unless memory is refused: after the same past, the same event has
-/// one reply and leaves one world. Two runs of the same events are the same, or the same up to a
+/// one reply and leaves one state. Two runs of the same events are the same, or the same up to a
 /// moment at which memory is refused to one of them. So what `run_events` answers is determined by
 /// its events.
 pub fn one_run()

@@ -21,8 +21,8 @@ pub(crate) fn slot_at(number: usize) -> SlotNumber
     }
 }
 
-/// Whether there is nothing to find in the policy list and in the journals of the slots, which
-/// stand by number.
+/// Audits the policy list and the journals of the slots, which stand by number: Ok exactly when
+/// there is nothing to find, unless memory is refused.
 ///
 /// It replays the policy list through the policy step, each entry once, and each journal through
 /// the slot step on a slot of its own.

@@ -11,8 +11,8 @@ ghost use Rattle.audit_report.specs.Findings.{HaveNoFinding, IsFirst};
 
 use access_core::laws::{journals_are_legal, one_slot_answer};
 
-/// Journals have one verdict, want of memory aside: where there is nothing to find there is no
-/// finding, and else there is one first finding. So two audits of the same journals say the same.
+/// Unless memory is refused, journals have one verdict: no finding if there is nothing to find, and
+/// else one first finding. So two audits of the same journals say the same.
 pub fn one_verdict()
     ensures none { (entries : List Entry) (slots : List (List SlotEntry)) (finding : Finding)
         → HaveNoFinding entries slots → IsFirst entries slots finding → finding ≡ Memory }

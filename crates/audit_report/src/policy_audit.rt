@@ -55,7 +55,7 @@ fn opens_at(entries: &[Entry], place: usize) -> bool
     }
 }
 
-/// Whether the list begins with the opening entries, and else where it doesn't.
+/// Ok if the list begins with the opening entries, else the first place where it doesn't.
 fn check_opening(entries: &[Entry]) -> Result<(), Finding>
     ensures ok { OnOk result ((at : ℕ) → at < length opening_entries → IsRightAt entries.now at) }
     ensures err { IfErr result (IsPolicyFinding entries.now) }
@@ -93,7 +93,7 @@ fn is_accepted(policy: &Policy, before: &[Entry], entry: &Entry) -> Result<bool,
     }
 }
 
-/// Whether the list is a policy list, and else the first finding in it, or that memory was refused.
+/// Ok if the list is a policy list, else the first finding in it, or that memory was refused.
 pub(crate) fn check_policy(entries: &[Entry]) -> Result<(), Finding>
     ensures ok { OnOk result (IsPolicyList entries.now) }
     ensures err { IfErr result (IsPolicyFinding entries.now) }

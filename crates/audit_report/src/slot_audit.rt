@@ -33,7 +33,7 @@ enum Fault {
     Memory,
 }
 
-/// The command that the action was asked for by, or the error where memory was refused.
+/// The command that asks for this action, or the error where memory was refused.
 fn command_of(alloc: Global, action: &Action) -> Result<SlotCommand, AllocError>
     ensures { IfOk result (λ command. command ≡ command_of action.now) }
 {
@@ -96,8 +96,8 @@ fn fault_of(refusal: &Refusal) -> Fault
     }
 }
 
-/// Gives the entry's command to the slot, which is to add this very entry; else why it doesn't. Of
-/// a step the plain engine is asked too.
+/// Gives the entry's command to the slot, which has to add this very entry; else says why it
+/// doesn't. Of a step the plain engine is asked too.
 fn replay_entry(
     alloc: Global,
     policy: &Policy,
@@ -126,7 +126,7 @@ fn replay_entry(
     }
 }
 
-/// The policy after the first `from` entries takes in those up to this version.
+/// Has the policy, which has taken in the first `from` entries, take in those up to this version.
 fn take_in(policy: &mut Policy, entries: &[Entry], from: usize, version: usize)
     requires stands { policy.old ≡ policy_of (take from entries.now) }
     requires low { from ≤ version }
@@ -149,7 +149,7 @@ fn finding_of(fault: Fault, slot: SlotNumber, place: u64) -> Finding
     }
 }
 
-/// Whether the journal of the slot of this number is legal over the policy list, and else the first
+/// Ok if the journal of the slot of this number is legal over the policy list, else the first
 /// finding in it, or that memory was refused.
 ///
 /// The journal is replayed on an empty slot, each entry at the policy of its version.

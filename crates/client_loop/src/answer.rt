@@ -108,8 +108,8 @@ fn ask_logout<D: Desk>(desk: &mut D, login: Option<Login>) -> Turn
     }
 }
 
-/// Answers a policy command on a connection that holds this login, which a login and a logout
-/// change.
+/// Answers a policy command on a connection that holds this login. An accepted login or logout
+/// changes what login the connection holds.
 fn ask_policy<D: Desk>(desk: &mut D, login: Option<Login>, command: AdminCommand) -> Turn
     ensures asked { Asks D.answers (Policy command) (session_of login)
         desk.old result.reply desk.new }
@@ -152,6 +152,8 @@ pub(crate) fn respond<D: Desk>(
     ensures { LineStep D.answers line.now (with_login desk.old (session_of login))
         result.reply (with_login desk.new (session_of result.login)) }
 {
+    // `line_reader` gives no such line. The branch is here so that the line step says an answer for
+    // every line.
     if line.len() > LINE_BYTES {
         let reply = Reply::Refused(Refusal::TooLong);
         return Turn { reply, login };

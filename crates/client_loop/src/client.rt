@@ -1,4 +1,4 @@
-//! The client at the other end of a connection, as far as a server knows it: its login.
+//! The server's side of one connection: it answers the lines.
 ghost use Rattle.client_loop.specs.LineSteps.{Tells, TellsNothing};
 ghost use Rattle.client_loop.specs.Inner.Clients.{seen_of};
 
@@ -11,8 +11,8 @@ use std::alloc::{AllocError, Global};
 use wire_lines::reading::RequestReader;
 use wire_lines::reply::reply_line;
 
-/// The login that a connection holds, if it holds one, what reads its lines, and the worker that
-/// answers it through a gate.
+/// The server's side of one connection: its login, if it holds one, what reads its lines, and the
+/// worker that answers them through a gate.
 pub(crate) struct Client<'g, G> {
     pub(crate) login: Option<Login>,
     pub(crate) requests: RequestReader,

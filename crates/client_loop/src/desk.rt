@@ -1,4 +1,4 @@
-//! What one connection talks to: it is asked commands, and answers them.
+//! Desks: what a connection asks.
 ghost use Rattle.std.specs.Prelude.{◌≡◌};
 ghost use Rattle.rbac_policy.specs.declared.commands.AdminCommand.TheVariants.{DeleteSession};
 ghost use Rattle.access_core.specs.declared.reply.Reply.{Reply};

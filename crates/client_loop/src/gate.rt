@@ -1,4 +1,4 @@
-//! What a worker passes before and after each answer.
+//! A hook for tests, around each answer.
 
 /// What a worker passes before and after each answer. A server's gate does nothing; a test's may
 /// hold the worker.

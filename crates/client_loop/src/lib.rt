@@ -1,9 +1,13 @@
 //! The rules of one connection: a client logs in, is answered line by line, and is logged out at
 //! its end.
 //!
-//! `serve` answers the lines of any reader one after the other on any writer, over a desk that it
-//! is lent, and logs the client out at the end: its contract carries the program. `desk` is what
-//! commands are asked of, and `login` a session that someone has to end.
+//! `serving` answers the lines of one connection, over any reader and writer, and logs out at its
+//! end, or hands the login back if memory is refused for that. `connections` asks again until that
+//! logout is answered. `login` is a session that someone has to end.
+//!
+//! `desk` is what commands are asked of; `shared_desk` is the desk of a worker, at a board and a
+//! table that all workers share. `workers` runs a thread for each seat, which serves the
+//! connections of a `source` one after another. `gate` is a hook for tests.
 #![tactic(auto)]
 
 pub(crate) mod answer;

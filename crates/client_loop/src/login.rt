@@ -1,4 +1,4 @@
-//! A login, which has to be spent.
+//! Logins: sessions that someone has to end.
 ghost use Rattle.std.specs.Prelude.{◌≡◌, Some, None, MatchResult};
 ghost use Rattle.rbac_policy.specs.declared.commands.AdminCommand.TheVariants.{CreateSession};
 ghost use Rattle.access_core.specs.declared.refusal.Refusal.TheVariants.{Memory};
@@ -30,7 +30,8 @@ pub struct Login {
     session: SessionId,
 }
 
-/// Asks for a session of this user in these roles, and holds it if it was made.
+/// Asks for a session of this user in which these roles are active. If it is made, the login comes
+/// with the reply.
 pub fn log_in<D: Desk>(desk: &mut D, user: Name, roles: RoleNames) -> (Reply, Option<Login>)
     ensures asked { D.answers desk.old (to_policy None (CreateSession user roles)) result.0
         desk.new }
@@ -73,7 +74,9 @@ impl Login {
         self.session
     }
 
-    // The reply of the desk that is asked to end the session.
+    // The desk's reply to a logout of this session: it is ended now (`Changed`), or had ended
+    // before (NoSession), or memory was refused. No other reply comes, so the `_` of `end` and
+    // `logout` stand for one reply each.
     fn ask_end<D: Desk>(&self, desk: &mut D) -> Reply
         ensures asked { EndsSession D.answers self.now.session desk.old result desk.new }
         ensures reply { IsLogoutReply result }
@@ -81,7 +84,7 @@ impl Login {
         desk.admin(Some(self.session), AdminCommand::DeleteSession)
     }
 
-    /// Ends the session, and gives the reply. Keeps the login where memory was refused.
+    /// Ends the session, and gives the reply. If memory was refused, the login comes back.
     pub(crate) fn end<D: Desk>(self, desk: &mut D) -> (Reply, Option<Login>)
         ensures asked { EndsSession D.answers self.session desk.old result.0 desk.new }
         ensures held { session_of result.1 ≡ after_logout result.0 (Some self.session) }
@@ -116,7 +119,7 @@ impl Login {
         }
     }
 
-    /// Ends the session at last: asks again for as long as memory is refused.
+    /// Ends the session, and asks again while memory is refused.
     pub fn logout_at_last<R: Wait, D: Desk>(self, rt: &R, desk: &mut D) -> Logout
         ensures { LogsOutAtLast D.answers self.session desk.old result desk.new }
     {

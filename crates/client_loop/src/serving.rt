@@ -1,4 +1,4 @@
-//! A connection to its end, over any reader and writer, and any desk that is lent.
+//! Serves a connection to its end, over any reader and writer, and any desk that is lent.
 ghost use Rattle.std.specs.Prelude.{◌≡◌, true};
 ghost use Rattle.line_reader.specs.Meters.{IsStopped, has_failed};
 ghost use Rattle.line_reader.specs.declared.serving.Why.TheVariants as why;
@@ -34,7 +34,7 @@ fn too_long_line() -> &'static [u8]
     TOO_LONG.as_bytes()
 }
 
-/// Answers the lines of a connection to its end, and hands out the login that it holds then.
+/// Answers the lines of a connection to its end, and gives the login that it holds then.
 fn answer_lines<R: Read, W: Write, D: Desk, G: Gate>(
     memory: &mut MeteredMemory,
     reader: &mut MeteredReader<R>,
@@ -77,7 +77,7 @@ fn answer_lines<R: Read, W: Write, D: Desk, G: Gate>(
     (why, login)
 }
 
-/// Logs out where a login is held, and hands it back where memory was refused for that.
+/// Logs out if a login is held. If memory is refused for that, the login comes back.
 fn leave<D: Desk>(desk: &mut D, held: Option<Login>) -> Option<Login>
     ensures { Leaves D.answers (session_of held) desk.old desk.new (session_of result) }
 {

@@ -56,7 +56,7 @@ fn reply_to<B: BoardName>(receipt: &Receipt<B>) -> Reply
     }
 }
 
-/// The reply that the board's answer to a policy command makes.
+/// The board's answer to a policy command, as a reply.
 fn reply_of<B: BoardName>(answer: Result<Receipt<B>, Refusal>) -> Reply
     requires { IfOk answer (λ receipt. (entry : Entry) × (old : List Entry) × (new : List Entry)
         × IsPublished entry old (Ok receipt) new) }

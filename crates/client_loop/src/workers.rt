@@ -22,7 +22,9 @@ use std::sync::Wait;
 use std::thread::Threads;
 use worker_threads::workers::{Back, Turn, Work, run_each};
 
-/// Lends workers a value of type T. Proofs know nothing else of it, so threads may share it.
+/// Lends workers a value of type T. By itself the prover doesn't find that threads may share a
+/// table of sixteen slots. So `Service` and `run_over` are generic over what lends it, with the
+/// bound `Sync`, which is proved once: where `run_workers` calls `run_over` (proofs/Sharing).
 trait Lends<T> {
     /// The value.
     fn lent(&self) -> &T;
@@ -66,6 +68,8 @@ impl<'a, B: BoardName + Send, L: Lends<Board<B>>, T: Lends<SlotTable<B>>, S: Sou
             table: self.table.lent(),
             seat,
         };
+        // Why a connection ended is no matter of the server's: it is dropped, and the next one is
+        // accepted.
         serve_connection(rt, self.alloc, connection, &mut desk, self.gate, worker);
         let SharedDesk {
             rt: _,
@@ -77,7 +81,8 @@ impl<'a, B: BoardName + Send, L: Lends<Board<B>>, T: Lends<SlotTable<B>>, S: Sou
     }
 }
 
-/// Does nothing. Its bound tells proofs that values of this type may cross threads.
+/// Does nothing. By its bound the proof of `run_workers` learns that values of this type may cross
+/// threads: a table of slots may be shared if the slots' readers may.
 fn may_cross<T: Send>()
     ensures { IsSend (param 0 T.row) }
 {}
@@ -102,10 +107,10 @@ fn run_over<
     run_each(rt, service.alloc, service, seats, connections)
 }
 
-/// Serves the connections of a source over this board and table: a thread for each seat, all
-/// started before the source is asked, which each serve this number of connections one after
-/// another, or as many as there are. It waits for their ends, and tells whether each served all of
-/// its connections. A worker is its seat's place, counted from 0.
+/// Serves the connections of a source over this board and table, by a thread for each seat. All
+/// threads are started before the source is asked. Each serves this number of connections one after
+/// another, or as many as there are. The call waits for their ends, and tells whether each served
+/// all of its connections. The number of a worker is its seat's place, counted from 0.
 ///
 /// # Errors
 ///

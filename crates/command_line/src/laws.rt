@@ -8,13 +8,13 @@ ghost use Rattle.command_line.specs.declared.order.Order.{Order};
 ghost use Rattle.command_line.specs.declared.order.Order.TheVariants.{Script, Serve};
 ghost use Rattle.command_line.specs.declared.order.TheConstants.{WORKERS};
 
-/// Words without a fault name one of the orders, whatever they are.
+/// Whatever the words are: if they have no fault, they name one of the orders.
 pub fn words_without_a_fault_name_an_order()
     ensures { (words : List Text) → fault_of command_line words ≡ []
         → IsNamed (subcommand_of command_line words) }
 {}
 
-/// Words are one order at most.
+/// Words give one order at most.
 pub fn words_are_one_order()
     ensures { (words : List Text) (one other : Order) → IsOrder words one → IsOrder words other
         → IsSame one other }

@@ -5,13 +5,13 @@ ghost use Rattle.command_line.specs.declared.order.TheConstants.{MOST_WORKERS, W
 
 use std::marker::Model;
 
-/// How many workers there may be.
+/// The most workers that may be asked for.
 pub const MOST_WORKERS: usize = 16;
 
-/// How many workers there are where no number is given.
+/// How many workers there are if no number is given.
 pub const WORKERS: usize = 4;
 
-/// The greatest number that may be given for the connections after which a worker ends.
+/// The most connections that may be given as those after which a worker ends.
 pub const MOST_CONNECTIONS: u64 = 65_535;
 
 /// A number of workers: from 1 to `MOST_WORKERS`. A contract sees the number.

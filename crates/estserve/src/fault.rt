@@ -64,6 +64,8 @@ pub fn tell<E: Write>(fault: &Fault, errors: &mut E) -> io::Result<()>
     match fault {
         // The text about words ends its own lines.
         Fault::Words(error) => write!(errors, "{error}"),
+        // The texts are those of `#[error]`, each written with its LF as one constant, since the
+        // contract names the bytes that are written.
         Fault::Unreadable => errors.write_all(b"estserve: a word is not UTF-8\n"),
         Fault::Read => errors.write_all(b"estserve: read fault\n"),
         Fault::Write => errors.write_all(b"estserve: write fault\n"),

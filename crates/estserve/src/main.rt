@@ -1,9 +1,10 @@
 //! The program: a shared simulator of Pure Esterel modules under role-based access control, one
 //! JSON command a line.
 //!
-//! Standard input and standard output are one connection: `client_loop` serves it, and its
-//! contracts carry the program. `run` is the program over any words and streams, `command_line`
-//! reads the words, `reports` writes the report of an audit, and `fault` says how the program ends.
+//! With `script`, standard input and standard output are one connection, which `client_loop`
+//! serves. With `serve`, `server` serves the connections of a socket (`socket`). `run` is both,
+//! over any words and streams. `command_line` reads the words, `reports` writes the report of an
+//! audit, and `fault` says how the program ends.
 #![tactic(auto)]
 
 pub mod fault;

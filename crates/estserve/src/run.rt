@@ -29,7 +29,7 @@ fn log_end<E: Write>(errors: &mut E, why: Why) {
     info!(log; "connection ended: {why:?}");
 }
 
-/// What follows the end of a connection: its fault, or the report on the desk if one was asked for.
+/// What follows the end of a connection: its fault, or the report, if one was asked for.
 fn finish<O: Write>(
     alloc: Global,
     why: Why,

@@ -47,9 +47,10 @@ fn close<B: BoardName, R: Wait, O: Write>(
     }
 }
 
-/// Serves the connections of a source over a new board of this name, at a seat for each worker: to
-/// each as many as are asked for. When all workers have ended, it closes the source's socket, and
-/// then the server, so that no client comes to a server that will not answer.
+/// Serves the connections of a source over a new board of this name, with a seat for each worker.
+/// Each worker serves as many connections as are asked for. When all workers have ended, it closes
+/// the source's socket, and then the server, so that no client comes to a server that will not
+/// answer.
 fn serve_source<B: BoardName + Send + Sync, R: Threads + Wait + Net + Files + Sync, O: Write>(
     rt: &R,
     alloc: Global,

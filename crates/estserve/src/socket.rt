@@ -57,7 +57,7 @@ impl<'a> Socket<'a> {
         }
     }
 
-    /// Ends the socket, and takes its file away, if it is still the one at its path.
+    /// Closes the socket, and removes its file, if it is still the one at its path.
     pub fn close<R: Files>(self, rt: &R) {
         let Socket {
             listener: _,
@@ -94,9 +94,10 @@ impl<'a> Source for SocketSource<'a> {
     type Writer = UnixStream;
 
     fn accept(&self, _worker: usize) -> Option<Connection<UnixStream, UnixStream>> {
+        // Bounded, so that the loop is proved to end.
         for _ in 0..u64::MAX {
             let (writer, _) = self.socket.listener.accept().ok()?;
-            // A connection that can't be read as well ends alone.
+            // If the stream can't be duplicated, it is dropped, and the next one is accepted.
             if let Ok(reader) = writer.try_clone() {
                 return Some(Connection { reader, writer });
             }

@@ -1,4 +1,4 @@
-//! The comparison.
+//! The comparison of journals and receipts.
 ghost use Rattle.std.specs.Prelude.{◌≡◌, ◌<◌, ◌≤◌, ℕ, None, MatchOption, OnOk, IfErr, length};
 ghost use Rattle.history_merge.specs.OneList.{AreOfOneList};
 ghost use Rattle.history_merge.specs.Order.{part_at, Rises};
@@ -33,7 +33,7 @@ fn name_mismatch(seat: usize, kept: &Kept) -> Mismatch
     }
 }
 
-/// The first receipt with which the order of some seat's list breaks.
+/// The first receipt that breaks the order of its seat's list, if one does.
 fn find_break(seats: &[Receipts]) -> Option<Mismatch>
     ensures { MatchOption result
         ((seat : ℕ) → seat < length seats.now → Rises 0 None (part_at seats.now seat))
@@ -48,7 +48,8 @@ fn find_break(seats: &[Receipts]) -> Option<Mismatch>
     None
 }
 
-/// Where there are not as many receipts as entries.
+/// The first list that hasn't as many entries as receipts, if there is one: the slots by number,
+/// then the policy list.
 fn find_count(
     taken: &Taken,
     policy: &[Entry],
@@ -68,8 +69,8 @@ fn find_count(
     None
 }
 
-/// Whether the policy list, the journals of the slots and the receipts of the seats are the parts
-/// of one list of events. It takes no memory, and a time that grows with the receipts and the seats
+/// Ok if the policy list, the journals of the slots and the receipts of the seats are the parts of
+/// one list of events. It takes no memory, and a time that grows with the receipts and the seats
 /// alone.
 ///
 /// # Errors

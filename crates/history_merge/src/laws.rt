@@ -8,9 +8,9 @@ ghost use Rattle.rbac_policy.specs.declared.sizes.TheConstants.{OPENING_ENTRIES}
 ghost use Rattle.history_merge.specs.OneList.{AreOfOneList};
 ghost use Rattle.history_merge.specs.Once.{EachOnce};
 
-/// Where one list of events has the journals and the receipts as its parts, each entry of a slot,
-/// and each policy entry after the opening ones, belongs by place and content to exactly one
-/// receipt of one seat, and each receipt to one entry.
+/// If one list of events has the journals and the receipts as its parts, each entry of a slot, and
+/// each policy entry after the opening ones, belongs by place and content to exactly one receipt of
+/// one seat, and each receipt to one entry.
 pub fn entries_and_receipts_are_one_to_one()
     ensures { (policy : List Entry) (journals : List (List SlotEntry)) (seats : List (List Kept))
         → OPENING_ENTRIES ≤ length policy → length journals ≡ SLOTS

@@ -1,5 +1,5 @@
-//! The merge of the seats' lists: the receipts are taken one by one, the first in order of those
-//! that come next.
+//! The merge of the seats' lists: of the receipts that come next, one of each seat, the first in
+//! order is taken, and so on.
 ghost use Rattle.std.specs.Prelude.{◌≡◌, ◌<◌, ◌≤◌, ◌+◌, ◌^◌, ℕ, MatchOption, length, option_map};
 ghost use Rattle.std.specs.Prelude.{slice_index};
 ghost use Rattle.std.specs.Bool.{Decides, MatchBool};
@@ -19,20 +19,20 @@ use reactor_core::journal::Journal;
 use seat_receipts::receipt::{Kept, SlotReceipt};
 use seat_receipts::receipt_list::{Receipts, SEATS};
 
-/// How far the receipts are taken.
+/// Which receipts were taken so far.
 #[derive(Clone, Copy)]
 pub(crate) struct Taken {
     /// Where the one that was taken last stands; at the start, the last of the opening entries.
     pub(crate) last: Rank,
-    /// How many policy entries there are of them, the opening ones among them.
+    /// How many policy entries they tell of, and the opening ones.
     pub(crate) entries: u64,
-    /// The last place in each slot.
+    /// The place of the last one of each slot.
     pub(crate) places: [u64; SLOTS as usize],
-    /// The last number in each slot.
+    /// The number of the last one of each slot.
     pub(crate) numbers: [Option<u64>; SLOTS as usize],
-    /// How many there are of each slot.
+    /// How many of each slot were taken.
     pub(crate) counts: [u64; SLOTS as usize],
-    /// How many there are of each seat.
+    /// How many of each seat were taken.
     pub(crate) read: [usize; SEATS],
 }
 
@@ -54,7 +54,7 @@ impl Taken {
     }
 }
 
-/// Whether place and number are over the last ones of the slot.
+/// Whether place and number are greater than the last ones of the slot.
 fn is_in_line(taken: &Taken, receipt: &SlotReceipt) -> bool
     requires { receipt.now.slot < SLOTS }
     ensures { Decides result (IsInLine taken.now receipt.now) }
@@ -130,7 +130,7 @@ pub(crate) fn take(
     }
 }
 
-/// What comes first, of what was found and the next receipt of a seat.
+/// The earlier of two: what was found so far, and the next receipt of this seat.
 fn lesser(least: Option<(usize, Rank)>, seat: usize, next: Option<Rank>) -> Option<(usize, Rank)>
     ensures { Lesser least seat next result }
 {

@@ -67,7 +67,7 @@ pub(crate) fn precedes(one: Rank, other: Rank) -> bool
     }
 }
 
-/// Whether the number is over the one before, if there is one.
+/// Whether the number is greater than the one before, if there is one.
 pub(crate) fn is_over(before: Option<u64>, number: u64) -> bool
     ensures { Decides result (IsOver before number) }
 {
@@ -87,7 +87,7 @@ fn rises(version: u64, number: Option<u64>, kept: &Kept) -> bool
     }
 }
 
-/// The first receipt with which the order of a seat's list breaks.
+/// The first receipt that breaks the order of its seat's list, if one does.
 pub(crate) fn first_break(kept: &[Kept]) -> Option<usize>
     ensures { MatchOption result (Rises 0 None kept.now) (λ n. Breaks kept.now n) }
 {

@@ -1,4 +1,4 @@
-//! Whether the entry that a receipt tells stands in its place.
+//! Whether the entry of a receipt stands in its place.
 ghost use Rattle.std.specs.Prelude.{◌≡◌, ◌<◌, ◌-◌, Some, option_map, slice_get};
 ghost use Rattle.std.specs.Bool.{Decides};
 ghost use Rattle.rbac_policy.specs.declared.objects.TheConstants.{SLOTS};
@@ -16,7 +16,7 @@ use reactor_core::entry::{Action, SlotEntry};
 use reactor_core::journal::Journal;
 use seat_receipts::receipt::{Asked, Kept, SlotReceipt};
 
-/// Whether this was asked for by the command that the action was accepted for.
+/// Whether what the receipt says was asked for is what this action does.
 fn asks(asked: &Asked, action: &Action) -> bool
     ensures { Decides result (asked.now ≡ asked_of action.now) }
 {
@@ -32,7 +32,7 @@ fn asks(asked: &Asked, action: &Action) -> bool
     }
 }
 
-/// Whether the receipt tells the entry.
+/// Whether the receipt is one of this entry: session, version, and what was asked for.
 fn tells(receipt: &SlotReceipt, entry: &SlotEntry) -> bool
     ensures { Decides result (Tells receipt.now entry.now) }
 {

@@ -40,7 +40,7 @@ fn make_ready<W: Write>(
     Ok(())
 }
 
-/// The next line, which is asked for only where it is there or nothing waits to be written.
+/// The next line. It is asked for only if it is held already, or nothing waits to be written.
 fn read_line<R: Read>(
     lines: &mut LineReader,
     _replies: &Replies,
@@ -70,7 +70,7 @@ fn read_line<R: Read>(
 ///
 /// # Errors
 ///
-/// Where the writer failed or took nothing, and then a front of what waited was written.
+/// Where the writer failed or took nothing, and then a beginning of what waited was written.
 pub fn next_line<R: Read, W: Write>(
     lines: &mut LineReader,
     replies: &mut Replies,

@@ -75,7 +75,7 @@ impl Replies {
     ///
     /// # Errors
     ///
-    /// Where the writer failed or took nothing, and then a front of what waits was written.
+    /// Where the writer failed or took nothing, and then a beginning of what waits was written.
     pub fn write_out<W: Write>(&mut self, writer: &mut MeteredWriter<W>) -> Result<(), WriteFault>
         ensures ok { OnOk result (Appends (W.contents writer.old.device)
             (W.contents writer.new.device) (waiting_bytes self.old)) }
@@ -112,8 +112,8 @@ impl Replies {
     ///
     /// # Errors
     ///
-    /// Where the writer failed or took nothing, and then a front of what waited and of the reply
-    /// was written.
+    /// Where the writer failed or took nothing, and then a beginning of what waited and of the
+    /// reply was written.
     pub fn add<W: Write>(
         &mut self,
         writer: &mut MeteredWriter<W>,

@@ -21,7 +21,7 @@ use crate::replies::{Replies, WriteFault};
 use std::alloc::{AllocError, Global};
 use std::io::{Read, Write};
 
-/// What answers the lines of a connection, by a desk that it is lent for each of them.
+/// What answers the lines of a connection; for each it is lent a desk to ask.
 pub trait Answerer<D> {
     /// Relates answerer and desk before, the line, the text of its answer, and both after.
     ghost tells: { (Self × D) → List ℕ → List ℕ → (Self × D) → Type 0 };
@@ -140,7 +140,7 @@ fn turn<R: Read, W: Write, D, A: Answerer<D>>(
     Ok(())
 }
 
-/// Answers lines until the connection ends. What is left waits.
+/// Answers lines until the connection ends. Replies that are not written by then still wait.
 fn answer_all<R: Read, W: Write, D, A: Answerer<D>>(
     alloc: Global,
     lines: &mut LineReader,

@@ -64,8 +64,9 @@ impl<B: BoardName> Board<B> {
         answer
     }
 
-    /// Gives the receipt of a slot command the next number of the tally, for which it waits, and
-    /// has the seat keep it. The first number is 1; the greatest would be given again.
+    /// Gives the receipt of a slot command the next number of the tally, and has the seat keep it.
+    /// It waits for the tally. The first number is 1; after the greatest, the greatest is given
+    /// again.
     pub fn count<R: Wait>(&self, rt: &R, seat: &mut Seat<B>, receipt: SlotReceipt)
         requires { HasRoom seat.old }
         ensures { IsCounted seat.old receipt seat.new }
@@ -111,7 +112,7 @@ pub struct Closed<B: BoardName> {
 }
 
 impl<B: BoardName> Closed<B> {
-    /// Takes a reader back, where what it saw is a beginning of the policy journal.
+    /// Takes a reader back, if what it saw is a beginning of the policy journal.
     ///
     /// # Errors
     ///

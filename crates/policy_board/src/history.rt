@@ -13,7 +13,7 @@ use std::marker::{Brand, Model, PhantomData};
 /// How many entries a policy opens with.
 const OPENING: u64 = OPENING_ENTRIES as u64;
 
-/// The rule of the list.
+/// The rule by which the board's list grows, as the kit's `logbook` asks for one.
 pub struct Law;
 
 impl Rule<Entry, u64> for Law {
@@ -131,7 +131,7 @@ impl Fresh {
     }
 }
 
-/// The word by which entries are added: the length of the list.
+/// The word that threads share, by which entries are added: the length of the list.
 #[derive(Drop)]
 pub struct Head<B: BoardName> {
     head: Word<Entry, u64, Law>,

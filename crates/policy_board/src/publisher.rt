@@ -145,10 +145,9 @@ impl<B: BoardName> Publisher<B> {
         SlotReader::new(&self.writer, opening)
     }
 
-    /// Asks whether the published list is the whole list of the board, until it is; then what
-    /// `known` has seen is a beginning of it. The first turn says yes, since each entry is
-    /// published as soon as it is added, and no other thread adds any. The proof knows it by this
-    /// question alone.
+    /// Checks that nothing is unpublished: then what `known` has seen is a beginning of the
+    /// published list. That is always so at the first look, since each entry is published as soon
+    /// as it is added, and no other thread adds any. The check is there for the proof.
     pub fn wait_whole<R: Wait>(&self, rt: &R, known: &Front<B>)
         ensures { Begins known.now self.now }
     {

@@ -1,4 +1,4 @@
-//! A reader of the policy. It waits for nobody, and never goes back.
+//! A reader of the policy. It waits for nobody, and never reads an older policy than before.
 ghost use Rattle.std.specs.Prelude.{◌≡◌, IfSome, MatchResult};
 ghost use Rattle.rbac_policy.specs.Opening.{opening_entries};
 ghost use Rattle.rbac_policy.specs.StandsFor.{StandsFor};

@@ -19,7 +19,7 @@ pub struct Shown {
     pub trace: Trace,
 }
 
-/// What the writer has both copies take in.
+/// What the writer does to each of the two copies of the policy.
 #[derive(Drop)]
 pub enum Operation {
     /// Does nothing. It is put before the first entry, to make room in the log for later ones.

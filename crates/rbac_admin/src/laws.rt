@@ -46,8 +46,8 @@ pub fn accepted_administers()
         → Administers entries session }
 {}
 
-/// The answer is a refusal exactly when a rule of the command gives it and all before that one let
-/// pass, and those then give none; it is the command's entry exactly when all let pass.
+/// The answer is a refusal exactly when a rule of the command gives it, and all rules before that
+/// one let pass. It is the command's entry exactly when all rules let pass.
 pub fn first_refusal()
     ensures refused { (entries : List Entry) (session : Option ℕ) (command : AdminCommand)
         (refusal : Refusal)
@@ -72,8 +72,8 @@ pub fn accepted_stands()
         → StandsFor (absorbed policy entry) (entries ++ entry ∷ []) }
 {}
 
-/// The opening entries are a policy list, and with an accepted entry at its end a policy list is
-/// one.
+/// The opening entries are a policy list; and so is a policy list with an accepted entry added at
+/// its end.
 pub fn policy_lists_grow()
     ensures opening { IsPolicyList opening_entries }
     ensures grows { (entries : List Entry) (entry : Entry) → IsPolicyList entries
@@ -81,8 +81,8 @@ pub fn policy_lists_grow()
         → IsPolicyList (entries ++ entry ∷ []) }
 {}
 
-/// Where each living session has room for its logout, an accepted entry has room, and leaves it to
-/// the others.
+/// If each living session has room for its logout, there is room for an accepted entry, and after
+/// it each living session still has room for its logout.
 pub fn accepted_leaves_room()
     ensures few { (entries : List Entry) (entry : Entry) → LeavesRoom most_entries entries
         → IsAccepted entries entry
@@ -93,7 +93,8 @@ pub fn accepted_leaves_room()
         → LeavesRoom most_entries (entries ++ entry ∷ []) }
 {}
 
-/// Equal numbers and equal fields are of equal refusals, where each object that is named is one.
+/// Refusals with equal numbers and equal fields are equal, if the objects that they name are
+/// objects.
 pub fn refusals_are_told_apart()
     ensures { (one other : Refusal) → NamesObjects one → NamesObjects other
         → TellsApart row_of one other }

@@ -1,7 +1,9 @@
 //! Whether a policy command is accepted, and else which refusal answers it.
 //!
-//! `decide` gives, for every list of accepted entries for which the policy stands, the answer of
-//! the policy step on that list.
+//! A `Policy` is tables that represent a list of accepted entries. `decide` answers a policy
+//! command as the policy step does on that list: with the command's entry, or with the first
+//! refusal. `rules` has a test for each rule of refusal, and `room` tells whether the list has room
+//! for an entry.
 #![tactic(auto)]
 
 pub mod decisions;

@@ -1,5 +1,5 @@
-//! The rules of refusal, each asked of a policy: a test passes if its rule gives no refusal, and
-//! else answers the rule's refusal.
+//! The rules of refusal, each asked of a policy. A test passes if its rule doesn't refuse; else it
+//! answers the rule's refusal.
 ghost use Rattle.std.specs.Prelude.{◌≡◌, ◌↔◌, ℕ, List, Option, Some, None, IsTrue, MatchOption};
 ghost use Rattle.std.specs.Prelude.{Contains, take};
 ghost use Rattle.std.specs.Result.{MatchResult};

@@ -192,7 +192,7 @@ impl Clone for Entry {
 
 const _: () = prove!(size_of::<Entry>() < 128);
 
-/// The tables of the policy, by the limit of which a command may be refused.
+/// The tables of the policy; a command that one has no room for is refused.
 #[derive(Clone, Copy, PartialEq, Eq, Debug)]
 pub enum Table {
     /// Users, at most `USERS`.

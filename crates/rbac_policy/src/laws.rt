@@ -25,8 +25,8 @@ pub fn facts_are_decided()
         → Decided (May entries session operation object) }
 {}
 
-/// Where each entry fits those before it, a policy stands for the list, and for each front of it:
-/// the one that took in its entries.
+/// If each entry of a list fits those before it, the policy that took them in stands for the list;
+/// and so for each beginning of it.
 pub fn policies_stand()
     ensures whole { (entries : List Entry) → AllFit entries
         → StandsFor (policy_of entries) entries }
@@ -34,7 +34,7 @@ pub fn policies_stand()
         → StandsFor (policy_of (take n entries)) (take n entries) }
 {}
 
-/// The same is decided over each front of a list each of whose entries fits those before it.
+/// If each entry of a list fits those before it, the same is decided over each beginning of it.
 pub fn fronts_are_decided()
     ensures lives { (entries : List Entry) → AllFit entries → (n session : ℕ)
         → Decided (IsLive (take n entries) session) }
@@ -44,7 +44,7 @@ pub fn fronts_are_decided()
 {}
 
 /// If the list has room for as many entries as sessions may live, each living session has room for
-/// its logout; and a logout leaves the others theirs.
+/// its logout. A logout leaves room for those of the others.
 pub fn logouts_have_room()
     ensures room { (policy : Policy) (entries : List Entry) → StandsFor policy entries
         → (most : ℕ) → length entries + SESSIONS ≤ most → LeavesRoom most entries }

@@ -1,9 +1,12 @@
 //! The policy of role-based access control: what a list of accepted entries says, and the fixed
-//! tables that stand for it.
+//! tables that stand for it. Tables stand for a list if each of their answers is what the list
+//! says.
 //!
-//! `names`, `objects` and `commands` are plain data of fixed size. `policy` takes in entries, in
-//! tables of fixed size and without memory; `readers` answer what is asked of a policy before a
-//! policy command is accepted.
+//! `names`, `objects` and `commands` are plain data of fixed size, and `texts` reads and writes
+//! them. `policy` takes entries into the tables, without memory; `tables` has the steps on single
+//! tables. `readers` answers what has to be asked of a policy before a policy command is accepted,
+//! and `separation` finds the separation set that is violated first. `journal` is the list of
+//! entries, `opening` its first four, and `laws` is for proofs about lists.
 #![tactic(auto)]
 
 mod closure;

@@ -28,8 +28,8 @@ use crate::tables::{
 use rbac_closure::rows::Rows;
 use rbac_closure::sets::RoleSet;
 
-/// What a list of accepted entries says, in tables of fixed size. It takes no memory. Two are equal
-/// where their tables are, place by place.
+/// What a list of accepted entries says, in tables of fixed size. It takes no memory. Two policies
+/// are equal if their tables are, place by place.
 #[derive(PartialEq, Eq, Drop)]
 pub struct Policy {
     pub(crate) version: u64,
@@ -112,7 +112,8 @@ impl Policy {
         end_sessions_of(&mut self.sessions, user);
     }
 
-    // The sessions in which the role is active are left to the sweep, which has to see it in them.
+    // The role stays active in sessions: the sweep after each entry has to see it there, and ends
+    // them.
     fn delete_role(&mut self, role: &Name)
         ensures { self.new ≡ role_deleted role.now self.old }
     {

@@ -325,8 +325,8 @@ pub fn grant_of(
     None
 }
 
-/// Whether each role that is active in the session is assigned to its user, or lies below one that
-/// is.
+/// Whether the user of the session is authorized for each role that is active in it: the role is
+/// assigned to the user, or lies below one that is.
 fn has_only_authorized(session: &Session, users: &[Option<User>; USERS], juniors: &Rows) -> bool
     ensures { result ≡ has_only_authorized users.now juniors.now session.now }
 {
@@ -347,7 +347,7 @@ fn session_kept(
     }
 }
 
-/// Ends each session in which a role is active that its user is not authorized for.
+/// Ends each session that has an active role for which its user is not authorized.
 pub fn end_unauthorized(
     sessions: &mut [Option<Session>; SESSIONS],
     users: &[Option<User>; USERS],

@@ -79,8 +79,8 @@ fn instant_at(instants: &[PastInstant], n: u64) -> Option<PastInstant>
 }
 
 /// The load of the module `main` of a text: its entry keeps copies of both, its module is read from
-/// the text, and the engine is that of the module's kernel. No module has a name that is no
-/// identifier, so the text has been refused before that is asked.
+/// the text, and the engine is that of the module's kernel. If `main` is no identifier,
+/// `read_module` has refused it, so the last arm is never taken.
 fn read_load(alloc: Global, main: &str, text: &str) -> Result<(Load, Module, ModuleEngine), Refusal>
     ensures entry { IfOk result (λ read. read.0 ≡ load_of main.now text.now) }
     ensures given { IfOk result (λ read. ModuleOf read.0 (given_by read.1)) }

@@ -2,7 +2,7 @@
 //! the calls.
 //!
 //! The entries themselves stand in the journals. When a server is closed, its journals are compared
-//! with the lists of all seats, so that each entry is shown to be one that somebody asked for.
+//! with the receipts of all seats, so that each entry is shown to be one that somebody asked for.
 #![tactic(auto)]
 
 pub mod mismatch;

@@ -1,8 +1,9 @@
-//! Receipts: what tells an entry's caller which entry it was.
+//! Receipts: each tells which entry a call added.
 use est_text::identifier::Identifier;
 use rbac_policy::commands::Entry;
 
-/// What a slot command that added an entry asked for; of a load without its name and its text.
+/// What a slot command that added an entry asked for. Of a load, the main module's name and the
+/// text are left out.
 #[derive(Clone, Copy)]
 pub enum Asked {
     Load,

@@ -1,4 +1,4 @@
-//! The end of a server: what is left of it, once its locks are opened and its journals compared.
+//! The end of a server: its locks are opened, and its journals are compared with the receipts.
 ghost use Rattle.std.specs.Prelude.{◌≡◌, ◌<◌, ◌≤◌, [], None, take, replicate, vec_len, OnOk, IfOk};
 ghost use Rattle.std.specs.Prelude.{IfErr};
 ghost use Rattle.rbac_admin.specs.PolicyLists.{IsPolicyList};
@@ -31,7 +31,8 @@ pub struct Histories {
     pub slots: [Journal; SLOTS as usize],
 }
 
-/// The board of a server that is closing, and the fault of a reader that was handed back to it.
+/// The board of a server that is closing. The fault is that of a reader that was handed back to it
+/// and had seen more than the policy list has, if there was one.
 pub(crate) struct Closing<B: BoardName> {
     board: Closed<B>,
     fault: Option<Mismatch>,

@@ -17,8 +17,8 @@ ghost use Rattle.slot_table.specs.SlotCommands.{LockedCommand};
 
 use history_merge::laws::entries_and_receipts_are_one_to_one;
 
-/// A command under a slot's lock never takes an entry from the journal, and leaves it legal: along
-/// the places of a slot's journal versions never fall.
+/// A command under a slot's lock never takes an entry out of the journal, and leaves the journal
+/// legal: along the places of a slot's journal versions never fall.
 pub fn versions_never_fall()
     ensures { (slot session : ℕ) (command : SlotCommand) (old : LockedState) (seat : SeatState)
         (reply : Reply) (new : LockedState) (after : SeatState)
@@ -28,9 +28,8 @@ pub fn versions_never_fall()
         × IsLegal new.list slot new.journal }
 {}
 
-/// Where `close` gives histories, each entry of a slot, and each policy entry after the opening
-/// ones, belongs by place and content to exactly one receipt of one seat, and each receipt to one
-/// entry.
+/// If `close` gives histories, each entry of a slot, and each policy entry after the opening ones,
+/// belongs by place and content to exactly one receipt of one seat, and each receipt to one entry.
 pub fn each_entry_belongs_to_one_receipt()
     ensures { (policy : List Entry) (slots : List (List SlotEntry)) (seats : List (List Kept))
         → IsPolicyList policy → length slots ≡ SLOTS → AreOfOneList policy slots seats

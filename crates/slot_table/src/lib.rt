@@ -2,14 +2,15 @@
 //! policy reader of its own.
 //!
 //! A command on a slot (`table`) takes that slot's lock alone, so that commands on two slots
-//! proceed side by side. Under the lock (`slot`) the slot's own reader reads the policy, and never
-//! goes back: the command is answered by the slot step on a policy list that begins with all that
-//! this reader had seen and all that the caller's seat knew, and that is no shorter than the seat's
-//! seen number; else it is refused as Behind. Whenever a lock is free its journal is legal over the
-//! list that its reader has seen. A reply that tells a place leaves its receipt with the seat
-//! (`receipts`). When the server is closed (`closing`), its journals are given out only if they
-//! and the receipts of all seats are the parts of one list of events. No clause says that a wait
-//! ends.
+//! proceed side by side. Under the lock (`slot`) the slot's own reader reads the policy. If the
+//! list that it reads is shorter than the seat's seen number, the answer is Behind. Otherwise the
+//! slot step answers the command on that list, which begins with all that this reader and the
+//! caller's seat had seen. Whenever a lock is free, its journal is legal over the list that its
+//! reader has seen.
+//!
+//! A reply that tells a place leaves its receipt with the seat (`receipts`). When the server is
+//! closed (`closing`), its journals are given out only if they and the receipts of all seats are
+//! the parts of one list of events. No clause says that a wait ends.
 #![tactic(auto)]
 
 pub mod closing;

@@ -12,7 +12,7 @@ use rbac_policy::commands::SessionId;
 use seat_receipts::receipt::{Asked, SlotReceipt};
 use std::sync::Wait;
 
-/// What the command asks for that adds an entry.
+/// What a receipt keeps of this command; None of a command that adds no entry.
 pub(crate) fn asked_by(command: &SlotCommand) -> Option<Asked>
     ensures { result ≡ asked_by command.now }
 {
@@ -45,7 +45,8 @@ fn place_told(reply: &Reply) -> Option<(u64, u64)>
     }
 }
 
-/// The seat keeps a receipt of a reply that tells a place, with a number that it draws.
+/// If the reply tells a place, has the seat keep a receipt of it, with the next number of the
+/// tally.
 pub(crate) fn keep<B: BoardName, R: Wait>(
     rt: &R,
     board: &Board<B>,

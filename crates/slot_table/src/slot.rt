@@ -68,8 +68,8 @@ fn decide_and_leave<B: BoardName>(
     (reply, reading.leave())
 }
 
-/// Answers a command on the slot of this number as this reader of its own reads the policy, and
-/// hands the reader back. The seat keeps a receipt of a reply that tells a place.
+/// Has the slot's reader read the policy, answers the command at what was read, and hands the
+/// reader back. The seat keeps a receipt of a reply that tells a place.
 fn read_and_decide<B: BoardName, const NUMBER: u8, R: Wait>(
     rt: &R,
     board: &Board<B>,

@@ -51,7 +51,8 @@ pub struct SlotTable<B: BoardName> {
     slot15: Mutex<LockedSlot<B, 15>>,
 }
 
-// Calls a macro below on what it is given and then the slots, each by its field and its number.
+// Calls one of the macros below on what it is given, and after it the sixteen slots, each by its
+// field and its number.
 macro_rules! with_slots {
     ($to:ident: $($given:tt)*) => {
         $to!($($given)*;
@@ -160,9 +161,10 @@ impl<B: BoardName> SlotTable<B> {
         with_slots!(end_slots: self, closing)
     }
 
-    /// Closes a server: answers its journals, if each of their entries has exactly one receipt,
-    /// kept by one of these seats. They are then the journals of clients that took turns. Board and
-    /// seats are those of its readers. It waits for reads of the policy, and takes no memory.
+    /// Closes a server: gives its journals, if each of their entries has exactly one receipt, kept
+    /// by one of these seats. They are then the journals of clients that took turns. Board and
+    /// seats have to be those from which the slots have their readers. It waits for reads of the
+    /// policy, and takes no memory.
     ///
     /// # Errors
     ///

@@ -1,4 +1,5 @@
-//! Lines of accepted commands that tell no name but a command's word, written as they stand.
+//! The lines of accepted commands that have only numbers and a command's word: they are joined from
+//! constant texts.
 ghost use Rattle.std.specs.Prelude.{◌≡◌, ◌++◌, codes, decimal, IfOk, OnOk};
 ghost use Rattle.access_core.specs.declared.reply.Reply.TheVariants.{Load, Offer, Discard};
 ghost use Rattle.access_core.specs.declared.reply.Reply.TheVariants.{Unload, Step, Changed, Check};
@@ -10,13 +11,13 @@ use itoa::Buffer;
 use rbac_policy::commands::SessionId;
 use std::alloc::{AllocError, Global};
 
-/// How many bytes a line finds room for at once: these lines are shorter.
+/// The room, in bytes, with which a line begins: these lines are shorter.
 const USUAL_BYTES: usize = 128;
 
-/// The line of a check that may.
+/// The line of a check that is allowed.
 const ALLOWED: &str = "{\"allowed\":true,\"ok\":\"check\"}\n";
 
-/// The line of a check that may not.
+/// The line of a check that is not allowed.
 const DENIED: &str = "{\"allowed\":false,\"ok\":\"check\"}\n";
 
 /// Adds a text, and a number after it.

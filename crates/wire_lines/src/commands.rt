@@ -1,6 +1,8 @@
-//! The commands: for each word the shape of the members after it, and what is made of them.
+//! The commands: which members have to follow each command's word, and which request they make.
 //!
-//! Commands with the same keys share a reader.
+//! Commands with the same keys share a reader. The words are tried in turn by `request_of`,
+//! `policy`, `plain`, `user_or_role` and `relation`: each knows some words, and passes any other on
+//! to the next.
 ghost use Rattle.std.specs.Prelude.{◌≡◌, codes, option_map, IfOk};
 ghost use Rattle.json.specs.Lex.{tokens};
 ghost use Rattle.wire_lines.specs.Inner.Members.{name_of, parsed_after, number_after};
@@ -164,7 +166,8 @@ fn check(reader: &mut Reader<'_>) -> Option<Request>
     Some(Request::Check { operation, object })
 }
 
-/// The command of this word on who has which role, on permissions or on the order of roles.
+/// Tries the words on assignments, permissions and the order of roles. Any other word is no
+/// command.
 #[tactic(auto, unfolding(crate::specs::Inner::Commands::request_of, crate::specs::Inner::Commands::relation_rows))]
 fn relation(reader: &mut Reader<'_>, word: &str) -> Option<AdminCommand>
     ensures { option_map Policy result ≡ request_in relation_rows word.now reader.old }
@@ -206,7 +209,7 @@ fn relation(reader: &mut Reader<'_>, word: &str) -> Option<AdminCommand>
     }
 }
 
-/// The command of this word that adds or deletes a user or a role, or is on their relations.
+/// Tries the words that add or delete a user or a role, then those of `relation`.
 #[tactic(auto, unfolding(crate::specs::Inner::Commands::request_of, crate::specs::Inner::Commands::user_or_role_rows))]
 fn user_or_role(reader: &mut Reader<'_>, word: &str) -> Option<AdminCommand>
     ensures { option_map Policy result ≡ request_in user_or_role_rows word.now reader.old }
@@ -232,7 +235,7 @@ fn user_or_role(reader: &mut Reader<'_>, word: &str) -> Option<AdminCommand>
     }
 }
 
-/// The policy command of this word, where it lists no roles.
+/// Tries the words of sessions that list no roles, and `undsd`; then those of `user_or_role`.
 #[tactic(auto, unfolding(crate::specs::Inner::Commands::request_of, crate::specs::Inner::Commands::plain_rows))]
 fn plain(reader: &mut Reader<'_>, word: &str) -> Option<AdminCommand>
     ensures { option_map Policy result ≡ request_in plain_rows word.now reader.old }
@@ -258,7 +261,7 @@ fn plain(reader: &mut Reader<'_>, word: &str) -> Option<AdminCommand>
     }
 }
 
-/// The request of this word, where it is a policy command.
+/// Tries the words of policy commands that list roles, then those of `plain`.
 #[tactic(auto, unfolding(crate::specs::Inner::Commands::policy_rows))]
 fn policy(alloc: Global, reader: &mut Reader<'_>, word: &str) -> Result<Option<Request>, AllocError>
     ensures { IfOk result (λ request. request ≡ request_in policy_rows word.now reader.old) }
@@ -270,7 +273,7 @@ fn policy(alloc: Global, reader: &mut Reader<'_>, word: &str) -> Result<Option<R
     }
 }
 
-/// The request of this word.
+/// The request of this word. Tries the words on slots and `check`, then those of `policy`.
 #[tactic(auto, unfolding(crate::specs::Inner::Commands::rows))]
 fn request_of(
     alloc: Global,

@@ -1,10 +1,12 @@
-//! Lines: the request that a line asks for, and the line that a reply is.
+//! Lines: the request that a line asks for, and the line of a reply.
 //!
-//! `reading` gives the request that a line asks for, exactly where it asks for one, and tells a
-//! line that is no JSON from one that is no request. `commands` has the table of the commands, and
-//! a reader for each shape of their keys; `members` takes the members of a line one after another,
-//! token by token. `reply` writes a reply as its one text: `line_writer` writes refusals and looks
-//! token by token, and `accepted` the answers that tell no name, as they stand.
+//! `reading` reads the request of a line; if there is none, it tells whether the line is no JSON or
+//! no request. `commands` matches the command's word and reads the keys that have to follow it; the
+//! definition is the table in specs/Inner/Commands. `members` takes the members of a line one after
+//! another, token by token.
+//!
+//! `reply` writes a reply. `accepted` joins a reply that has only numbers and a command's word from
+//! constant texts; `line_writer` writes refusals and looks, token by token.
 #![tactic(auto)]
 
 mod accepted;

@@ -14,7 +14,7 @@ use json::Writer;
 use std::alloc::{AllocError, Global};
 use std::marker::Model;
 
-/// How many bytes a line finds room for at once: most lines are shorter.
+/// The room, in bytes, with which a line begins: most lines are shorter.
 const USUAL_BYTES: usize = 256;
 
 /// A line that is being written. A contract sees the tokens that it has so far.
@@ -37,7 +37,7 @@ impl Model for LineWriter {
 }
 
 impl LineWriter {
-    /// A line with the brace alone that begins its object.
+    /// A line that has only the brace with which its object begins.
     pub(crate) fn begin(alloc: Global) -> Result<LineWriter, AllocError>
         ensures { IfOk result (λ line. line ≡ begin_object ∷ []) }
     {

@@ -42,7 +42,7 @@ fn request_of_value(alloc: Global, scratch: &mut Scratch, line: &[u8]) -> Result
     }
 }
 
-/// The request of a line whose keys stand in order. Any other line gets no answer here.
+/// The request of a line whose keys stand in order; none of any other line.
 fn request_of_tokens(
     alloc: Global,
     scratch: &mut Scratch,
@@ -56,7 +56,7 @@ fn request_of_tokens(
     }
 }
 
-/// What reads the lines of a connection: it keeps its room from line to line.
+/// The reader of a connection's lines. The memory that it took for one line serves the next.
 #[derive(Drop)]
 pub struct RequestReader {
     scratch: Scratch,

@@ -208,8 +208,8 @@ fn look_line(
     line.end()
 }
 
-/// The line of a reply, with its LF. One that tells no name but a command's word is written as it
-/// stands, the others token by token.
+/// The line of a reply, with its LF. A reply that has only numbers and a command's word is joined
+/// from constant texts; others are written token by token.
 pub fn reply_line(alloc: Global, reply: &Reply) -> Result<Vec<u8>, AllocError>
     ensures { IfOk result (λ line. line.items ≡ line_of reply.now) }
 {
@@ -240,7 +240,7 @@ pub fn reply_line(alloc: Global, reply: &Reply) -> Result<Vec<u8>, AllocError>
     }
 }
 
-/// The lines byte for byte.
+/// The lines of some replies, written out byte for byte. It does nothing: its contract is the law.
 pub fn reply_lines_are_these()
     ensures login { (session version : ℕ) → line_of (Login session version)
         ≡ codes "{\"ok\":\"login\",\"session\":" ++ (decimal session ++

@@ -1,5 +1,5 @@
-//! Threads that work side by side, each for a seat of its own, for a number of turns or as long as
-//! there are any.
+//! Threads that work side by side. Each has a seat of its own, and takes a number of turns, or as
+//! many as there are.
 #![tactic(auto)]
 
 pub mod workers;

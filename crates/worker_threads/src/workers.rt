@@ -35,7 +35,7 @@ pub trait Work {
         ensures { IsTurn turn seat result };
 }
 
-/// A worker's promise: the seat comes back, after any number of turns.
+/// A worker's promise: its seat comes back, after any number of turns.
 struct GivesBack<W: Work> {
     seat: Snapshot<W::Seat>,
     of: PhantomData<W>,
@@ -65,7 +65,8 @@ fn work_on<W: Work, R: Wait>(rt: &R, work: &W, worker: usize, seat: W::Seat) -> 
     unreachable!()
 }
 
-/// Waits until it is told whether all threads were started, and works on if they were.
+/// Waits until it is told whether all threads were started. If they were, takes turns for as long
+/// as there are any.
 fn begin<W: Work, R: Wait>(
     rt: &R,
     all_started: &Mutex<bool>,
@@ -82,7 +83,7 @@ fn begin<W: Work, R: Wait>(
     }
 }
 
-/// Starts a thread for a worker, whose promise is of this seat.
+/// Starts a thread for a worker, which promises to give this seat back.
 fn start<'s, E, W: Work + Sync, R: Threads + Wait + Sync>(
     scope: &Scope<'s, E>,
     rt: &'s R,
@@ -235,7 +236,7 @@ fn give_turns<S: Drop>(seats: Vec<S>, turns: u64, room: Vec<Job<S>>) -> Vec<Job<
 pub struct Back<S: Drop> {
     /// The seats, in order.
     pub seats: Vec<S>,
-    /// Whether each worker took as many turns as it was to take. Else one found none to take.
+    /// Whether each worker took as many turns as it was to take. If not, one found no turn to take.
     pub all_taken: bool,
 }
 

@@ -82,7 +82,8 @@ impl Instant {
         }
     }
 
-    /// Gives the instant up: the reactor is as it was before `open`.
+    /// Gives the instant up: the reactor is as it was before `open`. The program never does so;
+    /// tests do.
     pub fn abandon(self) -> Reactor
         ensures { result ≡ self }
     {
@@ -106,7 +107,8 @@ impl Settled {
         }
     }
 
-    /// Gives the instant up: the reactor is as it was before `open`.
+    /// Gives the instant up: the reactor is as it was before `open`. The program never does so;
+    /// tests do.
     pub fn abandon(self) -> Reactor
         ensures { result ≡ self.journal }
     {

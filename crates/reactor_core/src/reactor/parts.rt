@@ -97,6 +97,7 @@ fn append_step(
         (λ e. RefusesEntry journal.old e
         × (journal.new ≡ journal.old) × (instants.new.items ≡ instants.old.items)) }
 {
+    // Asked first, so that JournalFull goes before Memory.
     if journal.is_full() {
         return Err(Refusal::JournalFull);
     }
