@@ -39,8 +39,8 @@ pub fn accepted_is_allowed()
         → Needs before.entries number session command }
 {}
 
-/// A step that reaches the reactor, and whose pending inputs keep each relation, is answered Stuck
-/// exactly when there is no reaction, except that memory may be refused.
+/// If a step is judged by the reactor, and its pending inputs keep each relation, it is answered
+/// Stuck exactly when there is no reaction, except that memory may be refused.
 pub fn stuck_exactly()
     ensures { (entries : List Entry) (slot session : ℕ) (command : SlotCommand)
         (before : List SlotEntry) (reply : Reply) (after : List SlotEntry)
@@ -84,7 +84,7 @@ pub fn journals_are_legal()
         → Needs (take x.stamp.version list) slot x.stamp.session (command_of x.action) }
 {}
 
-/// Once the versions of a slot have reached the end of a session, no later entry of that slot is
+/// Once an entry of a slot was judged at or after a session's end, no later entry of that slot is
 /// that session's.
 pub fn ended_sessions_add_nothing()
     ensures { (list : List Entry) (slot session version early late : ℕ) (journal : List SlotEntry)

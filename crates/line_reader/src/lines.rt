@@ -243,7 +243,7 @@ impl LineReader {
         Line::Whole
     }
 
-    /// The next line of what is held and what the reader has left, where no ending was met.
+    /// The next line of what is held and what the reader has left, if no ending was met before.
     fn advance<R: Read>(&mut self, reader: &mut MeteredReader<R>) -> Result<Line, LineFault>
         requires { self.old.ending ≡ None }
         ensures gives { Gives (held_bytes self.old) (R.remaining reader.old.device) result
@@ -323,8 +323,8 @@ impl LineReader {
     }
 }
 
-/// Bytes have at most one next line, with one rest. They have none if more bytes than a line may
-/// have stand before an LF, or the end.
+/// Bytes have at most one next line, with one rest. If more bytes than a line may have stand before
+/// an LF or the end, they have none.
 pub fn bytes_have_one_next_line()
     ensures one { (bytes line others other rest : List ℕ) → IsNext bytes line others
         → IsNext bytes other rest → (line ≡ other) × (others ≡ rest) }

@@ -56,7 +56,8 @@ pub enum Why {
     Memory,
 }
 
-/// The next line. After an ending none is asked for, unless it was the end of the bytes.
+/// The next line. What waits is written first if a read is needed for it. After a fault it may not
+/// be asked for again; after the end of the bytes it may.
 fn take_line<R: Read, W: Write>(
     lines: &mut LineReader,
     replies: &mut Replies,

@@ -35,7 +35,8 @@ impl Rule<Entry, u64> for Law {
     ghost moves = { λ ask before after answer. Unit {0} };
 }
 
-/// What a caller has beside the answer when its update has run (`Gain` asks for it): here nothing.
+/// What an update of the list gives its caller besides the answer, as the kit's `logbook` asks for
+/// it (`Gain`): here nothing.
 pub struct Nothing;
 
 impl Gain<Entry, u64> for Nothing {
@@ -44,7 +45,7 @@ impl Gain<Entry, u64> for Nothing {
     ghost after = { λ names about answer. ftrue };
 }
 
-/// A step that adds an entry.
+/// A step on the list that adds an entry.
 pub struct Adding;
 
 impl Play<Entry, u64> for Adding {
@@ -61,7 +62,7 @@ impl Plain<Entry, Entry, u64> for Adding {
     ghost state = { λ entry. None };
 }
 
-/// A step that looks how long the list is.
+/// A step on the list that looks how long it is.
 pub struct Looking;
 
 impl Play<Entry, u64> for Looking {
@@ -109,7 +110,7 @@ impl Fresh {
         }
     }
 
-    /// The list under the name of a board.
+    /// Gives the list the name of a board: what adds to it, and a note of its beginning.
     pub(crate) fn named<B: BoardName>(self) -> (Head<B>, Front<B>)
         requires { self.seen.book ≡ B.book }
         ensures { result.1 ≡ opening_entries }
@@ -208,7 +209,7 @@ impl<B: BoardName> Front<B> {
         }
     }
 
-    /// The entries, and of which board's list they are.
+    /// The same without the board's name in its type.
     pub(crate) fn trace(&self) -> Trace
         ensures { (result.list ≡ self.now) × (result.book ≡ B.book) }
     {

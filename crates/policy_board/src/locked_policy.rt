@@ -90,8 +90,8 @@ impl<B: BoardName> LockedPolicy<B> {
         }
     }
 
-    // Publishes the entry, and has the seat keep its receipt. All that may be refused has been
-    // asked, but for memory, which is taken first.
+    // Publishes the entry, and has the seat keep its receipt. Every refusal but Memory was asked
+    // before. All memory is taken first, so that nothing is refused once the entry is published.
     fn append<R: Wait>(
         &mut self,
         rt: &R,

@@ -51,7 +51,8 @@ impl Absorb<Operation> for Shown {
     }
 }
 
-/// The rule of the published policy.
+/// The rule of the published policy, as `left_right` asks for one: `IsKept` holds of what is shown
+/// and of what each reader and the writer have seen.
 pub struct Published<B> {
     of: PhantomData<B>,
 }
@@ -66,7 +67,8 @@ impl<B: BoardName> Protocol<Shown, LinkedList<Entry>> for Published<B> {
     ghost first = { opening_entries };
 }
 
-/// What a publication tells the writer, and a read its reader.
+/// What a publication ensures for the writer, and a read for its reader: `IsSeen` relates what each
+/// had seen before to what it sees now.
 pub struct Sees<B> {
     of: PhantomData<B>,
 }

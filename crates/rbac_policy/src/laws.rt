@@ -15,8 +15,8 @@ ghost use Rattle.rbac_policy.specs.Fits.{AllFit};
 ghost use Rattle.rbac_policy.specs.Leaving.{LeavesRoom};
 ghost use Rattle.rbac_policy.specs.StandsFor.{StandsFor};
 
-/// Over a list for which some policy stands, each session lives or doesn't, and may do an operation
-/// on an object or may not.
+/// If some policy stands for a list, then by the list each session lives or doesn't, and may do an
+/// operation on an object or may not.
 pub fn facts_are_decided()
     ensures lives { (policy : Policy) (entries : List Entry) → StandsFor policy entries
         → (session : ℕ) → Decided (IsLive entries session) }

@@ -4,7 +4,7 @@ ghost use Rattle.std.specs.Prelude.{◌≡◌};
 use crate::receipt::Kept;
 use std::marker::Model;
 
-/// The most seats that a server has.
+/// The most seats that a server may have.
 pub const SEATS: usize = rbac_policy::sizes::SEATS;
 
 /// The receipts of one seat, in the order of its calls. A contract sees the list of the receipts.
