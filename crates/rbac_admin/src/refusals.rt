@@ -13,13 +13,13 @@ pub enum Refusal {
     NoSession,
     /// Each session number has been used.
     SessionsExhausted,
-    /// No active role of the session has the permission.
+    /// Neither an active role of the session nor a role below one has the permission.
     Permission {
         operation: Operation,
         object: Object,
     },
-    /// The session would have too many roles of the set: the set that was made first, and its least
-    /// session.
+    /// Some session would have too many roles of a separation set: `set` is the violated set that
+    /// was made first, and `session` the session with the least number that violates it.
     DsdViolated {
         set: Name,
         session: SessionId,
@@ -58,13 +58,13 @@ pub enum Refusal {
     AlreadyAssigned,
     /// The role is not assigned to the user.
     NotAssigned,
-    /// The role itself has the permission.
+    /// This role itself has the permission already.
     AlreadyGranted,
-    /// The role itself doesn't have the permission.
+    /// This role itself doesn't have the permission.
     NotGranted,
-    /// The edge itself is there.
+    /// This very edge was given already.
     EdgeExists,
-    /// The edge itself isn't there.
+    /// This very edge was not given.
     NoEdge,
     /// There is a separation set of this name already.
     DsdExists {
@@ -74,9 +74,9 @@ pub enum Refusal {
     NoDsd {
         set: Name,
     },
-    /// A role is listed twice, or the number is under two or over that of the roles.
+    /// A role is listed twice, or the number is under two or over the number of roles.
     DsdShape,
-    /// The role is a member of the set: the set that was made first.
+    /// The role is a member of a separation set: `set` is the one of them that was made first.
     RoleInDsd {
         set: Name,
     },

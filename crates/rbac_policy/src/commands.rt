@@ -46,7 +46,7 @@ impl SessionId {
 /// sessions.
 #[derive(Clone, PartialEq, Eq, Debug, Drop)]
 pub enum AdminCommand {
-    /// Makes the name one of a user.
+    /// Adds a user of this name, to whom nothing is assigned.
     AddUser {
         user: Name,
     },
@@ -54,7 +54,7 @@ pub enum AdminCommand {
     DeleteUser {
         user: Name,
     },
-    /// Makes the name one of a role.
+    /// Adds a role of this name, to which nothing is granted.
     AddRole {
         role: Name,
     },
@@ -84,7 +84,7 @@ pub enum AdminCommand {
         operation: Operation,
         object: Object,
     },
-    /// Gives the senior what the junior has.
+    /// Puts the senior above the junior: it may do what the junior may do.
     AddInheritance {
         senior: Name,
         junior: Name,
@@ -94,7 +94,8 @@ pub enum AdminCommand {
         senior: Name,
         junior: Name,
     },
-    /// Lets no session hold this number of these roles at once.
+    /// Makes a separation set: no session may have this number of these roles, or more, active or
+    /// below an active role.
     CreateDsdSet {
         set: Name,
         count: u64,

@@ -27,7 +27,7 @@ fn has_sign(digits: &[u8]) -> bool
     !digits.is_empty() && digits[0] == b'-'
 }
 
-/// The whole number that a token writes, where it has no sign, point or exponent, and fits.
+/// The whole number that a token writes: it has no sign, point or exponent, and fits into 64 bits.
 fn whole_number(text: &str) -> Option<u64>
     ensures { result ≡ whole_of text.now }
 {
@@ -152,7 +152,8 @@ pub(crate) fn take_operation(reader: &mut Reader<'_>) -> Option<Operation>
     Operation::from_text(take_text(reader, "op")?)
 }
 
-/// Takes the names that come next, up to the bracket after them: no more than a command may list.
+/// Takes the names that come next, and the bracket after them: no more names than a command may
+/// list.
 #[tactic(auto, unfolding(crate::specs::Inner::Members::names_in))]
 fn take_names(alloc: Global, reader: &mut Reader<'_>) -> Result<Option<Vec<Name>>, AllocError>
     ensures names { IfOk result (λ names. option_map (λ v. (v.items, reader.new)) names
