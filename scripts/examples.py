@@ -2,7 +2,8 @@
 """Runs each example on the program, built without proof, and compares its answers.
 
 The examples are the scripts of examples/scripts, and the dialogue of each controller's folder beside them; each has its answers in a file
-with `.stdout` after the name. The dialogues of the client's tests, clients/tests/dialogues, are run with them. The program is built once.
+with `.stdout` after the name. The worked examples of tests/dialogues and the dialogues of the client's tests, clients/tests/dialogues, are
+run with them. The program is built once.
 """
 import pathlib
 import shutil
@@ -11,7 +12,7 @@ import sys
 import tempfile
 
 ROOT = pathlib.Path(__file__).resolve().parent.parent
-FOLDERS = [ROOT / "examples" / "scripts", ROOT / "clients" / "tests" / "dialogues"]
+FOLDERS = [ROOT / "examples" / "scripts", ROOT / "tests" / "dialogues", ROOT / "clients" / "tests" / "dialogues"]
 
 
 def dialogues():

@@ -117,7 +117,7 @@ def missing_tests():
     named = {name for row in rows for name in re.findall(r"`(\w+)`", row)}
     code = code_of_tests()
     defined = set(re.findall(r"\b(?:fn|const|def|class) (\w+)", code))
-    known = {file.name for folder in ["crates", "examples/scripts"] for file in (ROOT / folder).iterdir()}
+    known = {file.name for folder in ["crates", "examples/scripts", "tests/dialogues"] for file in (ROOT / folder).iterdir()}
     known |= {"stdout", *(file.stem for file in ROOT.glob("tests/*/*.py"))}
     files = {name for row in rows for name in re.findall(r"\bsrc/\S+?\.rt|\btest_\w+\.py", row)}
     faults = [name for name in files if not any(ROOT.glob(f"*/*/{name}"))]

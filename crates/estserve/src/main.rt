@@ -12,8 +12,6 @@ pub mod reports;
 pub mod run;
 pub mod server;
 pub mod socket;
-#[cfg(test)]
-mod tests;
 
 use crate::fault::{Fault, taking_fault, tell};
 use crate::run::run;

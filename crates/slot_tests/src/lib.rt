@@ -1,10 +1,11 @@
-//! The worked examples of slots under a policy, through public calls alone: running modules and the
-//! desk (`access`), runs of events by several seats (`events`), journals and receipts that fit or
-//! don't (`merges`), audits of journals as they are and changed (`audit`), and the table of slots
-//! that threads share, up to its closing (`table`).
+//! The worked examples of slots under a policy that no line of the protocol shows: running modules
+//! at their limits and without memory (`access`), runs of events by several seats (`events`),
+//! journals and receipts that fit or don't (`merges`), audits of journals as they are and changed
+//! (`audit`), and the table of slots that threads share, up to its closing (`table`). What lines
+//! can show stands in tests/dialogues.
 //!
-//! A test of `access` or `events` is a story: what is asked and what is told, line by line, as text
-//! (`words`).
+//! Most tests of `access` and `events` are stories: what is asked and what is told, line by line,
+//! as text (`words`).
 //!
 //! This crate has no function but tests, and stands above the crates that it calls, so that each of
 //! those is proved once.

@@ -1,6 +1,5 @@
 //! Stories of one reactor: its calls and what they answer, as text, so that a story is a table.
 use crate::words::{identifier, number, words_of};
-use est_relations::refusal::Refusal as PendingRefusal;
 use est_text::place::Place;
 use reactor_core::entry::{Action, Stamp};
 use reactor_core::journal::Journal;
@@ -36,8 +35,7 @@ pub enum Told {
     /// How many inputs are pending as a mask, how many instants there were, and how many entries
     /// the journal has.
     Counted(u64, u64, usize),
-    /// The inputs and the outputs of the interface, or those that the entry of a step keeps, as
-    /// masks.
+    /// The inputs and the outputs that the entry of a step keeps, as masks.
     Signals(u64, u64),
 }
 
@@ -52,64 +50,22 @@ fn limit(rt: &impl Abort, text: &str) -> Limit {
     found.expect(rt, "a limit")
 }
 
-/// The refusal of these words, where it is one of a text.
-fn fault_of_text(rt: &impl Abort, words: &[&str]) -> Option<ModuleRefusal> {
-    let fault = match words {
-        ["Lexical", line, column] => ModuleRefusal::Lexical(Place {
-            line: number(rt, line),
-            column: number(rt, column),
-        }),
-        ["Syntax", line, column] => ModuleRefusal::Syntax(Place {
-            line: number(rt, line),
-            column: number(rt, column),
-        }),
-        ["UnknownModule", name] => ModuleRefusal::UnknownModule(identifier(rt, name)),
-        ["RecursiveRun", name] => ModuleRefusal::RecursiveRun(identifier(rt, name)),
-        ["UnknownName", name] => ModuleRefusal::UnknownName(identifier(rt, name)),
-        ["DuplicateName", name] => ModuleRefusal::DuplicateName(identifier(rt, name)),
-        ["EmitInput", name] => ModuleRefusal::EmitInput(identifier(rt, name)),
-        ["BadRename", name] => ModuleRefusal::BadRename(identifier(rt, name)),
-        ["InstantLoop"] => ModuleRefusal::InstantLoop,
-        ["TooLarge", name] => ModuleRefusal::TooLarge(limit(rt, name)),
-        ["Semantics", relation] => {
-            ModuleRefusal::Semantics(relation.parse::<usize>().ok().expect(rt, "a number"))
-        }
-        _ => return None,
-    };
-    Some(fault)
-}
-
-/// The refusal of these words, where it is one of a signal or a relation.
-fn fault_of_signal(rt: &impl Abort, words: &[&str]) -> Option<PendingRefusal> {
-    let fault = match words {
-        ["UnknownSignal"] => PendingRefusal::UnknownSignal,
-        ["NotInput"] => PendingRefusal::NotInput,
-        ["AlreadyOffered"] => PendingRefusal::AlreadyOffered,
-        ["Excluded", relation, signal] => PendingRefusal::Excluded {
-            relation: relation.parse::<u8>().ok().expect(rt, "a number"),
-            signal: identifier(rt, signal),
-        },
-        ["Implied", relation, missing] => PendingRefusal::Implied {
-            relation: relation.parse::<u8>().ok().expect(rt, "a number"),
-            missing: identifier(rt, missing),
-        },
-        _ => return None,
-    };
-    Some(fault)
-}
-
-/// The refusal of these words.
+/// The refusal of these words, which is one of a text.
 fn refusal(rt: &impl Abort, words: &[&str]) -> Refusal {
-    if let ["JournalFull"] = words {
-        return Refusal::JournalFull;
-    }
-    if let ["NoInstant"] = words {
-        return Refusal::Module(ModuleRefusal::NoInstant);
-    }
-    match fault_of_signal(rt, words) {
-        Some(fault) => Refusal::Module(ModuleRefusal::Pending(fault)),
-        None => Refusal::Module(fault_of_text(rt, words).expect(rt, "a refusal")),
-    }
+    let fault = match words {
+        ["Lexical", line, column] => Some(ModuleRefusal::Lexical(Place {
+            line: number(rt, line),
+            column: number(rt, column),
+        })),
+        ["Syntax", line, column] => Some(ModuleRefusal::Syntax(Place {
+            line: number(rt, line),
+            column: number(rt, column),
+        })),
+        ["UnknownModule", name] => Some(ModuleRefusal::UnknownModule(identifier(rt, name))),
+        ["TooLarge", name] => Some(ModuleRefusal::TooLarge(limit(rt, name))),
+        _ => None,
+    };
+    Refusal::Module(fault.expect(rt, "a refusal"))
 }
 
 /// The answer that this text tells.
@@ -117,7 +73,6 @@ pub fn parse_answer(rt: &impl Abort, alloc: Global, text: &str) -> Told {
     let words = words_of(rt, alloc, text);
     match words.as_slice() {
         ["done"] => Told::Done,
-        ["stuck", outputs] => Told::Stuck(number(rt, outputs)),
         ["shown", mask, present] => Told::Shown(number(rt, mask), number(rt, present)),
         ["signals", inputs, outputs] => Told::Signals(number(rt, inputs), number(rt, outputs)),
         ["counted", pending, instants, entries] => Told::Counted(
@@ -210,19 +165,12 @@ pub fn show(reactor: &Reactor, instant: u64, mask: u64) -> Told {
 fn ask(rt: &impl Abort, reactor: &mut Reactor, words: &[&str]) -> Told {
     match words {
         ["offer", signal] => done(reactor.offer(STAMP, &identifier(rt, signal))),
-        ["discard"] => done(reactor.discard(STAMP)),
         ["show", instant, mask] => show(reactor, number(rt, instant), number(rt, mask)),
         ["entry", place] => kept(
             rt,
             reactor,
             place.parse::<usize>().ok().expect(rt, "a number"),
         ),
-        ["interface"] => {
-            Told::Signals(
-                reactor.interface().offerable(),
-                reactor.interface().emittable(),
-            )
-        }
         ["count"] => {
             Told::Counted(
                 reactor.pending(),
