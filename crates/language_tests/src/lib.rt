@@ -1,14 +1,11 @@
 //! The worked examples of the language, from texts to instants, through public calls alone: texts,
 //! their tokens, trees and faults; kernels at their limits and reductions; libraries that are
-//! linked (`linking`); whole programs, those of the literature among them (`literature`); and the
-//! deepest modules, on threads with the stack that workers get (`deepest`).
+//! linked (`linking`); and whole programs, those of the literature among them (`literature`).
 //!
 //! This crate has no function but tests, and stands above the crates that it calls, so that each of
 //! those is proved once.
 #![tactic(auto)]
 
-#[cfg(test)]
-mod deepest;
 #[cfg(test)]
 mod drawings;
 #[cfg(test)]

@@ -1,3 +1,4 @@
+mod deepest;
 mod instants;
 mod loads;
 mod memory;
