@@ -60,17 +60,27 @@ fn places_are_drawn(rt: HostRuntime) {
     expect_places(&rt, rt.alloc(), &PLACES);
 }
 
+/// The place of a fault of a text's tokens.
+fn lexical_place(fault: LexFault) -> Option<Place> {
+    match fault {
+        LexFault::Lexical(place) => Some(place),
+        LexFault::Memory => None,
+    }
+}
+
+/// The place of a fault of a text's tree.
+fn syntax_place(fault: ParseFault) -> Option<Place> {
+    match fault {
+        ParseFault::Syntax(place) | ParseFault::TooLarge(place) => Some(place),
+        ParseFault::Memory => None,
+    }
+}
+
 /// The place where a text is at fault, if it is.
-fn fault_of(rt: &impl Abort, alloc: Global, text: &str) -> Option<Place> {
-    let tokens = match lex(alloc, text) {
-        Ok(tokens) => tokens,
-        Err(LexFault::Lexical(place)) => return Some(place),
-        Err(LexFault::Memory) => return None.expect(rt, "room"),
-    };
-    match parse(alloc, &tokens) {
-        Ok(_) => None,
-        Err(ParseFault::Syntax(place) | ParseFault::TooLarge(place)) => Some(place),
-        Err(ParseFault::Memory) => None.expect(rt, "room"),
+fn fault_of(alloc: Global, text: &str) -> Option<Place> {
+    match lex(alloc, text) {
+        Ok(tokens) => syntax_place(parse(alloc, &tokens).err()?),
+        Err(fault) => lexical_place(fault),
     }
 }
 
@@ -100,7 +110,7 @@ const FAULTS: [(&str, &str); 5] = [
 /// Fails where the first fault of a text is drawn otherwise.
 fn expect_faults(rt: &impl Abort, alloc: Global, rows: &[(&str, &str)]) {
     for (text, drawing) in rows {
-        let place = fault_of(rt, alloc, text).expect(rt, "a fault");
+        let place = fault_of(alloc, text).expect(rt, "a fault");
         expect_drawing(rt, alloc, text, place, drawing);
     }
 }
