@@ -22,7 +22,7 @@ END = "<!-- end of the reading list -->\n"
 ROOTS = [
     ("client_loop/src/desk.rt", "impl Desk for Single"),
     ("client_loop/src/serving.rt", "fn serve"),
-    ("estserve/src/run.rt", "fn run"),
+    ("program_run/src/run.rt", "fn run"),
 ]
 
 

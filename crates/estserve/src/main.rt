@@ -1,21 +1,13 @@
 //! The program: a shared simulator of Pure Esterel modules under role-based access control, one
 //! JSON command a line.
 //!
-//! With `script`, standard input and standard output are one connection, which `client_loop`
-//! serves. With `serve`, `server` serves the connections of a socket (`socket`). `run` is both,
-//! over any words and streams. `command_line` reads the words, `reports` writes the report of an
-//! audit, and `fault` says how the program ends.
+//! It calls `run` of `program_run` with the words and streams of its process. The contract of `run`
+//! carries the program; that it is called so is for the reader to see.
 #![tactic(auto)]
 
-pub mod fault;
-pub mod reports;
-pub mod run;
-pub mod server;
-pub mod socket;
-
-use crate::fault::{Fault, taking_fault, tell};
-use crate::run::run;
 use line_reader::meter::{MeteredMemory, MeteredReader, MeteredWriter};
+use program_run::fault::{Fault, taking_fault, tell};
+use program_run::run::run;
 use std::env;
 use std::process::ExitCode;
 

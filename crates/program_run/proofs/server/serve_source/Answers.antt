@@ -4,10 +4,10 @@ use Rattle.seat_receipts.specs.declared.receipt_list.TheConstants.{SEATS}
 use Rattle.policy_board.specs.SeatState.{new_seat}
 use Rattle.worker_threads.specs.Turns.{AreBack}
 use Rattle.client_loop.specs.Workers.{ServesNext}
-use Rattle.estserve.specs.Serving.{quota_of}
-use Rattle.estserve.proofs.Closing.{as_many}
-use Rattle.estserve.proofs.server.serve_source.Goals.{in-Ok-2, in-Err}
-use Rattle.estserve.proofs.server.serve_source.Goals as goal
+use Rattle.program_run.specs.Serving.{quota_of}
+use Rattle.program_run.proofs.Closing.{as_many}
+use Rattle.program_run.proofs.server.serve_source.Goals.{in-Ok-2, in-Err}
+use Rattle.program_run.proofs.server.serve_source.Goals as goal
 
 pub close-requires-in-Ok-served : goal.close-requires-in-Ok-served
 close-requires-in-Ok-served g c =

@@ -11,9 +11,9 @@ use Rattle.slot_table.specs.Closing.{AllRise, IsJustified, kept_of}
 use Rattle.worker_threads.specs.Turns.{AreBack}
 use Rattle.client_loop.specs.Workers.{ServesNext}
 use Rattle.audit_report.specs.Findings.{HaveNoFinding}
-use Rattle.estserve.specs.declared.fault.Fault.{Fault}
-use Rattle.estserve.specs.declared.fault.Fault.TheVariants as fault
-use Rattle.estserve.specs.Reports.{Reports}
+use Rattle.program_run.specs.declared.fault.Fault.{Fault}
+use Rattle.program_run.specs.declared.fault.Fault.TheVariants as fault
+use Rattle.program_run.specs.Reports.{Reports}
 
 -- how many connections each worker is to serve: as many as are asked for, or as can be counted
 abbrev pub quota_of : (connections : Option ℕ) → ℕ

@@ -1,6 +1,6 @@
 //! Connections over a Unix socket, for many workers.
 ghost use Rattle.std.specs.Prelude.{◌≡◌, IfErr};
-ghost use Rattle.estserve.specs.declared.fault.Fault.TheVariants as fault;
+ghost use Rattle.program_run.specs.declared.fault.Fault.TheVariants as fault;
 
 use crate::fault::Fault;
 use client_loop::source::{Connection, Source};

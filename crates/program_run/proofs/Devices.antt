@@ -3,7 +3,7 @@ use Rattle.std.proofs.Common.{◌≡◌, ℕ, true, refl, sym, subst}
 use Rattle.line_reader.specs.Meters.{has_failed}
 use Rattle.line_reader.specs.declared.serving.Why.{Why}
 use Rattle.line_reader.specs.declared.serving.Why.TheVariants as why
-use Rattle.estserve.specs.Runs.{CannotWrite}
+use Rattle.program_run.specs.Runs.{CannotWrite}
 
 -- where a fault of its writer ended the connection, the writer failed in it; else it failed after it
 pub failed_in_run : (y : Why) (first mid last : ℕ) → CannotWrite y mid last

@@ -1,7 +1,7 @@
 use Rattle.std.proofs.Common.{◌≡◌, ◌∙◌, ◌++◌, string_bytes}
 use Rattle.line_reader.specs.Replies.{waiting_bytes}
-use Rattle.estserve.proofs.Reporting.{rest_written, rest_begun}
-use Rattle.estserve.proofs.reports.write_report.Goals as goal
+use Rattle.program_run.proofs.Reporting.{rest_written, rest_begun}
+use Rattle.program_run.proofs.reports.write_report.Goals as goal
 
 pub returns-in_default-write_out-clause-reports : goal.returns-in_default-write_out-clause-reports
 returns-in_default-write_out-clause-reports g c =

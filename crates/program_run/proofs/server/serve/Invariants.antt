@@ -1,4 +1,4 @@
-use Rattle.estserve.proofs.server.serve.Given as goal
+use Rattle.program_run.proofs.server.serve.Given as goal
 
 -- the list that was just begun
 abbrev pub ghosts-serve_source : goal.ghosts-serve_source

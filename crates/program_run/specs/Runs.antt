@@ -8,11 +8,11 @@ use Rattle.line_reader.specs.declared.serving.Why.{Why}
 use Rattle.line_reader.specs.declared.serving.Why.TheVariants as why
 use Rattle.client_loop.specs.Asking.{DeskAnswers}
 use Rattle.client_loop.specs.Connections.{ServesConnection}
-use Rattle.estserve.specs.declared.fault.Fault.{Fault}
-use Rattle.estserve.specs.declared.fault.Fault.TheVariants as fault
-use Rattle.estserve.specs.Reports.{Reports}
-use Rattle.estserve.specs.Faults.{status_of, IsOfWords, IsOutcome}
-use Rattle.estserve.specs.Serving.{ServesSocket}
+use Rattle.program_run.specs.declared.fault.Fault.{Fault}
+use Rattle.program_run.specs.declared.fault.Fault.TheVariants as fault
+use Rattle.program_run.specs.Reports.{Reports}
+use Rattle.program_run.specs.Faults.{status_of, IsOfWords, IsOutcome}
+use Rattle.program_run.specs.Serving.{ServesSocket}
 use Rattle.command_line.specs.Words.{IsOrder, IsRefused}
 use Rattle.command_line.specs.declared.fault.WordFault.{WordFault}
 use Rattle.command_line.specs.declared.order.Order.{Order}

@@ -2,8 +2,9 @@
 ghost use Rattle.std.specs.Prelude.{◌≡◌, Err, map, string_bytes};
 ghost use Rattle.line_reader.specs.Meters.{has_failed};
 ghost use Rattle.line_reader.specs.declared.serving.Why.TheVariants.{ReadFault, WriteFault};
-ghost use Rattle.estserve.specs.declared.fault.Fault.TheVariants as fault;
-ghost use Rattle.estserve.specs.Runs.{EndsSo, CannotWrite, RunsScript, Obeys, NamesDevices, Runs};
+ghost use Rattle.program_run.specs.declared.fault.Fault.TheVariants as fault;
+ghost use Rattle.program_run.specs.Runs.{EndsSo, CannotWrite, RunsScript, Obeys, NamesDevices};
+ghost use Rattle.program_run.specs.Runs.{Runs};
 
 use crate::fault::{Fault, outcome, tell};
 use crate::reports::write_report;

@@ -7,8 +7,8 @@ use Rattle.line_reader.specs.Writing.{WritesFront}
 use Rattle.audit_report.specs.declared.finding.Finding.{Finding}
 use Rattle.audit_report.specs.Findings.{IsVerdict}
 use Rattle.audit_report.specs.ReportText.{report_text}
-use Rattle.estserve.specs.declared.fault.Fault.{Fault}
-use Rattle.estserve.specs.declared.fault.Fault.TheVariants as fault
+use Rattle.program_run.specs.declared.fault.Fault.{Fault}
+use Rattle.program_run.specs.declared.fault.Fault.TheVariants as fault
 
 -- the text is the report on these journals, with the verdict of their audit
 pub record IsReport (entries : List Entry) (slots : List (List SlotEntry)) (text : List ℕ) : Type 0 where

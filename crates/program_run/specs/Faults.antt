@@ -3,8 +3,8 @@ use Rattle.std.specs.Prelude.{◌≡◌, ℕ, List, Option, Some, None, Result, 
 use Rattle.std.specs.Io.KnownBytes.{Appends}
 use Rattle.std.specs.declared.io.ErrorKind.{ErrorKind}
 use Rattle.std.specs.declared.io.ErrorKind.TheVariants.{OutOfMemory}
-use Rattle.estserve.specs.declared.fault.Fault.{Fault}
-use Rattle.estserve.specs.declared.fault.Fault.TheVariants as fault
+use Rattle.program_run.specs.declared.fault.Fault.{Fault}
+use Rattle.program_run.specs.declared.fault.Fault.TheVariants as fault
 use Rattle.command_line.specs.declared.fault.WordFault.{WordFault}
 use Rattle.command_line.specs.declared.fault.WordFault.TheVariants as words
 use Rattle.line_reader.specs.declared.serving.Why.{Why}

@@ -1,7 +1,8 @@
 //! Why the program ends with another status than 0.
 ghost use Rattle.std.specs.Prelude.{◌≡◌, OnOk};
 ghost use Rattle.std.specs.IoError.{error_kind};
-ghost use Rattle.estserve.specs.Faults.{status_of, fault_of_taking, IsOfWords, IsTold, IsOutcome};
+ghost use Rattle.program_run.specs.Faults.{status_of, fault_of_taking, IsOfWords, IsTold};
+ghost use Rattle.program_run.specs.Faults.{IsOutcome};
 
 use command_line::fault::WordFault;
 use line_reader::serving::Why;

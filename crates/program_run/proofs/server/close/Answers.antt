@@ -1,7 +1,7 @@
 use Rattle.std.proofs.Common.{rules, ◌≡◌, inl, length}
 use Rattle.rbac_policy.specs.declared.objects.TheConstants.{SLOTS}
-use Rattle.estserve.proofs.Closing.{nothing_is_found}
-use Rattle.estserve.proofs.server.close.Goals as goal
+use Rattle.program_run.proofs.Closing.{nothing_is_found}
+use Rattle.program_run.proofs.server.close.Goals as goal
 
 pub returns-in-Ok-clause-closes : goal.returns-in-Ok-clause-closes
 returns-in-Ok-clause-closes g c =

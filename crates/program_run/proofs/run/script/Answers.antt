@@ -1,7 +1,7 @@
 use Rattle.std.proofs.Common.{inr}
 use Rattle.client_loop.specs.Logins.{session_of}
-use Rattle.estserve.proofs.Devices.{failed_in_run}
-use Rattle.estserve.proofs.run.script.Goals as goal
+use Rattle.program_run.proofs.Devices.{failed_in_run}
+use Rattle.program_run.proofs.run.script.Goals as goal
 
 pub returns-clause-runs : goal.returns-clause-runs
 returns-clause-runs g c = inr (record {

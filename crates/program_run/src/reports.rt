@@ -1,8 +1,8 @@
 //! Writes the report of an audit, after all that was written before.
 ghost use Rattle.std.specs.Prelude.{◌≡◌, Err, true};
 ghost use Rattle.line_reader.specs.Meters.{has_failed};
-ghost use Rattle.estserve.specs.declared.fault.Fault.TheVariants as fault;
-ghost use Rattle.estserve.specs.Reports.{Reports};
+ghost use Rattle.program_run.specs.declared.fault.Fault.TheVariants as fault;
+ghost use Rattle.program_run.specs.Reports.{Reports};
 
 use crate::fault::Fault;
 use audit_report::reports::report;

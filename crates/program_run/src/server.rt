@@ -2,8 +2,8 @@
 ghost use Rattle.std.specs.Prelude.{◌≡◌, ◌≤◌, Err, true, vec_len};
 ghost use Rattle.seat_receipts.specs.declared.receipt_list.TheConstants.{SEATS};
 ghost use Rattle.line_reader.specs.Meters.{has_failed};
-ghost use Rattle.estserve.specs.declared.fault.Fault.TheVariants as fault;
-ghost use Rattle.estserve.specs.Serving.{ClosesSo, ServesSocket};
+ghost use Rattle.program_run.specs.declared.fault.Fault.TheVariants as fault;
+ghost use Rattle.program_run.specs.Serving.{ClosesSo, ServesSocket};
 
 use crate::fault::Fault;
 use crate::reports::write_report;
