@@ -1,4 +1,3 @@
-mod deepest;
 mod instants;
 mod loads;
 mod memory;
