@@ -1,11 +1,6 @@
 # The targets, by `make help`, which is what `make` alone does.
 PROGRAM := crates/estserve/out/estserve
-ENGINE := crates/est_bench/out/est_bench
-TEXTS := crates/text_bench/out/text_bench
-LOADS := crates/load_bench/out/load_bench
-PAIRS := crates/engine_pairs/out/engine_pairs
-POLICIES := crates/policy_bench/out/policy_bench
-ECHO := crates/echo_bench/out/echo_bench
+BENCHES := crates/benches/out/benches
 PREFIX ?= /usr/local
 # rt ci proves as many crates side by side as RT_JOBS says, each by one job: a second job at one crate costs more than it saves.
 CORES := $(shell nproc)
@@ -90,20 +85,15 @@ bench: build
 	python3 bench/load_commands.py $(PROGRAM)
 	python3 bench/memory.py $(PROGRAM)
 	python3 bench/expressions.py $(PROGRAM)
-	@python3 scripts/run.py est_bench all 1 > /dev/null
-	python3 bench/instants.py $(ENGINE)
-	@python3 scripts/run.py engine_pairs < crates/engine_pairs/stdin > /dev/null
-	python3 bench/engines.py $(PAIRS) 500000
-	python3 bench/worklist.py $(PAIRS)
-	@python3 scripts/run.py text_bench 1 < crates/text_bench/stdin > /dev/null
-	python3 bench/texts.py $(TEXTS)
-	@python3 scripts/run.py load_bench 1 < crates/load_bench/stdin > /dev/null
-	python3 bench/loads.py $(LOADS)
-	python3 bench/loads.py $(LOADS) --search 300
-	@python3 scripts/run.py policy_bench all 1 > /dev/null
-	python3 bench/policies.py $(POLICIES)
-	@python3 scripts/run.py echo_bench < crates/echo_bench/stdin > /dev/null
-	python3 bench/socket.py $(PROGRAM) $(ECHO)
+	@python3 scripts/run.py benches < crates/benches/stdin > /dev/null
+	python3 bench/instants.py $(BENCHES)
+	python3 bench/engines.py $(BENCHES) 500000
+	python3 bench/worklist.py $(BENCHES)
+	python3 bench/texts.py $(BENCHES)
+	python3 bench/loads.py $(BENCHES)
+	python3 bench/loads.py $(BENCHES) --search 300
+	python3 bench/policies.py $(BENCHES)
+	python3 bench/socket.py $(PROGRAM) $(BENCHES)
 	python3 bench/closing.py $(PROGRAM)
 	python3 bench/waits.py $(PROGRAM)
 	python3 bench/gateway.py $(PROGRAM)

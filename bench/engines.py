@@ -4,7 +4,7 @@
 usage: engines.py PROGRAM [KERNELS] [SEED]
        engines.py --cases KERNELS [SEED]
 
-PROGRAM is the built `crates/engine_pairs/out/engine_pairs`. KERNELS random modules are made from SEED on (2,000 and 0 if they are left out),
+PROGRAM is the built `crates/benches/out/benches`. KERNELS random modules are made from SEED on (2,000 and 0 if they are left out),
 each with the inputs of eight instants. In each instant the two engines have to answer the same: the outputs and the next state, or the
 undecided outputs; and where there is a reaction, the microstep engine has to have decided each cell of its table. --cases prints the
 cases and runs nothing.
@@ -107,7 +107,7 @@ def case(seed):
     maker = Maker(seed)
     body = maker.statement(0, 0)
     inputs = ",".join(f"{maker.random.randrange(8):x}" for _ in range(INSTANTS))
-    return f"{inputs} {HEAD}{body} end module"
+    return f"pairs {INSTANTS} {inputs} {HEAD}{body} end module"
 
 
 def fault_of(line, counts):

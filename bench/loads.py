@@ -6,7 +6,7 @@ usage: loads.py PROGRAM [NAME..]
        loads.py PROGRAM --search COUNT [SEED]
        loads.py --text SEED
 
-PROGRAM is the built `crates/load_bench/out/load_bench`, which makes the kernel of the module M of a text: tokens, tree, linking,
+PROGRAM is the built `crates/benches/out/benches`, which makes the kernel of the module M of a text: tokens, tree, linking,
 reduction. Each text has 64 KiB at most, as a line does. The time is processor time, user and system, of one load in a process of its own,
 the fastest of three. Each answer has to be the one that stands here; where a load takes longer than 50 ms, that is said.
 
@@ -436,7 +436,7 @@ def fit(program, wanted):
 def seconds_of(program, path, repetitions=1):
     before = resource.getrusage(resource.RUSAGE_CHILDREN)
     try:
-        done = subprocess.run([program, str(repetitions)], stdin=open(path), capture_output=True, text=True, timeout=TIMEOUT, check=False)
+        done = subprocess.run([program, "load", str(repetitions)], stdin=open(path), capture_output=True, text=True, timeout=TIMEOUT, check=False)
     except subprocess.TimeoutExpired:
         return TIMEOUT, "no answer"
     after = resource.getrusage(resource.RUSAGE_CHILDREN)

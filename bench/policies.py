@@ -3,7 +3,7 @@
 
 usage: policies.py PROGRAM [SECONDS]
 
-PROGRAM is the built `crates/policy_bench/out/policy_bench`, which makes the policy and asks it as often as it is told. Nothing else of
+PROGRAM is the built `crates/benches/out/benches`, which makes the policy and asks it as often as it is told. Nothing else of
 the server runs: no lines, no JSON, no slots, no list of entries.
 
 The time is the processor time of the program, user and system, taken from outside. For each workload the repetitions are doubled until a

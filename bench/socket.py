@@ -1,11 +1,11 @@
 #!/usr/bin/env python3
 """What a server over a Unix socket costs, beside two that only send back what they are sent.
 
-usage: socket.py PROGRAM ECHO [ROUNDS]
+usage: socket.py PROGRAM BENCHES [ROUNDS]
 
-PROGRAM is the built `crates/estserve/out/estserve`, ECHO the built `crates/echo_bench/out/echo_bench`. All ratios are of one run:
+PROGRAM is the built `crates/estserve/out/estserve`, BENCHES the built `crates/benches/out/benches`, which is the echo in the kit's language. All ratios are of one run:
 
-- one client's round trip, a step, a look and a check in turn, beside the same lines sent back by ECHO, and by a few lines of Python;
+- one client's round trip, a step, a look and a check in turn, beside the same lines sent back by BENCHES, and by a few lines of Python;
 - 100 lines sent ahead of their answers, beside one at a time;
 - four clients in processes of their own, each on a slot of its own, and four that only check, beside one, 100 lines ahead;
 - the time of a step in a slot with 60,000 entries, beside that in one with 100.
@@ -207,14 +207,14 @@ def least(pairs):
     return tuple(map(min, zip(*pairs)))
 
 
-def times_of_trips(folder, program, echo, rounds):
+def times_of_trips(folder, program, benches, rounds):
     """Microseconds a line of one client, by the clock and of processor time: of round trips, and of lines sent ahead."""
     path, kit, plain = folder / "trips", folder / "kit", folder / "plain"
     found = {"estserve": [], "the echo in the kit's language": [], "the echo in Python": []}
     many = []
     with (
         serving(path, [program, "serve", "--socket", str(path)]) as server,
-        serving(kit, [echo, str(kit), "1"]) as first,
+        serving(kit, [benches, "echo", str(kit), "1"]) as first,
         serving(plain) as second,
         prepare(path) as client,
         Connection(kit) as to_first,
@@ -273,11 +273,11 @@ def tell(what, times):
 
 
 def main():
-    program, echo = sys.argv[1:3]
+    program, benches = sys.argv[1:3]
     rounds = int(sys.argv[3]) if len(sys.argv) > 3 else 5
     with tempfile.TemporaryDirectory(prefix="estserve-") as name:
         folder = pathlib.Path(name)
-        trips, ahead = times_of_trips(folder, program, echo, rounds)
+        trips, ahead = times_of_trips(folder, program, benches, rounds)
         for kind, times in trips.items():
             tell(f"a round trip to {kind}", times)
         tell("100 lines ahead", ahead)

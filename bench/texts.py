@@ -3,13 +3,13 @@
 
 usage: texts.py PROGRAM [SECONDS]
 
-PROGRAM is the built `crates/text_bench/out/text_bench`, which reads a text and as often as it is told cuts it into its tokens, or
+PROGRAM is the built `crates/benches/out/benches`, which reads a text and as often as it is told cuts it into its tokens, or
 cuts it and reads the tree of the tokens. The text is a library of 2,000 statements, the same one at each run of this script.
 
 The time is processor time, user and system: of the program taken from outside, of Python's tokenizer from inside. The repetitions are
 doubled until a run takes SECONDS (1 if left out); of three such runs the fastest counts, less the fastest of three runs of one
 repetition. Both tokenizers have to find the same number of tokens, and the same sum of the places where they end. The program's tree
-has to have the modules, declarations and units that the library was made of. Python's tokenizer makes no tree.
+has to have one module. Python's tokenizer makes no tree.
 """
 import os
 import random
@@ -31,29 +31,26 @@ KEYWORDS = frozenset(
     "each every do await abort weak trap in exit signal run and or not".split()
 )
 
-# Statements, each with the number of its units: itself, and those inside it.
 SHAPES = (
-    ("  emit {0};\n", 1),
-    ("  present {0} then pause else emit {1} end present;\n", 3),
-    ("  await immediate Go; % waits for the input\n", 1),
-    ("  abort sustain {0} when Stop;\n", 2),
-    ("  trap Done in [ pause; exit Done || loop pause end loop ] end trap;\n", 6),
-    ("  %{{ two lines\n     of comment }}%\n  run Other [ signal {0} / First, {1} / Second ];\n", 1),
+    "  emit {0};\n",
+    "  present {0} then pause else emit {1} end present;\n",
+    "  await immediate Go; % waits for the input\n",
+    "  abort sustain {0} when Stop;\n",
+    "  trap Done in [ pause; exit Done || loop pause end loop ] end trap;\n",
+    "  %{{ two lines\n     of comment }}%\n  run Other [ signal {0} / First, {1} / Second ];\n",
 )
 
 
 def library():
-    """A module of this many statements of six shapes, and a `halt`; and how many units it has."""
+    """A module of this many statements of six shapes, and a `halt`."""
     choice = random.Random(1)
     names = [f"Out_signal_{number}" for number in range(40)]
     parts = ["module Bench:\n  input Go, Stop;\n  output ", ", ".join(names), ";\n"]
-    units = 1
     for _ in range(STATEMENTS):
-        shape, inside = choice.choice(SHAPES)
+        shape = choice.choice(SHAPES)
         parts.append(shape.format(choice.choice(names), choice.choice(names)))
-        units += inside
     parts.append("  halt\nend module\n")
-    return "".join(parts), units
+    return "".join(parts)
 
 
 def tokens_of(text):
@@ -73,12 +70,9 @@ def tokens_of(text):
     return tokens if at == len(text) else None
 
 
-def tokens_line(tokens):
-    return f"{len(tokens)} tokens, ends {sum(end for _, _, end in tokens) % 2**64}\n"
-
-
-def tree_line(units):
-    return f"1 modules, 2 declarations, {units} units\n"
+def found_in(tokens):
+    """What the program has to find of these tokens."""
+    return f"{len(tokens)} tokens, ends {sum(end for _, _, end in tokens) % 2**64}"
 
 
 def program_seconds(program, path, words, wanted):
@@ -110,16 +104,15 @@ def seconds_a_text(run, seconds):
     return (many - one) / (repetitions - 1)
 
 
-def megabytes_a_second(program, text, units, seconds):
+def megabytes_a_second(program, text, seconds):
     """The speeds of the program's tokens, of its tokens and tree both, and of Python's tokens."""
-    tokens = tokens_line(tokens_of(text))
-    both = tokens + tree_line(units)
+    found = found_in(tokens_of(text))
     with tempfile.NamedTemporaryFile("w", suffix=".strl") as file:
         file.write(text)
         file.flush()
         runs = (
-            lambda count: program_seconds(program, file.name, [str(count)], tokens),
-            lambda count: program_seconds(program, file.name, [str(count), "parse"], both),
+            lambda count: program_seconds(program, file.name, ["lex", str(count)], f"{found}\n"),
+            lambda count: program_seconds(program, file.name, ["parse", str(count)], f"{found}; 1 modules\n"),
             lambda count: python_seconds(text, count),
         )
         return [len(text) / seconds_a_text(run, seconds) / 1e6 for run in runs]
@@ -128,9 +121,9 @@ def megabytes_a_second(program, text, units, seconds):
 def main():
     program = sys.argv[1]
     seconds = float(sys.argv[2]) if len(sys.argv) > 2 else 1.0
-    text, units = library()
-    lexed, parsed, python = megabytes_a_second(program, text, units, seconds)
-    print(f"A library of {STATEMENTS} statements: {len(text)} bytes, {tokens_line(tokens_of(text))}{tree_line(units)}", end="")
+    text = library()
+    lexed, parsed, python = megabytes_a_second(program, text, seconds)
+    print(f"A library of {STATEMENTS} statements: {len(text)} bytes, {found_in(tokens_of(text))}")
     print("| What is done | Megabytes a second |")
     print("|---|---|")
     print(f"| `est_text` `lex` | {lexed:.1f} |")

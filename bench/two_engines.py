@@ -3,7 +3,7 @@
 
 usage: two_engines.py PROGRAM [INSTANTS]
 
-PROGRAM is the built `crates/engine_pairs/out/engine_pairs`, which runs each module on the plain engine and on the microstep engine. Each
+PROGRAM is the built `crates/benches/out/benches`, which runs each module on the plain engine and on the microstep engine. Each
 module is run under `valgrind --tool=callgrind` for INSTANTS instants (100 if it is left out; a tenth of them for the large modules). The
 instructions of `est_micro` and `est_net` are the microstep engine's, without those that make its table; those of `est_rounds` are the
 plain engine's. A line for each module: its cells, the instructions of an instant of both, and how many times as many the microstep
@@ -89,10 +89,10 @@ def modules():
         yield f"abro inside {count}", offers, abro_inside(count)
 
 
-def counted(program, case, folder):
+def counted(program, instants, case, folder):
     """What the program prints for a case, and the instructions of the microstep engine and of the plain one."""
     (folder / "case").write_text(case, encoding="utf-8")
-    words = ["valgrind", "--tool=callgrind", f"--callgrind-out-file={folder / 'counts'}", program]
+    words = ["valgrind", "--tool=callgrind", f"--callgrind-out-file={folder / 'counts'}", program, "pairs", str(instants)]
     with (folder / "case").open(encoding="utf-8") as given:
         ran = subprocess.run(words, stdin=given, capture_output=True, text=True, check=True)
     told = subprocess.run(["callgrind_annotate", "--threshold=100", str(folder / "counts")], capture_output=True, text=True, check=True)
@@ -116,9 +116,7 @@ def main(words):
     with tempfile.TemporaryDirectory() as name:
         for module, inputs, text in modules():
             instants = max(1, most // 10) if module in LARGE else most
-            offers = inputs.split(",")
-            given = ",".join(offers[n % len(offers)] for n in range(instants))
-            answers, microsteps, plain = counted(words[0], f"{given} module M: {text} end module\n", pathlib.Path(name))
+            answers, microsteps, plain = counted(words[0], instants, f"{inputs} module M: {text} end module\n", pathlib.Path(name))
             cells, *each = answers.split()
             if any((found := ANSWER.match(answer)) is None or found[2] != "=" for answer in each):
                 sys.exit(f"{module}: the engines differ: {answers}")

@@ -5,7 +5,7 @@ usage: worklist.py PROGRAM [PAIRS] [NAME ..]
        worklist.py --check PROGRAM [NAME ..]
        worklist.py --exponents PROGRAM [FAMILY ..]
 
-PROGRAM is the built `crates/engine_pairs/out/engine_pairs`. Each program below is written as kernel statements. This script prints it as a
+PROGRAM is the built `crates/benches/out/benches`. Each program below is written as kernel statements. This script prints it as a
 module, which PROGRAM loads, and lays out its cells and their gates itself, for `bench/worklist.c`, which it builds with the system's `cc -O2`.
 Both then run the same instants, each from the kernel's beginning, and once the kernel has ended from its beginning again. Their cells have to
 be as many, all of them decided in the last instant, and the sums of their outputs equal; else the script ends with 1.

@@ -1,4 +1,0 @@
-pub mod Outputs
-pub mod Runs
-pub mod Terms
-pub mod Workloads
