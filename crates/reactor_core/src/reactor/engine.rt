@@ -12,12 +12,12 @@ use est_rounds::engine::Engine;
 use est_rounds::rounds::Rounds;
 use std::alloc::{AllocError, Global};
 
-/// How many instructions the plain engine takes to judge a statement once, about.
-const JUDGED: u64 = 90;
+/// How long the plain engine takes to judge a statement once, about, in a unit of both engines.
+const JUDGED: u64 = 2;
 
-/// How many instructions the microstep engine takes to sweep a statement, about. Both figures are
-/// counted (docs/BENCH.md, "Two engines").
-const SWEPT: u64 = 200;
+/// How long the microstep engine takes to sweep a statement, about, in the same unit. Both are
+/// measured over whole modules (docs/BENCH.md, "Two engines").
+const SWEPT: u64 = 3;
 
 /// How many passes the plain engine makes in an instant, at most: two rounds, one more for each
 /// output that is tested, but no more rounds than there are outputs; and then the step.
