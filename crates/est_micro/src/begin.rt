@@ -30,6 +30,7 @@ use est_rounds::answer::answer_to;
 use est_rounds::signal_set::{self, Env};
 
 /// Sweeps a statement without parts that gives this code where it is begun.
+#[inline(always)]
 fn begin_leaf(table: &mut Table, at: Place, completion: Completion, gate: Status) -> Found
     requires code { code_of completion < 64 }
     requires within { at.cell + at.traps + 3 ≤ length table.old.cells.items }

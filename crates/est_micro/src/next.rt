@@ -105,6 +105,7 @@ fn collect_part(
 /// Puts the pauses at which two parts stand into `next`, if they are on. Answers the first place
 /// after their cells.
 #[cycle(collect)]
+#[inline(always)]
 fn collect_two(
     table: &Table,
     main: bool,

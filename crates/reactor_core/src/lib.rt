@@ -8,6 +8,7 @@
 //! constructive reaction, and that a refusal leaves journal and reactor as they were.
 #![tactic(auto)]
 
+mod cost;
 pub mod entry;
 pub mod journal;
 pub mod laws;

@@ -2,8 +2,9 @@
 ghost use Rattle.std.specs.Prelude.{IfOk};
 ghost use Rattle.reactor_core.specs.Engines.{IsEngineOf};
 
-use crate::nesting::nests_locals;
+use crate::cost::cost_of;
 use est_kernel::kernel::Kernel;
+use est_kernel::mask;
 use est_kernel::state::{Inputs, Outcome, State, Stuck};
 use est_micro::micro::Micro;
 use est_net::net::Net;
@@ -11,16 +12,34 @@ use est_rounds::engine::Engine;
 use est_rounds::rounds::Rounds;
 use std::alloc::{AllocError, Global};
 
-/// How deep local signals are nested in what the plain engine runs. For each further one it takes
-/// twice as long. Under one it takes fewer instructions than the microstep engine, and under two
-/// more (docs/BENCH.md, "Two engines").
-const PLAIN_LOCALS: u16 = 1;
+/// How long the plain engine takes to judge a statement once, about, in a unit of both engines.
+const JUDGED: u64 = 2;
+
+/// How long the microstep engine takes to sweep a statement, about, in the same unit. Both are
+/// measured over whole modules (docs/BENCH.md, "Two engines").
+const SWEPT: u64 = 3;
+
+/// How many passes the plain engine makes in an instant, at most: two rounds, one more for each
+/// output that is tested, but no more rounds than there are outputs; and then the step.
+fn most_passes(outputs: u64, tested: u64) -> u64 {
+    let rounds = mask::common(outputs, tested).count_ones() as u64;
+    let most = outputs.count_ones() as u64;
+    rounds.saturating_add(2).min(most).saturating_add(1)
+}
+
+/// Whether the microstep engine is the faster one for a kernel, by what both cost, about.
+fn sweeps_are_faster(kernel: &Kernel) -> bool {
+    let cost = cost_of(kernel.root(), 1);
+    let passes = most_passes(kernel.interface().emittable(), cost.tested);
+    let plain = cost.judged.saturating_mul(passes).saturating_mul(JUDGED);
+    cost.swept.saturating_mul(SWEPT) < plain
+}
 
 /// The engine of a module. Both engines keep the one promise of engines, so which of them a module
 /// has is a matter of time alone.
 #[derive(Drop)]
 pub enum ModuleEngine {
-    /// The plain engine, for few local signals in one another.
+    /// The plain engine, where it judges few statements.
     Plain(Rounds),
     /// The microstep engine, on the table of the module's kernel.
     Microsteps(Micro),
@@ -31,7 +50,7 @@ impl ModuleEngine {
     pub fn for_kernel(alloc: Global, kernel: &Kernel) -> Result<ModuleEngine, AllocError>
         ensures { IfOk result (λ engine. IsEngineOf engine kernel.now) }
     {
-        if nests_locals(kernel.root(), PLAIN_LOCALS) {
+        if sweeps_are_faster(kernel) {
             Ok(ModuleEngine::Microsteps(Micro::new(Net::build(alloc, kernel)?)))
         } else {
             Ok(ModuleEngine::Plain(Rounds::new()))
