@@ -26,7 +26,7 @@ use crate::bound_bodies::{bind_body, emitted};
 use crate::found_tests::find_test;
 use crate::watch::Watch;
 use est_modules::head::{Declared, Head};
-use est_modules::heads::Heads;
+use est_modules::head_tree::Heads;
 use est_modules::renamings::RunRenamings;
 use est_modules::scope::Scope;
 use est_reduce::body::{Body, BoundSignal, BoundTest, Wait};
