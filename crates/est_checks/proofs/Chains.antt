@@ -13,9 +13,9 @@ use Rattle.est_checks.specs.RecursiveRuns.{IsFirstRecursion}
 use Rattle.est_modules.specs.Modules.{Program, program_named}
 use Rattle.est_modules.specs.ModuleOrders.{place_named, place_run, places_run, run_rows}
 use Rattle.est_modules.specs.Occurrences.{Act, emits, tests, exits, binds, runs, Occurrence, occurrences}
-use Rattle.est_modules.specs.PlaceOrders.{IsFirstRecursive, NoneIsRecursive}
-use Rattle.est_modules.specs.RunRows.{IsRun, Leads, once, through}
-use Rattle.est_modules.proofs.OrderLemmas.{leads_there}
+use Rattle.est_order.specs.PlaceOrders.{IsFirstRecursive, NoneIsRecursive}
+use Rattle.est_order.specs.RunRows.{IsRun, Leads, once, through}
+use Rattle.est_order.proofs.OrderLemmas.{leads_there}
 use Rattle.est_modules.proofs.Ordering.{run_is_run}
 use Rattle.est_modules.proofs.Standing.{found_place, program_at}
 use Rattle.est_modules.proofs.Testing.{place_passes, same_bytes, some_same}

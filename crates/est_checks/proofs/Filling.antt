@@ -12,8 +12,8 @@ use Rattle.std.proofs.lemmas.List.Folds.{find_at}
 use Rattle.std.proofs.lemmas.Option.{slice_get_within, slice_get-get_or, get_or_from_slice_get}
 use Rattle.est_kernel.specs.declared.limits.TheConstants.{MOST_STATEMENTS}
 use Rattle.est_checks.specs.declared.statement_count.TheConstants.{TOO_MANY}
-use Rattle.est_modules.specs.RunRows.{IsRun}
-use Rattle.est_modules.proofs.OrderPlaces.{each_stands}
+use Rattle.est_order.specs.RunRows.{IsRun}
+use Rattle.est_order.proofs.OrderPlaces.{each_stands}
 use Rattle.est_modules.specs.Derived.{Derived, missing, nothing, pause, halt, emit, sustain, exit, await, present}
 use Rattle.est_modules.specs.Derived.{suspend, abort, weak_abort, repeat, repeat_each, every, trap, signal, run, seq}
 use Rattle.est_modules.specs.Derived.{par}

@@ -30,7 +30,7 @@ use Rattle.est_checks.specs.declared.fault.LinkFault.TheVariants.{Semantics, Too
 use Rattle.est_checks.proofs.Chains.{first_itself, none_itself}
 use Rattle.est_modules.proofs.Standing.{program_at}
 use Rattle.est_modules.proofs.Testing.{map_none, or_none_parts}
-use Rattle.est_modules.specs.PlaceOrders.{NoneIsRecursive}
+use Rattle.est_order.specs.PlaceOrders.{NoneIsRecursive}
 
 -- the name of the module at a place
 pub name_there : (ps : List Program) (i : ℕ) (p : Program) → slice_get ps i ≡ Some p

@@ -26,7 +26,7 @@ use Rattle.est_modules.proofs.Standing.{found_place}
 use Rattle.est_modules.proofs.Ordering.{IsRunOf, run_is_run}
 use Rattle.est_modules.proofs.Positions.{position_cons}
 use Rattle.est_modules.proofs.Testing.{some_same, or_parts, or_none_parts, equal_bytes, same_bytes, found_passes}
-use Rattle.est_modules.proofs.OrderPlaces.{each_stands}
+use Rattle.est_order.proofs.OrderPlaces.{each_stands}
 
 -- ---- emissions by the same table, as far as it is asked
 

@@ -41,7 +41,7 @@ use Rattle.est_modules.proofs.Ordering.{IsRunOf}
 use Rattle.est_checks.proofs.Sending.{same_any, same_here}
 use Rattle.est_checks.proofs.RunsThere.{none_missing}
 use Rattle.est_modules.proofs.Testing.{some_same, same_bytes, found_passes}
-use Rattle.est_modules.specs.PlaceOrders.{NoneIsRecursive}
+use Rattle.est_order.specs.PlaceOrders.{NoneIsRecursive}
 
 -- ---- recursion
 

@@ -17,7 +17,7 @@ use crate::missing_modules::first_missing;
 use crate::place_check::first_in_bodies;
 use crate::unknown_names::first_unknown;
 use est_modules::head::Head;
-use est_modules::heads::Heads;
+use est_modules::head_tree::Heads;
 use est_modules::kept_names::KeptNames;
 use est_modules::name_table::NameTable;
 use est_text::identifier::Identifier;

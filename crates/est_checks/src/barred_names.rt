@@ -10,7 +10,7 @@ ghost use Rattle.est_modules.specs.Visible.{is_tick};
 use crate::emission::Emissions;
 use crate::run_names::{Choice, kept_of};
 use est_modules::head::{Declared, Head};
-use est_modules::heads::Heads;
+use est_modules::head_tree::Heads;
 use est_modules::kept_names::KeptNames;
 use est_modules::name_set::NameSet;
 use est_modules::name_table::NameTable;

@@ -15,7 +15,7 @@ use crate::barred_names::{barred_of, inputs_of};
 use crate::emission::Emissions;
 use crate::place_check::{Check, first_in_body};
 use est_modules::head::{Declared, Head};
-use est_modules::heads::Heads;
+use est_modules::head_tree::Heads;
 use est_modules::name_set::NameSet;
 use est_modules::name_table::NameTable;
 use est_modules::open_names::OpenNames;

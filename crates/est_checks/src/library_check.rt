@@ -8,18 +8,18 @@ ghost use Rattle.est_checks.specs.UnknownNames.{unknown_at};
 ghost use Rattle.est_modules.specs.Modules.{first_in_bodies, program_of};
 ghost use Rattle.est_modules.specs.ModuleOrders.{IsOrderOf, run_rows};
 ghost use Rattle.est_modules.specs.NameTables.{AreNumbered, IsTable};
-ghost use Rattle.est_modules.specs.PlaceOrders.{NoneIsRecursive};
+ghost use Rattle.est_order.specs.PlaceOrders.{NoneIsRecursive};
 
 use crate::around_order::{check_before_order, fault_of_emissions, fault_of_names};
 use crate::fault::LinkFault;
 use crate::limits::check_limits;
 use crate::module_emissions::emissions_along;
 use est_modules::bound_names::further_names;
-use est_modules::heads::Heads;
+use est_modules::head_tree::Heads;
 use est_modules::module_order::order_heads;
 use est_modules::name_table::{NameTable, numbered};
-use est_modules::order_fault::OrderFault;
-use est_modules::place_order::Order;
+use est_order::order_fault::OrderFault;
+use est_order::place_order::Order;
 use est_text::identifier::Identifier;
 use std::alloc::Global;
 

@@ -24,7 +24,7 @@ ghost use Rattle.est_checks.specs.UnknownNames.{unknown_at};
 use crate::emission::Emissions;
 use crate::run_emissions::{emitted_run, sent_of};
 use est_modules::head::{Declared, Head};
-use est_modules::heads::Heads;
+use est_modules::head_tree::Heads;
 use est_modules::name_set::NameSet;
 use est_modules::name_table::NameTable;
 use est_modules::open_names::OpenNames;

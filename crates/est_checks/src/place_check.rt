@@ -5,7 +5,7 @@ ghost use Rattle.est_modules.specs.Occurrences.{first_of, occurrences};
 ghost use Rattle.est_modules.specs.NameTables.{IsTable};
 
 use est_modules::head::Head;
-use est_modules::heads::Heads;
+use est_modules::head_tree::Heads;
 use est_modules::kept_names::KeptNames;
 use est_modules::name_table::NameTable;
 use est_modules::open_names::OpenNames;

@@ -5,7 +5,7 @@ ghost use Rattle.est_modules.specs.OpenNames.{AreKept};
 
 use est_modules::first_places::FirstPlaces;
 use est_modules::head::Head;
-use est_modules::heads::Heads;
+use est_modules::head_tree::Heads;
 use est_modules::kept_names::{Kept, KeptNames, keep};
 use est_modules::module_order::places_run;
 use est_modules::name_set::NameSet;

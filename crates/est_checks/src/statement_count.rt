@@ -18,8 +18,8 @@ ghost use Rattle.est_checks.specs.Inner.Numbers.{number_of, numbers_of, IsFilled
 
 use crate::word_count::test_words;
 use est_kernel::limits::MOST_STATEMENTS;
-use est_modules::heads::Heads;
-use est_modules::place_order::Order;
+use est_modules::head_tree::Heads;
+use est_order::place_order::Order;
 use est_syntax::tree::{Branches, Sequence, Statement, Test, Unit};
 use est_text::identifier::Identifier;
 use std::alloc::{AllocError, Global};

@@ -15,7 +15,7 @@ ghost use Rattle.est_checks.specs.UnknownNames.{is_unbound, unknown_in_run, unkn
 use crate::place_check::{Check, first_in_body};
 use crate::unseen_names::unseen_of;
 use est_modules::head::{Declared, Head};
-use est_modules::heads::Heads;
+use est_modules::head_tree::Heads;
 use est_modules::name_table::NameTable;
 use est_modules::open_names::OpenNames;
 use est_modules::renamings::RunRenamings;

@@ -8,7 +8,7 @@ ghost use Rattle.est_modules.specs.Visible.{is_tick};
 
 use crate::run_names::{Choice, kept_of};
 use est_modules::head::{Declared, Head, Interface};
-use est_modules::heads::Heads;
+use est_modules::head_tree::Heads;
 use est_modules::kept_names::KeptNames;
 use est_modules::name_table::NameTable;
 use est_modules::visibility::is_tick;

@@ -20,8 +20,8 @@ use Rattle.est_modules.specs.ModuleOrders.{IsOrderOf, run_rows, places_run}
 use Rattle.est_checks.specs.MissingModules.{missing_at}
 use Rattle.est_modules.proofs.Ordering.{IsRunOf, run_is_run}
 use Rattle.est_modules.proofs.Testing.{or_left, or_right, some_same, equal_bytes, same_bytes, found_passes}
-use Rattle.est_modules.specs.RunRows.{IsRun}
-use Rattle.est_modules.proofs.OrderPlaces.{each_stands, places_are_there}
+use Rattle.est_order.specs.RunRows.{IsRun}
+use Rattle.est_order.proofs.OrderPlaces.{each_stands, places_are_there}
 use Rattle.est_modules.proofs.Standing.{first_none, found_place}
 use Rattle.est_checks.proofs.OneName.{first_of_name}
 use Rattle.est_checks.proofs.RunsThere.{run_is_there}

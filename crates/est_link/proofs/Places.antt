@@ -1,6 +1,6 @@
 -- Places of elements, and statements along lists.
 use Rattle.std.proofs.Common.{◌≡◌, ℕ, ◌+◌, ◌<◌, List, [], ◌∷◌, length, map, drop, get_or, Some, refl, ap}
-use Rattle.std.proofs.Common.{sym, ◌∙◌, rules}
+use Rattle.std.proofs.Common.{Box, Global, sym, ◌∙◌, rules}
 use Rattle.std.proofs.lemmas.List.{at_drop_more}
 use Rattle.est_syntax.specs.Views.{unit_view, sequence_view, statement_view, units_of, sequences_of}
 use Rattle.est_syntax.specs.Tree.{sequence, statement}
@@ -14,10 +14,16 @@ use Rattle.est_modules.specs.Derived.{beside_sequences}
 use Rattle.est_modules.specs.Occurrences.{Binder}
 use Rattle.est_modules.specs.Modules.{Program}
 use Rattle.est_reduce.specs.Bodies.{Body, seq, par}
+use Rattle.est_reduce.specs.Views.{body_of}
+use Rattle.est_reduce.specs.declared.body.Body.{Body as BodyValue}
 use Rattle.est_link.specs.Inner.Joins.{joined_by, chained}
 use Rattle.est_link.specs.Linking.{linked}
 
 -- ---- statements one after another, and side by side
+
+-- the statement of a body in a box
+abbrev pub boxed_body : Box BodyValue Global → Body
+boxed_body b = body_of b.value
 
 abbrev pub unit_linked : List Program → (List ℕ → Body) → Program → List Binder → Unit → Body
 unit_linked ps bodies p bs u = linked ps bodies p bs (unit_derived (unit_view u))

@@ -18,7 +18,7 @@ use Rattle.est_modules.proofs.Positions.{position_cons}
 use Rattle.est_modules.proofs.Testing.{some_same, no_place, place_passes, same_bytes, or_parts}
 use Rattle.est_reduce.specs.Bodies.{nothing}
 use Rattle.est_reduce.specs.Views.{body_of}
-use Rattle.est_modules.proofs.OrderPlaces.{each_stands}
+use Rattle.est_order.proofs.OrderPlaces.{each_stands}
 
 find_place_here : {X : Type 0} (p : X → Bool) (y : X) (ys : List X) (i : ℕ) (x : X) (b : Bool) → p y ≡ b
     → cond b (Some 0) (option_map (λ i. i + 1) (position p ys)) ≡ Some i → slice_get (y ∷ ys) i ≡ Some x

@@ -5,3 +5,4 @@ pub mod Joins
 pub mod Needs
 pub mod SignalTables
 pub mod Tables
+pub mod Watches

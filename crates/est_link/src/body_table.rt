@@ -6,7 +6,7 @@ ghost use Rattle.est_modules.specs.Modules.{program_of, program_named};
 ghost use Rattle.est_reduce.specs.Views.{body_of};
 
 use crate::flatten::{Linked, Linker, Place, flat_statement};
-use est_modules::heads::Heads;
+use est_modules::head_tree::Heads;
 use est_modules::scope::Scope;
 use est_reduce::body::Body;
 use est_text::identifier::Identifier;

@@ -9,8 +9,10 @@ ghost use Rattle.est_reduce.specs.Views.{bound_query as query_view, body_of};
 ghost use Rattle.est_link.specs.Linking.{body_in_run, emitted, queries_in_run, query_in_run};
 ghost use Rattle.est_link.specs.Linking.{signal_in_run};
 ghost use Rattle.est_link.specs.Inner.Binds.{binding_of};
+ghost use Rattle.est_link.specs.Inner.Watches.{watched};
 
 use crate::bindings::{Binding, interface_bound, sum};
+use crate::watch::Watch;
 use est_kernel::statement::Connective;
 use est_reduce::body::{Body, BoundOperands, BoundSignal, BoundTest, Wait};
 use std::alloc::AllocError;
@@ -110,21 +112,41 @@ pub fn bind_body(run: &Binding<'_, '_, '_>, flat: &Body) -> Result<Body, AllocEr
         Body::Emit(signal) => Ok(Body::Emit(bind_sent(run, *signal)?)),
         Body::Sustain(signal) => Ok(Body::Sustain(bind_sent(run, *signal)?)),
         Body::Await(wait) => Ok(Body::Await(bind_wait(run, wait)?)),
-        Body::Suspend(wait, p) => Ok(Body::Suspend(bind_wait(run, wait)?, bind_box(run, p)?)),
-        Body::Abort(wait, p) => Ok(Body::Abort(bind_wait(run, wait)?, bind_box(run, p)?)),
-        Body::WeakAbort(wait, p) => Ok(Body::WeakAbort(bind_wait(run, wait)?, bind_box(run, p)?)),
-        Body::Every(wait, p) => Ok(Body::Every(bind_wait(run, wait)?, bind_box(run, p)?)),
+        Body::Suspend(wait, p) => bind_watched(run, Watch::Suspend, wait, p),
+        Body::Abort(wait, p) => bind_watched(run, Watch::Abort, wait, p),
+        Body::WeakAbort(wait, p) => bind_watched(run, Watch::WeakAbort, wait, p),
+        Body::Every(wait, p) => bind_watched(run, Watch::Every, wait, p),
         Body::Present(test, p, q) => {
-            let test = bind_test(run, test)?;
-            Ok(Body::Present(test, bind_box(run, p)?, bind_box(run, q)?))
+            let p = bind_box(run, p)?;
+            let q = bind_box(run, q)?;
+            Ok(Body::Present(bind_test(run, test)?, p, q))
         }
         Body::Loop(p) => Ok(Body::Loop(bind_box(run, p)?)),
-        Body::LoopEach(test, p) => Ok(Body::LoopEach(bind_test(run, test)?, bind_box(run, p)?)),
+        Body::LoopEach(test, p) => {
+            let p = bind_box(run, p)?;
+            Ok(Body::LoopEach(bind_test(run, test)?, p))
+        }
         Body::Trap(p) => Ok(Body::Trap(bind_box(run, p)?)),
         Body::Signal(count, p) => Ok(Body::Signal(*count, bind_box(run, p)?)),
         Body::Seq(p, q) => Ok(Body::Seq(bind_box(run, p)?, bind_box(run, q)?)),
         Body::Par(p, q) => Ok(Body::Par(bind_box(run, p)?, bind_box(run, q)?)),
     }
+}
+
+/// A statement that waits for something while another runs, so bound.
+#[cycle(bind)]
+fn bind_watched(
+    run: &Binding<'_, '_, '_>,
+    watch: Watch,
+    wait: &Wait,
+    flat: &Body,
+) -> Result<Body, AllocError>
+    ensures { IfOk result (λ f. body_of f ≡ watched watch wait.now.immediate
+        (query_in_run (binding_of run.now) run.now.locals (query_view wait.now.test))
+        (body_in_run (binding_of run.now) run.now.locals (body_of flat.now))) }
+{
+    let p = bind_box(run, flat)?;
+    Ok(watch.over(bind_wait(run, wait)?, p))
 }
 
 /// A body in a box, so bound.

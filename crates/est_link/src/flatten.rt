@@ -16,15 +16,17 @@ ghost use Rattle.est_link.specs.Linking.{body_in_run};
 ghost use Rattle.est_link.specs.Linking.{emitted, locals_around, signal_at};
 ghost use Rattle.est_link.specs.Inner.Tables.{bodies_of};
 ghost use Rattle.est_link.specs.Inner.Joins.{joined_by};
-ghost use Rattle.est_reduce.specs.Bodies.{seq, par};
+ghost use Rattle.est_link.specs.Inner.Watches.{watched};
+ghost use Rattle.est_reduce.specs.Bodies.{nothing, present, seq, par};
 ghost use Rattle.est_reduce.specs.Views.{body_of, bound_name as name_view};
 ghost use Rattle.est_reduce.specs.Views.{bound_query as query_view};
 
 use crate::bindings::{Binding, count, locals_around, signal_at, trap_at};
 use crate::bound_bodies::{bind_body, emitted};
 use crate::found_tests::find_test;
+use crate::watch::Watch;
 use est_modules::head::{Declared, Head};
-use est_modules::heads::Heads;
+use est_modules::head_tree::Heads;
 use est_modules::renamings::RunRenamings;
 use est_modules::scope::Scope;
 use est_reduce::body::{Body, BoundSignal, BoundTest, Wait};
@@ -138,6 +140,27 @@ fn find_wait(place: &Place<'_, '_>, delay: &Delay) -> Result<Wait, AllocError>
     })
 }
 
+/// `nothing`, in a box.
+fn box_nothing(alloc: Global) -> Result<Box<Body>, AllocError>
+    ensures { IfOk result (λ b. body_of b.value ≡ nothing) }
+{
+    Ok(Box::new(alloc, Body::Nothing)?)
+}
+
+/// The flat statement of a test, its branches being flat.
+fn present(
+    at: &Place<'_, '_>,
+    test: &Test,
+    first: Box<Body>,
+    second: Box<Body>,
+) -> Result<Body, AllocError>
+    ensures { IfOk result (λ f. body_of f ≡ present
+        (asked_at (program_of at.now.linker.now.home.now) (binders_of at.now.scope.now)
+        (test_view test.now)) (body_of first.value) (body_of second.value)) }
+{
+    Ok(Body::Present(find_test(at, test)?, first, second))
+}
+
 /// The flat statement of a unit.
 #[cycle(flat)]
 fn flat_unit(at: &Place<'_, '_>, unit: &Unit) -> Result<Body, AllocError>
@@ -154,15 +177,15 @@ fn flat_unit(at: &Place<'_, '_>, unit: &Unit) -> Result<Body, AllocError>
         Unit::Exit(name) => Ok(Body::Exit(trap_at(at.scope, name)?)),
         Unit::Await(delay) => Ok(Body::Await(find_wait(at, delay)?)),
         Unit::Present(test, branches) => flat_test(at, test, branches),
-        Unit::Suspend(p, delay, _) => Ok(Body::Suspend(find_wait(at, delay)?, box_body(at, p)?)),
-        Unit::Abort(p, delay, _) => Ok(Body::Abort(find_wait(at, delay)?, box_body(at, p)?)),
-        Unit::WeakAbort(p, delay, _) => Ok(Body::WeakAbort(
-            find_wait(at, delay)?,
-            box_body(at, p)?,
-        )),
+        Unit::Suspend(p, delay, _) => flat_watched(at, Watch::Suspend, p, delay),
+        Unit::Abort(p, delay, _) => flat_watched(at, Watch::Abort, p, delay),
+        Unit::WeakAbort(p, delay, _) => flat_watched(at, Watch::WeakAbort, p, delay),
         Unit::Loop(p, _) => Ok(Body::Loop(box_body(at, p)?)),
-        Unit::LoopEach(p, test) => Ok(Body::LoopEach(find_test(at, test)?, box_body(at, p)?)),
-        Unit::Every(delay, p, _) => Ok(Body::Every(find_wait(at, delay)?, box_body(at, p)?)),
+        Unit::LoopEach(p, test) => {
+            let p = box_body(at, p)?;
+            Ok(Body::LoopEach(find_test(at, test)?, p))
+        }
+        Unit::Every(delay, p, _) => flat_watched(at, Watch::Every, p, delay),
         Unit::Trap(name, p, _) => {
             let scope = Scope::Trap(*name, &*at.scope);
             Ok(Body::Trap(box_inside(at, &scope, p)?))
@@ -176,6 +199,24 @@ fn flat_unit(at: &Place<'_, '_>, unit: &Unit) -> Result<Body, AllocError>
     }
 }
 
+/// The flat statement of a statement that waits for something while another runs.
+#[cycle(flat)]
+fn flat_watched(
+    at: &Place<'_, '_>,
+    watch: Watch,
+    statement: &Statement,
+    delay: &Delay,
+) -> Result<Body, AllocError>
+    ensures { IfOk result (λ f. body_of f ≡ watched watch delay.now.immediate
+        (asked_at (program_of at.now.linker.now.home.now) (binders_of at.now.scope.now)
+        (test_view delay.now.test)) (linked (map program_of at.now.linker.now.heads.now)
+        (bodies_of at.now.linker.now.bodies.now) (program_of at.now.linker.now.home.now)
+        (binders_of at.now.scope.now) (statement_derived (statement_view statement.now)))) }
+{
+    let body = box_body(at, statement)?;
+    Ok(watch.over(find_wait(at, delay)?, body))
+}
+
 /// The flat statement of a test, with its branches.
 #[cycle(flat)]
 fn flat_test(at: &Place<'_, '_>, test: &Test, branches: &Branches) -> Result<Body, AllocError>
@@ -184,39 +225,41 @@ fn flat_test(at: &Place<'_, '_>, test: &Test, branches: &Branches) -> Result<Bod
         (binders_of at.now.scope.now) (branches_derived (test_view test.now)
         (branches_view branches.now))) }
 {
-    let test = find_test(at, test)?;
     match branches {
         Branches::Then(body, _) => {
             let first = box_body(at, body)?;
-            Ok(Body::Present(test, first, Box::new(at.linker.alloc, Body::Nothing)?))
+            present(at, test, first, box_nothing(at.linker.alloc)?)
         }
         Branches::Else(body, _) => {
             let second = box_body(at, body)?;
-            Ok(Body::Present(test, Box::new(at.linker.alloc, Body::Nothing)?, second))
+            present(at, test, box_nothing(at.linker.alloc)?, second)
         }
         Branches::Both(body, other, _) => {
-            Ok(Body::Present(test, box_body(at, body)?, box_body(at, other)?))
+            let first = box_body(at, body)?;
+            present(at, test, first, box_body(at, other)?)
         }
     }
 }
 
 /// `p ; q`, or p where nothing follows.
-fn then(alloc: Global, p: Body, rest: Option<Body>) -> Result<Body, AllocError>
-    ensures { IfOk result (λ f. body_of f ≡ joined_by seq (body_of p) (option_map body_of rest)) }
+fn then(alloc: Global, p: Body, rest: Option<Box<Body>>) -> Result<Body, AllocError>
+    ensures { IfOk result (λ f. body_of f ≡ joined_by seq (body_of p)
+        (option_map (λ b. body_of b.value) rest)) }
 {
     match rest {
         None => Ok(p),
-        Some(q) => Ok(Body::Seq(Box::new(alloc, p)?, Box::new(alloc, q)?)),
+        Some(q) => Ok(Body::Seq(Box::new(alloc, p)?, q)),
     }
 }
 
 /// `p || q`, or p where nothing stands beside it.
-fn beside(alloc: Global, p: Body, rest: Option<Body>) -> Result<Body, AllocError>
-    ensures { IfOk result (λ f. body_of f ≡ joined_by par (body_of p) (option_map body_of rest)) }
+fn beside(alloc: Global, p: Body, rest: Option<Box<Body>>) -> Result<Body, AllocError>
+    ensures { IfOk result (λ f. body_of f ≡ joined_by par (body_of p)
+        (option_map (λ b. body_of b.value) rest)) }
 {
     match rest {
         None => Ok(p),
-        Some(q) => Ok(Body::Par(Box::new(alloc, p)?, Box::new(alloc, q)?)),
+        Some(q) => Ok(Body::Par(Box::new(alloc, p)?, q)),
     }
 }
 
@@ -233,7 +276,7 @@ fn flat_sequence(at: &Place<'_, '_>, sequence: &Sequence) -> Result<Body, AllocE
     while left > 0 {
         left -= 1;
         let flat = flat_unit(at, &units[left])?;
-        rest = Some(then(at.linker.alloc, flat, rest)?);
+        rest = Some(Box::new(at.linker.alloc, then(at.linker.alloc, flat, rest)?)?);
     }
     let flat = flat_unit(at, &sequence.first)?;
     then(at.linker.alloc, flat, rest)
@@ -252,7 +295,7 @@ pub fn flat_statement(at: &Place<'_, '_>, statement: &Statement) -> Result<Body,
     while left > 0 {
         left -= 1;
         let flat = flat_sequence(at, &sequences[left])?;
-        rest = Some(beside(at.linker.alloc, flat, rest)?);
+        rest = Some(Box::new(at.linker.alloc, beside(at.linker.alloc, flat, rest)?)?);
     }
     let flat = flat_sequence(at, &statement.first)?;
     beside(at.linker.alloc, flat, rest)

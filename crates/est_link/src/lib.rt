@@ -17,3 +17,4 @@ pub mod linked_module;
 mod main_module;
 mod needed;
 mod signal_table;
+mod watch;

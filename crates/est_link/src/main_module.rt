@@ -95,6 +95,23 @@ fn kernel_relation(
     }
 }
 
+/// The relations that are written, over a table of signals.
+fn relations_over(
+    alloc: Global,
+    signals: &SignalTable<'_>,
+    relations: &[&tree::Relation],
+) -> Result<Relations, AllocError>
+    requires { length relations.now ≤ MOST_RELATIONS }
+    ensures { IfOk result (λ rs. AreRelations signals.now (map (λ r. relation_view r.now)
+        relations.now) rs) }
+{
+    let mut made = Relations::new(alloc);
+    for relation in relations {
+        made.push(kernel_relation(alloc, signals, relation)?)?;
+    }
+    Ok(made)
+}
+
 /// The relations that are written, over the signals of an interface.
 fn kernel_relations(
     alloc: Global,
@@ -106,11 +123,22 @@ fn kernel_relations(
         relations.now) rs) }
 {
     let signals = SignalTable::of_interface(alloc, interface)?;
-    let mut made = Relations::new(alloc);
-    for relation in relations {
-        made.push(kernel_relation(alloc, &signals, relation)?)?;
-    }
-    Ok(made)
+    relations_over(alloc, &signals, relations)
+}
+
+/// The interface and the relations of a module, as the kernel has them.
+fn kernel_declarations(alloc: Global, home: &Head<'_>) -> Result<(Interface, Relations), AllocError>
+    requires signals { length (program_of home.now).interface ≤ MOST_SIGNALS }
+    requires relations { length (program_of home.now).relations ≤ MOST_RELATIONS }
+    requires distinct { redeclared [] (map (λ d. d.name) (program_of home.now).interface) ≡ None }
+    ensures interface { IfOk result (λ d. d.0 ≡ declarations_of (program_of home.now)) }
+    ensures relations { IfOk result (λ d. AreRelations (declarations_of (program_of home.now))
+        (program_of home.now).relations d.1) }
+{
+    let interface = kernel_interface(alloc, home.interface.signals())?;
+    let listed = relations_of(alloc, home.declarations)?;
+    let relations = kernel_relations(alloc, &interface, &listed)?;
+    Ok((interface, relations))
 }
 
 /// The flat module of a module whose body is flat, which passes no limit and is not at fault.
@@ -129,12 +157,16 @@ pub fn main_module(alloc: Global, home: &Head<'_>, body: Body) -> Result<Flat, A
         (program_of home.now).relations f.relations) }
     ensures body { IfOk result (λ f. body_of f.body ≡ body_of body) }
 {
-    let interface = kernel_interface(alloc, home.interface.signals())?;
-    let listed = relations_of(alloc, home.declarations)?;
-    let relations = kernel_relations(alloc, &interface, &listed)?;
-    Ok(Flat {
-        interface,
-        relations,
-        body,
-    })
+    match kernel_declarations(alloc, home) {
+        Ok((interface, relations)) => Ok(Flat {
+            interface,
+            relations,
+            body,
+        }),
+        Err(error) => {
+            // By a call: left to the end of the scope, each case of a body is dropped here.
+            drop(body);
+            Err(error)
+        }
+    }
 }

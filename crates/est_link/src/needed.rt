@@ -8,7 +8,7 @@ ghost use Rattle.est_modules.specs.Modules.{Program, program_of, first_in_bodies
 ghost use Rattle.est_modules.specs.ModuleOrders.{IsOrderOf, places_run};
 ghost use Rattle.est_checks.specs.MissingModules.{missing_at};
 
-use est_modules::heads::Heads;
+use est_modules::head_tree::Heads;
 use est_modules::module_order::places_run;
 use est_text::identifier::Identifier;
 use std::alloc::{AllocError, Global};

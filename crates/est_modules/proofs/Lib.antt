@@ -4,13 +4,10 @@ pub mod Lists
 pub mod NameSets
 pub mod Numbering
 pub mod Opening
-pub mod OrderLemmas
-pub mod OrderPlaces
 pub mod Ordering
 pub mod Passing
 pub mod Placing
 pub mod Positions
-pub mod SearchLemmas
 pub mod Standing
 pub mod TestPassing
 pub mod Testing

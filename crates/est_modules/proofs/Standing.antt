@@ -9,7 +9,7 @@ use Rattle.est_modules.specs.Occurrences.{first_of}
 use Rattle.est_modules.specs.ModuleOrders.{IsOrderOf, run_rows, places_run}
 use Rattle.est_modules.proofs.Positions.{position_cons}
 use Rattle.est_modules.proofs.Testing.{or_none_parts, some_same}
-use Rattle.est_modules.proofs.OrderPlaces.{places_are_there}
+use Rattle.est_order.proofs.OrderPlaces.{places_are_there}
 
 pub first_none : {X A : Type 0} (f : X → Option A) (xs : List X) (i : ℕ) (x : X) → first_of f xs ≡ None
     → slice_get xs i ≡ Some x → f x ≡ None

@@ -1,16 +1,13 @@
 pub mod BoundNames
 pub mod Derived
 pub mod FirstPlaces
-pub mod Inner
 pub mod ModuleOrders
 pub mod Modules
 pub mod NameSets
 pub mod NameTables
 pub mod Occurrences
 pub mod OpenNames
-pub mod PlaceOrders
 pub mod Renamings
-pub mod RunRows
 pub mod Scopes
 pub mod Tests
 pub mod Visible

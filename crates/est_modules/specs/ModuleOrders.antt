@@ -3,7 +3,7 @@ use Rattle.std.specs.Prelude.{ℕ, List, [], map, Option}
 use Rattle.std.specs.List.{position, flat_map}
 use Rattle.std.specs.Option.{option_to_list}
 use Rattle.std.specs.Str.{bytes_eq}
-use Rattle.est_modules.specs.PlaceOrders.{IsBottomUp}
+use Rattle.est_order.specs.PlaceOrders.{IsBottomUp}
 use Rattle.est_modules.specs.Occurrences.{Act, emits, tests, exits, binds, runs, Occurrence, occurrences}
 use Rattle.est_modules.specs.Modules.{Program}
 

@@ -2,7 +2,7 @@
 ghost use Rattle.std.specs.Prelude.{◌≡◌, true, ◌∷◌, ◌++◌, IfOk, OnOk, codes};
 ghost use Rattle.est_modules.specs.Visible.{stands_in};
 
-use crate::heads::Heads;
+use crate::head_tree::Heads;
 use crate::kept_names::KeptNames;
 use crate::name_table::NameTable;
 use crate::open_names::OpenNames;

@@ -15,16 +15,13 @@
 pub mod bound_names;
 pub mod first_places;
 pub mod head;
-pub mod heads;
+pub mod head_tree;
 pub mod kept_names;
 pub mod library_heads;
 pub mod module_order;
 pub mod name_set;
 pub mod name_table;
 pub mod open_names;
-pub mod order_fault;
-pub mod place_order;
-mod reach;
 pub mod relations;
 pub mod renamings;
 pub mod scope;

@@ -7,7 +7,7 @@ ghost use Rattle.est_modules.specs.Modules.{module_program, programs_of};
 
 use crate::first_places::FirstPlaces;
 use crate::head::{Declared, Head, Interface, Kind};
-use crate::heads::Heads;
+use crate::head_tree::Heads;
 use est_syntax::tree::{Declaration, Library, Module, Names};
 use est_text::identifier::Identifier;
 use std::alloc::{AllocError, Global};

@@ -1,21 +1,21 @@
 //! The order in which the modules of a library can be worked out, each after those that it runs.
 ghost use Rattle.std.specs.Prelude.{◌≡◌, ◌++◌, map, IfOk, IfErr, OnOk};
 ghost use Rattle.std.specs.Option.{option_to_list};
-ghost use Rattle.est_modules.specs.RunRows.{rows_of};
-ghost use Rattle.est_modules.specs.PlaceOrders.{NoneIsRecursive, IsFaultOf};
+ghost use Rattle.est_order.specs.RunRows.{rows_of};
+ghost use Rattle.est_order.specs.PlaceOrders.{NoneIsRecursive, IsFaultOf};
 ghost use Rattle.est_modules.specs.Modules.{program_of};
 ghost use Rattle.est_modules.specs.ModuleOrders.{IsOrderOf, run_rows, places_run};
 
 use crate::head::Head;
-use crate::heads::Heads;
+use crate::head_tree::Heads;
 use crate::kept_names::KeptNames;
 use crate::name_table::NameTable;
 use crate::open_names::OpenNames;
-use crate::order_fault::OrderFault;
-use crate::place_order::{Order, order_modules};
 use crate::scope::{Act, Scope};
 use crate::visit::Visitor;
 use crate::walk::walk_body;
+use est_order::order_fault::OrderFault;
+use est_order::place_order::{Order, order_modules};
 use std::alloc::{AllocError, Global};
 
 /// Adds a place to the list, if there is one.

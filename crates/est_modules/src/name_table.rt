@@ -8,7 +8,7 @@ ghost use Rattle.est_modules.specs.NameTables.{AreNumbered, IsTable, is_numbered
 ghost use Rattle.est_modules.specs.Visible.{stands_in};
 
 use crate::head::Declared;
-use crate::heads::Heads;
+use crate::head_tree::Heads;
 use est_text::identifier::Identifier;
 use std::alloc::{AllocError, Global};
 use std::collections::BTreeMap;

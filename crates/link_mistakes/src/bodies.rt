@@ -14,8 +14,8 @@ ghost use Rattle.est_syntax.specs.Views.{library_view};
 
 use est_checks::fault::LinkFault;
 use est_link::{link, linked_module};
-use est_modules::heads::Heads;
-use est_modules::place_order::Order;
+use est_modules::head_tree::Heads;
+use est_order::place_order::Order;
 use est_reduce::body::Body;
 use est_reduce::flat::Flat;
 use est_syntax::tree::Library;

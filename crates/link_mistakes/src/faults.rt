@@ -21,7 +21,7 @@ use est_checks::unseen_names::unseen_of;
 use est_checks::{duplicates, input_emissions};
 use est_modules::bound_names::further_names;
 use est_modules::head::Head;
-use est_modules::heads::Heads;
+use est_modules::head_tree::Heads;
 use est_modules::kept_names::KeptNames;
 use est_modules::name_table::{NameTable, numbered};
 use est_modules::open_names::OpenNames;

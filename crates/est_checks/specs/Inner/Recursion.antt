@@ -4,7 +4,7 @@ use Rattle.est_modules.specs.Modules.{Program}
 use Rattle.est_modules.specs.ModuleOrders.{run_rows}
 use Rattle.est_checks.specs.declared.fault.LinkFault.{LinkFault}
 use Rattle.est_checks.specs.declared.fault.LinkFault.TheVariants.{RecursiveRun, Memory}
-use Rattle.est_modules.specs.PlaceOrders.{IsFirstRecursive}
+use Rattle.est_order.specs.PlaceOrders.{IsFirstRecursive}
 
 -- the fault of the module at a place that is recursive
 abbrev pub recursive_run : List Program → ℕ → LinkFault

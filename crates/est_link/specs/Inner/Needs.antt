@@ -5,7 +5,7 @@ use Rattle.std.specs.Str.{bytes_eq}
 use Rattle.est_checks.specs.RecursiveRuns.{HasRun}
 use Rattle.est_modules.specs.Modules.{Program}
 use Rattle.est_modules.specs.ModuleOrders.{run_rows}
-use Rattle.est_modules.specs.RunRows.{IsRun}
+use Rattle.est_order.specs.RunRows.{IsRun}
 
 -- the set has, with each module, those that it runs
 abbrev pub IsClosed : List Program → List ℕ → Type 0

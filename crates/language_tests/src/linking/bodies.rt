@@ -1,7 +1,7 @@
 //! Libraries and the flat body of their main module.
 use est_checks::duplicates::first_duplicate;
 use est_checks::missing_modules::first_missing;
-use est_modules::heads::Heads;
+use est_modules::head_tree::Heads;
 use est_modules::library_heads::heads_of;
 use est_modules::module_order::order_heads;
 use est_reduce::body::{Body, BoundSignal};

@@ -2,7 +2,7 @@
 use est_checks::duplicates::first_duplicate;
 use est_checks::emission::Emissions;
 use est_checks::fault::LinkFault;
-use est_modules::heads::Heads;
+use est_modules::head_tree::Heads;
 use est_modules::library_heads::heads_of;
 use est_modules::module_order::order_heads;
 use est_modules::name_set::NameSet;

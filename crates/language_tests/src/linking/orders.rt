@@ -1,7 +1,7 @@
 //! Orders of a few modules, and of as many as one line holds.
 
-use est_modules::order_fault::OrderFault;
-use est_modules::place_order::order_modules;
+use est_order::order_fault::OrderFault;
+use est_order::place_order::order_modules;
 use std::alloc::{AllocError, Global};
 use std::process::Abort;
 use std::test::Fail;

@@ -6,7 +6,7 @@ use Rattle.est_checks.specs.declared.fault.LinkFault.TheVariants.{RecursiveRun}
 use Rattle.est_checks.proofs.Finding.{name_there}
 use Rattle.est_modules.proofs.Standing.{program_at}
 use Rattle.est_checks.proofs.library_check.order_of.Goals as goal
-use Rattle.est_modules.specs.PlaceOrders.{IsFaultOf}
+use Rattle.est_order.specs.PlaceOrders.{IsFaultOf}
 
 pub returns-in-Err-Recursive-clause-err : goal.returns-in-Err-Recursive-clause-err
 returns-in-Err-Recursive-clause-err c =

@@ -1,6 +1,6 @@
 use Rattle.std.proofs.Common.{ℕ, List, min, length, slice_index, map, refl, ap, ◌∙◌, arith}
 use Rattle.std.proofs.lemmas.List.{length-map}
-use Rattle.est_modules.proofs.OrderPlaces.{places_are_there}
+use Rattle.est_order.proofs.OrderPlaces.{places_are_there}
 use Rattle.est_modules.specs.Modules.{program_of}
 use Rattle.est_checks.specs.Counting.{counted}
 use Rattle.est_modules.specs.ModuleOrders.{run_rows, places_run}

@@ -1,18 +1,17 @@
 use Rattle.std.proofs.Common.{◌≡◌, ◌≤◌, drop, length, map, option_map}
 use Rattle.est_modules.specs.Scopes.{binders_of}
 use Rattle.est_modules.specs.Modules.{program_of}
-use Rattle.est_reduce.specs.Views.{body_of}
 use Rattle.est_reduce.specs.Bodies.{seq, par}
 use Rattle.est_link.specs.Inner.Tables.{bodies_of}
 use Rattle.est_link.specs.Inner.Joins.{chained}
-use Rattle.est_link.proofs.Places.{unit_linked, sequence_linked}
+use Rattle.est_link.proofs.Places.{boxed_body, unit_linked, sequence_linked}
 use Rattle.est_link.proofs.flatten.+flat.Given as goal
 
 abbrev pub invariant-flat_sequence-loop-left : goal.invariant-flat_sequence-loop-left
 invariant-flat_sequence-loop-left l =
     record {
       within : l.left ≤ length l.units;
-      done : option_map body_of l.rest
+      done : option_map boxed_body l.rest
           ≡ chained seq
           (unit_linked (map program_of l.at.linker.now.heads.now) (bodies_of l.at.linker.now.bodies.now)
           (program_of l.at.linker.now.home.now) (binders_of l.at.scope.now)) (drop l.left l.units);
@@ -25,7 +24,7 @@ abbrev pub invariant-flat_statement-loop-left : goal.invariant-flat_statement-lo
 invariant-flat_statement-loop-left l =
     record {
       within : l.left ≤ length l.sequences;
-      done : option_map body_of l.rest
+      done : option_map boxed_body l.rest
           ≡ chained par
           (sequence_linked (map program_of l.at.linker.now.heads.now) (bodies_of l.at.linker.now.bodies.now)
           (program_of l.at.linker.now.home.now) (binders_of l.at.scope.now)) (drop l.left l.sequences);

@@ -1,5 +1,5 @@
 use Rattle.std.proofs.Common.{◌≡◌, map, take}
-use Rattle.est_modules.specs.RunRows.{rows_of}
+use Rattle.est_order.specs.RunRows.{rows_of}
 use Rattle.est_modules.specs.Modules.{program_of}
 use Rattle.est_modules.specs.ModuleOrders.{places_run}
 use Rattle.est_modules.proofs.module_order.run_rows.Given as goal
