@@ -13,48 +13,8 @@ pub struct Cost {
     /// How many statements the microstep engine sweeps. Inside d loops a statement counts d + 1:
     /// the restart of each of them has cells of its own.
     pub swept: u64,
-    /// How many it sweeps in a restart, where each statement has cells once.
-    pub restarted: u64,
     /// The signals of the interface that are tested, as a mask.
     pub tested: u64,
-}
-
-impl Cost {
-    /// A statement without its parts, which is judged this often.
-    fn own(judged: u64) -> Cost {
-        Cost {
-            judged,
-            swept: 1,
-            restarted: 1,
-            tested: 0,
-        }
-    }
-
-    /// Both together.
-    fn and(self, other: Cost) -> Cost {
-        Cost {
-            judged: self.judged.saturating_add(other.judged),
-            swept: self.swept.saturating_add(other.swept),
-            restarted: self.restarted.saturating_add(other.restarted),
-            tested: mask::either(self.tested, other.tested),
-        }
-    }
-
-    /// The body of a loop, and its restart.
-    fn looped(self) -> Cost {
-        Cost {
-            swept: self.swept.saturating_add(self.restarted),
-            ..self
-        }
-    }
-
-    /// The same, with these signals tested too.
-    fn testing(self, signals: u64) -> Cost {
-        Cost {
-            tested: mask::either(self.tested, signals),
-            ..self
-        }
-    }
 }
 
 /// The signal, if it is one of the interface.
@@ -88,22 +48,38 @@ fn tested_by_operands(operands: &Operands) -> u64 {
     signals
 }
 
-/// What counts of a statement that the plain engine judges this often in one pass. Recursion is as
-/// deep as the statement is.
-pub fn cost_of(statement: &Statement, judged: u64) -> Cost {
-    let own = Cost::own(judged);
+/// Adds a statement that is judged and swept this often. Recursion is as deep as the statement is.
+fn add(cost: &mut Cost, statement: &Statement, judged: u64, swept: u64) {
+    cost.judged = cost.judged.saturating_add(judged);
+    cost.swept = cost.swept.saturating_add(swept);
     match statement {
-        Statement::Nothing | Statement::Pause(_) | Statement::Emit(_) | Statement::Exit(_) => own,
+        Statement::Nothing | Statement::Pause(_) | Statement::Emit(_) | Statement::Exit(_) => {}
         Statement::Present(t, p, q) => {
-            let parts = cost_of(p, judged).and(cost_of(q, judged));
-            own.and(parts).testing(tested_by(t))
+            cost.tested = mask::either(cost.tested, tested_by(t));
+            add(cost, p, judged, swept);
+            add(cost, q, judged, swept);
         }
         Statement::Seq(p, q) | Statement::Par(p, q) => {
-            own.and(cost_of(p, judged)).and(cost_of(q, judged))
+            add(cost, p, judged, swept);
+            add(cost, q, judged, swept);
         }
-        Statement::Suspend(t, p) => own.and(cost_of(p, judged)).testing(tested_by(t)),
-        Statement::Loop(p) => own.and(cost_of(p, judged).looped()),
-        Statement::Trap(p) => own.and(cost_of(p, judged)),
-        Statement::Local(_, p) => own.and(cost_of(p, judged.saturating_mul(2))),
+        Statement::Suspend(t, p) => {
+            cost.tested = mask::either(cost.tested, tested_by(t));
+            add(cost, p, judged, swept);
+        }
+        Statement::Loop(p) => add(cost, p, judged, swept.saturating_add(1)),
+        Statement::Trap(p) => add(cost, p, judged, swept),
+        Statement::Local(_, p) => add(cost, p, judged.saturating_mul(2), swept),
     }
+}
+
+/// What counts of a statement.
+pub fn cost_of(statement: &Statement) -> Cost {
+    let mut cost = Cost {
+        judged: 0,
+        swept: 0,
+        tested: 0,
+    };
+    add(&mut cost, statement, 1, 1);
+    cost
 }

@@ -29,7 +29,7 @@ fn most_passes(outputs: u64, tested: u64) -> u64 {
 
 /// Whether the microstep engine is the faster one for a kernel, by what both cost, about.
 fn sweeps_are_faster(kernel: &Kernel) -> bool {
-    let cost = cost_of(kernel.root(), 1);
+    let cost = cost_of(kernel.root());
     let passes = most_passes(kernel.interface().emittable(), cost.tested);
     let plain = cost.judged.saturating_mul(passes).saturating_mul(JUDGED);
     cost.swept.saturating_mul(SWEPT) < plain
