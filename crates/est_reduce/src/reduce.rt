@@ -31,11 +31,11 @@ fn copied(alloc: Global, interface: &Interface) -> Result<Interface, AllocError>
 /// A term past a limit is `TooLarge`, with the first limit that it passes, statements before the
 /// others. Else a term with a loop that takes no time is `InstantLoop`. The kernel statements are
 /// counted before any is built, so no term over the limit is ever built, and recursion over the
-/// body and the term is at most 2,048 levels deep.
+/// body and the term is at most 2,050 levels deep.
 pub fn reduce(alloc: Global, flat: &Flat) -> Result<Kernel, ReduceFault>
     ensures { Reduces flat.now.interface (body_of flat.now.body) result }
 {
-    if room_after(&flat.body, MOST_STATEMENTS as u32).is_none() {
+    if room_after(&flat.body, MOST_STATEMENTS as u32 + 1) == 0 {
         return Err(ReduceFault::TooLarge(Limit::Statements));
     }
     let interface = copied(alloc, &flat.interface)?;

@@ -5,12 +5,14 @@ use Rattle.est_reduce.specs.Views.{body_of}
 use Rattle.est_reduce.proofs.Reduced.{closed_term, small_term, too_many, fault_is}
 use Rattle.est_reduce.proofs.reduce.reduce.Goals as goal
 
-pub returns-then-is_none : goal.returns-then-is_none
-returns-then-is_none c = too_many (body_of c.args.flat.now.body) (search rules)
+pub returns-then-room_after-eq0 : goal.returns-then-room_after-eq0
+returns-then-room_after-eq0 c =
+    too_many (body_of c.args.flat.now.body) (omega (arith, c.room_after.ensures, c.if-room_after-eq0.true))
 
 pub statement-requires-clause-small : goal.statement-requires-clause-small
 statement-requires-clause-small c =
-    let few : reduced_statements (body_of c.args.flat.now.body) ≤ 2048 = search (rules, arith) in
+    let few : reduced_statements (body_of c.args.flat.now.body) ≤ 2048 =
+    omega (arith, c.room_after.ensures, c.if-room_after-eq0.false) in
     small_term c.args.flat.now.interface (body_of c.args.flat.now.body) c.in_ok-interface.ensures.bound few
     c.args.flat.now.bound
 
