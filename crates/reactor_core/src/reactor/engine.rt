@@ -19,6 +19,10 @@ const JUDGED: u64 = 2;
 /// measured over whole modules (docs/BENCH.md, "Two engines").
 const SWEPT: u64 = 3;
 
+/// A module of which the plain engine judges fewer statements than this in a pass has that engine:
+/// both take about as long there, and its load makes no table.
+const FEW: u64 = 20;
+
 /// How many passes the plain engine makes in an instant, at most: two rounds, one more for each
 /// output that is tested, but no more rounds than there are outputs; and then the step.
 fn most_passes(outputs: u64, tested: u64) -> u64 {
@@ -30,6 +34,9 @@ fn most_passes(outputs: u64, tested: u64) -> u64 {
 /// Whether the microstep engine is the faster one for a kernel, by what both cost, about.
 fn sweeps_are_faster(kernel: &Kernel) -> bool {
     let cost = cost_of(kernel.root());
+    if cost.judged < FEW {
+        return false;
+    }
     let passes = most_passes(kernel.interface().emittable(), cost.tested);
     let plain = cost.judged.saturating_mul(passes).saturating_mul(JUDGED);
     cost.swept.saturating_mul(SWEPT) < plain
