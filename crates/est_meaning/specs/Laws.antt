@@ -98,8 +98,8 @@ known_after n j inputs t = env_after n j t (first_env j inputs)
 
 -- Rounds come to rest. Why care: an instant takes a bounded number of rounds, and an output that is called undecided is
 -- one that no further look at the program would decide. From the first environment on, no round takes back what was
--- decided. After as many rounds as there are judged signals, nothing changes. The signals that are judged of an
--- interface may be judged so
+-- decided. After as many rounds as there are judged signals, nothing changes. The judged signals of an interface have
+-- places in it, which is what the other parts ask for
 pub record RoundsComeToRest : Type 0 where
   pub learns : (j : JudgedSignals) (inputs : ℕ → Bool) (t : Term) (n : ℕ)
       → KnowsLess (known_after n j inputs t) (known_after (suc n) j inputs t)
