@@ -73,7 +73,8 @@ fn main(rt: HostRuntime) -> Result<()> {
             let text = io::read_to_string(rt.alloc(), rt.reader())?;
             work(&rt, word.as_str(), number(count.as_str())?, text.as_str())
         }
-        _ => {
+        (Some(word), None, _) => bail!("{word} takes a count"),
+        (None, ..) => {
             let text = io::read_to_string(rt.alloc(), rt.reader())?;
             for line in text.as_str().lines() {
                 work_line(&rt, line)?;

@@ -139,7 +139,7 @@ fn add_users(alloc: Global, policy: &mut Policy) -> Result<()> {
     Ok(())
 }
 
-/// Nobody holds root's role and two of the lowest at once.
+/// Nobody holds root's role, a lowest role and one of the level above it, all three at once.
 fn add_sets(alloc: Global, policy: &mut Policy) -> Result<()> {
     for number in 0..SETS {
         let lowest = role(alloc, LEVELS - 1, number)?;

@@ -2,8 +2,9 @@
 //!
 //! A check is asked of each place of a body in the order of the text, and answers the first that
 //! has its fault (`place_check`). `check_library` asks all of them in their order, before any run
-//! is replaced, so that a library costs no more than its text. `specs/FirstFaults` says which fault
-//! is the first; `laws`, that there is only one.
+//! is replaced by the module that it runs: so its time depends on the text, and not on what the
+//! text would be with all runs replaced. `specs/FirstFaults` says which fault is the first; `laws`,
+//! that there is only one.
 #![tactic(auto)]
 
 pub mod around_order;

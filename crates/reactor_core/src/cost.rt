@@ -8,7 +8,8 @@ use est_kernel::statement::{Operands, Signal, Statement, Test};
 #[derive(Clone, Copy)]
 pub struct Cost {
     /// How many statements the plain engine judges in one pass. A local signal's body is judged
-    /// twice, so a statement inside n of them counts 2^n.
+    /// twice, so a statement inside n of them counts 2^n. That the body of a loop which starts
+    /// again is judged once more, is not counted.
     pub judged: u64,
     /// How many statements the microstep engine sweeps. Inside d loops a statement counts d + 1:
     /// the restart of each of them has cells of its own.

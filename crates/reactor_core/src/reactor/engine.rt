@@ -31,7 +31,8 @@ fn most_passes(outputs: u64, tested: u64) -> u64 {
     rounds.saturating_add(2).min(most).saturating_add(1)
 }
 
-/// Whether the microstep engine is the faster one for a kernel, by what both cost, about.
+/// Whether a kernel gets the microstep engine: where the plain engine judges more than a few
+/// statements, and the other is the faster one by what both cost, about.
 fn sweeps_are_faster(kernel: &Kernel) -> bool {
     let cost = cost_of(kernel.root());
     if cost.judged < FEW {
