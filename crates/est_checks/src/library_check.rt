@@ -90,7 +90,7 @@ fn check_runs(alloc: Global, heads: &Heads<'_>, main: &Identifier) -> Result<Ord
 }
 
 /// All checks of a library in their order: the name of its main module, and the order of its
-/// modules, each after those that it runs, exactly where no check has a fault.
+/// modules, each after those that it runs, exactly when no check has a fault.
 ///
 /// # Errors
 ///

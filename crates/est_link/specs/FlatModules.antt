@@ -30,7 +30,7 @@ pub record IsFlatOf (ps : List Program) (main : List ℕ) (flat : FlatModule) : 
 abbrev pub flat_of : Flat → FlatModule
 flat_of f = record { interface = f.interface; relations = f.relations; body = body_of f.body }
 
--- what linking answers: the flat main module exactly where no check has a fault, and else the first fault
+-- what linking answers: the flat main module exactly when no check has a fault, and else the first fault
 pub record IsLinkOf (library : LibraryTree) (main : List ℕ) (answer : Result Flat LinkFault) : Type 0 where
   pub first : Finds (IsFirstFault (programs_of library) main) answer
   pub flat : IfOk answer (λ f. IsFlatOf (programs_of library) main (flat_of f))

@@ -1,7 +1,7 @@
 //! The microstep engine: it reacts by deciding the cells of a table, each once, until nothing more
 //! can be decided.
 //!
-//! `Micro` keeps the promise of every engine, for the kernel of its table: an outcome exactly where
+//! `Micro` keeps the promise of every engine, for the kernel of its table: an outcome exactly when
 //! there is a reaction, and else exactly the undecided outputs. After an outcome each cell is
 //! decided, with its value in the reaction. A run takes no memory.
 //!

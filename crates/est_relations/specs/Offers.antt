@@ -124,7 +124,7 @@ OfferAnswer before name answer after =
     (λ refusal. (answer ≡ Err refusal) × (after ≡ before))
     ((answer ≡ Ok (record {})) × Adds before name after)
 
--- the answer to whether an instant may take the pending inputs: it may exactly where they are lawful
+-- the answer to whether an instant may take the pending inputs: it may exactly when they are lawful
 abbrev pub ReadyAnswer : PendingInputs → Result (Unit {0}) Refusal → Type 0
 ReadyAnswer p answer =
     Answers (ready_rules p)

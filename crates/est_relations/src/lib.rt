@@ -3,7 +3,7 @@
 //!
 //! It promises that the pending inputs keep each exclusion at all times; that the first cause, in
 //! the order in which they are written down, refuses an offer, and nothing else does; and that an
-//! instant may take the pending inputs exactly where they keep each implication too. What is
+//! instant may take the pending inputs exactly when they keep each implication too. What is
 //! pending takes no memory.
 #![tactic(auto)]
 

@@ -137,7 +137,7 @@ impl<'a> Pending<'a> {
         }
     }
 
-    /// Whether an instant may take the pending inputs: it may exactly where each relation holds of
+    /// Whether an instant may take the pending inputs: it may exactly when each relation holds of
     /// them. The first relation that does not hold refuses it; that is an implication.
     pub fn ready(&self) -> Result<(), Refusal>
         ensures { ReadyAnswer self.now result }

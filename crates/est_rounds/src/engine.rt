@@ -13,7 +13,7 @@ pub trait Engine {
     /// The engine is for this kernel.
     ghost is_for: { Self → KernelValue → Type 0 };
 
-    /// Reacts to the inputs of an instant. It answers the outputs and the next state exactly where
+    /// Reacts to the inputs of an instant. It answers the outputs and the next state exactly when
     /// the kernel has a reaction from this state, and else which outputs are undecided. The engine
     /// stays one for the kernel.
     fn react(&mut self, kernel: &Kernel, state: &State, inputs: &Inputs) -> Result<Outcome, Stuck>
