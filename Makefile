@@ -71,7 +71,6 @@ documents:
 
 test:
 	python3 tests/documents.py
-	$(MAKE) --no-print-directory examples
 	python3 scripts/trial.py sh -c 'clients/tests/run && tests/socket/run && tests/journals/walk && tests/gateway/run && tests/hostile/run && tests/faults/run'
 	python3 tests/journals/run
 	python3 tests/must-not-compile/run
