@@ -108,8 +108,8 @@ fn decide_edge(alloc: Global, policy: &Policy, repetitions: u32) -> Result<u64> 
     count_decided(policy, &there, repetitions)
 }
 
-/// Asks the policy of the office as often as that, and prints how many of the questions were answered yes,
-/// or how many of the commands were accepted:
+/// Asks the policy of the office as often as `count` says, and prints how many of the questions
+/// were answered yes, or how many of the commands were accepted:
 ///
 /// - `held`, `not-held`: whether a session may do what a role four levels below its own may do, or
 ///   a role that is not below its own; `no-session`: whether one may that does not live;
