@@ -108,7 +108,7 @@ fn decide_edge(alloc: Global, policy: &Policy, repetitions: u32) -> Result<u64> 
     count_decided(policy, &there, repetitions)
 }
 
-/// Asks the policy of the office as often as `count` says, and prints how many of the questions
+/// Asks the policy of the office `repetitions` times, and prints how many of the questions
 /// were answered yes, or how many of the commands were accepted:
 ///
 /// - `held`, `not-held`: whether a session may do what a role four levels below its own may do, or
