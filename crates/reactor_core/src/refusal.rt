@@ -84,7 +84,7 @@ pub enum ModuleRefusal {
     Pending(PendingRefusal),
     /// There is no instant of this number.
     NoInstant,
-    /// Here begins no token.
+    /// The first place where no blank, comment or token can stand.
     Lexical(Place),
     /// The first token with which the tokens so far begin no library.
     Syntax(Place),

@@ -94,7 +94,7 @@ const GROUPS: [(usize, &str, Answer); 9] = [
     // A fault before the unit too many, and one after it.
     (128, "; [pause", Syntax(1, 139)),
     (129, ";", TooLarge(1, 139)),
-    // A place where no token stands goes before both.
+    // A lexical fault goes before both.
     (129, "?", Lexical(1, 140)),
     // A unit that is closed does not count, but those around it do.
     (127, "[pause]; [pause] || [pause; [pause", TooLarge(1, 166)),
