@@ -27,8 +27,8 @@ module _ {B : Type 0} where
     pub answered : answer ≡ Err refusal
     pub stays : after ≡ before
 
-  -- the entry, and no other, is put at the end of the list. The answer is its receipt, with the list that ends with it,
-  -- and with the session that it makes
+  -- the entry, and no other, is put at the end of the list. The answer is its `Receipt`: the entry, the list that ends
+  -- with it, and the session that it makes
   pub record IsPublished (entry : Entry) (before : List Entry) (answer : Result (Receipt B) Refusal)
       (after : List Entry) : Type 0 where
     pub receipt : Receipt B
@@ -51,8 +51,8 @@ abbrev pub seat_after : SeatState → List Entry → SeatState
 seat_after old list = record old { known = list; seen = max old.seen (length list) }
 
 module _ {B : Type 0} where
-  -- the receipt that is kept of a policy command with this answer, which leaves this list: of an accepted one its
-  -- entry, and the version of the policy with it
+  -- what the seat keeps of a policy command with this answer, which leaves this list: of an accepted one a `Kept` of
+  -- its entry, and of the version of the policy with it
   abbrev pub admin_receipt : (answer : Result (Receipt B) Refusal) → (after : List Entry) → List Kept
   admin_receipt (Ok receipt) after = Admin (length after) receipt.entry ∷ []
   admin_receipt (Err refusal) after = []

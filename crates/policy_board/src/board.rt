@@ -39,7 +39,7 @@ impl<B: BoardName> Board<B> {
 
     /// Answers a policy command, which this session gives, on the list as it is under the admin
     /// lock: `before`. It waits for that lock, and for reads that still have the older policy. The
-    /// seat keeps the receipt of an accepted one.
+    /// seat keeps a receipt (`Kept`) of an accepted one; the answer, a `Receipt`, is another value.
     ///
     /// # Errors
     ///

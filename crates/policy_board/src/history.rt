@@ -1,4 +1,8 @@
 //! The one list of accepted entries, which exists in the proofs alone, and what was seen of it.
+//!
+//! What runs is one atomic word, the length of the list (`Head`), and a count in each `Front`.
+//! `Seen`, `Offer` and `pen` are tokens of the kit's `logbook` without any content: by them the
+//! proofs know the entries.
 ghost use Rattle.std.specs.Prelude.{◌≡◌, [], ◌<◌, ◌≤◌, ◌==◌, ◌^◌, ◌++◌, ◌∷◌, length, MatchBool};
 ghost use Rattle.std.specs.Prelude.{IfSome, IsTrue};
 ghost use Rattle.rbac_policy.specs.Opening.{opening_entries};

@@ -55,8 +55,8 @@ fn put_back<T>(place: &mut Option<T>, value: T)
     }
 }
 
-// Three copies of the entry: one is published, one goes into the answer, and one into the receipt
-// that the seat keeps.
+// Three copies of the entry: one is published, one goes into the `Receipt` that is answered, and
+// one into the `Kept` that stays with the seat.
 fn copies(entry: &Entry) -> Result<(Entry, Entry, Entry), AllocError>
     ensures { IfOk result (λ all. (all.0 ≡ entry.now) × (all.1 ≡ entry.now) × (all.2 ≡ entry.now)) }
 {
@@ -90,8 +90,9 @@ impl<B: BoardName> LockedPolicy<B> {
         }
     }
 
-    // Publishes the entry, and has the seat keep its receipt. Every refusal but Memory was asked
-    // before. All memory is taken first, so that nothing is refused once the entry is published.
+    // Publishes the entry and answers its `Receipt`; the seat keeps a receipt of its own, a `Kept`.
+    // Every refusal but Memory was asked before. All memory is taken first, so that nothing is
+    // refused once the entry is published.
     fn append<R: Wait>(
         &mut self,
         rt: &R,
@@ -149,7 +150,7 @@ impl<B: BoardName> LockedPolicy<B> {
     }
 
     /// Answers a policy command. An accepted one adds its entry at the end, and publishes it. The
-    /// seat then knows the list, and keeps the receipt of an accepted one.
+    /// seat then knows the list, and keeps a receipt (`Kept`) of an accepted one.
     pub fn admin<R: Wait>(
         &mut self,
         rt: &R,

@@ -20,8 +20,8 @@ use seat_receipts::receipt_list::Receipts;
 use std::alloc::Global;
 use std::marker::Model;
 
-/// What an accepted policy command leaves its caller: its entry, the list that ends with it, and
-/// the session that it made, if it is a login.
+/// What an accepted policy command answers its caller: its entry, the list that ends with it, and
+/// the session that it made, if it is a login. What the seat keeps of the call is a `Kept`.
 #[derive(Drop)]
 pub struct Receipt<B: BoardName> {
     pub(crate) entry: Entry,
@@ -216,7 +216,7 @@ impl<B: BoardName> Seat<B> {
         self.known = list.again();
     }
 
-    /// Learns of the receipt's list: from now on it is answered for no shorter one.
+    /// Learns of the list of an answer: from now on it is answered for no shorter one.
     pub fn learn(&mut self, receipt: Receipt<B>)
         ensures before { Begins self.old.known self.new.known }
         ensures told { Begins receipt.list self.new.known }
