@@ -52,7 +52,8 @@ fn count_decided(policy: &Policy, command: &AdminCommand, repetitions: u32) -> R
     Ok(count)
 }
 
-/// Asks a session of an upper role, or one that does not live, for the pair of this number.
+/// Asks whether a session of an upper role, or one that doesn't live, may do the pair of this
+/// number.
 fn check(
     alloc: Global,
     policy: &Policy,

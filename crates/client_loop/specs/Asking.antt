@@ -1,4 +1,4 @@
--- What is asked of a desk, and what the desk of one server answers (this project's own form).
+-- What is asked of a desk, and what the desk of one client answers (this project's own form).
 use Rattle.std.specs.Prelude.{◌≡◌, ◌↔◌, ℕ, Option, Bool, IsTrue}
 use Rattle.rbac_policy.specs.declared.commands.AdminCommand.{AdminCommand}
 use Rattle.rbac_policy.specs.declared.objects.Operation.{Operation}
@@ -27,7 +27,7 @@ pub record IsChecked (session : ℕ) (operation : Operation) (object : Object) (
   pub may : IsTrue allowed ↔ May before.entries session operation object
   pub stays : after ≡ before
 
--- what one server's desk answers to what it is asked, and the desk afterwards
+-- what the desk of one client answers to what it is asked, and the desk afterwards
 abbrev pub DeskAnswers : (before : DeskState) → Ask → Reply → (after : DeskState) → Type 0
 DeskAnswers before (to_policy session command) given after = AdminStep session command before given after
 DeskAnswers before (to_slot session number command) given after = DeskStep number session command before given after

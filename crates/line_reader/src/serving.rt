@@ -187,7 +187,7 @@ pub fn answer_connection<R: Read, W: Write, D, A: Answerer<D>>(
     desk: &mut D,
     refusal: &[u8],
 ) -> Why
-    // or the allocator refused the buffers
+    // Serves, or (the second half) the allocator refused the buffers.
     ensures serves { Serves A.tells A.fails refusal.now
         (between (R.remaining reader.old.device) (answerer.old, desk.old))
         result (answerer.new, desk.new) (W.contents writer.old.device)

@@ -19,7 +19,7 @@ use Rattle.command_line.specs.declared.order.Order.{Order}
 use Rattle.command_line.specs.declared.order.Order.TheVariants.{Script, Serve}
 use Rattle.clap.specs.Words.{Text}
 
--- one connection is served over a new desk, for this reason it ends, and none of its logins is held any more
+-- one connection is served over a new desk, it ends for this reason, and none of its logins is held any more
 pub record ServesOne (refused : Bool) (ahead : Option (List ℕ)) (why : Why)
     (written after : Option (List ℕ)) : Type 0 where
   pub desk : DeskState

@@ -42,7 +42,7 @@ pub struct Session {
 pub struct DsdSet {
     /// Its name.
     pub name: Name,
-    /// How many of its roles no session may hold.
+    /// In one session, fewer of its roles than this may be active or below an active one.
     pub count: u64,
     /// Its roles.
     pub roles: RoleSet,

@@ -166,8 +166,8 @@ fn check(reader: &mut Reader<'_>) -> Option<Request>
     Some(Request::Check { operation, object })
 }
 
-/// Tries the words on assignments, permissions and the order of roles. Any other word is no
-/// command.
+/// Tries the words on assignments, grants and edges: the relations of the policy, which are not
+/// those of a module. Any other word is no command.
 #[tactic(auto, unfolding(crate::specs::Inner::Commands::request_of, crate::specs::Inner::Commands::relation_rows))]
 fn relation(reader: &mut Reader<'_>, word: &str) -> Option<AdminCommand>
     ensures { option_map Policy result ≡ request_in relation_rows word.now reader.old }

@@ -194,7 +194,7 @@ pub(crate) fn take_roles(
     }
 }
 
-/// Takes the brace that ends the object, and the text with it.
+/// Takes the last brace, after which the text has to end.
 #[tactic(auto, unfolding(crate::specs::Inner::Members::ends))]
 pub(crate) fn take_end(reader: &mut Reader<'_>) -> Option<()>
     ensures { result ≡ ends reader.old }

@@ -68,7 +68,7 @@ request_of object_operation tokens =
 abbrev pub Row : Type 0
 Row = List ℕ × Shape
 
--- the commands on who has which role, on permissions and on the order of roles
+-- the commands on assignments, grants and edges: the relations of the policy, which are not those of a module
 unfoldable pub relation_rows : List Row
 relation_rows =
     (codes "assign", two_names (codes "role") (codes "user") (λ role user. AssignUser user role))
@@ -83,7 +83,7 @@ relation_rows =
     ∷ (codes "revoke", permission (λ on operation role. RevokePermission role operation on))
     ∷ []
 
--- the commands that add or delete a user or a role, and those on their relations
+-- the commands that add or delete a user or a role, and those on assignments, grants and edges
 unfoldable pub user_or_role_rows : List Row
 user_or_role_rows =
     (codes "adduser", one_name (codes "user") AddUser) ∷ (codes "deluser", one_name (codes "user") DeleteUser)
