@@ -1,4 +1,4 @@
--- How a slot holds its journal.
+-- How a slot holds its journal (this project's own form).
 use Rattle.std.specs.Prelude.{◌≡◌, List, true, false}
 use Rattle.reactor_core.specs.declared.entry.SlotEntry.{SlotEntry}
 use Rattle.reactor_core.specs.Meaning.{is_loaded}

@@ -1,4 +1,4 @@
--- What a command on a slot needs of the session that gives it.
+-- What a command on a slot needs of the session that gives it (this project's own form).
 use Rattle.std.specs.Prelude.{ℕ, List, Option, Some, None}
 use Rattle.rbac_policy.specs.declared.commands.Entry.{Entry}
 use Rattle.rbac_policy.specs.declared.objects.Operation.TheVariants.{Offer as ToOffer, Step as ToStep, Load as ToLoad}

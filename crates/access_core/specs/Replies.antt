@@ -1,4 +1,4 @@
--- The words of replies.
+-- The words of replies (this project's own form).
 use Rattle.std.specs.Prelude.{ℕ, List, codes}
 use Rattle.access_core.specs.declared.reply.Change.{Change}
 use Rattle.access_core.specs.declared.reply.Change.TheVariants as change

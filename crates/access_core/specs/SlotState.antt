@@ -1,4 +1,4 @@
--- What a contract sees of a slot.
+-- What a contract sees of a slot (this project's own form).
 use Rattle.std.specs.Prelude.{ℕ, List}
 use Rattle.reactor_core.specs.declared.entry.SlotEntry.{SlotEntry}
 

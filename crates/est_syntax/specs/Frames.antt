@@ -1,4 +1,4 @@
--- What stands around the statement of a unit; for private clauses.
+-- What stands around the statement of a unit; for private clauses (this project's own form).
 use Rattle.std.specs.Prelude.{◌≡◌, ℕ, ◌≤◌, suc, max, length, List, [], ◌∷◌, ◌++◌, Bool, true, false, Option, Some, None}
 use Rattle.est_text.specs.declared.token.Token.{Token}
 use Rattle.est_text.specs.declared.token.Token.TheVariants.{Keyword, Identifier, Symbol}

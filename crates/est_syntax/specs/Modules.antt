@@ -1,4 +1,4 @@
--- What was read of modules; for private clauses.
+-- What was read of modules; for private clauses (this project's own form).
 use Rattle.std.specs.Prelude.{◌≡◌, ◌≤◌, length, List, [], ◌∷◌}
 use Rattle.est_text.specs.declared.token.Token.{Token}
 use Rattle.est_text.specs.declared.token.Token.TheVariants.{Keyword}

@@ -1,4 +1,4 @@
--- What a function of the parser has read; for private clauses.
+-- What a function of the parser has read; for private clauses (this project's own form).
 use Rattle.std.specs.Prelude.{◌≡◌, ℕ, ◌+◌, ◌≤◌, length, List, [], ◌∷◌, ◌++◌, Bool, true, false, Option, Some, None, ◌<◌}
 use Rattle.est_text.specs.declared.token.Token.{Token}
 use Rattle.est_syntax.specs.declared.fault.Fault.{Fault}

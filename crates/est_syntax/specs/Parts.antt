@@ -1,4 +1,5 @@
--- Parts of a statement that the parser has read, and what is wanted at the ends of units; for private clauses.
+-- Parts of a statement that the parser has read, and what is wanted at the ends of units; for private clauses (this
+-- project's own form).
 use Rattle.std.specs.Prelude.{◌≡◌, List, [], ◌∷◌, ◌++◌, Bool, Some, None, ℕ, map}
 use Rattle.est_text.specs.declared.token.Token.{Token}
 use Rattle.est_text.specs.declared.token.Token.TheVariants.{Keyword, Symbol}

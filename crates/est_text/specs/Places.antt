@@ -1,4 +1,4 @@
--- Lines and columns of a text.
+-- Lines and columns of a text (this project's own form).
 use Rattle.std.specs.Prelude.{ℕ, ◌+◌, List, if◌then◌else◌, ◌==◌, fold}
 use Rattle.est_text.specs.Bytes.{line_feed}
 use Rattle.est_text.specs.declared.place.Place.{Place}

@@ -1,4 +1,5 @@
--- The policy step: for each command the rules of refusal in their order, and the entry where all of them let pass.
+-- The policy step: for each command the rules of refusal in their order, and the entry where all of them let pass
+-- (this project's own form).
 use Rattle.std.specs.Prelude.{◌≡◌, ℕ, if◌then◌else◌, List, [], ◌∷◌, ◌++◌, Option, None, Result, Ok, Err, Contains}
 use Rattle.refusal_rules.specs.Rules.{Rule, Rules, Says, Unless, Naming, accept, ◌▸◌, ◌▸▸◌, Answers}
 use Rattle.rbac_policy.specs.declared.objects.Operation.TheVariants.{Administer}

@@ -1,4 +1,5 @@
--- What a reactor answers: the reply to each command on a journal, and the journal afterwards.
+-- What a reactor answers: the reply to each command on a journal, and the journal afterwards (this project's own
+-- form).
 use Rattle.std.specs.Prelude.{◌≡◌, ◌⊎◌, ℕ, ◌-◌, ◌<◌, ◌≤◌, List, [], ◌∷◌, ◌++◌, length, Some, Result, Ok, Err}
 use Rattle.std.specs.Prelude.{MatchResult, slice_get, bit_or, bit_and}
 use Rattle.est_relations.specs.Offers.{offer_rules as pending_rules}

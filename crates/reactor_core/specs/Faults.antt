@@ -1,5 +1,5 @@
 -- The refusals that the faults of a load's stages are: of cutting, of the grammar, of linking and of reduction; and
--- those of pending inputs.
+-- those of pending inputs (this project's own form).
 use Rattle.std.specs.Prelude.{ℕ, List}
 use Rattle.est_kernel.specs.declared.limits.Limit.{Limit as KernelLimit}
 use Rattle.est_kernel.specs.declared.limits.Limit.TheVariants as kernel

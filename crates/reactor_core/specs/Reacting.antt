@@ -1,4 +1,4 @@
--- The reaction of a module's term, over sets of interface signals as masks.
+-- The reaction of a module's term, over sets of interface signals as masks (this project's own form).
 use Rattle.std.specs.Prelude.{◌≡◌, ℕ, List}
 use Rattle.est_kernel.specs.Bits.{bits}
 use Rattle.est_kernel.specs.Term.{Term}

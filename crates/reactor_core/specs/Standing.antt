@@ -1,4 +1,4 @@
--- What the parts of a reactor have to do with its journal: private to its invariant.
+-- What the parts of a reactor have to do with its journal: private to its invariant (this project's own form).
 use Rattle.std.specs.Prelude.{◌≡◌, ℕ, List, Some, Ok, Err}
 use Rattle.est_kernel.specs.View.{term_of}
 use Rattle.est_kernel.specs.declared.state.Outcome.{Outcome}

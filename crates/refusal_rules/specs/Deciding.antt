@@ -1,4 +1,4 @@
--- Rules whose facts are tests: what the answer by them is, in a word.
+-- Rules whose facts are tests: what the answer by them is, in a word (this project's own form).
 use Rattle.std.specs.Prelude.{Bool, true, false, IsTrue, List, [], ◌∷◌, Result, Ok, Err}
 use Rattle.refusal_rules.specs.Rules.{Rules, Says, accept, ◌▸◌}
 
