@@ -1,4 +1,4 @@
--- The first fault of a library, in the order of its checks (this project's own form).
+-- The faults of the checks before and after the order of the modules, in their order (this project's own form).
 use Rattle.std.specs.Prelude.{ℕ, List, Bool, if◌then◌else◌, Option, Some, None, option_map}
 use Rattle.std.specs.Option.{option_or}
 use Rattle.est_text.specs.Identifiers.{is_identifier}

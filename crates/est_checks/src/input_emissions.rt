@@ -120,8 +120,8 @@ fn binds_input(
         && check.table.emits(name, &renaming.inner))
 }
 
-/// The same name, found among the names that were kept: where no renaming is at fault, a run is
-/// refused for those that it does not rename.
+/// The same name, found among the kept names of the module that is run: where no renaming is at
+/// fault, a run is refused for the first of these that it doesn't rename.
 fn refused_of(
     check: &EmitInput<'_, '_, '_, '_>,
     kept: &OpenNames<'_, '_, '_>,

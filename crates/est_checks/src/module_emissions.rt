@@ -53,7 +53,7 @@ fn note_number(
     }
 }
 
-/// The same of each name that is kept of the module.
+/// The same of each kept name of the module.
 fn note_numbers(
     noted: &mut Vec<bool>,
     kept: &OpenNames<'_, '_, '_>,
@@ -101,8 +101,8 @@ fn note_open(
     }
 }
 
-/// Notes what a run of a module emits by itself. Where the names that the module emits are kept,
-/// that takes one look-up in a row for each.
+/// Notes what a run of a module emits by itself. Where the module has kept names, which are those
+/// that it emits, that takes one look-up in a row for each.
 fn note_names(
     noted: &mut Vec<bool>,
     sent: &Sent<'_, '_, '_, '_, '_>,

@@ -1,4 +1,4 @@
-//! Names that are kept of the modules that a module runs.
+//! How the kept names are chosen of the modules that a module runs.
 ghost use Rattle.std.specs.Prelude.{OnOk, IfOk, map};
 ghost use Rattle.est_modules.specs.FirstPlaces.{AreFirstPlaces};
 ghost use Rattle.est_modules.specs.OpenNames.{AreKept};
@@ -13,7 +13,7 @@ use est_modules::name_table::NameTable;
 use est_text::identifier::Identifier;
 use std::alloc::{AllocError, Global};
 
-/// Which names are kept of a module that is run.
+/// Which of its interface names are the kept names of a module that is run.
 pub trait Choice {
     ghost use Rattle.std.specs.Prelude.{◌≡◌, ℕ, List, IfOk};
 

@@ -81,9 +81,9 @@ fn unbound_name(
     }
 }
 
-/// The first interface name of a module that is run which is neither renamed nor visible. Only
-/// names that neither the module that runs it nor a `signal` around the run declares are looked at,
-/// if they were kept.
+/// The first interface name of a module that is run which is neither renamed nor visible. If the
+/// module has kept names, only these are looked at, but for those that a `signal` around the run
+/// declares. They lack the names that the module which runs it declares.
 fn unbound_in(
     check: &UnknownName<'_, '_>,
     kept: &OpenNames<'_, '_, '_>,

@@ -14,7 +14,7 @@ use Rattle.est_modules.specs.declared.open_names.OpenNames.{OpenNames}
 abbrev pub AreNumbers : NameTable → List (List ℕ) → List ℕ → Type 0
 AreNumbers t names numbers = map Some numbers ≡ map (number_in t) names
 
--- what is kept of each module are these names of it
+-- the kept names of each module are these names of it
 abbrev pub AreKept : NameTable → (List ℕ → List (List ℕ)) → List Kept → Type 0
 AreKept t base ks = AllByRecursion (λ (k : Kept). AreNumbers t (base k.module_name) k.numbers.items) ks
 
@@ -26,12 +26,12 @@ open_at bs names = filter (λ n. not (is_local bs n)) names
 abbrev pub Tells : NameTable → (List ℕ → Bool) → List Bool → Type 0
 Tells t f row = (s : List ℕ) (i : ℕ) → number_in t s ≡ Some i → slice_get row i ≡ Some (f s)
 
--- the value has this table, and this is kept
+-- the value has this table, and these kept names
 pub record IsSame (o : OpenNames) (t : NameTable) (ks : List Kept) : Type 0 where
   pub table : o.table.now ≡ t
   pub modules : o.modules.now ≡ ks
 
--- what is kept fits, and the names are hidden that a `signal` around the place declares
+-- the kept names fit, and those are hidden that a `signal` around the place declares
 abbrev pub IsOpen : (NameTable → List Kept → Type 0) → List Binder → OpenNames → Type 0
 IsOpen fits bs o = fits o.table.now o.modules.now × IsTable o.table.now × Tells o.table.now (is_local bs) o.hidden.items
 

@@ -1,4 +1,5 @@
-//! Names that are kept of modules.
+//! Kept names: for each module that a module runs, the interface names that a check has to look at
+//! where it is run. A `Choice` of `est_checks` picks them once for each caller.
 ghost use Rattle.std.specs.Prelude.{◌≡◌, ℕ, List, [], IfOk, IfSome, OnOk, option_map, map};
 ghost use Rattle.std.specs.List.{find};
 ghost use Rattle.std.specs.Str.{bytes_eq};
@@ -11,7 +12,7 @@ use est_text::identifier::Identifier;
 use std::alloc::{AllocError, Global};
 use std::marker::Model;
 
-/// The names that are kept of a module.
+/// The kept names of a module.
 #[derive(Drop)]
 pub struct Kept {
     /// The name of the module.
@@ -20,8 +21,8 @@ pub struct Kept {
     pub numbers: Vec<usize>,
 }
 
-/// The names that are kept of modules. A look-up of a module takes as many steps as their count has
-/// digits in binary. A contract sees the list.
+/// The kept names of modules. A look-up of a module takes as many steps as their count has digits
+/// in binary. A contract sees the list.
 #[derive(Drop)]
 pub struct KeptNames<'a> {
     modules: Vec<Kept>,
@@ -59,7 +60,7 @@ impl<'a> KeptNames<'a> {
         KeptNames { modules, places }
     }
 
-    /// What is kept of the module of a name.
+    /// The kept names of the module of a name, if it has some.
     pub fn named(&self, name: &Identifier) -> Option<&Kept>
         ensures { option_map (λ k. k.now) result ≡ find (λ k. bytes_eq k.module_name name.now)
             self.now }
@@ -90,7 +91,7 @@ fn numbers_of(
     Ok(Some(numbers))
 }
 
-/// Keeps names of a module, if each of them has a number.
+/// Keeps names of a module: adds them to the kept names, if each of them has a number.
 ///
 /// # Errors
 ///

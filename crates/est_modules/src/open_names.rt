@@ -21,8 +21,8 @@ use est_syntax::tree::Names;
 use est_text::identifier::Identifier;
 use std::alloc::{AllocError, Global};
 
-/// The names that are kept, at a place: those that a `signal` around it declares are hidden. That
-/// is worked out once for each `signal`, by one look-up for each name that it declares.
+/// The kept names at a place: those that a `signal` around it declares are hidden. That is worked
+/// out once for each `signal`, by one look-up for each name that it declares.
 #[derive(Drop)]
 pub struct OpenNames<'a, 'b, 'c> {
     alloc: Global,
@@ -153,7 +153,7 @@ impl<'a, 'b, 'c> OpenNames<'a, 'b, 'c> {
         is_local(scope, name)
     }
 
-    /// What is kept of the module of a name.
+    /// The kept names of the module of a name, if it has some.
     pub fn named(&self, name: &Identifier) -> Option<&Kept>
         ensures { option_map (λ k. k.now) result ≡ find (λ k. bytes_eq k.module_name name.now)
             self.now.modules.now }
@@ -185,7 +185,7 @@ impl<'a, 'b, 'c> OpenNames<'a, 'b, 'c> {
             .find(|number| self.is_left(renamings, **number))
     }
 
-    /// The first of the names that are kept of a module which is neither hidden nor renamed.
+    /// The first of the kept names of a module which is neither hidden nor renamed.
     pub fn first_left(&self, kept: &Kept, renamings: &RunRenamings<'_>) -> Option<Identifier>
         ensures { (names : List (List ℕ)) (bs : List Binder) → IsTable self.now.table.now
             → Tells self.now.table.now (is_local bs) self.now.hidden.items

@@ -25,7 +25,7 @@ pub trait Visitor {
     /// What is known after an occurrence, from what was known before it.
     ghost after: { Self → State → Occurrence → State };
 
-    /// What is known of the names that the walk keeps.
+    /// What is known of the kept names, which the walk has at each place.
     ghost fits: { Self → NameTable → List Kept → Type 0 };
 
     /// Learns from an occurrence.

@@ -179,12 +179,12 @@ fn walk_statement<V: Visitor>(
     Ok(())
 }
 
-/// Visits the places of the body of a module, in the order of the text. The names that the visitor
-/// keeps of modules are told as they are outermost, and followed into each `signal`.
+/// Visits the places of the body of a module, in the order of the text. The kept names are given as
+/// they are outermost, where none is hidden, and are followed into each `signal`.
 ///
 /// # Errors
 ///
-/// What a visit answers, or `AllocError` where memory is refused for the names that are kept.
+/// What a visit answers, or `AllocError` where memory is refused for the kept names.
 #[tactic(auto, using(crate::proofs::Passing::passed_fold))]
 pub fn walk_body<V: Visitor>(
     visitor: &V,

@@ -1,4 +1,4 @@
--- What is kept of the modules that a module runs is what they emit (this project's own form).
+-- The kept names of the modules that a module runs are those that they emit (this project's own form).
 use Rattle.std.specs.Prelude.{◌≡◌, List, map}
 use Rattle.est_modules.specs.Modules.{program_of}
 use Rattle.est_modules.specs.OpenNames.{AreKept}
@@ -8,6 +8,6 @@ use Rattle.est_checks.specs.Emissions.{emitted_of}
 use Rattle.est_checks.specs.Inner.Emitted.{sent_by}
 use Rattle.est_checks.specs.declared.module_emissions.Sent.{Sent}
 
--- the names are those of the table, and what is kept of each module is what it emits
+-- the names are those of the table, and the kept names of each module are those that it emits
 abbrev pub Keeps : Sent → NameTable → List Kept → Type 0
 Keeps v t ks = (t ≡ v.names.now) × AreKept t (sent_by (map program_of v.heads.now) (emitted_of v.table.now)) ks

@@ -1,4 +1,5 @@
--- What is kept of the modules that a module runs, for the check of names that aren't visible (this project's own form).
+-- The kept names of the modules that a module runs, for the check of names that aren't visible (this project's own
+-- form).
 use Rattle.std.specs.Prelude.{List, map}
 use Rattle.est_modules.specs.Modules.{is_declared, program_of}
 use Rattle.est_modules.specs.OpenNames.{AreKept}
