@@ -81,7 +81,7 @@ all_of p (y ∷ ys) h = both (p y) (list_all p ys)
       both true b e f = f
       both false b e f = e
 
--- ---- at most one is present
+-- ---- at most one is offered
 
 pair : (x y e : Bool) → (x ≡ true → y ≡ true → e ≡ true) → (not (x && y) || e) ≡ true
 pair true true e h = h refl refl
@@ -93,7 +93,7 @@ unpair true true e h p q = h
 unpair true false e h p q = absurd (false≢true q)
 unpair false y e h p q = absurd (false≢true p)
 
--- any two members that are present are one
+-- any two members that are offered are one
 pub one_means : (present : ℕ → Bool) (ms : List ℕ) → has_one_at_most present ms ≡ true
     → (a b : ℕ) → list_any (nat_eq a) ms ≡ true → list_any (nat_eq b) ms ≡ true → present a ≡ true → present b ≡ true
     → a ≡ b
@@ -110,7 +110,7 @@ one_where present ms h =
     all_of _ ms
     (λ a p. all_of _ ms (λ b q. pair (present a) (present b) (nat_eq a b) (λ x y. eq-eqb a b (h a b p q x y))))
 
--- ---- one more is present
+-- ---- one more is offered
 
 -- the first that is found is a member, and passes
 pub found_is : (p : ℕ → Bool) (ms : List ℕ) (m : ℕ) → find p ms ≡ Some m
@@ -148,7 +148,7 @@ one_beside before after ms s is out h = one_where after ms (λ a b p q x y.
         | inr e ↦ absurd (false≢true (sym out ∙ rw (nat_same s n e) p))
       ]
 
--- where no member is present, one may come
+-- where no member is offered, one may come
 pub one_alone : (before after : ℕ → Bool) (ms : List ℕ) (s : ℕ) → ((n : ℕ) → after n ≡ (before n || nat_eq s n))
     → find before ms ≡ None
     → has_one_at_most after ms ≡ true
@@ -159,7 +159,7 @@ one_alone before after ms s is none = one_where after ms (λ a b p q x y. sym (i
     | inr e ↦ nat_same s n e
   ]
 
--- where a member is present, another may not come
+-- where a member is offered, another may not come
 pub not_two : (before after : ℕ → Bool) (ms : List ℕ) (s m : ℕ) → ((n : ℕ) → after n ≡ (before n || nat_eq s n))
     → before s ≡ false
     → list_any (nat_eq s) ms ≡ true → find before ms ≡ Some m → has_one_at_most after ms ≡ false

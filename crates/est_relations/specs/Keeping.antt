@@ -7,13 +7,13 @@ use Rattle.est_kernel.specs.declared.interface.Declaration.{Declaration}
 use Rattle.est_relations.specs.declared.relations.Relation.{Relation}
 use Rattle.est_relations.specs.declared.relations.Relation.TheVariants.{Exclusion, Implication}
 
--- whether at most one of the members is present: any two that are present are the same, so a signal may be written
--- twice
+-- whether at most one of the members is offered, which `present` tells: any two that are offered are the same, so a
+-- signal may be written twice
 unfoldable pub has_one_at_most : (present : ℕ → Bool) → List ℕ → Bool
 has_one_at_most present members = list_all (λ a. list_all (λ b. not (present a && present b) || nat_eq a b) members)
     members
 
--- whether the second signal is present where the first is
+-- whether the second signal is offered where the first is
 unfoldable pub has_implied : (present : ℕ → Bool) → (condition implied : ℕ) → Bool
 has_implied present condition implied = not (present condition) || present implied
 
@@ -22,7 +22,7 @@ abbrev pub keeps_exclusion : (present : ℕ → Bool) → Relation → Bool
 keeps_exclusion present (Exclusion members) = has_one_at_most present members
 keeps_exclusion present (Implication condition implied) = true
 
--- whether the relation holds of the inputs that are present
+-- whether the relation holds of what is offered
 abbrev pub keeps : (present : ℕ → Bool) → Relation → Bool
 keeps present (Exclusion members) = has_one_at_most present members
 keeps present (Implication condition implied) = has_implied present condition.index implied.index

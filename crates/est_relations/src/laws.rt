@@ -4,7 +4,7 @@ ghost use Rattle.std.specs.List.{list_any};
 ghost use Rattle.est_relations.specs.Keeping.{has_one_at_most};
 ghost use Rattle.est_relations.specs.Offers.{PendingInputs, KeepsExclusions, OfferAnswer};
 
-/// An exclusion holds exactly when any two members that are present are one, however often each is
+/// An exclusion holds exactly when any two members that are offered are one, however often each is
 /// written.
 pub fn exclusions_are_of_sets()
     ensures { (present : ℕ → Bool) (members : List ℕ) → (has_one_at_most present members ≡ true)

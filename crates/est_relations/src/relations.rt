@@ -104,9 +104,9 @@ fn first_among(members: &[InterfaceSignal], signals: u64) -> Option<&InterfaceSi
 /// A relation between signals that may be offered: it is about the offers alone.
 #[derive(Drop)]
 pub enum Relation {
-    /// `A # B # C`: at most one of them is present.
+    /// `A # B # C`: at most one of them is offered.
     Exclusion(Members),
-    /// `A => B`: the second is present where the first is.
+    /// `A => B`: the second is offered where the first is.
     Implication(InterfaceSignal, InterfaceSignal),
 }
 

@@ -99,7 +99,7 @@ mutual
     no_sequences : SequencesTree
     sequences : SequenceTree → SequencesTree → SequencesTree
 
--- a relation between signals that may be offered: two names or more of which at most one is present, or a name that
+-- a relation between signals that may be offered: two names or more of which at most one is offered, or a name that
 -- implies another
 pub data RelationTree : Type 0 where
   excludes : List ℕ → List ℕ → List (List ℕ) → RelationTree

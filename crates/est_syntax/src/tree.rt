@@ -168,9 +168,9 @@ pub struct Statement {
 /// What signals may be offered together.
 #[derive(Drop)]
 pub enum Relation {
-    /// `A # B # C`: at most one of these is present, of the first, the second and the later ones.
+    /// `A # B # C`: at most one of these is offered, of the first, the second and the later ones.
     Excludes(Identifier, Identifier, Vec<Identifier>),
-    /// `A => B`: where the first is present, the second is.
+    /// `A => B`: where the first is offered, the second is.
     Implies(Identifier, Identifier),
 }
 
