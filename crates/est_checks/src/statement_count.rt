@@ -146,7 +146,7 @@ fn count_watched(numbers: &Numbers<'_, '_>, test: &Test, body: &Statement) -> u1
     sum(sum(test_words(test), count_statement(numbers, body)), 1)
 }
 
-/// The statements of a test, with its branches.
+/// The statements of a `present`, with its test and its branches.
 #[cycle(count)]
 #[tactic(auto, using(crate::proofs::Sums::capped))]
 fn count_test(numbers: &Numbers<'_, '_>, test: &Test, branches: &Branches) -> u16

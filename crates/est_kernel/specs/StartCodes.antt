@@ -5,7 +5,7 @@ use Rattle.est_kernel.specs.Codes.{Codes, code, either_code, but_zero, max_codes
 use Rattle.est_kernel.specs.Term.{Term, nothing, pause, emit, present, suspend, held, seq, loop, par, trap, exit}
 use Rattle.est_kernel.specs.Term.{signal}
 
--- the codes with which a term can be begun, both branches of each test taken
+-- the codes with which a term can be begun, both branches of each `present` taken
 abbrev pub start_codes : Term → Codes
 start_codes nothing = code 0
 start_codes pause = code 1

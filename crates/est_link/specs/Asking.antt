@@ -1,4 +1,4 @@
--- What a test asks, by what its names mean: n operands have n - 1 words between them (this project's own form).
+-- What a test asks, by what its names mean: the operands of one connective are one list (this project's own form).
 use Rattle.std.specs.Prelude.{ℕ, List}
 use Rattle.est_kernel.specs.Term.{Query, negated, joined, Queries, last, more}
 use Rattle.est_kernel.specs.declared.statement.Connective.TheVariants.{And, Or}

@@ -147,7 +147,7 @@ fn box_nothing(alloc: Global) -> Result<Box<Body>, AllocError>
     Ok(Box::new(alloc, Body::Nothing)?)
 }
 
-/// The flat statement of a test, its branches being flat.
+/// The flat statement of a `present`, its branches being flat.
 fn present(
     at: &Place<'_, '_>,
     test: &Test,
@@ -217,7 +217,7 @@ fn flat_watched(
     Ok(watch.over(find_wait(at, delay)?, body))
 }
 
-/// The flat statement of a test, with its branches.
+/// The flat statement of a `present`, with its branches.
 #[cycle(flat)]
 fn flat_test(at: &Place<'_, '_>, test: &Test, branches: &Branches) -> Result<Body, AllocError>
     ensures { IfOk result (λ f. body_of f ≡ linked (map program_of at.now.linker.now.heads.now)

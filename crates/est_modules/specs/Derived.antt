@@ -49,7 +49,7 @@ abbrev mutual
   unit_derived (tree.run m rs) = run m rs
   unit_derived (tree.group p) = statement_derived p
 
-  -- a test
+  -- a `present`
   pub branches_derived : TestTree → BranchesTree → Derived
   branches_derived s (tree.then_only p c) = present s (statement_derived p) missing
   branches_derived s (tree.else_only q c) = present s missing (statement_derived q)

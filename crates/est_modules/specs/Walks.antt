@@ -44,7 +44,7 @@ passed f bs (run m rs) k = past f bs (runs m rs) k
 passed f bs (seq p q) k = passed f bs q (passed f bs p k)
 passed f bs (par p q) k = passed f bs q (passed f bs p k)
 
--- the same of the branches of a test
+-- the same of the branches of a `present`
 abbrev pub passed_branches : {S : Type 0} → (S → Occurrence → S) → List Binder → BranchesTree → S → S
 passed_branches f bs (then_only p c) k = passed f bs (statement_derived p) k
 passed_branches f bs (else_only q c) k = passed f bs (statement_derived q) k

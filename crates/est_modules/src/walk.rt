@@ -115,7 +115,7 @@ fn walk_delayed<V: Visitor>(
     walk_statement(visitor, seen, kept, scope, body)
 }
 
-/// Visits the places of the branches of a test.
+/// Visits the places of the branches of a `present`.
 #[cycle(walk)]
 fn walk_branches<V: Visitor>(
     visitor: &V,

@@ -19,8 +19,9 @@ fn add_open(cells: &mut Vec<Status>, count: usize) -> Result<(), AllocError>
     Ok(())
 }
 
-/// Adds the cells of a statement inside `traps` traps, open, or memory was refused. It goes as deep
-/// as the statement is.
+/// Adds the cells of a statement inside `traps` traps, open, or memory was refused. `main` says
+/// whether these are the cells of the incarnation that can go on from its pauses: beside each loop
+/// it has the cells of the loop's restart. It goes as deep as the statement is.
 pub fn lay(
     cells: &mut Vec<Status>,
     main: bool,

@@ -87,7 +87,8 @@ fn own_cells(s: &Statement, traps: usize) -> usize
     }
 }
 
-/// The incarnation of a loop's body.
+/// The incarnation of a loop's body, where the loop is of this incarnation (`main`: it can go on
+/// from its pauses).
 fn inside_loop(main: bool, incarnation: usize) -> usize
     requires { incarnation < 18446744073709551615 }
     ensures { result ≡ inside_loop main incarnation }
@@ -95,7 +96,8 @@ fn inside_loop(main: bool, incarnation: usize) -> usize
     if main { incarnation } else { incarnation + 1 }
 }
 
-/// Looks for a cell among those of a statement. It goes as deep as the statement is.
+/// Looks for a cell among those of a statement. `main` says whether these are the cells of the
+/// incarnation that can go on from its pauses. It goes as deep as the statement is.
 fn find(
     main: bool,
     s: &Statement,

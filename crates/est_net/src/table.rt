@@ -55,7 +55,7 @@ fn open_all(cells: &mut [Status])
     cells.fill(Status::Unknown);
 }
 
-/// Tells a cell something. It is decided by it where it is open and this is no doubt.
+/// Tells a cell something. It is decided by it if it is open and what it is told isn't Unknown.
 fn tell(cells: &mut [Status], cell: usize, now: Status)
     requires { cell < length cells.old }
     ensures { Learns cell now cells.old cells.new }
@@ -238,8 +238,8 @@ impl Table {
         decide(self.cells.as_mut_slice(), cell, value);
     }
 
-    /// Tells a cell something, and answers what it then knows. It is decided by it where it is open
-    /// and this is no doubt.
+    /// Tells a cell something, and answers what it then knows. It is decided by it if it is open
+    /// and what it is told isn't Unknown.
     pub fn learn(&mut self, cell: usize, now: Status) -> Status
         requires { cell < length self.old.cells.items }
         ensures learns { Learns cell now self.old.cells.items self.new.cells.items }

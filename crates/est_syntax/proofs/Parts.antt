@@ -304,7 +304,7 @@ pub both_is : (t e : Statement) (c : Bool)
     → branches_view (branches_value.Both t e c) ≡ both (statement_view t) (statement_view e) c
 both_is t e c = search (rules, the_lemmas)
 
--- a statement, and then the end of a test
+-- a statement, and then the end of a `present`
 abbrev pub Body : ℕ → Statement → List Token → List Token → Type 0
 Body room t old new = IsPart room (Some true) (m.statement ∷ []) (g.statement_onto (statement_view t) new)
     (g.statement_depth (statement_view t)) old new

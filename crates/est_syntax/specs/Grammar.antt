@@ -260,7 +260,7 @@ abbrev mutual
   unit_depth (group t) = suc (statement_depth t)
   unit_depth _ = 0
 
-  -- the same for the branches of a test
+  -- the same for the branches of a `present`
   pub branches_depth : BranchesTree → ℕ
   branches_depth (then_only t c) = statement_depth t
   branches_depth (else_only t c) = statement_depth t

@@ -65,7 +65,7 @@ abbrev pub IsUnit : (room : ℕ) → (ends : Bool) → UnitValue → (old new : 
 IsUnit room ends u old new =
     IsPart room (Some ends) (unit ∷ []) (unit_onto (unit_view u) new) (unit_depth (unit_view u)) old new
 
--- the branches of a test were read, and its end
+-- the branches of a `present` were read, and its end
 abbrev pub IsBranches : (room : ℕ) → Branches → (old new : List Token) → Type 0
 IsBranches room b old new =
     IsPart room None (branches ∷ []) (branches_onto (branches_view b) new) (branches_depth (branches_view b)) old new

@@ -75,7 +75,7 @@ mutual
     run : List ℕ → List RenamingTree → UnitTree
     group : StatementTree → UnitTree
 
-  -- the branches of a test: at least one; the flag: `present` stands again after `end`
+  -- the branches of a `present`: at least one; the flag: the word stands again after `end`
   pub data BranchesTree : Type 0 where
     then_only : StatementTree → Bool → BranchesTree
     else_only : StatementTree → Bool → BranchesTree

@@ -143,7 +143,7 @@ abbrev pub unit_view : Unit → UnitTree
 unit_view = fold-Unit BranchesTree UnitTree SequenceTree StatementTree branches_step unit_step sequence_step
     statement_step
 
--- the branches of a test
+-- the branches of a `present`
 abbrev pub branches_view : Branches → BranchesTree
 branches_view =
     fold-Branches BranchesTree UnitTree SequenceTree StatementTree branches_step unit_step sequence_step statement_step

@@ -16,7 +16,7 @@ use est_text::place::Place;
 use est_text::token_list::Tokens;
 use std::alloc::Global;
 
-/// The most units that may be open at once. Each unit that holds a statement counts: a test, a
+/// The most units that may be open at once. Each unit that holds a statement counts: a `present`, a
 /// frame such as `loop` or `signal`, and a statement in brackets. In a test each `not` and each
 /// parenthesis counts too.
 pub const MOST_OPEN_UNITS: usize = 128;

@@ -48,7 +48,7 @@ fn unit(alloc: Global, cursor: &mut Cursor, room: usize, ends: bool) -> Result<U
     }
 }
 
-/// A test, after its first word.
+/// A `present`, after its first word.
 #[cycle(parse)]
 fn tested(alloc: Global, cursor: &mut Cursor, room: usize) -> Result<Unit, Fault>
     ensures ok { IfOk result (λ u. IsOpened room None (Opener.Test) u cursor.old cursor.new) }
@@ -79,7 +79,7 @@ fn framed(
     tail(alloc, cursor, head, body, room, ends)
 }
 
-/// The branches of a test, and its end.
+/// The branches of a `present`, and its end.
 #[cycle(parse)]
 fn branches(alloc: Global, cursor: &mut Cursor, room: usize) -> Result<Branches, Fault>
     ensures ok { IfOk result (λ b. IsBranches room b cursor.old cursor.new) }

@@ -131,7 +131,7 @@ pub enum Unit {
     Group(Statement),
 }
 
-/// The branches of a test. The flag: `present` stands again after `end`.
+/// The branches of a `present`. The flag: `present` stands again after `end`.
 #[derive(Drop)]
 #[cycle(tree)]
 pub enum Branches {

@@ -76,10 +76,12 @@ pub enum Frame {
     Group,
 }
 
-/// What begins a unit with a body: a test, or a frame.
+/// What begins a unit with a body: a `present`, or a frame.
 #[derive(Clone, Copy, PartialEq, Eq, Debug)]
 pub enum Opener {
+    /// `present`: its test comes first, and then its branches.
     Test,
+    /// The first token of a frame.
     Frame(Frame),
 }
 
