@@ -1,6 +1,6 @@
 //! How many statements a linked module has before reduction, worked out before any `run` is
 //! replaced: chains of runs that double the number at each step cost no more than their texts, and
-//! the numbers end at one more than may be.
+//! no number goes past the limit plus one.
 //!
 //! Recursion is at most one call for each open unit, and at most 128 units are open. A `run` is no
 //! call: its module was counted before.

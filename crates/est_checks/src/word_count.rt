@@ -1,5 +1,5 @@
-//! How many `not`, `and` and `or` a test has: each is one statement. The numbers end at one more
-//! than may be.
+//! How many `not`, `and` and `or` a test has: each is one statement. No number goes past the limit
+//! plus one.
 //!
 //! The functions call each other once for each `not` and each parenthesis that is open, which count
 //! among the 128 units that the reader lets be open at once.

@@ -5,7 +5,7 @@ use Rattle.est_kernel.specs.Term.{nothing, pause, emit, present, suspend, held, 
 use Rattle.est_kernel.specs.Interfaces.{emittable}
 use Rattle.est_kernel.specs.declared.interface.Declaration.{Declaration}
 
--- a signal of the interface, or one of the n local signals around it, which are numbered from the outermost
+-- a signal of the interface, or one of the `locals` local signals around it, which are numbered from the outermost
 abbrev pub IsVisible : List Declaration → ℕ → Name → Type 0
 IsVisible interface locals (outer n) = n < length interface
 IsVisible interface locals (inner n) = n < locals
@@ -23,11 +23,11 @@ abbrev mutual
   EachSignalOfAll P (last t) = EachSignal P t
   EachSignalOfAll P (more t ts) = EachSignal P t × EachSignalOfAll P ts
 
--- what may be asked: a test of which each signal is visible
+-- the test may be asked: each signal of it is visible
 abbrev pub IsAsked : List Declaration → ℕ → Query → Type 0
 IsAsked interface locals t = EachSignal (IsVisible interface locals) t
 
--- what may be emitted: an output or an inputoutput, or a local signal
+-- the signal may be emitted: it is an output or an inputoutput, or a local signal
 abbrev pub IsEmitted : List Declaration → ℕ → Name → Type 0
 IsEmitted interface locals (outer n) = emittable interface n ≡ true
 IsEmitted interface locals (inner n) = n < locals

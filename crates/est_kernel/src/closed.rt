@@ -19,7 +19,7 @@ pub fn is_closed(interface: &Interface, s: &Statement) -> bool
     is_closed_within(interface, 0, 0, s)
 }
 
-/// Whether the signal is of the interface, or one of n local signals.
+/// Whether the signal is of the interface, or one of `locals` local signals.
 fn is_seen(interface: &Interface, locals: u32, s: Signal) -> bool
     ensures { (l : ℕ) → Counts l locals → result ≡ is_seen interface.now l (name_of s) }
 {
@@ -29,7 +29,7 @@ fn is_seen(interface: &Interface, locals: u32, s: Signal) -> bool
     }
 }
 
-/// Whether each signal of a test is visible.
+/// Whether a test may be asked: each signal of it is visible.
 fn is_asked(interface: &Interface, locals: u32, test: &Test) -> bool
     ensures { (l : ℕ) → Counts l locals → IsTrue result
         ↔ IsAsked interface.now l (query_of test.now) }
@@ -65,7 +65,8 @@ fn all_ask_visible(interface: &Interface, locals: u32, operands: &Operands) -> b
     all
 }
 
-/// Whether the signal is an output or an inputoutput, or one of n local signals.
+/// Whether the signal may be emitted: it is an output or an inputoutput, or one of `locals` local
+/// signals.
 fn is_emitted(interface: &Interface, locals: u32, s: Signal) -> bool
     ensures { (l : ℕ) → Counts l locals → IsTrue result ↔ IsEmitted interface.now l (name_of s) }
 {
@@ -75,9 +76,9 @@ fn is_emitted(interface: &Interface, locals: u32, s: Signal) -> bool
     }
 }
 
-/// The same for a statement with n traps and m local signals around it. The counts stop at the
-/// largest `u32`; no number in a statement is that large. Recursion is as deep as the statement: at
-/// most 2,048 levels for one within the limit on statements.
+/// The same for a statement with `traps` traps and `locals` local signals around it. The counts
+/// stop at the largest `u32`; no number in a statement is that large. Recursion is as deep as the
+/// statement: at most 2,048 levels for one within the limit on statements.
 fn is_closed_within(interface: &Interface, traps: u32, locals: u32, s: &Statement) -> bool
     ensures { TellsClosed result interface.now traps locals (term_of s.now) }
 {

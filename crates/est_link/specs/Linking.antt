@@ -51,7 +51,7 @@ trap_at (a_trap u ∷ bs) t = if bytes_eq u t then 0 else trap_at bs t + 1
 
 -- ---- a module's body where it is run
 
--- the signal that an emission means; `tick` is never emitted, and a name asks for no more than a signal
+-- the signal that an emission means: what a name means is one signal or `tick`, and `tick` is never emitted
 abbrev pub emitted : Query → Name
 emitted (of n) = n
 emitted _ = outer 0

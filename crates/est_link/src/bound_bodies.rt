@@ -17,8 +17,8 @@ use est_kernel::statement::Connective;
 use est_reduce::body::{Body, BoundOperands, BoundSignal, BoundTest, Wait};
 use std::alloc::AllocError;
 
-/// The signal that an emission means; `tick` is never emitted, and a name asks for no more than a
-/// signal.
+/// The signal that an emission means: what a name means is one signal or `tick`, and `tick` is
+/// never emitted.
 pub fn emitted(test: BoundTest) -> BoundSignal
     ensures { name_view result ≡ emitted (query_view test) }
 {

@@ -1,5 +1,5 @@
--- The term that the set pauses of a statement stand for, and the states of a running statement (this project's own form
--- of the residual statements in Berry, The Constructive Semantics of Pure Esterel).
+-- The term that a statement stands for by the pauses that are set, and the states of a running statement (this
+-- project's own form of the residual statements in Berry, The Constructive Semantics of Pure Esterel).
 use Rattle.std.specs.Prelude.{◌≡◌, ℕ, Bool, true, false, cond, ◌&&◌, ◌||◌}
 use Rattle.est_kernel.specs.Term.{Term, nothing, seq, loop, par, trap, signal, held}
 use Rattle.est_kernel.specs.PauseNumbers.{has_pause}
@@ -25,7 +25,7 @@ is_live (Trap' a p) bits = is_live p bits
 is_live (Exit k) bits = false
 is_live (Binder' s a p) bits = is_live p bits
 
--- the term that the set pauses of a live statement stand for
+-- the term that a live statement stands for, by the pauses that are set
 abbrev pub term_at : Statement → (ℕ → Bool) → Term
 term_at Nothing bits = nothing
 term_at (Pause n) bits = nothing
@@ -40,7 +40,7 @@ term_at (Trap' a p) bits = trap (term_at p bits)
 term_at (Exit k) bits = nothing
 term_at (Binder' s a p) bits = signal s.index (term_at p bits)
 
--- no `;` and no `present` has set pauses on both sides
+-- no `;` and no `present` has pauses that are set on both sides
 abbrev pub IsExclusive : Statement → (ℕ → Bool) → Type 0
 IsExclusive Nothing bits = Unit {0}
 IsExclusive (Pause n) bits = Unit {0}

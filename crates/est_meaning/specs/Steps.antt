@@ -7,7 +7,7 @@ use Rattle.est_meaning.specs.Signals.{Signals}
 use Rattle.est_meaning.specs.Environments.{Env}
 use Rattle.est_meaning.specs.Rules.{Gives, rest_of}
 
--- by the rules t gives o and k, and the set pauses of s stand for what is left of it
+-- by the rules t gives o and k, and the pauses of s that are set stand for what is left of it
 pub record StepsTo (s : Statement) (t : Term) (e : Env) (o : Signals) (k : ℕ) (next : ℕ → Bool) : Type 0 where
   pub gives : Gives t e o k (rest_of k (term_at s next))
   pub live : is_live s next ≡ nat_eq k 1

@@ -42,7 +42,7 @@ fn exit_index(exits: &Exits<'_>, trap: u32) -> u16
     }
 }
 
-/// The statement inside n binders. Recursion is n deep.
+/// The statement inside `count` binders. Recursion is `count` deep.
 fn inside_binders(
     alloc: Global,
     locals: u32,
@@ -145,7 +145,7 @@ fn reduce_in_trap(place: &Place<'_>, body: &Body) -> Result<Statement, AllocErro
     statement(&inside, body)
 }
 
-/// The kernel statement of a body with n more local signals around it.
+/// The kernel statement of a body with `count` more local signals around it.
 #[cycle(statement)]
 fn reduce_in_signals(place: &Place<'_>, count: u32, body: &Body) -> Result<Statement, AllocError>
     requires room { place.now.locals + count ≤ 65536 }

@@ -27,7 +27,7 @@ Fails ws bs (TooDeep n) =
     (rest : List Token) × (n ≡ length rest) × ((s : List Want) → run MOST_OPEN_UNITS (ws ++ s) bs ≡ deep rest)
 Fails ws bs Memory = Unit {0}
 
--- no memory was asked for
+-- the fault is not want of memory
 abbrev pub NotMemory : Fault → Type 0
 NotMemory (Syntax n) = Unit {0}
 NotMemory (TooDeep n) = Unit {0}
@@ -48,7 +48,7 @@ pub record Round (room : ℕ) (ends : Option Bool) (s : List Want) : Type 0 wher
   pub fits : open_count s + room ≡ MOST_OPEN_UNITS
   pub closing : EndsAs ends s
 
--- with wants around it that count, the tokens stop so
+-- as `Fails`, for the wants that `Round` allows around it
 abbrev pub FailsIn : ℕ → Option Bool → List Want → List Token → Fault → Type 0
 FailsIn room ends ws bs (Syntax n) = (rest : List Token) × (n ≡ length rest)
     × ((s : List Want) → Round room ends s → run MOST_OPEN_UNITS (ws ++ s) bs ≡ wrong rest)
@@ -64,12 +64,12 @@ pub record IsPart (room : ℕ) (ends : Option Bool) (ws : List Want) (text : Lis
   pub passes : (s : List Want) → Round room ends s → run MOST_OPEN_UNITS (ws ++ s) old ≡ run MOST_OPEN_UNITS s new
   pub shorter : length new ≤ length old
 
--- the same two for a unit's end, where it counts whether what is around can go on with `end`
+-- `Reads` before a unit's end, where it counts whether what is around can go on with `end`
 pub record ReadsBefore (ends : Bool) (ws : List Want) (bs rest : List Token) : Type 0 where
   pub passes : (s : List Want) → EndsSo ends s → run MOST_OPEN_UNITS (ws ++ s) bs ≡ run MOST_OPEN_UNITS s rest
   pub shorter : length rest ≤ length bs
 
--- where the tokens stop there
+-- `Fails` before a unit's end
 abbrev pub FailsBefore : Bool → List Want → List Token → Fault → Type 0
 FailsBefore ends ws bs (Syntax n) = (rest : List Token) × (n ≡ length rest)
     × ((s : List Want) → EndsSo ends s → run MOST_OPEN_UNITS (ws ++ s) bs ≡ wrong rest)

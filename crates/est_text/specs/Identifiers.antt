@@ -17,7 +17,7 @@ is_identifier [] = false
 is_identifier (b ∷ bs) =
     is_ascii_alphabetic b && nat_le (length (b ∷ bs)) IDENTIFIER_BYTES && list_all is_identifier_byte (b ∷ bs)
 
--- the text is the first n of these places; the places after it are zero (this project's own form)
+-- the text is the first `count` of these places; the places after it are zero (this project's own form)
 pub record IsFilled (places : ℕ) (bytes : List ℕ) (count : ℕ) : Type 0 where
   pub whole : length bytes ≡ places
   pub fits : count ≤ places

@@ -33,7 +33,7 @@ impl From<AllocError> for LexFault {
     }
 }
 
-/// Adds the token that a piece of n bytes is, if it is one.
+/// Adds the token that a piece of `count` bytes is, if it is one.
 fn add(
     tokens: &mut Vec<Located>,
     piece: Piece,

@@ -27,7 +27,7 @@ impl<'a> Model for Tokens<'a> {
     ghost invariant = { λ t. IsTokenList t.source.now t.located.items };
 }
 
-/// The first n bytes.
+/// The first `count` bytes.
 pub(crate) fn front(bytes: &[u8], count: usize) -> &[u8]
     requires { count ≤ length bytes.now }
     ensures { result.now ≡ take count bytes.now }

@@ -1,4 +1,4 @@
--- Numbers of statements that a table of the code has, up to one more than may be (this project's own form).
+-- Numbers of statements that a table of the code has, none past the limit plus one (this project's own form).
 use Rattle.std.specs.Prelude.{◌≡◌, ℕ, List, length, map, min, Option, Some, None, slice_get, slice_index}
 use Rattle.est_modules.specs.Modules.{Program, program_of}
 use Rattle.est_checks.specs.Counting.{counted}

@@ -19,7 +19,7 @@ TellsClosed answer i traps locals t =
 abbrev pub LeavesRoom : Option ℕ → (room needed : ℕ) → Type 0
 LeavesRoom answer room needed = MatchOption answer (room < needed) (λ left. left + needed ≡ room)
 
--- whether a signal is of the interface, or one of n local signals
+-- whether a signal is of the interface, or one of `locals` local signals
 abbrev pub is_seen : List Declaration → ℕ → Name → Bool
 is_seen i locals (outer n) = nat_lt n (length i)
 is_seen i locals (inner n) = nat_lt n locals
