@@ -1,5 +1,5 @@
-//! Which modules are linked: main and all that it runs, directly or through others. In their order a
-//! module comes after those that it runs.
+//! Which modules are linked: main and all that it runs, directly or through others. In their order
+//! a module comes after those that it runs.
 ghost use Rattle.std.specs.Prelude.{◌≡◌, ◌<◌, Some, None, IfOk, length, map, Contains};
 ghost use Rattle.std.specs.Bool.{Decides};
 ghost use Rattle.std.specs.List.{slice_get};
