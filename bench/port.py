@@ -26,7 +26,7 @@ CRATES = {
     "est_meaning": ("status",),
     "est_rounds": ("acts", "answer", "signal_set", "resume"),
     "est_net": ("reach", "table"),
-    "est_micro": ("begin", "cells", "direction", "idle", "next", "outputs", "resume", "run", "micro"),
+    "est_micro": ("begin", "cells", "decided", "direction", "idle", "next", "outputs", "resume", "run", "micro"),
 }
 BY_HAND = {"est_kernel": ("interface", "kernel", "state"), "est_net": ("net",)}  # modules of bench/port.rs
 INSTANTS = 20

@@ -7,6 +7,8 @@ mod Nodes
 mod BegunNodes
 mod ResumedNodes
 mod Rounds
+mod DecidedSheets
+mod Emissions
 mod Exchanging
 mod OpenTables
 mod Limits

@@ -174,7 +174,7 @@ pub record ToldAndRead (c n : ℕ) (j : Judgement) (old new : List Status) (sure
   pub sure_read : ReadSoFar sure (λ k. is_sure (cell_at new (c + k))) n
   pub possible_read : ReadSoFar possible (λ k. is_possible (cell_at new (c + k))) n
 
-none_there : (codes : Codes) → codes ≡ no_codes → (k : ℕ) → codes k ≡ false
+pub none_there : (codes : Codes) → codes ≡ no_codes → (k : ℕ) → codes k ≡ false
 unfolding no_codes
 none_there codes e k = ap (λ (g : Codes). g k) e
 

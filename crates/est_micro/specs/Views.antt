@@ -10,11 +10,12 @@ use Rattle.est_meaning.specs.declared.status.Status.{Status}
 use Rattle.est_meaning.specs.declared.status.Status.TheVariants.{Absent}
 use Rattle.est_cells.specs.Gates.{gates, live_gates}
 use Rattle.est_cells.specs.Tables.{Cells, Parts, Sheet, sheet_size, emits, is_sure, is_possible}
-use Rattle.est_net.specs.Cells.{NoneTrue, cell_at, decided, learned}
+use Rattle.est_net.specs.Cells.{AllDecided, NoneTrue, cell_at, decided, learned}
 use Rattle.est_net.specs.Layout.{sure_codes, possible_codes, sheet_in}
 use Rattle.est_rounds.specs.Views.{set_of, env_of}
 use Rattle.est_rounds.specs.declared.acts.Judgement.{Judgement}
 use Rattle.est_rounds.specs.declared.signal_set.Env.{Env as Known}
+use Rattle.est_rounds.specs.declared.signal_set.SignalSet.{SignalSet}
 use Rattle.est_micro.specs.Sweeps.{entered, left, sure_told, may_told, swept_parts, swept, live_swept_parts, live_swept}
 use Rattle.est_micro.specs.declared.cells.Place.{Place}
 use Rattle.est_micro.specs.declared.cells.Found.{Found}
@@ -90,7 +91,8 @@ IsResumed s at pauses run e old new r =
     (λ U. (live_gates s (pauses_of pauses) run (env_of e) U).cells)
     Absent) old new r
 
--- a part goes on, if it is run, where it is on, and else is begun, if at all, by the gate; its cells are swept so
+-- the cells of a part are swept: if it is on (one of its pauses is set), it goes on where it is run; else the gate tells
+-- whether it is begun
 abbrev pub IsChosen : Statement → Place → PauseSet → Bool → Status → Status → Known → List Status → List Status → Found
     → Type 0
 IsChosen p at pauses is_on gate run e old new r =
@@ -104,3 +106,23 @@ pub record IsIdle (s : Statement) (at : Place) (gate : Status) (cells : List Sta
   pub off : learned (cell_at cells at.cell) gate ≡ Absent
   pub none : NoneTrue at.cell past cells
   pub past_is : past ≡ at.cell + sheet_size at.main s at.traps
+
+-- the signals that the cells of a statement say are surely emitted are put into a set; its cells begin at place c
+pub record AddsEmitted (main : Bool) (s : Statement) (c traps : ℕ) (cells : List Status) (old new : SignalSet)
+    (past : ℕ) : Type 0 where
+  pub adds : set_of new ≡ union (set_of old) (emits is_sure main s (sheet_in (cell_at cells) main s c traps))
+  pub past_is : past ≡ c + sheet_size main s traps
+
+-- so are those of two parts, the second after the first
+pub record AddsBoth (main : Bool) (p q : Statement) (c traps : ℕ) (cells : List Status) (old new : SignalSet)
+    (past : ℕ) : Type 0 where
+  pub adds : set_of new ≡ union (set_of old) (union (emits is_sure main p (sheet_in (cell_at cells) main p c traps))
+      (emits is_sure main q (sheet_in (cell_at cells) main q (c + sheet_size main p traps) traps)))
+  pub past_is : past ≡ c + sheet_size main p traps + sheet_size main q traps
+
+-- all cells of a statement are decided, and this is what they say
+pub record IsRead (s : Statement) (at : Place) (cells : List Status) (r : Found) : Type 0 where
+  pub decided : AllDecided at.cell (at.cell + sheet_size at.main s at.traps) cells
+  pub found : let T = sheet_in (cell_at cells) at.main s at.cell at.traps in
+      IsJudged T.cells.must T.cells.may (emits is_sure at.main s T) (emits is_possible at.main s T) r.judged
+  pub past : r.past ≡ at.cell + sheet_size at.main s at.traps

@@ -79,7 +79,7 @@ fn verdict_on(judged: &Judgement, code: usize) -> Status
 }
 
 /// The codes with this one, if it is to be with them.
-fn with_code(codes: CodeSet, code: usize, is_in: bool) -> CodeSet
+pub fn with_code(codes: CodeSet, code: usize, is_in: bool) -> CodeSet
     requires { code < 64 }
     ensures here { codes_of result code ≡ (codes_of codes code || is_in) }
     ensures others { (k : ℕ) → k ≢ code → codes_of result k ≡ codes_of codes k }
@@ -244,7 +244,7 @@ pub fn nothing(past: usize) -> Found
 }
 
 /// The signal, if it is to be emitted.
-fn signal_if(is_in: bool, signal: Signal) -> SignalSet
+pub fn signal_if(is_in: bool, signal: Signal) -> SignalSet
     requires { HasSignalBit signal }
     ensures { set_of result ≡ if_run is_in (name_of signal) }
 {

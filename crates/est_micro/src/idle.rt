@@ -1,4 +1,5 @@
-//! Statements that take no part in an instant.
+//! Statements that take no part in an instant. `main` tells whether the cells are those of the
+//! incarnation that can go on from its pauses.
 
 ghost use Rattle.std.specs.Prelude.{◌≡◌, ◌≤◌, ◌+◌, true, length, IfSome};
 ghost use Rattle.est_cells.specs.Tables.{sheet_size};
@@ -39,7 +40,7 @@ pub fn past(cell: usize, main: bool, s: &Statement, traps: usize) -> usize
 }
 
 /// Whether a statement has parts. One that has none is swept as fast as it is passed over.
-fn has_parts(s: &Statement) -> bool {
+pub fn has_parts(s: &Statement) -> bool {
     match s {
         Statement::Nothing | Statement::Pause(_) | Statement::Emit(_) | Statement::Exit(_) => false,
         Statement::Present(_, _, _)

@@ -6,15 +6,17 @@
 //! decided, with its value in the reaction. A run takes no memory.
 //!
 //! A run goes over the statement in sweeps (`begin`, `resume`), and tells each open cell what
-//! follows from the others. A sweep goes in program order, or visits the second side of each `||`
-//! first. After each sweep the run tells the cells of the signals what is emitted (`outputs`). It
-//! ends as soon as every cell is decided, or after a sweep that decides nothing. The laws of `laws`
-//! say that this is enough: what a sweep decides is so, and where a sweep changes nothing, nothing
-//! more follows.
+//! follows from the others. Of a statement that goes on and whose cells are all decided, a later
+//! sweep only reads them (`decided`). A sweep goes in program order, or visits the second side of
+//! each `||` first. After each sweep the run tells the cells of the signals what is emitted
+//! (`outputs`). It ends as soon as every cell is decided, or after a sweep that decides nothing.
+//! The laws of `laws` say that this is enough: what a sweep decides is so, and where a sweep
+//! changes nothing, nothing more follows.
 #![tactic(auto)]
 
 mod begin;
 mod cells;
+mod decided;
 mod direction;
 mod idle;
 pub mod laws;

@@ -23,6 +23,7 @@ ghost use Rattle.est_micro.specs.declared.direction.Direction.TheVariants.{Forwa
 
 use crate::begin::begin;
 use crate::cells::{self, Found, Place};
+use crate::decided::find_decided;
 use crate::direction::Direction;
 use crate::idle::past;
 use est_kernel::completion::Completion;
@@ -47,8 +48,8 @@ fn resume_pause(table: &mut Table, at: Place, run: Status) -> Found
     cells::leave(table, at, &own, at.cell + at.traps + 3)
 }
 
-/// Sweeps a part that goes on, if it is run, where it is on, and else is begun, if at all, by the
-/// gate.
+/// Sweeps a part. If it is on (one of its pauses is set), it goes on where it is run; else the gate
+/// tells whether it is begun.
 #[cycle(resume)]
 fn part(
     table: &mut Table,
@@ -417,9 +418,9 @@ fn resume_local(
     cells::leave(table, at, &own, body.past)
 }
 
-/// Sweeps the cells of a statement that goes on from its pauses, if it is run.
+/// Sweeps the cells of a statement that goes on from its pauses, if it is run, one after another.
 #[cycle(resume)]
-pub fn resume(
+fn resume_each(
     table: &mut Table,
     at: Place,
     s: &Statement,
@@ -457,5 +458,30 @@ pub fn resume(
         Statement::Nothing => resume_pause(table, at, run),
         Statement::Emit(_) => resume_pause(table, at, run),
         Statement::Exit(_) => resume_pause(table, at, run),
+    }
+}
+
+/// Sweeps the cells of a statement that goes on from its pauses, if it is run. Where all
+/// of them are decided, they are only read.
+#[cycle(resume)]
+pub fn resume(
+    table: &mut Table,
+    at: Place,
+    s: &Statement,
+    pauses: &PauseSet,
+    run: Status,
+    env: &Env,
+) -> Found
+    requires main { at.main ≡ true }
+    requires live { is_live s.now (pauses_of pauses.now) ≡ true }
+    requires fits { FitsMasks s.now }
+    requires within { at.cell + sheet_size true s.now at.traps ≤ length table.old.cells.items }
+    requires traps { at.traps + trap_depth (term_of s.now) ≤ 62 }
+    ensures { IsResumed s.now at pauses.now run env.now table.old.cells.items table.new.cells.items
+        result }
+{
+    match find_decided(table, at, s) {
+        Some(found) => found,
+        None => resume_each(table, at, s, pauses, run, env),
     }
 }

@@ -107,8 +107,8 @@ fn next_direction(direction: Direction, now: usize, before: usize, cells: usize)
     }
 }
 
-/// Opens the table, and makes rounds until nothing more can be decided. No signal is emitted that
-/// isn't possible. The first sweep goes this way.
+/// Opens the table, and makes rounds until nothing more can be decided. `possible` has every signal
+/// that may be emitted from this state. The first sweep goes the way of `first`.
 pub fn settle(
     table: &mut Table,
     kernel: &Kernel,

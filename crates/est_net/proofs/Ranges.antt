@@ -7,7 +7,7 @@ use Rattle.std.proofs.lemmas.List.Sums.{sum_by-set}
 use Rattle.est_meaning.specs.declared.status.Status.{Status}
 use Rattle.est_meaning.specs.declared.status.Status.TheVariants.{Present, Absent, Unknown}
 use Rattle.est_cells.specs.Tables.{is_sure}
-use Rattle.est_net.specs.Cells.{AreFalse, Learns, NoneTrue, cell_at, learned, steps_of}
+use Rattle.est_net.specs.Cells.{AllDecided, AreFalse, Learns, NoneTrue, cell_at, is_known, learned, steps_of}
 
 last_or_before : (k n : ℕ) → k < n + 1 → (k ≡ n) ⊎ (k < n)
 last_or_before zero zero l = inl refl
@@ -16,53 +16,73 @@ last_or_before (suc k) zero l = absurd (omega arith)
 last_or_before (suc k) (suc n) l = elim (last_or_before k n (omega arith))
     [ inl e ↦ inl (ap suc e) | inr d ↦ inr (omega arith) ]
 
-pub not_true : (v : Status) → is_sure v ≡ false → v ≢ Present
-not_true Present h e = let z : true ≡ false = h in cc
-not_true Absent h e = cc
-not_true Unknown h e = cc
+-- each cell from place lo on and before place hi is as R says
+abbrev Each : (Status → Type 0) → (lo hi : ℕ) → List Status → Type 0
+Each R lo hi cells = (i : ℕ) → lo ≤ i → i < hi → R (cell_at cells i)
 
-surely : (v : Status) → is_sure v ≡ true → v ≡ Present
-surely Present h = refl
-surely Absent h = let z : false ≡ true = h in cc
-surely Unknown h = let z : false ≡ true = h in cc
+one_more : (R : Status → Type 0) (lo n : ℕ) (cells : List Status) → Each R lo n cells → R (cell_at cells n)
+    → Each R lo (n + 1) cells
+one_more R lo n cells h d i l u = elim (last_or_before i n u) [
+  | inl e ↦ subst (λ (k : ℕ). R (cell_at cells k)) (sym e) d
+  | inr k ↦ h i l k
+]
+
+-- all of a range are so exactly where all before its last cell are, and that one is
+each_more : (R : Status → Type 0) (lo n : ℕ) (cells : List Status) (was is now : Bool) → lo ≤ n
+    → ((was ≡ true) ↔ Each R lo n cells) → ((is ≡ true) ↔ R (cell_at cells n)) → now ≡ (was && is)
+    → (now ≡ true) ↔ Each R lo (n + 1) cells
+each_more R lo n cells was is now l h k f = (there was is h k f, back was is h k f)
+  where
+    there : (was is : Bool) → ((was ≡ true) ↔ Each R lo n cells) → ((is ≡ true) ↔ R (cell_at cells n))
+        → now ≡ (was && is) → now ≡ true → Each R lo (n + 1) cells
+    there false is h k f g = let z : false ≡ true = sym f ∙ g in cc
+    there true true h k f g = one_more R lo n cells (h.0 refl) (k.0 refl)
+    there true false h k f g = let z : false ≡ true = sym f ∙ g in cc
+
+    back : (was is : Bool) → ((was ≡ true) ↔ Each R lo n cells) → ((is ≡ true) ↔ R (cell_at cells n))
+        → now ≡ (was && is) → Each R lo (n + 1) cells → now ≡ true
+    back was is h k f g = f ∙ (ap (λ (z : Bool). z && is) (h.1 (λ i a b. g i a (omega arith)))
+        ∙ k.1 (g n l (omega arith)))
 
 -- no cell of an empty range is true; one cell more
 pub none_true : (lo : ℕ) (cells : List Status) → NoneTrue lo lo cells
 unfolding NoneTrue
 none_true lo cells i l u = absurd (omega arith)
 
-pub one_more : (lo n : ℕ) (cells : List Status) → NoneTrue lo n cells → cell_at cells n ≢ Present
-    → NoneTrue lo (n + 1) cells
-unfolding NoneTrue
-one_more lo n cells h d i l u = elim (last_or_before i n u) [
-  | inl e ↦ λ z. d (ap (cell_at cells) (sym e) ∙ z)
-  | inr k ↦ h i l k
-]
-
--- there is none in a range exactly where there is none before its last cell, and that isn't true
-one_less : (lo n : ℕ) (cells : List Status) → NoneTrue lo (n + 1) cells → NoneTrue lo n cells
-unfolding NoneTrue
-one_less lo n cells h i l u = h i l (omega arith)
-
-the_last : (lo n : ℕ) (cells : List Status) → lo ≤ n → NoneTrue lo (n + 1) cells → cell_at cells n ≢ Present
-unfolding NoneTrue
-the_last lo n cells l h = h n l (omega arith)
+not_true : (b : Bool) (v : Status) → b ≡ is_sure v → (not b ≡ true) ↔ (v ≢ Present)
+not_true true Present e = (λ h. let z : false ≡ true = h in cc, λ d. absurd (d refl))
+not_true false Present e = let z : false ≡ true = e in cc
+not_true true Absent e = let z : true ≡ false = e in cc
+not_true false Absent e = (λ h z. cc, λ d. refl)
+not_true true Unknown e = let z : true ≡ false = e in cc
+not_true false Unknown e = (λ h z. cc, λ d. refl)
 
 pub none_more : (lo n : ℕ) (cells : List Status) (was is_true now : Bool) → lo ≤ n
     → ((was ≡ true) ↔ NoneTrue lo n cells) → is_true ≡ is_sure (cell_at cells n) → now ≡ (was && not is_true)
     → (now ≡ true) ↔ NoneTrue lo (n + 1) cells
-none_more lo n cells was b now l h e f = (there was b h e f, back was b h e f)
-  where
-    there : (was b : Bool) → ((was ≡ true) ↔ NoneTrue lo n cells) → b ≡ is_sure (cell_at cells n)
-        → now ≡ (was && not b) → now ≡ true → NoneTrue lo (n + 1) cells
-    there false b h e f g = let z : false ≡ true = sym f ∙ g in cc
-    there true true h e f g = let z : false ≡ true = sym f ∙ g in cc
-    there true false h e f g = one_more lo n cells (h.0 refl) (not_true (cell_at cells n) (sym e))
+unfolding NoneTrue
+none_more lo n cells was b now l h e f =
+    each_more (λ v. v ≢ Present) lo n cells was (not b) now l h (not_true b (cell_at cells n) e) f
 
-    back : (was b : Bool) → ((was ≡ true) ↔ NoneTrue lo n cells) → b ≡ is_sure (cell_at cells n)
-        → now ≡ (was && not b) → NoneTrue lo (n + 1) cells → now ≡ true
-    back was true h e f g = absurd (the_last lo n cells l g (surely (cell_at cells n) (sym e)))
-    back was false h e f g = f ∙ ap (λ (z : Bool). z && true) (h.1 (one_less lo n cells g))
+-- each cell of an empty range is decided; one cell more
+pub all_known : (lo : ℕ) (cells : List Status) → AllDecided lo lo cells
+unfolding AllDecided
+all_known lo cells i l u = absurd (omega arith)
+
+known : (b : Bool) (v : Status) → b ≡ is_known v → (b ≡ true) ↔ (v ≢ Unknown)
+known true Unknown e = let z : true ≡ false = e in cc
+known false Unknown e = (λ h. let z : false ≡ true = h in cc, λ d. absurd (d refl))
+known true Present e = (λ h z. cc, λ d. refl)
+known false Present e = let z : false ≡ true = e in cc
+known true Absent e = (λ h z. cc, λ d. refl)
+known false Absent e = let z : false ≡ true = e in cc
+
+pub known_more : (lo n : ℕ) (cells : List Status) (was is_one now : Bool) → lo ≤ n
+    → ((was ≡ true) ↔ AllDecided lo n cells) → is_one ≡ is_known (cell_at cells n) → now ≡ (was && is_one)
+    → (now ≡ true) ↔ AllDecided lo (n + 1) cells
+unfolding AllDecided
+known_more lo n cells was b now l h e f =
+    each_more (λ v. v ≢ Unknown) lo n cells was b now l h (known b (cell_at cells n) e) f
 
 -- no cell of an empty range has changed; one cell more is told that it is false
 pub none_false : (lo : ℕ) (cells : List Status) → AreFalse lo lo cells cells

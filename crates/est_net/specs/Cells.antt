@@ -48,6 +48,16 @@ pub record Learns (cell : ℕ) (now : Status) (old new : List Status) : Type 0 w
 unfoldable pub NoneTrue : (lo hi : ℕ) → List Status → Type 0
 NoneTrue lo hi cells = (i : ℕ) → lo ≤ i → i < hi → cell_at cells i ≢ Present
 
+-- whether a cell is decided
+abbrev pub is_known : Status → Bool
+is_known Present = true
+is_known Absent = true
+is_known Unknown = false
+
+-- each cell from place lo on and before place hi is decided
+unfoldable pub AllDecided : (lo hi : ℕ) → List Status → Type 0
+AllDecided lo hi cells = (i : ℕ) → lo ≤ i → i < hi → cell_at cells i ≢ Unknown
+
 -- the cells from place lo on and before place hi are false, and no others have changed
 pub record AreFalse (lo hi : ℕ) (old new : List Status) : Type 0 where
   pub false_now : (i : ℕ) → lo ≤ i → i < hi → cell_at new i ≡ Absent

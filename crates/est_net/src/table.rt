@@ -3,9 +3,8 @@
 ghost use Rattle.std.specs.Prelude.{◌≡◌, ◌↔◌, ◌<◌, ◌≤◌, ◌+◌, ◌&&◌, true, length, set, slice_get};
 ghost use Rattle.std.specs.Prelude.{Some, option_map, replicate, take};
 ghost use Rattle.est_cells.specs.Tables.{is_sure};
-ghost use Rattle.est_net.specs.Cells.{AreFalse, Learns, NoneTrue, cell_at, decided, known_as};
-ghost use Rattle.est_net.specs.Cells.{learned};
-ghost use Rattle.est_net.specs.Cells.{steps_of, value_of};
+ghost use Rattle.est_net.specs.Cells.{AllDecided, AreFalse, Learns, NoneTrue, cell_at};
+ghost use Rattle.est_net.specs.Cells.{decided, is_known, known_as, learned, steps_of, value_of};
 ghost use Rattle.est_meaning.specs.declared.status.Status.TheVariants.{Absent, Unknown};
 
 use est_meaning::status::Status;
@@ -109,6 +108,31 @@ fn has_no_true(cells: &[Status], from: usize, past: usize) -> bool
         none = both(none, !is_true(read(cells, cell)));
     }
     none
+}
+
+/// Whether a cell is decided.
+#[inline(always)]
+fn is_decided(status: Status) -> bool
+    ensures { result ≡ is_known status }
+{
+    match status {
+        Status::Present | Status::Absent => true,
+        Status::Unknown => false,
+    }
+}
+
+/// Whether each cell of a range is decided. It looks at all of them, since without a way out of the
+/// loop the compiler looks at many at once.
+fn all_decided(cells: &[Status], from: usize, past: usize) -> bool
+    requires range { from ≤ past }
+    requires within { past ≤ length cells.now }
+    ensures { (result ≡ true) ↔ AllDecided from past cells.now }
+{
+    let mut all = true;
+    for cell in from..past {
+        all = both(all, is_decided(read(cells, cell)));
+    }
+    all
 }
 
 /// What a cell knows that is told that it is false.
@@ -256,6 +280,15 @@ impl Table {
         ensures { (result ≡ true) ↔ NoneTrue from past self.now.cells.items }
     {
         has_no_true(self.cells.as_slice(), from, past)
+    }
+
+    /// Whether each cell of a range is decided.
+    pub fn all_decided(&self, from: usize, past: usize) -> bool
+        requires range { from ≤ past }
+        requires within { past ≤ length self.now.cells.items }
+        ensures { (result ≡ true) ↔ AllDecided from past self.now.cells.items }
+    {
+        all_decided(self.cells.as_slice(), from, past)
     }
 
     /// Decides the open cells of a range, in which none is true, to be false. Each of them is

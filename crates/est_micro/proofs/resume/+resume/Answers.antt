@@ -2,6 +2,7 @@ use Rattle.std.proofs.Common.{ap, ◌∙◌, ◌+◌}
 use Rattle.est_meaning.specs.Environments.{with_local}
 use Rattle.est_meaning.specs.declared.status.Status.{Status}
 use Rattle.est_rounds.specs.Views.{env_of}
+use Rattle.est_micro.proofs.DecidedSheets.{read_resumed}
 use Rattle.est_micro.proofs.ResumedNodes.{present_resumed, seq_resumed, par_resumed, par_resumed_back}
 use Rattle.est_micro.proofs.ResumedNodes.{suspend_resumed, trap_resumed}
 use Rattle.est_micro.proofs.ResumedNodes.{loop_resumed, local_resumed, begun_chosen, resumed_chosen, resumed_one}
@@ -110,3 +111,8 @@ pub resume_local-leave-requires-clause-within : goal.resume_local-leave-requires
 resume_local-leave-requires-clause-within t c =
     resumed_told (c.args.at.cell + c.args.at.traps) _ c.args.table.now.cells.items _ _ _ _ _ _ _ _ _ c.requires.within
     c.learn.ensures.learns.size c.resume-body.ensures c.learn-2.ensures.learns.size
+
+pub resume-returns-in-Some : goal.resume-returns-in-Some
+resume-returns-in-Some t c =
+    read_resumed c.args.s.now c.args.at c.args.pauses.now c.args.run c.args.env.now _ _ c.requires.main
+    (rw c.in-Some.is at c.find_decided.ensures)

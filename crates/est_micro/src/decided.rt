@@ -1,0 +1,212 @@
+//! Statements all of whose cells are decided. A sweep changes none of them, so they are only read.
+//!
+//! What calls itself here does so on a part of the statement that it was given, and goes as deep as
+//! the statement is.
+
+ghost use Rattle.std.specs.Prelude.{◌≡◌, ◌<◌, ◌≤◌, ◌+◌, true, false, length, IfSome};
+ghost use Rattle.est_kernel.specs.CodeViews.{codes_of};
+ghost use Rattle.est_kernel.specs.Masks.{FitsMasks, HasSignalBit};
+ghost use Rattle.est_kernel.specs.View.{name_of};
+ghost use Rattle.est_kernel.specs.declared.statement.Statement.TheVariants.{Loop'};
+ghost use Rattle.est_kernel.specs.declared.statement.Statement.TheVariants.{Local' as Binder'};
+ghost use Rattle.est_meaning.specs.Signals.{union};
+ghost use Rattle.est_cells.specs.Tables.{if_run, is_sure, sheet_size};
+ghost use Rattle.est_net.specs.Cells.{cell_at, is_known};
+ghost use Rattle.est_net.specs.Layout.{sure_codes};
+ghost use Rattle.est_rounds.specs.Views.{set_of};
+ghost use Rattle.est_micro.specs.Views.{AddsBoth, AddsEmitted, IsRead};
+
+use crate::cells::{self, Found, Place};
+use crate::idle::has_parts;
+use est_kernel::code_set::CodeSet;
+use est_kernel::statement::{LocalSignal, Signal, Statement};
+use est_meaning::status::Status;
+use est_net::table::Table;
+use est_rounds::acts::{Acts, Judgement};
+use est_rounds::signal_set::{self, SignalSet};
+
+/// Puts the signal of an emission into the set, if its go cell is true.
+#[inline(always)]
+fn add_emission(table: &Table, cell: usize, signal: Signal, emitted: &mut SignalSet)
+    requires bit { HasSignalBit signal }
+    requires within { cell + 3 ≤ length table.now.cells.items }
+    ensures { set_of emitted.new ≡ union (set_of emitted.old)
+        (if_run (is_sure (cell_at table.now.cells.items cell)) (name_of signal)) }
+{
+    let is_emitted = cells::is_true(table.status(cell));
+    *emitted = signal_set::union_of(*emitted, cells::signal_if(is_emitted, signal));
+}
+
+/// Puts the emitted signals of two parts into the set, the second after the first. Answers the
+/// first place after their cells.
+#[cycle(add)]
+#[inline(always)]
+fn add_both(
+    table: &Table,
+    main: bool,
+    cell: usize,
+    traps: usize,
+    p: &Statement,
+    q: &Statement,
+    emitted: &mut SignalSet,
+) -> usize
+    requires fits { FitsMasks p.now × FitsMasks q.now }
+    requires within { cell + sheet_size main p.now traps + sheet_size main q.now traps
+        ≤ length table.now.cells.items }
+    ensures { AddsBoth main p.now q.now cell traps table.now.cells.items emitted.old emitted.new
+        result }
+{
+    let past = add_emitted(table, main, cell, traps, p, emitted);
+    add_emitted(table, main, past, traps, q, emitted)
+}
+
+/// Puts the emitted signals of a loop that can go on into the set.
+#[cycle(add)]
+fn add_loop(
+    table: &Table,
+    main: bool,
+    cell: usize,
+    traps: usize,
+    p: &Statement,
+    emitted: &mut SignalSet,
+) -> usize
+    requires main { main ≡ true }
+    requires fits { FitsMasks p.now }
+    requires within { cell + traps + 3 + sheet_size true p.now traps + sheet_size false p.now traps
+        ≤ length table.now.cells.items }
+    ensures { (a : _)
+        → AddsEmitted main (Loop' a p.now) cell traps table.now.cells.items emitted.old emitted.new
+        result }
+{
+    let past = add_emitted(table, main, cell + traps + 3, traps, p, emitted);
+    add_emitted(table, false, past, traps, p, emitted)
+}
+
+/// Puts the emitted signals of a local signal's scope into the set, but for that signal.
+#[cycle(add)]
+fn add_local(
+    table: &Table,
+    main: bool,
+    cell: usize,
+    traps: usize,
+    s: LocalSignal,
+    p: &Statement,
+    emitted: &mut SignalSet,
+) -> usize
+    requires fits { (s.index < 64) × FitsMasks p.now }
+    requires within { cell + traps + 4 + sheet_size main p.now traps
+        ≤ length table.now.cells.items }
+    ensures { (a : _)
+        → AddsEmitted main (Binder' s a p.now) cell traps table.now.cells.items emitted.old
+        emitted.new result }
+{
+    let mut inside = signal_set::no_signal();
+    let past = add_emitted(table, main, cell + traps + 4, traps, p, &mut inside);
+    *emitted = signal_set::union_of(*emitted, signal_set::all_but(s, inside));
+    past
+}
+
+/// Puts the signals that the cells of a statement say are surely emitted into the set. Answers the
+/// first place after its cells.
+#[cycle(add)]
+fn add_emitted(
+    table: &Table,
+    main: bool,
+    cell: usize,
+    traps: usize,
+    s: &Statement,
+    emitted: &mut SignalSet,
+) -> usize
+    requires fits { FitsMasks s.now }
+    requires within { cell + sheet_size main s.now traps ≤ length table.now.cells.items }
+    ensures { AddsEmitted main s.now cell traps table.now.cells.items emitted.old emitted.new
+        result }
+{
+    let parts = cell + traps + 3;
+    match s {
+        Statement::Nothing => parts,
+        Statement::Pause(_) => parts,
+        Statement::Exit(_) => parts,
+        Statement::Emit(signal) => {
+            add_emission(table, cell, *signal, emitted);
+            parts
+        }
+        Statement::Present(_, p, q) => add_both(table, main, parts, traps, p, q, emitted),
+        Statement::Seq(p, q) => add_both(table, main, parts, traps, p, q, emitted),
+        Statement::Par(p, q) => add_both(table, main, parts, traps, p, q, emitted),
+        Statement::Suspend(_, p) => add_emitted(table, main, parts, traps, p, emitted),
+        Statement::Loop(p) => {
+            if main {
+                add_loop(table, main, cell, traps, p, emitted)
+            } else {
+                add_emitted(table, main, parts, traps, p, emitted)
+            }
+        }
+        Statement::Trap(p) => add_emitted(table, main, parts, traps + 1, p, emitted),
+        Statement::Local(s, p) => add_local(table, main, cell, traps, *s, p, emitted),
+    }
+}
+
+/// The codes whose cells are true, of `count` of them from a place on.
+fn read_codes(table: &Table, cell: usize, count: usize) -> CodeSet
+    requires within { cell + count ≤ length table.now.cells.items }
+    requires few { count ≤ 64 }
+    ensures { codes_of result ≡ sure_codes (cell_at table.now.cells.items) cell count }
+{
+    let mut codes = CodeSet::empty();
+    for code in 0..count {
+        let is_given = cells::is_true(table.status(cell + code));
+        codes = cells::with_code(codes, code, is_given);
+    }
+    codes
+}
+
+/// What is found of a statement, if all of its cells are decided.
+fn read_decided(table: &Table, at: Place, s: &Statement) -> Option<Found>
+    requires fits { FitsMasks s.now }
+    requires within { at.cell + sheet_size at.main s.now at.traps ≤ length table.now.cells.items }
+    requires few { at.traps ≤ 62 }
+    ensures { IfSome result (IsRead s.now at table.now.cells.items) }
+{
+    let mut emitted = signal_set::no_signal();
+    let past = add_emitted(table, at.main, at.cell, at.traps, s, &mut emitted);
+    if !table.all_decided(at.cell, past) {
+        return None;
+    }
+    let acts = Acts {
+        signals: emitted,
+        codes: read_codes(table, at.cell + 1, at.traps + 2),
+    };
+    let judged = Judgement {
+        must: acts,
+        can: acts,
+    };
+    Some(Found { judged, past })
+}
+
+/// Whether a cell is decided.
+fn is_decided(status: Status) -> bool
+    ensures { result ≡ is_known status }
+{
+    match status {
+        Status::Present | Status::Absent => true,
+        Status::Unknown => false,
+    }
+}
+
+/// What is found of a statement with parts, if all of its cells are decided. They are gone through
+/// only where the codes 0 and 1 are decided: as a rule all others are decided then too.
+#[inline(always)]
+pub fn find_decided(table: &Table, at: Place, s: &Statement) -> Option<Found>
+    requires fits { FitsMasks s.now }
+    requires within { at.cell + sheet_size at.main s.now at.traps ≤ length table.now.cells.items }
+    requires few { at.traps ≤ 62 }
+    ensures { IfSome result (IsRead s.now at table.now.cells.items) }
+{
+    let has_code = is_decided(table.status(at.cell + 2)) && is_decided(table.status(at.cell + 1));
+    if has_code && has_parts(s) {
+        read_decided(table, at, s)
+    } else {
+        None
+    }
+}
