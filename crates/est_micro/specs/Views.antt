@@ -91,8 +91,8 @@ IsResumed s at pauses run e old new r =
     (λ U. (live_gates s (pauses_of pauses) run (env_of e) U).cells)
     Absent) old new r
 
--- the cells of a part are swept: if it is on (one of its pauses is set), it goes on where it is run; else the gate tells
--- whether it is begun
+-- the cells of a part are swept: if it is on (one of its pauses is set), it goes on where it is run; else the gate
+-- tells whether it is begun
 abbrev pub IsChosen : Statement → Place → PauseSet → Bool → Status → Status → Known → List Status → List Status → Found
     → Type 0
 IsChosen p at pauses is_on gate run e old new r =
