@@ -2,7 +2,7 @@
 use Rattle.std.specs.Prelude.{◌≡◌, ◌<◌, ◌+◌, ℕ, suc, nat_eq, Bool, true, false, cond, ◌&&◌, ◌||◌}
 use Rattle.std.proofs.Common.{refl, sym, ◌∙◌, arith}
 use Rattle.std.proofs.lemmas.Bool.{eqb-true}
-use Rattle.est_kernel.specs.Codes.{Codes, code, either_code, but_zero, max_codes, codes_out_of_trap, no_codes}
+use Rattle.est_kernel.specs.Codes.{code, either_code, but_zero, max_codes, codes_out_of_trap}
 use Rattle.est_kernel.specs.Codes.{some_up_to}
 use Rattle.est_kernel.specs.Pauses.{pauses_of}
 use Rattle.est_kernel.specs.Term.{Name, outer, Term, nothing, par, seq}
@@ -16,7 +16,7 @@ use Rattle.est_meaning.specs.Environments.{Env, by_status, status_of}
 use Rattle.est_meaning.specs.MustCan.{Acts, Mode, sure, maybe, must, can, can_then, either, together, hide, just_code}
 use Rattle.est_meaning.specs.MustCan.{acts_out_of_trap, may_stay, next_mode, env_within}
 use Rattle.est_meaning.specs.Signals.{no_signals, only, union, without, same_name}
-use Rattle.est_meaning.specs.States.{IsState, is_live, state_term, term_at}
+use Rattle.est_meaning.specs.States.{IsState, is_live, term_at}
 use Rattle.est_meaning.specs.declared.status.Status.{Status}
 use Rattle.est_meaning.specs.declared.status.Status.TheVariants.{Present, Absent, Unknown}
 use Rattle.est_net.specs.Reach.{HasEmissions, IsReachOf, Tells, from_pauses, from_state, may_emit}

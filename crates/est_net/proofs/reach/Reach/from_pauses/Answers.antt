@@ -1,8 +1,7 @@
-use Rattle.std.proofs.Common.{◌≡◌, ◌<◌, ◌&&◌, ◌||◌, Bool, List, length, take, get_or, sym, ◌∙◌, ap, arith}
+use Rattle.std.proofs.Common.{◌≡◌, ◌<◌, ◌||◌, Bool, length, take, get_or, sym, ◌∙◌, ap, arith}
 use Rattle.est_kernel.specs.Bits.{bits}
 use Rattle.est_kernel.specs.Pauses.{pauses_of}
 use Rattle.est_net.specs.Reach.{from_pauses}
-use Rattle.est_net.specs.declared.reach.FromPause.{FromPause}
 use Rattle.est_net.proofs.Reaching.{next_told}
 use Rattle.est_net.proofs.reach.Reach.from_pauses.Goals as goal
 
