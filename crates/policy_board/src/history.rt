@@ -2,8 +2,8 @@
 //!
 //! What runs is one atomic word, the length of the list (`Head`), and a count in each `Front`.
 //! `Seen`, `Offer` and `pen` are tokens of the kit's `logbook` without any content: by them the
-//! proofs know the entries. `Seen` stands for what was seen of the list, `Offer` for the update that
-//! a step is to make, and a pen for the right to write a word; the one here has no right.
+//! proofs know the entries. `Seen` stands for what was seen of the list, `Offer` for the update
+//! that a step is to make, and a pen for the right to write a word; the one here has no right.
 ghost use Rattle.std.specs.Prelude.{◌≡◌, [], ◌<◌, ◌≤◌, ◌==◌, ◌^◌, ◌++◌, ◌∷◌, length, MatchBool};
 ghost use Rattle.std.specs.Prelude.{IfSome, IsTrue};
 ghost use Rattle.rbac_policy.specs.Opening.{opening_entries};
@@ -38,8 +38,8 @@ impl Rule<Entry, u64> for Law {
     // What holds of words that the book doesn't follow: nothing, since here there are none.
     ghost hinted = { λ n log. Unit {0} };
 
-    // What clients of the book see of the log. A client owns something beside the log, and trades it
-    // in a step. Here there is none, so this and the next two say nothing.
+    // What clients of the book see of the log. A client owns something beside the log, and trades
+    // it in a step. Here there is none, so this and the next two say nothing.
     ghost shows = { λ log. [] };
 
     // What clients own.
@@ -59,8 +59,8 @@ impl Gain<Entry, u64> for Nothing {
 }
 
 /// A step on the list that adds an entry. To `logbook`, `Play` says what a step tells its caller
-/// (`then`), and `Plain` says of a step that trades nothing what it asks for (`ask`: this entry) and
-/// whether that was done before (`state`: it wasn't).
+/// (`then`), and `Plain` says of a step that trades nothing what it asks for (`ask`: this entry),
+/// and whether that was done before (`state`: it wasn't).
 pub struct Adding;
 
 impl Play<Entry, u64> for Adding {
