@@ -64,7 +64,8 @@ abbrev pub left_after : Reply → (session : ℕ) → Option ℕ
 left_after (reply.Refused Memory) session = Some session
 left_after _ session = None
 
--- the end of a connection with this login: where one is held, its logout is asked, and what that leaves is left
+-- the end of a connection with this login: where one is held, its logout is asked; the login is left over only if
+-- memory was refused
 pub data Leaves {D : Type 0} (answers : D → Ask → Reply → D → Type 0) : (held : Option ℕ) → (before after : D)
     → (left : Option ℕ) → Type 0 where
   none_held : (desk : D) → Leaves answers None desk desk None

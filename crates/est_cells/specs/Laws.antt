@@ -121,8 +121,9 @@ pub record OpenTableIsBelow : Type 0 where
   pub resumed : (s : Statement) (bits : ℕ → Bool) (r : Status) (e : Env) (i : List Declaration) (d n : ℕ)
       → IsClosed i d n (term_of s) → Below true s (open_sheet true s d) (resumed s bits r e)
 
--- what an engine on a row of cells needs: a gate decides as the meaning does; where no place's gates decide more, the
--- table's don't. And the cells of some tables are counted
+-- for an engine that keeps the cells in a row and looks at one place at a time, as none here does (`Micro` sweeps over
+-- sheets): what the gates decide at the places of a row agrees with the meaning; and if the gates decide nothing new at
+-- any place, they decide nothing new in the sheet. Besides, the cells of three tables are counted
 pub record EngineOnRows : Type 0 where
   pub step : (j : JudgedSignals) → IsWithinPlaces j → (inputs : ℕ → Bool) (s : Statement) (x : State)
       (outputs : ℕ → Status)

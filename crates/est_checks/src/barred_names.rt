@@ -1,4 +1,5 @@
-//! Which interface names the modules emit that a module runs, and that are inputs of it.
+//! For each module that a module M runs: the interface names that it emits and that M declares as
+//! inputs, or `tick`.
 ghost use Rattle.std.specs.Prelude.{◌≡◌, ℕ, List, ◌&&◌, ◌||◌, filter, map, IfOk};
 ghost use Rattle.est_checks.specs.Barred.{barred_by};
 ghost use Rattle.est_checks.specs.Emissions.{emitted_of};

@@ -120,8 +120,8 @@ fn binds_input(
         && check.table.emits(name, &renaming.inner))
 }
 
-/// The same name, found among the kept names of the module that is run: where no renaming is at
-/// fault, a run is refused for the first of these that it doesn't rename.
+/// As `refused_name`, by the kept names: if no renaming binds what is emitted to an input, it is
+/// the first kept name that is neither hidden nor renamed.
 fn refused_of(
     check: &EmitInput<'_, '_, '_, '_>,
     kept: &OpenNames<'_, '_, '_>,

@@ -1,10 +1,11 @@
 //! The checks of a library of modules that is to be linked: its first fault, or that it has none.
 //!
-//! A check is asked of each place of a body in the order of the text, and answers the first that
-//! has its fault (`place_check`). `check_library` asks all of them in their order, before any run
-//! is replaced by the module that it runs: so its time depends on the text, and not on what the
-//! text would be with all runs replaced. `specs/FirstFaults` says which fault is the first; `laws`,
-//! that there is only one.
+//! Most checks are asked of each place of a body in the order of the text, and answer the first
+//! that has their fault (`place_check`). Others look at the names of modules and interfaces, at who
+//! runs whom, and at the relations and the limits of the main module. `check_library` asks all
+//! checks in their order, before any run is replaced by the module that it runs: so its time
+//! depends on the text, and not on what the text would be with all runs replaced.
+//! `specs/FirstFaults` says which fault is the first; `laws`, that there is only one.
 #![tactic(auto)]
 
 pub mod around_order;

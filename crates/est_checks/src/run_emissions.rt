@@ -1,4 +1,4 @@
-//! Which interface names the modules emit that a module runs.
+//! For each module that a module M runs: the interface names that it emits.
 ghost use Rattle.std.specs.Prelude.{◌≡◌, filter, map, IfOk};
 ghost use Rattle.est_checks.specs.Emissions.{emitted_of};
 ghost use Rattle.est_checks.specs.Inner.Emitted.{sent_by};

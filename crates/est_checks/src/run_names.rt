@@ -1,4 +1,4 @@
-//! How the kept names are chosen of the modules that a module runs.
+//! For each module that a module M runs: its kept names, as a `Choice` picks them.
 ghost use Rattle.std.specs.Prelude.{OnOk, IfOk, map};
 ghost use Rattle.est_modules.specs.FirstPlaces.{AreFirstPlaces};
 ghost use Rattle.est_modules.specs.OpenNames.{AreKept};

@@ -2,8 +2,8 @@
 //! replaced: chains of runs that double the number at each step cost no more than their texts, and
 //! no number goes past the limit plus one.
 //!
-//! Recursion is at most one call for each open unit, and at most 128 units are open. A `run` is no
-//! call: its module was counted before.
+//! The functions call each other at most four times for each unit that is open around a place, and
+//! at most 128 units are open. A `run` is no call: its module was counted before.
 ghost use Rattle.std.specs.Prelude.{◌≡◌, ℕ, ◌+◌, ◌<◌, ◌≤◌, List, Some, length, map, min, slice_get};
 ghost use Rattle.std.specs.Prelude.{IfOk};
 ghost use Rattle.est_syntax.specs.Views.{test_view, unit_view, branches_view};

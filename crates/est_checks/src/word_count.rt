@@ -1,8 +1,8 @@
 //! How many `not`, `and` and `or` a test has: each is one statement. No number goes past the limit
 //! plus one.
 //!
-//! The functions call each other once for each `not` and each parenthesis that is open, which count
-//! among the 128 units that the reader lets be open at once.
+//! The functions call each other once for each `not` and three times for each parenthesis that is
+//! open; both count among the 128 units that the reader lets be open at once.
 ghost use Rattle.std.specs.Prelude.{◌≡◌, min};
 ghost use Rattle.est_syntax.specs.Views.{literal_view, conjunction_view, expression_view};
 ghost use Rattle.est_syntax.specs.Views.{test_view};

@@ -1,4 +1,8 @@
--- Facts of a kernel have one proof each, so that they can be kept in it (this project's own form).
+-- That facts of a kernel have one proof each, at most (this project's own form). The logic keeps a fact in a value by
+-- its proof. If a fact had two proofs, two kernels of the same interface and statement could still be different values;
+-- so the kit asks for this of each fact that a type keeps. Of an equation it finds it by itself, as of `within_limits`;
+-- of a fact that goes by cases or by recursion it is shown here. `IsProp X` says it of X; `hlevel` finds it of a
+-- product from the same of the parts.
 use Rattle.std.specs.Prelude.{ℕ, List, ◌+◌}
 use mathlib.Core.Bool.{Bool-set}
 use Rattle.std.proofs.Math.Nat.{ℕ_set}

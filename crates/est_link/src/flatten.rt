@@ -1,7 +1,7 @@
 //! The flat body of a module, from its text and the flat bodies of the modules that it runs.
 //!
-//! Recursion is at most one call for each open unit, and at most 128 units are open. A `run` is no
-//! call: its module was made flat before.
+//! The functions call each other at most five times for each unit that is open around a place, and
+//! at most 128 units are open. A `run` is no call: its module was made flat before.
 ghost use Rattle.std.specs.Prelude.{◌≡◌, IfOk, map, option_map};
 ghost use Rattle.std.specs.List.{find};
 ghost use Rattle.std.specs.Str.{bytes_eq};

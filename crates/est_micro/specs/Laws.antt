@@ -13,7 +13,7 @@ use Rattle.est_cells.specs.Tables.{Sheet, Below, emits, is_sure}
 use Rattle.est_micro.specs.Sweeps.{swept, live_swept}
 use Rattle.est_micro.specs.declared.direction.Direction.{Direction}
 
--- what is surely emitted is known to be present where it was in doubt
+-- where l leaves a surely emitted signal open, e has it present
 abbrev pub Heard : Signals → Env → Env → Type 0
 Heard x e l = (n : Name) → x n ≡ true → l n ≡ Unknown → e n ≡ Present
 
@@ -22,7 +22,7 @@ abbrev pub Seen : Signals → Env → Type 0
 Seen x l = (n : Name) → x n ≡ true → l n ≢ Unknown
 
 -- in either direction: if every decided cell agrees with the meaning, so does every cell that a sweep decides from
--- them, provided that the environment knows what the meaning surely emits
+-- them, provided that what the meaning surely emits is present in its environment, where the sweep's leaves it open
 pub record SweepsAreSound : Type 0 where
   pub begun : (d : Direction) (main : Bool) (s : Statement) (r g : Status) (e l : Env) (T : Sheet main s) → IsBelow g r
       → KnowsLess l e

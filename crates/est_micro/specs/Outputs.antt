@@ -1,4 +1,5 @@
--- The cells of the signals that may be emitted, by the mask of these signals (this project's own form).
+-- The cells of the signals that may be emitted, by the mask of these signals; for private clauses (this project's own
+-- form).
 use Rattle.std.specs.Prelude.{◌≡◌, ◌<◌, ◌+◌, ℕ, Bool, true, false, cond, List}
 use Rattle.est_kernel.specs.Bits.{bits}
 use Rattle.est_meaning.specs.Rounds.{how_many}

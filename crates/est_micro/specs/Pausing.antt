@@ -1,4 +1,5 @@
--- At which pauses a statement stands after an instant, by the list of cells (this project's own form).
+-- At which pauses a statement stands after an instant, by the list of cells; for private clauses (this project's own
+-- form).
 use Rattle.std.specs.Prelude.{◌≡◌, ◌+◌, ◌||◌, ◌&&◌, ℕ, Bool, List}
 use Rattle.est_kernel.specs.Pauses.{pauses_of}
 use Rattle.est_kernel.specs.declared.pause_set.PauseSet.{PauseSet}

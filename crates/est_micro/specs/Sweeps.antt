@@ -18,8 +18,8 @@ use Rattle.est_net.specs.Cells.{learned}
 use Rattle.est_micro.specs.declared.direction.Direction.{Direction}
 use Rattle.est_micro.specs.declared.direction.Direction.TheVariants.{Forwards, Backwards}
 
--- of code cells, m those that are true and n those that aren't false, that are told a, what is surely given, and b,
--- what is possibly: those that are then true, and those that aren't false
+-- Code cells, of which m are true and n are not false, are told: a is surely given, b possibly. `sure_told`: those then
+-- true; `may_told`: those then not false
 unfoldable pub sure_told : (m n a b : Codes) → Codes
 sure_told m n a b k = is_sure (learned (verdict (m k) (n k)) (verdict (a k) (b k)))
 

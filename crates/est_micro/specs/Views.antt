@@ -1,4 +1,4 @@
--- What a sweep through the list of cells finds and does (this project's own form).
+-- What a sweep through the list of cells finds and does; for private clauses (this project's own form).
 use Rattle.std.specs.Prelude.{◌≡◌, ◌<◌, ◌≤◌, ℕ, ◌+◌, Bool, true, cond, List, length}
 use Rattle.est_kernel.specs.Codes.{Codes}
 use Rattle.est_kernel.specs.CodeViews.{codes_of}

@@ -53,7 +53,7 @@ pub fn has_parts(s: &Statement) -> bool {
     }
 }
 
-/// Whether a go cell is false, or open and told by the gate that it is.
+/// Whether a go cell is false, or is open and its gate says false.
 fn is_off(go: Status, gate: Status) -> bool
     ensures { result ≡ true → learned go gate ≡ Absent }
 {

@@ -1,7 +1,7 @@
 //! The walk over a test, in the order of the text.
 //!
-//! The functions call each other once for each `not` and each parenthesis that is open around a
-//! name, which count among the 128 units that the reader lets be open at once.
+//! The functions call each other once for each `not` and three times for each parenthesis that is
+//! open around a name; both count among the 128 units that the reader lets be open at once.
 ghost use Rattle.std.specs.Prelude.{◌≡◌, OnOk};
 ghost use Rattle.est_syntax.specs.Views.{literal_view, conjunction_view, expression_view};
 ghost use Rattle.est_syntax.specs.Views.{test_view};

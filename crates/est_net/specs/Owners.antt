@@ -51,8 +51,8 @@ pub record IsOwn (i n c t own x : ℕ) (o : StatementCell) : Type 0 where
   pub incarnation : o.incarnation ≡ i
   pub kind : o.kind ≡ kind_at t (x - c)
 
--- the incarnation of a loop's body, in its first sheet: in incarnation 0 the body goes on or is begun in due course;
--- else one loop more lies between it and the loop whose restart begins it
+-- the incarnation of the body in a loop's first sheet, by that of the loop: 0 stays 0; otherwise it is one more, since
+-- this loop lies between the body and the loop whose restart begins it
 abbrev pub inside_loop : Bool → ℕ → ℕ
 inside_loop true i = i
 inside_loop false i = i + 1

@@ -37,8 +37,8 @@ may_emit n (Trap' a p) end exit = may_emit n p end (end || exit)
 may_emit n (Exit k) end exit = exit
 may_emit n (Binder' s a p) end exit = may_emit n p end exit
 
--- of each set of pauses it is told whether signal n may be emitted in an instant that goes on from them: where a pause
--- of the statement is among them, and what follows its end in the same instant may emit the signal, it may be
+-- `told` says of a set of pauses whether signal n may be emitted in an instant that goes on from them. It has to say
+-- yes if the set has a pause of the statement after whose end n may be emitted
 abbrev pub Tells : ℕ → Statement → (end exit : Bool) → ((ℕ → Bool) → Bool) → Type 0
 Tells n Nothing end exit told = Unit {0}
 Tells n (Pause i) end exit told = (pauses : ℕ → Bool) → pauses i.index ≡ true → end ≡ true → told pauses ≡ true

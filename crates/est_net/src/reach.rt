@@ -97,7 +97,7 @@ fn begun(s: &Statement, later: Later) -> u64
     }
 }
 
-/// Adds a pause, or memory was refused. To begin it emits nothing.
+/// Adds a pause, or memory was refused. Beginning a pause emits nothing.
 fn add_pause(
     pauses: &mut Vec<FromPause>,
     pause: PauseIndex,

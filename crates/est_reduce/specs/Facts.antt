@@ -1,4 +1,6 @@
--- That a body's names are bound has one proof, so that it can be kept in a flat module (this project's own form).
+-- That a body's names are bound has one proof at most, so that a flat module can keep it; est_kernel specs/Facts says
+-- why that is asked. What else a flat module keeps, `over_inputs`, is an equation and needs no such proof (this
+-- project's own form).
 use Rattle.std.specs.Prelude.{ℕ, List, ◌+◌}
 use Rattle.std.specs.Coded.{Unit-prop, le_prop}
 use Rattle.est_kernel.specs.Facts.{EachSignal-prop, IsEmitted-prop, IsVisible-prop}

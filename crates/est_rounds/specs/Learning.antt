@@ -1,5 +1,5 @@
--- What is known of a kernel's signals in a state of it, round by round (this project's own form, over the definitions
--- of est_meaning).
+-- What is known of a kernel's signals in a state of it, round by round; for private clauses (this project's own form,
+-- over the definitions of est_meaning).
 use Rattle.std.specs.Prelude.{◌≡◌, ℕ, Bool, not, ◌&&◌}
 use Rattle.est_kernel.specs.Bits.{bits}
 use Rattle.est_kernel.specs.Term.{Term}

@@ -1,4 +1,4 @@
--- What a statement answers as it begins and as it goes on (this project's own form).
+-- What a statement answers as it begins and as it goes on; for private clauses (this project's own form).
 use Rattle.std.specs.Prelude.{◌≡◌, ℕ, Bool, true, false, ◌||◌, ◌&&◌, cond, max, Option, IfSome}
 use Rattle.est_kernel.specs.CodeViews.{code_of}
 use Rattle.est_kernel.specs.Pauses.{pauses_of}

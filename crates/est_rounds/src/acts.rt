@@ -97,8 +97,8 @@ impl Acts {
         }
     }
 
-    /// The status of a local signal, where its body can do this while nothing is known of it and it
-    /// is in doubt whether the body is reached.
+    /// A local signal's status, from what its body can do while nothing is known of the signal,
+    /// where it is in doubt whether the body is reached.
     pub fn status_in_doubt(self, s: LocalSignal) -> Status
         requires { s.index < 64 }
         ensures { result ≡ verdict false (set_of self.signals (inner s.index)) }
@@ -179,7 +179,8 @@ impl Judgement {
         }
     }
 
-    /// The status of a local signal, where this is judged of its body while nothing is known of it.
+    /// A local signal's status, from what is judged of its body while nothing is known of the
+    /// signal.
     pub fn status_of(self, s: LocalSignal) -> Status
         requires { s.index < 64 }
         ensures { result ≡ local_status sure s.index (acts_of self.must) (acts_of self.can) }

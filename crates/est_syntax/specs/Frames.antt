@@ -21,7 +21,7 @@ use Rattle.est_syntax.specs.Machine.{unit as unit_want}
 use Rattle.est_syntax.specs.Parsing.{IsPart, Round}
 use Rattle.est_syntax.specs.declared.parse.TheConstants.{MOST_OPEN_UNITS}
 
--- whether a token begins a unit without a body
+-- a token that leads to this step begins no unit without a body
 abbrev pub NotPlain : Step → Type 0
 NotPlain refused = Unit {0}
 NotPlain (to ws) = ⊥

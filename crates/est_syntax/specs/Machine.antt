@@ -8,7 +8,7 @@ use Rattle.est_text.specs.contracts.keyword.Keyword.{the_type as keyword_type}
 use Rattle.est_text.specs.contracts.token.Symbol.{the_type as symbol_type}
 use denote.Enum.Bare.{sameb}
 
--- whether the second token is the first, a keyword or a symbol
+-- whether both are the same keyword or the same symbol; never so of identifiers
 abbrev pub same : Token → Token → Bool
 same (Keyword k) (Keyword l) = sameb keyword_type k l
 same (Keyword k) _ = false

@@ -1,5 +1,5 @@
-//! Laws of the grammar, for those who build on it. A law is a function without a body: its contract
-//! is what it says.
+//! Laws of the grammar, for those who build on it. A law is a public function that does nothing:
+//! its contract is what it says. (`machine` is none: it is private.)
 ghost use Rattle.std.specs.Prelude.{◌≡◌, ◌≤◌, ◌+◌, ◌∷◌, [], ℕ, List, length};
 ghost use Rattle.est_text.specs.declared.token.Token.{Token};
 ghost use Rattle.est_syntax.specs.Faults.{IsSyntaxFault, IsTooDeep};

@@ -26,7 +26,7 @@ fn one_more(faults: u64) -> u64
     }
 }
 
-/// A reader, how many reads it has left, and how many of them failed.
+/// A reader, with how many reads it still lets through, and how many have failed.
 #[derive(Drop)]
 pub struct MeteredReader<R> {
     device: R,

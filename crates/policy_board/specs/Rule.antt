@@ -8,9 +8,9 @@
 --   tell      a receipt has a note of the writer's view
 --   learn     a seat takes over such a note, where it is longer than what the seat knows
 --
--- and, beside the rule, get and release of the admin lock, between which one thread has the writer and the journal,
--- of the tally, between which it has the number of the last slot command that was counted, and of a slot, which lies
--- above this crate.
+-- Besides, three locks are taken and released: the admin lock (its holder has writer and journal), the tally's lock
+-- (its holder has the number of the last slot command that was counted), and a slot's lock, which belongs to a crate
+-- above.
 use Rattle.std.specs.Prelude.{◌≡◌, ℕ, List}
 use mathlib.Core.Option.{some}
 use lib.ListN.{get_elem?}

@@ -83,7 +83,7 @@ impl<B: BoardName> Board<B> {
     /// # Errors
     ///
     /// - Behind, where the policy that was read is older than one that the seat has seen;
-    /// - Memory, where `left_right` refuses the read.
+    /// - Memory, where `left_right` refuses the read (`SlotReader::enter`).
     pub fn check_access(
         &self,
         seat: &mut Seat<B>,

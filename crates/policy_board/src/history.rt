@@ -2,7 +2,8 @@
 //!
 //! What runs is one atomic word, the length of the list (`Head`), and a count in each `Front`.
 //! `Seen`, `Offer` and `pen` are tokens of the kit's `logbook` without any content: by them the
-//! proofs know the entries.
+//! proofs know the entries. `Seen` stands for what was seen of the list, `Offer` for the update
+//! that a step is to make, and a pen for the right to write a word; the one here has no right.
 ghost use Rattle.std.specs.Prelude.{◌≡◌, [], ◌<◌, ◌≤◌, ◌==◌, ◌^◌, ◌++◌, ◌∷◌, length, MatchBool};
 ghost use Rattle.std.specs.Prelude.{IfSome, IsTrue};
 ghost use Rattle.rbac_policy.specs.Opening.{opening_entries};
@@ -17,7 +18,9 @@ use std::marker::{Brand, Model, PhantomData};
 /// How many entries a policy opens with.
 const OPENING: u64 = OPENING_ENTRIES as u64;
 
-/// The rule by which the board's list grows, as the kit's `logbook` asks for one.
+/// The rule by which the board's list grows, in the form that the kit's `logbook` asks for. A book
+/// has words, which threads change in single steps, and a list of entries, which only grows: its
+/// log. The log exists in the proofs alone.
 pub struct Law;
 
 impl Rule<Entry, u64> for Law {
@@ -26,21 +29,27 @@ impl Rule<Entry, u64> for Law {
     ghost use Rattle.rbac_policy.specs.Opening.{opening_entries};
     ghost use Rattle.policy_board.specs.Inner.Book.{IsBook};
 
+    // What holds of words and log between any two steps.
     ghost holds = { λ cells log. IsBook cells log };
 
+    // The log of a new book.
     ghost first = { opening_entries };
 
+    // What holds of words that the book doesn't follow: nothing, since here there are none.
     ghost hinted = { λ n log. Unit {0} };
 
+    // What clients of the book see of the log. A client owns something beside the log, and trades
+    // it in a step. Here there is none, so this and the next two say nothing.
     ghost shows = { λ log. [] };
 
+    // What clients own.
     ghost keeps = { λ names log. ftrue };
 
+    // How an update moves what clients see.
     ghost moves = { λ ask before after answer. Unit {0} };
 }
 
-/// What an update of the list gives its caller besides the answer, as the kit's `logbook` asks for
-/// it (`Gain`): here nothing.
+/// What a client owns once its update was made (`Gain`): here nothing.
 pub struct Nothing;
 
 impl Gain<Entry, u64> for Nothing {
@@ -49,7 +58,9 @@ impl Gain<Entry, u64> for Nothing {
     ghost after = { λ names about answer. ftrue };
 }
 
-/// A step on the list that adds an entry.
+/// A step on the list that adds an entry. To `logbook`, `Play` says what a step tells its caller
+/// (`then`), and `Plain` says of a step that trades nothing what it asks for (`ask`: this entry),
+/// and whether that was done before (`state`: it wasn't).
 pub struct Adding;
 
 impl Play<Entry, u64> for Adding {
@@ -89,9 +100,15 @@ impl Plain<(), Entry, u64> for Looking {
 pub trait BoardName {
     ghost use Rattle.logbook.specs.Pages.{Book};
 
+    // Which book the board's list lies in.
     ghost book: { Book };
 }
 
+// A program passes `Brand` where a function wants the name of a new board. The book below is only a
+// placeholder. The function is proved for a board of any book, and the proof of the call picks one:
+// that of the list that was just begun, by `ghosts-serve_source` in proofs/server/serve/Invariants
+// of `program_run`. Without a pick the call would have the book below, and what it requires, that
+// the new list lies in the board's book, could not be proved.
 impl BoardName for Brand {
     ghost book = { record { number = 0; log_name = 0; cells_name = 0 } };
 }
@@ -105,7 +122,8 @@ pub struct Fresh {
 }
 
 impl Fresh {
-    /// A new list.
+    /// A new list, in a book of its own. No contract says which book: whoever has the list knows it
+    /// as `seen.book`.
     pub fn new() -> Fresh {
         let (seen, mut first, _second) = Seen::open(Start::alone(), OPENING, 0);
         Fresh {
@@ -248,7 +266,7 @@ impl<B: BoardName> Front<B> {
         begins(&self.trace, &other.trace)
     }
 
-    /// Of two fronts the shorter begins the longer.
+    /// For the proof: a front that is no longer than another is a beginning of it.
     pub(crate) fn compare(&self, other: &Front<B>)
         requires { length self.now ≤ length other.now }
         ensures { Begins self.now other.now }

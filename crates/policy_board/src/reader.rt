@@ -12,8 +12,8 @@ use rbac_policy::policy::Policy;
 use std::collections::LinkedList;
 use std::marker::Model;
 
-/// A reader that is not reading; it can always begin to. A contract sees the policy list that it
-/// has seen.
+/// A reader that is not reading: `enter` begins a read, unless it is refused. A contract sees the
+/// policy list that it has seen.
 #[derive(Drop)]
 pub struct SlotReader<B: BoardName> {
     reader: PolicyReader<B>,
@@ -73,7 +73,8 @@ impl<B: BoardName> SlotReader<B> {
     ///
     /// # Errors
     ///
-    /// The reader as it was, where `left_right` refuses the read.
+    /// The reader as it was, where `left_right` refuses the read. It does so only once its writer
+    /// has ended, which is after all commands (`Closed::journal`); no clause of the kit says so.
     pub fn enter(self) -> Result<Reading<B>, SlotReader<B>>
         ensures { MatchResult result (λ reading. Begins self reading) (λ reader. reader ≡ self) }
     {

@@ -237,7 +237,7 @@ impl<B: BoardName> Seat<B> {
     /// # Errors
     ///
     /// - Behind, where the policy that was read is older than one that the seat has seen;
-    /// - Memory, where `left_right` refuses the read.
+    /// - Memory, where `left_right` refuses the read (`SlotReader::enter`).
     pub(crate) fn check(
         &mut self,
         session: SessionId,

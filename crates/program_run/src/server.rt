@@ -114,6 +114,7 @@ pub fn serve<R: Threads + Wait + Net + Files + Sync, O: Write>(
 {
     let source = SocketSource::new(Socket::bind(rt, service.path)?);
     let (workers, connections) = (service.workers, service.connections);
+    // `Brand` is the name of the new board: the proof has it stand for the list of `Fresh::new()`.
     serve_source::<Brand, R, O>(
         rt,
         alloc,

@@ -6,7 +6,7 @@ use Rattle.rbac_policy.specs.Opening.{opening_entries}
 use Rattle.rbac_admin.specs.PolicyStep.{PolicyStep}
 use Rattle.rbac_admin.specs.Room.{HasRoomFor}
 
--- the whole list is the beginning and then more
+-- `beginning` is a prefix of `whole`
 pub record Begins {A : Type 0} (beginning whole : List A) : Type 0 where
   pub rest : List A
   pub is : beginning ++ rest ≡ whole

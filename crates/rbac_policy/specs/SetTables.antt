@@ -1,4 +1,4 @@
--- What is read from the table of separation sets, as it is computed (this project's own form).
+-- What is read from the table of separation sets, as it is computed; for private clauses (this project's own form).
 use Rattle.std.specs.Prelude.{ℕ, Bool, false, List, Option, Some, None, fold, if◌then◌else◌, ◌==◌}
 use Rattle.std.specs.Int.{bit_at}
 use Rattle.std.specs.Str.{bytes_eq}

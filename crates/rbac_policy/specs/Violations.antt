@@ -1,4 +1,4 @@
--- Which separation set is violated first, as it is computed (this project's own form).
+-- Which separation set is violated first, as it is computed; for private clauses (this project's own form).
 use Rattle.std.specs.Prelude.{ℕ, Bool, List, Option, Some, None, if◌then◌else◌, nat_le, nat_lt, length, fold}
 use Rattle.rbac_closure.specs.Sets.{common, places_of}
 use Rattle.rbac_policy.specs.declared.rows.Session.{Session}

@@ -1,4 +1,4 @@
--- Which engines are for a kernel (this project's own form).
+-- Which engines are for a kernel; for private clauses (this project's own form).
 use Rattle.std.specs.Prelude.{⊤}
 use Rattle.est_kernel.specs.declared.kernel.Kernel.{Kernel}
 use Rattle.est_micro.specs.Engine.{IsNetOf}

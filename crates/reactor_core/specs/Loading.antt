@@ -54,8 +54,8 @@ pub record GivenModule : Type 0 where
   pub relations : List Relation
   pub term : Term
 
--- the text and the name of its main module give this module: it links to the main module's interface and relations, and
--- the main module's kernel term by the table of reductions is within the limits, and no loop of it takes no time
+-- the text and the name of its main module give this module: it links to the main module's interface and relations, the
+-- main module's kernel term by the table of reductions is within the limits, and each of its loops takes time
 pub record Gives (main text : List ℕ) (m : GivenModule) : Type 0 where
   pub flat : FlatModule
   pub links : LinksTo main text flat

@@ -54,7 +54,7 @@ pub enum ModuleEngine {
 }
 
 impl ModuleEngine {
-    /// The engine of a kernel, or memory was refused: each later reaction of it takes none.
+    /// Makes the engine of a kernel, or fails for want of memory. Its reactions take no memory.
     pub fn for_kernel(alloc: Global, kernel: &Kernel) -> Result<ModuleEngine, AllocError>
         ensures { IfOk result (λ engine. IsEngineOf engine kernel.now) }
     {

@@ -93,9 +93,8 @@ impl Instant {
 }
 
 impl Settled {
-    /// Makes it the reactor's next instant, and adds its entry: it keeps the inputs that were
-    /// pending, none of which is pending any more, and the reaction's outputs. A refusal,
-    /// JournalFull or Memory, hands the reactor back as it was before `open`.
+    /// Adds the instant, and an entry that keeps its inputs and outputs. Afterwards nothing is
+    /// pending. A refusal, JournalFull or Memory, hands the reactor back as it was before `open`.
     pub fn commit(self, stamp: Stamp) -> Result<Reactor, (Refusal, Reactor)>
         ensures { CommitAnswer self stamp result }
     {
