@@ -1,6 +1,6 @@
 -- The laws of the cells, as the functions of the module of laws promise them (this project's own form of the microstep
 -- semantics in Berry, The Constructive Semantics of Pure Esterel).
-use Rattle.std.specs.Prelude.{◌≡◌, ◌+◌, ◌≤◌, ◌<◌, ℕ, Bool, true, List}
+use Rattle.std.specs.Prelude.{◌≡◌, ◌+◌, ℕ, Bool, true, List}
 use Rattle.est_kernel.specs.declared.statement.Statement.{Statement}
 use Rattle.est_kernel.specs.View.{term_of}
 use Rattle.est_meaning.specs.declared.status.Status.{Status}
@@ -17,7 +17,6 @@ use Rattle.est_cells.specs.Decided.{TableDecided, IsReactionOf}
 use Rattle.est_meaning.specs.Rules.{Gives}
 use Rattle.est_meaning.specs.Signals.{Signals}
 use Rattle.est_meaning.specs.declared.status.Status.TheVariants.{Present, Absent}
-use Rattle.est_cells.specs.Rows.{Row, nodes, sheet_at, row_of, RowBelow}
 use Rattle.est_kernel.specs.PauseNumbers.{HasDistinctPauses}
 use Rattle.est_cells.specs.Next.{stays, NextAt}
 use Rattle.est_kernel.specs.Scope.{IsClosed}
@@ -29,7 +28,7 @@ use Rattle.est_kernel.specs.Pauses.{pauses_of}
 use Rattle.est_kernel.specs.declared.pause_set.PauseSet.{PauseSet}
 use Rattle.est_kernel.specs.declared.state.State.TheVariants.{Fresh, Paused}
 use Rattle.est_cells.specs.Values.{idle, runs, continues, begun_by, resumed_by}
-use Rattle.est_cells.specs.Whole.{Table, TableBelow, known, sheet_gates, table_gates, table_meaning}
+use Rattle.est_cells.specs.Whole.{Table, TableBelow, table_gates, table_meaning}
 use Rattle.est_cells.specs.Tables.{Sheet, Below, sheet_size, emits, is_sure, is_possible}
 use Rattle.est_cells.specs.Gates.{gates, live_gates}
 use Rattle.est_cells.specs.Meaning.{begun, resumed, must_at, can_at}
@@ -92,17 +91,6 @@ pub record MicrostepsAgree : Type 0 where
       → TableBelow j s T (table_meaning j inputs s x) → TableBelow j s (table_gates j inputs s x T) T
       → (n : ℕ) → j.has n ≡ true → T.outputs n ≡ last_env j inputs (state_term s x) (outer n)
 
--- a row stands for a sheet
-pub record RowsAreSheets : Type 0 where
-  pub same : (main : Bool) (s : Statement) (n : ℕ) (f g : Row) → ((a : ℕ) → n ≤ a → a < n + nodes main s → f a ≡ g a)
-      → sheet_at main s n f ≡ sheet_at main s n g
-  pub has : (main : Bool) (s : Statement) (n : ℕ) (T : Sheet main s) → sheet_at main s n (row_of main s n T) ≡ T
-  pub below : (main : Bool) (s : Statement) (n : ℕ) (f g : Row) → RowBelow main s n f g
-      → Below main s (sheet_at main s n f) (sheet_at main s n g)
-  pub places : (main : Bool) (s : Statement) (n : ℕ) (f g : Row)
-      → Below main s (sheet_at main s n f) (sheet_at main s n g)
-      → RowBelow main s n f g
-
 -- the pauses that the cells of a reaction say are those of the step
 pub record PausesFollow : Type 0 where
   pub begun : (main : Bool) (s : Statement) → HasDistinctPauses s
@@ -121,19 +109,9 @@ pub record OpenTableIsBelow : Type 0 where
   pub resumed : (s : Statement) (bits : ℕ → Bool) (r : Status) (e : Env) (i : List Declaration) (d n : ℕ)
       → IsClosed i d n (term_of s) → Below true s (open_sheet true s d) (resumed s bits r e)
 
--- for an engine that keeps the cells in a row and looks at one place at a time, as none here does (`Micro` sweeps over
--- sheets): what the gates decide at the places of a row agrees with the meaning; and if the gates decide nothing new at
--- any place, they decide nothing new in the sheet. Besides, the cells of three tables are counted
-pub record EngineOnRows : Type 0 where
-  pub step : (j : JudgedSignals) → IsWithinPlaces j → (inputs : ℕ → Bool) (s : Statement) (x : State)
-      (outputs : ℕ → Status)
-      (f : Row) → ((n : ℕ) → j.has n ≡ true → IsBelow (outputs n) (last_env j inputs (state_term s x) (outer n)))
-      → RowBelow true s 0 f (row_of true s 0 (table_meaning j inputs s x).sheet)
-      → RowBelow true s 0 (row_of true s 0 (sheet_gates s x (known j inputs outputs) (sheet_at true s 0 f)))
-      (row_of true s 0 (table_meaning j inputs s x).sheet)
-  pub quiet : (j : JudgedSignals) (inputs : ℕ → Bool) (s : Statement) (x : State) (outputs : ℕ → Status) (f : Row)
-      → RowBelow true s 0 (row_of true s 0 (sheet_gates s x (known j inputs outputs) (sheet_at true s 0 f))) f
-      → Below true s (sheet_gates s x (known j inputs outputs) (sheet_at true s 0 f)) (sheet_at true s 0 f)
+-- how many cells three tables have: that of the opening script (and two outputs), of a loop around a local signal (and
+-- two), and of a trap around two sides of a `||` (and three)
+pub record CellsAreCounted : Type 0 where
   pub script : (a b c d : _) (i : _) (o p : _)
       → sheet_size true (Seq' a (Seq' b (Emit o) c (Pause i)) d (Emit p)) 0 + 2 ≡ 17
   pub loops : (a1 a2 a3 a4 a5 a6 a7 a8 : _) (i : _) (s : _) (t : _) (o p q : _)

@@ -4,7 +4,7 @@ use Rattle.std.proofs.Common.{refl, ap, sym, ◌∙◌, arith, inl, inr, subst}
 use Rattle.est_kernel.specs.Bits.{bits}
 use Rattle.est_kernel.specs.Interfaces.{emittable}
 use Rattle.est_kernel.specs.Pauses.{pauses_of}
-use Rattle.est_kernel.specs.Term.{outer, inner, Term}
+use Rattle.est_kernel.specs.Term.{outer, inner}
 use Rattle.est_kernel.specs.declared.interface.Declaration.{Declaration}
 use Rattle.est_kernel.specs.declared.state.State.{State}
 use Rattle.est_kernel.specs.declared.state.State.TheVariants.{Fresh, Done, Paused}
@@ -12,13 +12,13 @@ use Rattle.est_kernel.specs.declared.statement.Statement.{Statement}
 use Rattle.est_meaning.specs.Knowledge.{IsBelow, KnowsLess}
 use Rattle.est_meaning.specs.Laws.{IsWithinPlaces}
 use Rattle.est_meaning.specs.MustCan.{must, can, sure}
-use Rattle.est_meaning.specs.Rounds.{JudgedSignals, judged_signals, first_env, round, env_after, last_env, how_many}
+use Rattle.est_meaning.specs.Rounds.{JudgedSignals, judged_signals, last_env, how_many}
 use Rattle.est_meaning.specs.Signals.{Signals}
 use Rattle.est_meaning.specs.States.{state_term}
 use Rattle.est_meaning.specs.Environments.{Env, verdict}
 use Rattle.est_meaning.specs.declared.status.Status.{Status}
 use Rattle.est_meaning.specs.declared.status.Status.TheVariants.{Present, Absent, Unknown}
-use Rattle.est_cells.proofs.WholeTable.{at_rest, judged_round, sheet_sure, table_sound}
+use Rattle.est_cells.proofs.WholeTable.{at_rest, judged_round, sheet_sure, table_known, table_sound}
 use Rattle.est_cells.specs.Tables.{Sheet, Below, emits, is_sure, is_possible}
 use Rattle.est_cells.specs.Whole.{Table, TableBelow, known, sheet_gates, sheet_meaning, table_gates, table_meaning}
 use Rattle.est_net.specs.Cells.{cell_at, learned}
@@ -50,54 +50,6 @@ sheet_swept_quiet way s Fresh e l T k z c q = swept_quiet way true s Present Pre
 sheet_swept_quiet way s Done e l T k z c q = swept_quiet way true s Absent Absent e l T (inr refl) k z c q
 sheet_swept_quiet way s (Paused p) e l T k z c q =
     live_swept_quiet way s (pauses_of p) Present Present e l T (inr refl) k z c q
-
--- what the cells of the signals say is below the last round, if each is
-other_first : (j : JudgedSignals) (inputs : ℕ → Bool) (n : ℕ) → j.has n ≡ false
-    → first_env j inputs (outer n) ≡ verdict (inputs n) false
-unfolding first_env
-other_first j inputs n h = rw h refl
-
-other_round : (j : JudgedSignals) (t : Term) (e : Env) (n : ℕ) → j.has n ≡ false → round j t e (outer n) ≡ e (outer n)
-unfolding round
-other_round j t e n h = rw h refl
-
-inner_first : (j : JudgedSignals) (inputs : ℕ → Bool) (n : ℕ) → first_env j inputs (inner n) ≡ Absent
-unfolding first_env
-inner_first j inputs n = refl
-
-inner_round : (j : JudgedSignals) (t : Term) (e : Env) (n : ℕ) → round j t e (inner n) ≡ e (inner n)
-unfolding round
-inner_round j t e n = refl
-
-offered : (m : ℕ) (j : JudgedSignals) (inputs : ℕ → Bool) (t : Term) (n : ℕ) → j.has n ≡ false
-    → env_after m j t (first_env j inputs) (outer n) ≡ verdict (inputs n) false
-offered zero j inputs t n h = other_first j inputs n h
-offered (suc m) j inputs t n h = other_round j t _ n h ∙ offered m j inputs t n h
-
-unbound : (m : ℕ) (j : JudgedSignals) (inputs : ℕ → Bool) (t : Term) (n : ℕ)
-    → env_after m j t (first_env j inputs) (inner n) ≡ Absent
-unbound zero j inputs t n = inner_first j inputs n
-unbound (suc m) j inputs t n = inner_round j t _ n ∙ unbound m j inputs t n
-
-known_below : (j : JudgedSignals) (inputs : ℕ → Bool) (outputs : ℕ → Status) (e : Env)
-    → ((n : ℕ) → j.has n ≡ true → IsBelow (outputs n) (e (outer n)))
-    → ((n : ℕ) → j.has n ≡ false → e (outer n) ≡ verdict (inputs n) false) → ((n : ℕ) → e (inner n) ≡ Absent)
-    → KnowsLess (known j inputs outputs) e
-unfolding known
-known_below j inputs outputs e f g h (outer n) = go (j.has n) refl
-  where
-    go : (b : Bool) → j.has n ≡ b → IsBelow (cond b (outputs n) (verdict (inputs n) false)) (e (outer n))
-    go true l = f n l
-    go false l = rw (g n l) (inr refl)
-known_below j inputs outputs e f g h (inner n) = rw (h n) (inr refl)
-
-table_known : (j : JudgedSignals) (inputs : ℕ → Bool) (s : Statement) (x : State) (T : Table s)
-    → TableBelow j s T (table_meaning j inputs s x) → KnowsLess (known j inputs T.outputs)
-    (last_env j inputs (state_term s x))
-table_known j inputs s x T c =
-    let t = state_term s x in
-    known_below j inputs T.outputs (last_env j inputs t) c.outputs (offered (how_many j.has j.places) j inputs t)
-    (unbound (how_many j.has j.places) j inputs t)
 
 -- what is surely emitted is present in the last round, where the cells leave it open
 last_heard : (j : JudgedSignals) → IsWithinPlaces j → (inputs : ℕ → Bool) (outputs : ℕ → Status) (s : Statement)
