@@ -352,15 +352,11 @@ emits_same main (Binder' s a p) f c t d =
 -- what is found of such a statement, by the codes that its cells give and the signals that they emit
 pub decided_read : (s : Statement) (at : Place) (cells : List Status) (old new : SignalSet) (codes : CodeSet)
     (past : ℕ) (r : Found) → set_of old ≡ no_signals
-    → AddsEmitted at.main s at.cell at.traps cells old new past → AllDecided at.cell past cells
+    → AddsEmitted at.main s at.cell at.traps cells old new past
+    → AllDecided at.cell (at.cell + sheet_size at.main s at.traps) cells
     → codes_of codes ≡ sure_codes (cell_at cells) (at.cell + 1) (at.traps + 2)
-    → r ≡ record {
-      judged = record {
-        must = record { signals = new; codes = codes };
-        can = record { signals = new; codes = codes };
-      };
-      past = past;
-    }
+    → r ≡ record { judged = record { must = record { signals = new; codes = codes };
+      can = record { signals = new; codes = codes } }; past = past }
     → IsRead s at cells r
 decided_read s at cells old new codes past r none adds all given is =
     let f = cell_at cells in
@@ -368,13 +364,12 @@ decided_read s at cells old new codes past r none adds all given is =
     let t = at.traps in
     let o = size_least at.main s t in
     let T = sheet_in f at.main s c t in
-    let all' = subst (λ (z : ℕ). AllDecided c z cells) adds.past_is all in
-    let d = decided_of c (c + sheet_size at.main s t) cells all' in
+    let d = decided_of c (c + sheet_size at.main s t) cells all in
     let signals = adds.adds ∙ (ap (λ (z : Signals). union z (emits is_sure at.main s T)) none
     ∙ none_union (emits is_sure at.main s T)) in
     let same = codes_same f (c + 1) (t + 2) (λ i l u. d i (omega arith) (omega arith)) in
     subst (λ (z : Found). IsRead s at cells z) (sym is) (record {
-      decided = all';
+      decided = all;
       found = record {
         must = given;
         can = given ∙ same;

@@ -83,13 +83,17 @@ fn begin_present(
 {
     let go = table.learn(at.cell, gate);
     let place = Place {
+        main: at.main,
+        direction: at.direction,
         cell: at.cell + at.traps + 3,
-        ..at
+        traps: at.traps,
     };
     let first = begin(table, place, p, go.and(asked), env);
     let place = Place {
+        main: at.main,
+        direction: at.direction,
         cell: first.past,
-        ..at
+        traps: at.traps,
     };
     let second = begin(table, place, q, go.and(asked.opposite()), env);
     let own = cells::either(&first.judged, &second.judged);
@@ -109,8 +113,10 @@ fn begin_suspend(table: &mut Table, at: Place, p: &Statement, gate: Status, env:
 {
     let go = table.learn(at.cell, gate);
     let place = Place {
+        main: at.main,
+        direction: at.direction,
         cell: at.cell + at.traps + 3,
-        ..at
+        traps: at.traps,
     };
     let body = begin(table, place, p, go, env);
     cells::leave(table, at, &body.judged, body.past)
@@ -138,15 +144,19 @@ fn begin_seq(
 {
     let go = table.learn(at.cell, gate);
     let place = Place {
+        main: at.main,
+        direction: at.direction,
         cell: at.cell + at.traps + 3,
-        ..at
+        traps: at.traps,
     };
     let first = begin(table, place, p, go, env);
     let inside = cells::told(env, first.judged.must.signals);
     let later = cells::ends(&first.judged);
     let place = Place {
+        main: at.main,
+        direction: at.direction,
         cell: first.past,
-        ..at
+        traps: at.traps,
     };
     let second = begin(table, place, q, later, &inside);
     let own = cells::followed(&first.judged, &second.judged);
@@ -168,14 +178,17 @@ fn begin_loop(table: &mut Table, at: Place, p: &Statement, gate: Status, env: &E
 {
     let go = table.learn(at.cell, gate);
     let place = Place {
+        main: at.main,
+        direction: at.direction,
         cell: at.cell + at.traps + 3,
-        ..at
+        traps: at.traps,
     };
     let first = begin(table, place, p, go, env);
     let place = Place {
         main: false,
+        direction: at.direction,
         cell: first.past,
-        ..at
+        traps: at.traps,
     };
     let again = begin(table, place, p, Status::Absent, env);
     let own = cells::emitting(&first.judged, &again.judged);
@@ -196,8 +209,10 @@ fn begin_again(table: &mut Table, at: Place, p: &Statement, gate: Status, env: &
 {
     let go = table.learn(at.cell, gate);
     let place = Place {
+        main: at.main,
+        direction: at.direction,
         cell: at.cell + at.traps + 3,
-        ..at
+        traps: at.traps,
     };
     let body = begin(table, place, p, go, env);
     cells::leave(table, at, &body.judged, body.past)
@@ -226,14 +241,18 @@ fn begin_par(
 {
     let go = table.learn(at.cell, gate);
     let place = Place {
+        main: at.main,
+        direction: at.direction,
         cell: at.cell + at.traps + 3,
-        ..at
+        traps: at.traps,
     };
     let first = begin(table, place, p, go, env);
     let inside = cells::told(env, first.judged.must.signals);
     let place = Place {
+        main: at.main,
+        direction: at.direction,
         cell: first.past,
-        ..at
+        traps: at.traps,
     };
     let second = begin(table, place, q, go, &inside);
     let own = cells::beside(&first.judged, &second.judged);
@@ -263,12 +282,16 @@ fn begin_par_back(
 {
     let go = table.learn(at.cell, gate);
     let place = Place {
+        main: at.main,
+        direction: at.direction,
         cell: at.cell + at.traps + 3,
-        ..at
+        traps: at.traps,
     };
     let later = Place {
+        main: at.main,
+        direction: at.direction,
         cell: past(place.cell, at.main, p, at.traps),
-        ..at
+        traps: at.traps,
     };
     let second = begin(table, later, q, go, env);
     let inside = cells::told(env, second.judged.must.signals);
@@ -290,9 +313,10 @@ fn begin_trap(table: &mut Table, at: Place, p: &Statement, gate: Status, env: &E
 {
     let go = table.learn(at.cell, gate);
     let place = Place {
+        main: at.main,
+        direction: at.direction,
         cell: at.cell + at.traps + 3,
         traps: at.traps + 1,
-        ..at
     };
     let body = begin(table, place, p, go, env);
     let own = cells::out_of_trap(&body.judged);
@@ -322,8 +346,10 @@ fn begin_local(
     let cell = at.cell + at.traps + 3;
     let inside = signal_set::set_local(env, s, table.status(cell));
     let place = Place {
+        main: at.main,
+        direction: at.direction,
         cell: cell + 1,
-        ..at
+        traps: at.traps,
     };
     let body = begin(table, place, p, go, &inside);
     table.learn(cell, cells::status_of(&body.judged, s));

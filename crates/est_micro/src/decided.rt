@@ -3,7 +3,7 @@
 //! What calls itself here does so on a part of the statement that it was given, and goes as deep as
 //! the statement is.
 
-ghost use Rattle.std.specs.Prelude.{◌≡◌, ◌<◌, ◌≤◌, ◌+◌, true, false, length, IfSome};
+ghost use Rattle.std.specs.Prelude.{◌≡◌, ◌<◌, ◌≤◌, ◌+◌, true, false, length};
 ghost use Rattle.est_kernel.specs.CodeViews.{codes_of};
 ghost use Rattle.est_kernel.specs.Masks.{FitsMasks, HasSignalBit};
 ghost use Rattle.est_kernel.specs.View.{name_of};
@@ -11,13 +11,13 @@ ghost use Rattle.est_kernel.specs.declared.statement.Statement.TheVariants.{Loop
 ghost use Rattle.est_kernel.specs.declared.statement.Statement.TheVariants.{Local' as Binder'};
 ghost use Rattle.est_meaning.specs.Signals.{union};
 ghost use Rattle.est_cells.specs.Tables.{if_run, is_sure, sheet_size};
-ghost use Rattle.est_net.specs.Cells.{cell_at, is_known};
+ghost use Rattle.est_net.specs.Cells.{AllDecided, cell_at, is_known};
 ghost use Rattle.est_net.specs.Layout.{sure_codes};
 ghost use Rattle.est_rounds.specs.Views.{set_of};
 ghost use Rattle.est_micro.specs.Views.{AddsBoth, AddsEmitted, IsRead};
 
 use crate::cells::{self, Found, Place};
-use crate::idle::has_parts;
+use crate::idle::{has_parts, past};
 use est_kernel::code_set::CodeSet;
 use est_kernel::statement::{LocalSignal, Signal, Statement};
 use est_meaning::status::Status;
@@ -161,31 +161,8 @@ fn read_codes(table: &Table, cell: usize, count: usize) -> CodeSet
     codes
 }
 
-/// What is found of a statement, if all of its cells are decided.
-fn read_decided(table: &Table, at: Place, s: &Statement) -> Option<Found>
-    requires fits { FitsMasks s.now }
-    requires within { at.cell + sheet_size at.main s.now at.traps ≤ length table.now.cells.items }
-    requires few { at.traps ≤ 62 }
-    ensures { IfSome result (IsRead s.now at table.now.cells.items) }
-{
-    let mut emitted = signal_set::no_signal();
-    let past = add_emitted(table, at.main, at.cell, at.traps, s, &mut emitted);
-    if !table.all_decided(at.cell, past) {
-        return None;
-    }
-    let acts = Acts {
-        signals: emitted,
-        codes: read_codes(table, at.cell + 1, at.traps + 2),
-    };
-    let judged = Judgement {
-        must: acts,
-        can: acts,
-    };
-    Some(Found { judged, past })
-}
-
 /// Whether a cell is decided.
-fn is_decided(status: Status) -> bool
+fn is_known(status: Status) -> bool
     ensures { result ≡ is_known status }
 {
     match status {
@@ -194,19 +171,38 @@ fn is_decided(status: Status) -> bool
     }
 }
 
-/// What is found of a statement with parts, if all of its cells are decided. They are gone through
-/// only where the codes 0 and 1 are decided: as a rule all others are decided then too.
+/// Whether a statement has parts, and all of its cells are decided. They are gone through only
+/// where the codes 0 and 1 are decided: as a rule all others are decided then too.
 #[inline(always)]
-pub fn find_decided(table: &Table, at: Place, s: &Statement) -> Option<Found>
+pub fn is_decided(table: &Table, at: Place, s: &Statement) -> bool
+    requires { at.cell + sheet_size at.main s.now at.traps ≤ length table.now.cells.items }
+    ensures { result ≡ true → AllDecided at.cell (at.cell + sheet_size at.main s.now at.traps)
+        table.now.cells.items }
+{
+    is_known(table.status(at.cell + 2))
+        && is_known(table.status(at.cell + 1))
+        && has_parts(s)
+        && table.all_decided(at.cell, past(at.cell, at.main, s, at.traps))
+}
+
+/// What is found of a statement all of whose cells are decided.
+pub fn read(table: &Table, at: Place, s: &Statement) -> Found
     requires fits { FitsMasks s.now }
     requires within { at.cell + sheet_size at.main s.now at.traps ≤ length table.now.cells.items }
     requires few { at.traps ≤ 62 }
-    ensures { IfSome result (IsRead s.now at table.now.cells.items) }
+    requires decided { AllDecided at.cell (at.cell + sheet_size at.main s.now at.traps)
+        table.now.cells.items }
+    ensures { IsRead s.now at table.now.cells.items result }
 {
-    let has_code = is_decided(table.status(at.cell + 2)) && is_decided(table.status(at.cell + 1));
-    if has_code && has_parts(s) {
-        read_decided(table, at, s)
-    } else {
-        None
-    }
+    let mut emitted = signal_set::no_signal();
+    let past = add_emitted(table, at.main, at.cell, at.traps, s, &mut emitted);
+    let acts = Acts {
+        signals: emitted,
+        codes: read_codes(table, at.cell + 1, at.traps + 2),
+    };
+    let judged = Judgement {
+        must: acts,
+        can: acts,
+    };
+    Found { judged, past }
 }

@@ -23,7 +23,7 @@ ghost use Rattle.est_micro.specs.declared.direction.Direction.TheVariants.{Forwa
 
 use crate::begin::begin;
 use crate::cells::{self, Found, Place};
-use crate::decided::find_decided;
+use crate::decided;
 use crate::direction::Direction;
 use crate::idle::past;
 use est_kernel::completion::Completion;
@@ -104,13 +104,17 @@ fn resume_present(
     let go = table.learn(at.cell, Status::Absent);
     let is_on = has_live(p, pauses);
     let place = Place {
+        main: at.main,
+        direction: at.direction,
         cell: at.cell + at.traps + 3,
-        ..at
+        traps: at.traps,
     };
     let first = part(table, place, p, pauses, is_on, go.and(asked), run, env);
     let place = Place {
+        main: at.main,
+        direction: at.direction,
         cell: first.past,
-        ..at
+        traps: at.traps,
     };
     let second = part(
         table,
@@ -149,8 +153,10 @@ fn resume_suspend(
 {
     table.learn(at.cell, Status::Absent);
     let place = Place {
+        main: at.main,
+        direction: at.direction,
         cell: at.cell + at.traps + 3,
-        ..at
+        traps: at.traps,
     };
     let body = resume(table, place, p, pauses, run.and(asked.opposite()), env);
     let held = cells::leaf(run.and(asked), Completion::Pause);
@@ -185,15 +191,19 @@ fn resume_seq(
     let go = table.learn(at.cell, Status::Absent);
     let is_on = has_live(p, pauses);
     let place = Place {
+        main: at.main,
+        direction: at.direction,
         cell: at.cell + at.traps + 3,
-        ..at
+        traps: at.traps,
     };
     let first = part(table, place, p, pauses, is_on, go, run, env);
     let inside = cells::told(env, first.judged.must.signals);
     let later = cells::ends(&first.judged);
     let place = Place {
+        main: at.main,
+        direction: at.direction,
         cell: first.past,
-        ..at
+        traps: at.traps,
     };
     let second = part(table, place, q, pauses, !is_on, later, run, &inside);
     let own = cells::followed(&first.judged, &second.judged);
@@ -223,16 +233,19 @@ fn resume_loop(
 {
     table.learn(at.cell, Status::Absent);
     let place = Place {
+        main: at.main,
+        direction: at.direction,
         cell: at.cell + at.traps + 3,
-        ..at
+        traps: at.traps,
     };
     let first = resume(table, place, p, pauses, run, env);
     let inside = cells::told(env, first.judged.must.signals);
     let later = cells::ends(&first.judged);
     let place = Place {
         main: false,
+        direction: at.direction,
         cell: first.past,
-        ..at
+        traps: at.traps,
     };
     let again = begin(table, place, p, later, &inside);
     let own = cells::followed(&first.judged, &again.judged);
@@ -291,14 +304,18 @@ fn resume_par(
     let first_on = has_live(p, pauses);
     let second_on = second_lives(first_on, q, pauses);
     let place = Place {
+        main: at.main,
+        direction: at.direction,
         cell: at.cell + at.traps + 3,
-        ..at
+        traps: at.traps,
     };
     let first = part(table, place, p, pauses, first_on, go, run, env);
     let inside = cells::told(env, first.judged.must.signals);
     let place = Place {
+        main: at.main,
+        direction: at.direction,
         cell: first.past,
-        ..at
+        traps: at.traps,
     };
     let second = part(table, place, q, pauses, second_on, go, run, &inside);
     let left = side(first_on, &first, run);
@@ -336,12 +353,16 @@ fn resume_par_back(
     let first_on = has_live(p, pauses);
     let second_on = second_lives(first_on, q, pauses);
     let place = Place {
+        main: at.main,
+        direction: at.direction,
         cell: at.cell + at.traps + 3,
-        ..at
+        traps: at.traps,
     };
     let later = Place {
+        main: at.main,
+        direction: at.direction,
         cell: past(place.cell, true, p, at.traps),
-        ..at
+        traps: at.traps,
     };
     let second = part(table, later, q, pauses, second_on, go, run, env);
     let inside = cells::told(env, second.judged.must.signals);
@@ -374,9 +395,10 @@ fn resume_trap(
 {
     table.learn(at.cell, Status::Absent);
     let place = Place {
+        main: at.main,
+        direction: at.direction,
         cell: at.cell + at.traps + 3,
         traps: at.traps + 1,
-        ..at
     };
     let body = resume(table, place, p, pauses, run, env);
     let own = cells::out_of_trap(&body.judged);
@@ -409,8 +431,10 @@ fn resume_local(
     let cell = at.cell + at.traps + 3;
     let inside = signal_set::set_local(env, s, table.status(cell));
     let place = Place {
+        main: at.main,
+        direction: at.direction,
         cell: cell + 1,
-        ..at
+        traps: at.traps,
     };
     let body = resume(table, place, p, pauses, run, &inside);
     table.learn(cell, cells::status_of(&body.judged, s));
@@ -480,8 +504,9 @@ pub fn resume(
     ensures { IsResumed s.now at pauses.now run env.now table.old.cells.items table.new.cells.items
         result }
 {
-    match find_decided(table, at, s) {
-        Some(found) => found,
-        None => resume_each(table, at, s, pauses, run, env),
+    if decided::is_decided(&*table, at, s) {
+        decided::read(&*table, at, s)
+    } else {
+        resume_each(table, at, s, pauses, run, env)
     }
 }

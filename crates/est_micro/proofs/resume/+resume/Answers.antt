@@ -112,7 +112,6 @@ resume_local-leave-requires-clause-within t c =
     resumed_told (c.args.at.cell + c.args.at.traps) _ c.args.table.now.cells.items _ _ _ _ _ _ _ _ _ c.requires.within
     c.learn.ensures.learns.size c.resume-body.ensures c.learn-2.ensures.learns.size
 
-pub resume-returns-in-Some : goal.resume-returns-in-Some
-resume-returns-in-Some t c =
-    read_resumed c.args.s.now c.args.at c.args.pauses.now c.args.run c.args.env.now _ _ c.requires.main
-    (rw c.in-Some.is at c.find_decided.ensures)
+pub resume-returns-then-is_decided : goal.resume-returns-then-is_decided
+resume-returns-then-is_decided t c =
+    read_resumed c.args.s.now c.args.at c.args.pauses.now c.args.run c.args.env.now _ _ c.requires.main c.read.ensures

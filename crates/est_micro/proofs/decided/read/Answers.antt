@@ -1,7 +1,7 @@
 use Rattle.std.proofs.Common.{arith, refl}
 use Rattle.est_micro.proofs.DecidedSheets.{decided_read}
 use Rattle.est_micro.proofs.Frames.{size_least}
-use Rattle.est_micro.proofs.decided.read_decided.Goals as goal
+use Rattle.est_micro.proofs.decided.read.Goals as goal
 
 pub read_codes-requires-clause-within : goal.read_codes-requires-clause-within
 read_codes-requires-clause-within c =
@@ -11,4 +11,4 @@ read_codes-requires-clause-within c =
 pub returns : goal.returns
 returns c =
     decided_read c.args.s.now c.args.at _ _ _ _ _ _ c.no_signal-emitted.ensures c.add_emitted-past.ensures
-    (c.all_decided.ensures.0 c.if-not-all_decided.false) c.read_codes.ensures refl
+    c.requires.decided c.read_codes.ensures refl
