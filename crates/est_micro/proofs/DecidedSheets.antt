@@ -355,8 +355,13 @@ pub decided_read : (s : Statement) (at : Place) (cells : List Status) (old new :
     → AddsEmitted at.main s at.cell at.traps cells old new past
     → AllDecided at.cell (at.cell + sheet_size at.main s at.traps) cells
     → codes_of codes ≡ sure_codes (cell_at cells) (at.cell + 1) (at.traps + 2)
-    → r ≡ record { judged = record { must = record { signals = new; codes = codes };
-      can = record { signals = new; codes = codes } }; past = past }
+    → r ≡ record {
+      judged = record {
+        must = record { signals = new; codes = codes };
+        can = record { signals = new; codes = codes };
+      };
+      past = past;
+    }
     → IsRead s at cells r
 decided_read s at cells old new codes past r none adds all given is =
     let f = cell_at cells in

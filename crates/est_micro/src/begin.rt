@@ -31,16 +31,16 @@ use est_rounds::signal_set::{self, Env};
 
 /// Sweeps a statement without parts that gives this code where it is begun.
 #[inline(always)]
-fn begin_leaf(table: &mut Table, at: Place, completion: Completion, gate: Status) -> Found
+fn begin_leaf(table: &mut Table, at: &Place, completion: Completion, gate: Status) -> Found
     requires code { code_of completion < 64 }
-    requires within { at.cell + at.traps + 3 ≤ length table.old.cells.items }
-    requires few { at.traps ≤ 62 }
+    requires within { at.now.cell + at.now.traps + 3 ≤ length table.old.cells.items }
+    requires few { at.now.traps ≤ 62 }
     ensures nothing { (e : _) → code_of completion ≡ 0
-        → IsBegun Nothing at gate e table.old.cells.items table.new.cells.items result }
+        → IsBegun Nothing at.now gate e table.old.cells.items table.new.cells.items result }
     ensures pause { (e n : _) → code_of completion ≡ 1
-        → IsBegun (Pause n) at gate e table.old.cells.items table.new.cells.items result }
+        → IsBegun (Pause n) at.now gate e table.old.cells.items table.new.cells.items result }
     ensures exit { (e k : _) → code_of completion ≡ k.index + 2
-        → IsBegun (Exit k) at gate e table.old.cells.items table.new.cells.items result }
+        → IsBegun (Exit k) at.now gate e table.old.cells.items table.new.cells.items result }
 {
     let go = table.learn(at.cell, gate);
     let own = cells::leaf(go, completion);
@@ -48,12 +48,12 @@ fn begin_leaf(table: &mut Table, at: Place, completion: Completion, gate: Status
 }
 
 /// Sweeps an emission.
-fn begin_emit(table: &mut Table, at: Place, signal: Signal, gate: Status) -> Found
+fn begin_emit(table: &mut Table, at: &Place, signal: Signal, gate: Status) -> Found
     requires bit { HasSignalBit signal }
-    requires within { at.cell + at.traps + 3 ≤ length table.old.cells.items }
-    requires few { at.traps ≤ 62 }
+    requires within { at.now.cell + at.now.traps + 3 ≤ length table.old.cells.items }
+    requires few { at.now.traps ≤ 62 }
     ensures { (e : _)
-        → IsBegun (Emit signal) at gate e table.old.cells.items table.new.cells.items result }
+        → IsBegun (Emit signal) at.now gate e table.old.cells.items table.new.cells.items result }
 {
     let go = table.learn(at.cell, gate);
     let own = cells::emission(go, signal);
@@ -64,7 +64,7 @@ fn begin_emit(table: &mut Table, at: Place, signal: Signal, gate: Status) -> Fou
 #[cycle(begin)]
 fn begin_present(
     table: &mut Table,
-    at: Place,
+    at: &Place,
     asked: Status,
     p: &Statement,
     q: &Statement,
@@ -72,13 +72,13 @@ fn begin_present(
     env: &Env,
 ) -> Found
     requires fits { FitsMasks p.now × FitsMasks q.now }
-    requires within { at.cell + at.traps + 3 + sheet_size at.main p.now at.traps
-        + sheet_size at.main q.now at.traps
+    requires within { at.now.cell + at.now.traps + 3 + sheet_size at.now.main p.now at.now.traps
+        + sheet_size at.now.main q.now at.now.traps
         ≤ length table.old.cells.items }
-    requires first_traps { at.traps + trap_depth (term_of p.now) ≤ 62 }
-    requires second_traps { at.traps + trap_depth (term_of q.now) ≤ 62 }
+    requires first_traps { at.now.traps + trap_depth (term_of p.now) ≤ 62 }
+    requires second_traps { at.now.traps + trap_depth (term_of q.now) ≤ 62 }
     ensures { (t a b : _) → asked ≡ status_of (env_of env.now) (query_of t)
-        → IsBegun (Present' t a p.now b q.now) at gate env.now table.old.cells.items
+        → IsBegun (Present' t a p.now b q.now) at.now gate env.now table.old.cells.items
         table.new.cells.items result }
 {
     let go = table.learn(at.cell, gate);
@@ -88,27 +88,27 @@ fn begin_present(
         cell: at.cell + at.traps + 3,
         traps: at.traps,
     };
-    let first = begin(table, place, p, go.and(asked), env);
+    let first = begin(table, &place, p, go.and(asked), env);
     let place = Place {
         main: at.main,
         direction: at.direction,
         cell: first.past,
         traps: at.traps,
     };
-    let second = begin(table, place, q, go.and(asked.opposite()), env);
+    let second = begin(table, &place, q, go.and(asked.opposite()), env);
     let own = cells::either(&first.judged, &second.judged);
     cells::leave(table, at, &own, second.past)
 }
 
 /// Sweeps a `suspend`.
 #[cycle(begin)]
-fn begin_suspend(table: &mut Table, at: Place, p: &Statement, gate: Status, env: &Env) -> Found
+fn begin_suspend(table: &mut Table, at: &Place, p: &Statement, gate: Status, env: &Env) -> Found
     requires fits { FitsMasks p.now }
-    requires within { at.cell + at.traps + 3 + sheet_size at.main p.now at.traps
+    requires within { at.now.cell + at.now.traps + 3 + sheet_size at.now.main p.now at.now.traps
         ≤ length table.old.cells.items }
-    requires traps { at.traps + trap_depth (term_of p.now) ≤ 62 }
+    requires traps { at.now.traps + trap_depth (term_of p.now) ≤ 62 }
     ensures { (t a : _)
-        → IsBegun (Suspend' t a p.now) at gate env.now table.old.cells.items table.new.cells.items
+        → IsBegun (Suspend' t a p.now) at.now gate env.now table.old.cells.items table.new.cells.items
         result }
 {
     let go = table.learn(at.cell, gate);
@@ -118,7 +118,7 @@ fn begin_suspend(table: &mut Table, at: Place, p: &Statement, gate: Status, env:
         cell: at.cell + at.traps + 3,
         traps: at.traps,
     };
-    let body = begin(table, place, p, go, env);
+    let body = begin(table, &place, p, go, env);
     cells::leave(table, at, &body.judged, body.past)
 }
 
@@ -126,20 +126,20 @@ fn begin_suspend(table: &mut Table, at: Place, p: &Statement, gate: Status, env:
 #[cycle(begin)]
 fn begin_seq(
     table: &mut Table,
-    at: Place,
+    at: &Place,
     p: &Statement,
     q: &Statement,
     gate: Status,
     env: &Env,
 ) -> Found
     requires fits { FitsMasks p.now × FitsMasks q.now }
-    requires within { at.cell + at.traps + 3 + sheet_size at.main p.now at.traps
-        + sheet_size at.main q.now at.traps
+    requires within { at.now.cell + at.now.traps + 3 + sheet_size at.now.main p.now at.now.traps
+        + sheet_size at.now.main q.now at.now.traps
         ≤ length table.old.cells.items }
-    requires first_traps { at.traps + trap_depth (term_of p.now) ≤ 62 }
-    requires second_traps { at.traps + trap_depth (term_of q.now) ≤ 62 }
+    requires first_traps { at.now.traps + trap_depth (term_of p.now) ≤ 62 }
+    requires second_traps { at.now.traps + trap_depth (term_of q.now) ≤ 62 }
     ensures { (a b : _)
-        → IsBegun (Seq' a p.now b q.now) at gate env.now table.old.cells.items table.new.cells.items
+        → IsBegun (Seq' a p.now b q.now) at.now gate env.now table.old.cells.items table.new.cells.items
         result }
 {
     let go = table.learn(at.cell, gate);
@@ -149,7 +149,7 @@ fn begin_seq(
         cell: at.cell + at.traps + 3,
         traps: at.traps,
     };
-    let first = begin(table, place, p, go, env);
+    let first = begin(table, &place, p, go, env);
     let inside = cells::told(env, first.judged.must.signals);
     let later = cells::ends(&first.judged);
     let place = Place {
@@ -158,22 +158,22 @@ fn begin_seq(
         cell: first.past,
         traps: at.traps,
     };
-    let second = begin(table, place, q, later, &inside);
+    let second = begin(table, &place, q, later, &inside);
     let own = cells::followed(&first.judged, &second.judged);
     cells::leave(table, at, &own, second.past)
 }
 
 /// Sweeps a loop that can go on.
 #[cycle(begin)]
-fn begin_loop(table: &mut Table, at: Place, p: &Statement, gate: Status, env: &Env) -> Found
-    requires main { at.main ≡ true }
+fn begin_loop(table: &mut Table, at: &Place, p: &Statement, gate: Status, env: &Env) -> Found
+    requires main { at.now.main ≡ true }
     requires fits { FitsMasks p.now }
-    requires within { at.cell + at.traps + 3 + sheet_size true p.now at.traps
-        + sheet_size false p.now at.traps
+    requires within { at.now.cell + at.now.traps + 3 + sheet_size true p.now at.now.traps
+        + sheet_size false p.now at.now.traps
         ≤ length table.old.cells.items }
-    requires traps { at.traps + trap_depth (term_of p.now) ≤ 62 }
+    requires traps { at.now.traps + trap_depth (term_of p.now) ≤ 62 }
     ensures { (a : _)
-        → IsBegun (Loop' a p.now) at gate env.now table.old.cells.items
+        → IsBegun (Loop' a p.now) at.now gate env.now table.old.cells.items
         table.new.cells.items result }
 {
     let go = table.learn(at.cell, gate);
@@ -183,28 +183,28 @@ fn begin_loop(table: &mut Table, at: Place, p: &Statement, gate: Status, env: &E
         cell: at.cell + at.traps + 3,
         traps: at.traps,
     };
-    let first = begin(table, place, p, go, env);
+    let first = begin(table, &place, p, go, env);
     let place = Place {
         main: false,
         direction: at.direction,
         cell: first.past,
         traps: at.traps,
     };
-    let again = begin(table, place, p, Status::Absent, env);
+    let again = begin(table, &place, p, Status::Absent, env);
     let own = cells::emitting(&first.judged, &again.judged);
     cells::leave(table, at, &own, again.past)
 }
 
 /// Sweeps a loop that was begun again.
 #[cycle(begin)]
-fn begin_again(table: &mut Table, at: Place, p: &Statement, gate: Status, env: &Env) -> Found
-    requires main { at.main ≡ false }
+fn begin_again(table: &mut Table, at: &Place, p: &Statement, gate: Status, env: &Env) -> Found
+    requires main { at.now.main ≡ false }
     requires fits { FitsMasks p.now }
-    requires within { at.cell + at.traps + 3 + sheet_size false p.now at.traps
+    requires within { at.now.cell + at.now.traps + 3 + sheet_size false p.now at.now.traps
         ≤ length table.old.cells.items }
-    requires traps { at.traps + trap_depth (term_of p.now) ≤ 62 }
+    requires traps { at.now.traps + trap_depth (term_of p.now) ≤ 62 }
     ensures { (a : _)
-        → IsBegun (Loop' a p.now) at gate env.now table.old.cells.items
+        → IsBegun (Loop' a p.now) at.now gate env.now table.old.cells.items
         table.new.cells.items result }
 {
     let go = table.learn(at.cell, gate);
@@ -214,7 +214,7 @@ fn begin_again(table: &mut Table, at: Place, p: &Statement, gate: Status, env: &
         cell: at.cell + at.traps + 3,
         traps: at.traps,
     };
-    let body = begin(table, place, p, go, env);
+    let body = begin(table, &place, p, go, env);
     cells::leave(table, at, &body.judged, body.past)
 }
 
@@ -222,21 +222,21 @@ fn begin_again(table: &mut Table, at: Place, p: &Statement, gate: Status, env: &
 #[cycle(begin)]
 fn begin_par(
     table: &mut Table,
-    at: Place,
+    at: &Place,
     p: &Statement,
     q: &Statement,
     gate: Status,
     env: &Env,
 ) -> Found
-    requires direction { at.direction ≡ Forwards }
+    requires direction { at.now.direction ≡ Forwards }
     requires fits { FitsMasks p.now × FitsMasks q.now }
-    requires within { at.cell + at.traps + 3 + sheet_size at.main p.now at.traps
-        + sheet_size at.main q.now at.traps
+    requires within { at.now.cell + at.now.traps + 3 + sheet_size at.now.main p.now at.now.traps
+        + sheet_size at.now.main q.now at.now.traps
         ≤ length table.old.cells.items }
-    requires first_traps { at.traps + trap_depth (term_of p.now) ≤ 62 }
-    requires second_traps { at.traps + trap_depth (term_of q.now) ≤ 62 }
+    requires first_traps { at.now.traps + trap_depth (term_of p.now) ≤ 62 }
+    requires second_traps { at.now.traps + trap_depth (term_of q.now) ≤ 62 }
     ensures { (a b : _)
-        → IsBegun (Par' a p.now b q.now) at gate env.now table.old.cells.items table.new.cells.items
+        → IsBegun (Par' a p.now b q.now) at.now gate env.now table.old.cells.items table.new.cells.items
         result }
 {
     let go = table.learn(at.cell, gate);
@@ -246,7 +246,7 @@ fn begin_par(
         cell: at.cell + at.traps + 3,
         traps: at.traps,
     };
-    let first = begin(table, place, p, go, env);
+    let first = begin(table, &place, p, go, env);
     let inside = cells::told(env, first.judged.must.signals);
     let place = Place {
         main: at.main,
@@ -254,7 +254,7 @@ fn begin_par(
         cell: first.past,
         traps: at.traps,
     };
-    let second = begin(table, place, q, go, &inside);
+    let second = begin(table, &place, q, go, &inside);
     let own = cells::beside(&first.judged, &second.judged);
     cells::leave(table, at, &own, second.past)
 }
@@ -263,21 +263,21 @@ fn begin_par(
 #[cycle(begin)]
 fn begin_par_back(
     table: &mut Table,
-    at: Place,
+    at: &Place,
     p: &Statement,
     q: &Statement,
     gate: Status,
     env: &Env,
 ) -> Found
-    requires direction { at.direction ≡ Backwards }
+    requires direction { at.now.direction ≡ Backwards }
     requires fits { FitsMasks p.now × FitsMasks q.now }
-    requires within { at.cell + at.traps + 3 + sheet_size at.main p.now at.traps
-        + sheet_size at.main q.now at.traps
+    requires within { at.now.cell + at.now.traps + 3 + sheet_size at.now.main p.now at.now.traps
+        + sheet_size at.now.main q.now at.now.traps
         ≤ length table.old.cells.items }
-    requires first_traps { at.traps + trap_depth (term_of p.now) ≤ 62 }
-    requires second_traps { at.traps + trap_depth (term_of q.now) ≤ 62 }
+    requires first_traps { at.now.traps + trap_depth (term_of p.now) ≤ 62 }
+    requires second_traps { at.now.traps + trap_depth (term_of q.now) ≤ 62 }
     ensures { (a b : _)
-        → IsBegun (Par' a p.now b q.now) at gate env.now table.old.cells.items table.new.cells.items
+        → IsBegun (Par' a p.now b q.now) at.now gate env.now table.old.cells.items table.new.cells.items
         result }
 {
     let go = table.learn(at.cell, gate);
@@ -293,22 +293,22 @@ fn begin_par_back(
         cell: past(place.cell, at.main, p, at.traps),
         traps: at.traps,
     };
-    let second = begin(table, later, q, go, env);
+    let second = begin(table, &later, q, go, env);
     let inside = cells::told(env, second.judged.must.signals);
-    let first = begin(table, place, p, go, &inside);
+    let first = begin(table, &place, p, go, &inside);
     let own = cells::beside(&first.judged, &second.judged);
     cells::leave(table, at, &own, second.past)
 }
 
 /// Sweeps a trap.
 #[cycle(begin)]
-fn begin_trap(table: &mut Table, at: Place, p: &Statement, gate: Status, env: &Env) -> Found
+fn begin_trap(table: &mut Table, at: &Place, p: &Statement, gate: Status, env: &Env) -> Found
     requires fits { FitsMasks p.now }
-    requires within { at.cell + at.traps + 3 + sheet_size at.main p.now
-        (at.traps + 1) ≤ length table.old.cells.items }
-    requires traps { at.traps + 1 + trap_depth (term_of p.now) ≤ 62 }
+    requires within { at.now.cell + at.now.traps + 3 + sheet_size at.now.main p.now
+        (at.now.traps + 1) ≤ length table.old.cells.items }
+    requires traps { at.now.traps + 1 + trap_depth (term_of p.now) ≤ 62 }
     ensures { (a : _)
-        → IsBegun (Trap' a p.now) at gate env.now table.old.cells.items
+        → IsBegun (Trap' a p.now) at.now gate env.now table.old.cells.items
         table.new.cells.items result }
 {
     let go = table.learn(at.cell, gate);
@@ -318,7 +318,7 @@ fn begin_trap(table: &mut Table, at: Place, p: &Statement, gate: Status, env: &E
         cell: at.cell + at.traps + 3,
         traps: at.traps + 1,
     };
-    let body = begin(table, place, p, go, env);
+    let body = begin(table, &place, p, go, env);
     let own = cells::out_of_trap(&body.judged);
     cells::leave(table, at, &own, body.past)
 }
@@ -328,18 +328,18 @@ fn begin_trap(table: &mut Table, at: Place, p: &Statement, gate: Status, env: &E
 #[cycle(begin)]
 fn begin_local(
     table: &mut Table,
-    at: Place,
+    at: &Place,
     s: LocalSignal,
     p: &Statement,
     gate: Status,
     env: &Env,
 ) -> Found
     requires fits { (s.index < 64) × FitsMasks p.now }
-    requires within { at.cell + at.traps + 4 + sheet_size at.main p.now at.traps
+    requires within { at.now.cell + at.now.traps + 4 + sheet_size at.now.main p.now at.now.traps
         ≤ length table.old.cells.items }
-    requires traps { at.traps + trap_depth (term_of p.now) ≤ 62 }
+    requires traps { at.now.traps + trap_depth (term_of p.now) ≤ 62 }
     ensures { (a : _)
-        → IsBegun (Binder' s a p.now) at gate env.now table.old.cells.items table.new.cells.items
+        → IsBegun (Binder' s a p.now) at.now gate env.now table.old.cells.items table.new.cells.items
         result }
 {
     let go = table.learn(at.cell, gate);
@@ -351,7 +351,7 @@ fn begin_local(
         cell: cell + 1,
         traps: at.traps,
     };
-    let body = begin(table, place, p, go, &inside);
+    let body = begin(table, &place, p, go, &inside);
     table.learn(cell, cells::status_of(&body.judged, s));
     let own = cells::hiding(&body.judged, s);
     cells::leave(table, at, &own, body.past)
@@ -359,11 +359,11 @@ fn begin_local(
 
 /// Sweeps the cells of a statement that is begun, if at all, by the gate, one after another.
 #[cycle(begin)]
-fn begin_each(table: &mut Table, at: Place, s: &Statement, gate: Status, env: &Env) -> Found
+fn begin_each(table: &mut Table, at: &Place, s: &Statement, gate: Status, env: &Env) -> Found
     requires fits { FitsMasks s.now }
-    requires within { at.cell + sheet_size at.main s.now at.traps ≤ length table.old.cells.items }
-    requires traps { at.traps + trap_depth (term_of s.now) ≤ 62 }
-    ensures { IsBegun s.now at gate env.now table.old.cells.items table.new.cells.items result }
+    requires within { at.now.cell + sheet_size at.now.main s.now at.now.traps ≤ length table.old.cells.items }
+    requires traps { at.now.traps + trap_depth (term_of s.now) ≤ 62 }
+    ensures { IsBegun s.now at.now gate env.now table.old.cells.items table.new.cells.items result }
 {
     match s {
         Statement::Nothing => begin_leaf(table, at, Completion::End, gate),
@@ -395,11 +395,11 @@ fn begin_each(table: &mut Table, at: Place, s: &Statement, gate: Status, env: &E
 /// Sweeps the cells of a statement that is begun, if at all, by the gate. Where it is not, and none
 /// of them is true, all of them are false at once.
 #[cycle(begin)]
-pub fn begin(table: &mut Table, at: Place, s: &Statement, gate: Status, env: &Env) -> Found
+pub fn begin(table: &mut Table, at: &Place, s: &Statement, gate: Status, env: &Env) -> Found
     requires fits { FitsMasks s.now }
-    requires within { at.cell + sheet_size at.main s.now at.traps ≤ length table.old.cells.items }
-    requires traps { at.traps + trap_depth (term_of s.now) ≤ 62 }
-    ensures { IsBegun s.now at gate env.now table.old.cells.items table.new.cells.items result }
+    requires within { at.now.cell + sheet_size at.now.main s.now at.now.traps ≤ length table.old.cells.items }
+    requires traps { at.now.traps + trap_depth (term_of s.now) ≤ 62 }
+    ensures { IsBegun s.now at.now gate env.now table.old.cells.items table.new.cells.items result }
 {
     match past_idle(table, at, s, gate) {
         Some(past) => {

@@ -174,9 +174,9 @@ fn is_known(status: Status) -> bool
 /// Whether a statement has parts, and all of its cells are decided. They are gone through only
 /// where the codes 0 and 1 are decided: as a rule all others are decided then too.
 #[inline(always)]
-pub fn is_decided(table: &Table, at: Place, s: &Statement) -> bool
-    requires { at.cell + sheet_size at.main s.now at.traps ≤ length table.now.cells.items }
-    ensures { result ≡ true → AllDecided at.cell (at.cell + sheet_size at.main s.now at.traps)
+pub fn is_decided(table: &Table, at: &Place, s: &Statement) -> bool
+    requires { at.now.cell + sheet_size at.now.main s.now at.now.traps ≤ length table.now.cells.items }
+    ensures { result ≡ true → AllDecided at.now.cell (at.now.cell + sheet_size at.now.main s.now at.now.traps)
         table.now.cells.items }
 {
     is_known(table.status(at.cell + 2))
@@ -186,13 +186,14 @@ pub fn is_decided(table: &Table, at: Place, s: &Statement) -> bool
 }
 
 /// What is found of a statement all of whose cells are decided.
-pub fn read(table: &Table, at: Place, s: &Statement) -> Found
+#[inline(always)]
+pub fn read(table: &Table, at: &Place, s: &Statement) -> Found
     requires fits { FitsMasks s.now }
-    requires within { at.cell + sheet_size at.main s.now at.traps ≤ length table.now.cells.items }
-    requires few { at.traps ≤ 62 }
-    requires decided { AllDecided at.cell (at.cell + sheet_size at.main s.now at.traps)
+    requires within { at.now.cell + sheet_size at.now.main s.now at.now.traps ≤ length table.now.cells.items }
+    requires few { at.now.traps ≤ 62 }
+    requires decided { AllDecided at.now.cell (at.now.cell + sheet_size at.now.main s.now at.now.traps)
         table.now.cells.items }
-    ensures { IsRead s.now at table.now.cells.items result }
+    ensures { IsRead s.now at.now table.now.cells.items result }
 {
     let mut emitted = signal_set::no_signal();
     let past = add_emitted(table, at.main, at.cell, at.traps, s, &mut emitted);

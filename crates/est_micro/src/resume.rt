@@ -37,11 +37,12 @@ use est_rounds::resume::has_live;
 use est_rounds::signal_set::{self, Env};
 
 /// Sweeps a pause, which ends where it is run.
-fn resume_pause(table: &mut Table, at: Place, run: Status) -> Found
-    requires within { at.cell + at.traps + 3 ≤ length table.old.cells.items }
-    requires few { at.traps ≤ 62 }
+#[inline(always)]
+fn resume_pause(table: &mut Table, at: &Place, run: Status) -> Found
+    requires within { at.now.cell + at.now.traps + 3 ≤ length table.old.cells.items }
+    requires few { at.now.traps ≤ 62 }
     ensures { (e n pauses : _)
-        → IsResumed (Pause n) at pauses run e table.old.cells.items table.new.cells.items result }
+        → IsResumed (Pause n) at.now pauses run e table.old.cells.items table.new.cells.items result }
 {
     table.learn(at.cell, Status::Absent);
     let own = cells::leaf(run, Completion::End);
@@ -53,7 +54,7 @@ fn resume_pause(table: &mut Table, at: Place, run: Status) -> Found
 #[cycle(resume)]
 fn part(
     table: &mut Table,
-    at: Place,
+    at: &Place,
     p: &Statement,
     pauses: &PauseSet,
     is_on: bool,
@@ -61,12 +62,12 @@ fn part(
     run: Status,
     env: &Env,
 ) -> Found
-    requires main { at.main ≡ true }
+    requires main { at.now.main ≡ true }
     requires live { is_on ≡ true → is_live p.now (pauses_of pauses.now) ≡ true }
     requires fits { FitsMasks p.now }
-    requires within { at.cell + sheet_size true p.now at.traps ≤ length table.old.cells.items }
-    requires traps { at.traps + trap_depth (term_of p.now) ≤ 62 }
-    ensures { IsChosen p.now at pauses.now is_on gate run env.now table.old.cells.items
+    requires within { at.now.cell + sheet_size true p.now at.now.traps ≤ length table.old.cells.items }
+    requires traps { at.now.traps + trap_depth (term_of p.now) ≤ 62 }
+    ensures { IsChosen p.now at.now pauses.now is_on gate run env.now table.old.cells.items
         table.new.cells.items result }
 {
     if is_on {
@@ -80,7 +81,7 @@ fn part(
 #[cycle(resume)]
 fn resume_present(
     table: &mut Table,
-    at: Place,
+    at: &Place,
     asked: Status,
     p: &Statement,
     q: &Statement,
@@ -88,17 +89,17 @@ fn resume_present(
     run: Status,
     env: &Env,
 ) -> Found
-    requires main { at.main ≡ true }
+    requires main { at.now.main ≡ true }
     requires live { (is_live p.now (pauses_of pauses.now) || is_live q.now (pauses_of pauses.now))
         ≡ true }
     requires fits { FitsMasks p.now × FitsMasks q.now }
-    requires within { at.cell + at.traps + 3 + sheet_size true p.now at.traps
-        + sheet_size true q.now at.traps
+    requires within { at.now.cell + at.now.traps + 3 + sheet_size true p.now at.now.traps
+        + sheet_size true q.now at.now.traps
         ≤ length table.old.cells.items }
-    requires first_traps { at.traps + trap_depth (term_of p.now) ≤ 62 }
-    requires second_traps { at.traps + trap_depth (term_of q.now) ≤ 62 }
+    requires first_traps { at.now.traps + trap_depth (term_of p.now) ≤ 62 }
+    requires second_traps { at.now.traps + trap_depth (term_of q.now) ≤ 62 }
     ensures { (t a b : _) → asked ≡ status_of (env_of env.now) (query_of t)
-        → IsResumed (Present' t a p.now b q.now) at pauses.now run env.now table.old.cells.items
+        → IsResumed (Present' t a p.now b q.now) at.now pauses.now run env.now table.old.cells.items
         table.new.cells.items result }
 {
     let go = table.learn(at.cell, Status::Absent);
@@ -109,7 +110,7 @@ fn resume_present(
         cell: at.cell + at.traps + 3,
         traps: at.traps,
     };
-    let first = part(table, place, p, pauses, is_on, go.and(asked), run, env);
+    let first = part(table, &place, p, pauses, is_on, go.and(asked), run, env);
     let place = Place {
         main: at.main,
         direction: at.direction,
@@ -118,7 +119,7 @@ fn resume_present(
     };
     let second = part(
         table,
-        place,
+        &place,
         q,
         pauses,
         !is_on,
@@ -134,21 +135,21 @@ fn resume_present(
 #[cycle(resume)]
 fn resume_suspend(
     table: &mut Table,
-    at: Place,
+    at: &Place,
     asked: Status,
     p: &Statement,
     pauses: &PauseSet,
     run: Status,
     env: &Env,
 ) -> Found
-    requires main { at.main ≡ true }
+    requires main { at.now.main ≡ true }
     requires live { is_live p.now (pauses_of pauses.now) ≡ true }
     requires fits { FitsMasks p.now }
-    requires within { at.cell + at.traps + 3 + sheet_size true p.now at.traps
+    requires within { at.now.cell + at.now.traps + 3 + sheet_size true p.now at.now.traps
         ≤ length table.old.cells.items }
-    requires traps { at.traps + trap_depth (term_of p.now) ≤ 62 }
+    requires traps { at.now.traps + trap_depth (term_of p.now) ≤ 62 }
     ensures { (t a : _) → asked ≡ status_of (env_of env.now) (query_of t)
-        → IsResumed (Suspend' t a p.now) at pauses.now run env.now table.old.cells.items
+        → IsResumed (Suspend' t a p.now) at.now pauses.now run env.now table.old.cells.items
         table.new.cells.items result }
 {
     table.learn(at.cell, Status::Absent);
@@ -158,7 +159,7 @@ fn resume_suspend(
         cell: at.cell + at.traps + 3,
         traps: at.traps,
     };
-    let body = resume(table, place, p, pauses, run.and(asked.opposite()), env);
+    let body = resume(table, &place, p, pauses, run.and(asked.opposite()), env);
     let held = cells::leaf(run.and(asked), Completion::Pause);
     let own = cells::with_codes(&body.judged, &held);
     cells::leave(table, at, &own, body.past)
@@ -168,24 +169,24 @@ fn resume_suspend(
 #[cycle(resume)]
 fn resume_seq(
     table: &mut Table,
-    at: Place,
+    at: &Place,
     p: &Statement,
     q: &Statement,
     pauses: &PauseSet,
     run: Status,
     env: &Env,
 ) -> Found
-    requires main { at.main ≡ true }
+    requires main { at.now.main ≡ true }
     requires live { (is_live p.now (pauses_of pauses.now) || is_live q.now (pauses_of pauses.now))
         ≡ true }
     requires fits { FitsMasks p.now × FitsMasks q.now }
-    requires within { at.cell + at.traps + 3 + sheet_size true p.now at.traps
-        + sheet_size true q.now at.traps
+    requires within { at.now.cell + at.now.traps + 3 + sheet_size true p.now at.now.traps
+        + sheet_size true q.now at.now.traps
         ≤ length table.old.cells.items }
-    requires first_traps { at.traps + trap_depth (term_of p.now) ≤ 62 }
-    requires second_traps { at.traps + trap_depth (term_of q.now) ≤ 62 }
+    requires first_traps { at.now.traps + trap_depth (term_of p.now) ≤ 62 }
+    requires second_traps { at.now.traps + trap_depth (term_of q.now) ≤ 62 }
     ensures { (a b : _)
-        → IsResumed (Seq' a p.now b q.now) at pauses.now run env.now table.old.cells.items
+        → IsResumed (Seq' a p.now b q.now) at.now pauses.now run env.now table.old.cells.items
         table.new.cells.items result }
 {
     let go = table.learn(at.cell, Status::Absent);
@@ -196,7 +197,7 @@ fn resume_seq(
         cell: at.cell + at.traps + 3,
         traps: at.traps,
     };
-    let first = part(table, place, p, pauses, is_on, go, run, env);
+    let first = part(table, &place, p, pauses, is_on, go, run, env);
     let inside = cells::told(env, first.judged.must.signals);
     let later = cells::ends(&first.judged);
     let place = Place {
@@ -205,7 +206,7 @@ fn resume_seq(
         cell: first.past,
         traps: at.traps,
     };
-    let second = part(table, place, q, pauses, !is_on, later, run, &inside);
+    let second = part(table, &place, q, pauses, !is_on, later, run, &inside);
     let own = cells::followed(&first.judged, &second.judged);
     cells::leave(table, at, &own, second.past)
 }
@@ -214,21 +215,21 @@ fn resume_seq(
 #[cycle(resume)]
 fn resume_loop(
     table: &mut Table,
-    at: Place,
+    at: &Place,
     p: &Statement,
     pauses: &PauseSet,
     run: Status,
     env: &Env,
 ) -> Found
-    requires main { at.main ≡ true }
+    requires main { at.now.main ≡ true }
     requires live { is_live p.now (pauses_of pauses.now) ≡ true }
     requires fits { FitsMasks p.now }
-    requires within { at.cell + at.traps + 3 + sheet_size true p.now at.traps
-        + sheet_size false p.now at.traps
+    requires within { at.now.cell + at.now.traps + 3 + sheet_size true p.now at.now.traps
+        + sheet_size false p.now at.now.traps
         ≤ length table.old.cells.items }
-    requires traps { at.traps + trap_depth (term_of p.now) ≤ 62 }
+    requires traps { at.now.traps + trap_depth (term_of p.now) ≤ 62 }
     ensures { (a : _)
-        → IsResumed (Loop' a p.now) at pauses.now run env.now table.old.cells.items
+        → IsResumed (Loop' a p.now) at.now pauses.now run env.now table.old.cells.items
         table.new.cells.items result }
 {
     table.learn(at.cell, Status::Absent);
@@ -238,7 +239,7 @@ fn resume_loop(
         cell: at.cell + at.traps + 3,
         traps: at.traps,
     };
-    let first = resume(table, place, p, pauses, run, env);
+    let first = resume(table, &place, p, pauses, run, env);
     let inside = cells::told(env, first.judged.must.signals);
     let later = cells::ends(&first.judged);
     let place = Place {
@@ -247,7 +248,7 @@ fn resume_loop(
         cell: first.past,
         traps: at.traps,
     };
-    let again = begin(table, place, p, later, &inside);
+    let again = begin(table, &place, p, later, &inside);
     let own = cells::followed(&first.judged, &again.judged);
     cells::leave(table, at, &own, again.past)
 }
@@ -279,25 +280,25 @@ fn second_lives(first_on: bool, q: &Statement, pauses: &PauseSet) -> bool
 #[cycle(resume)]
 fn resume_par(
     table: &mut Table,
-    at: Place,
+    at: &Place,
     p: &Statement,
     q: &Statement,
     pauses: &PauseSet,
     run: Status,
     env: &Env,
 ) -> Found
-    requires main { at.main ≡ true }
-    requires direction { at.direction ≡ Forwards }
+    requires main { at.now.main ≡ true }
+    requires direction { at.now.direction ≡ Forwards }
     requires live { (is_live p.now (pauses_of pauses.now) || is_live q.now (pauses_of pauses.now))
         ≡ true }
     requires fits { FitsMasks p.now × FitsMasks q.now }
-    requires within { at.cell + at.traps + 3 + sheet_size true p.now at.traps
-        + sheet_size true q.now at.traps
+    requires within { at.now.cell + at.now.traps + 3 + sheet_size true p.now at.now.traps
+        + sheet_size true q.now at.now.traps
         ≤ length table.old.cells.items }
-    requires first_traps { at.traps + trap_depth (term_of p.now) ≤ 62 }
-    requires second_traps { at.traps + trap_depth (term_of q.now) ≤ 62 }
+    requires first_traps { at.now.traps + trap_depth (term_of p.now) ≤ 62 }
+    requires second_traps { at.now.traps + trap_depth (term_of q.now) ≤ 62 }
     ensures { (a b : _)
-        → IsResumed (Par' a p.now b q.now) at pauses.now run env.now table.old.cells.items
+        → IsResumed (Par' a p.now b q.now) at.now pauses.now run env.now table.old.cells.items
         table.new.cells.items result }
 {
     let go = table.learn(at.cell, Status::Absent);
@@ -309,7 +310,7 @@ fn resume_par(
         cell: at.cell + at.traps + 3,
         traps: at.traps,
     };
-    let first = part(table, place, p, pauses, first_on, go, run, env);
+    let first = part(table, &place, p, pauses, first_on, go, run, env);
     let inside = cells::told(env, first.judged.must.signals);
     let place = Place {
         main: at.main,
@@ -317,7 +318,7 @@ fn resume_par(
         cell: first.past,
         traps: at.traps,
     };
-    let second = part(table, place, q, pauses, second_on, go, run, &inside);
+    let second = part(table, &place, q, pauses, second_on, go, run, &inside);
     let left = side(first_on, &first, run);
     let right = side(second_on, &second, run);
     let own = cells::beside(&left, &right);
@@ -328,25 +329,25 @@ fn resume_par(
 #[cycle(resume)]
 fn resume_par_back(
     table: &mut Table,
-    at: Place,
+    at: &Place,
     p: &Statement,
     q: &Statement,
     pauses: &PauseSet,
     run: Status,
     env: &Env,
 ) -> Found
-    requires main { at.main ≡ true }
-    requires direction { at.direction ≡ Backwards }
+    requires main { at.now.main ≡ true }
+    requires direction { at.now.direction ≡ Backwards }
     requires live { (is_live p.now (pauses_of pauses.now) || is_live q.now (pauses_of pauses.now))
         ≡ true }
     requires fits { FitsMasks p.now × FitsMasks q.now }
-    requires within { at.cell + at.traps + 3 + sheet_size true p.now at.traps
-        + sheet_size true q.now at.traps
+    requires within { at.now.cell + at.now.traps + 3 + sheet_size true p.now at.now.traps
+        + sheet_size true q.now at.now.traps
         ≤ length table.old.cells.items }
-    requires first_traps { at.traps + trap_depth (term_of p.now) ≤ 62 }
-    requires second_traps { at.traps + trap_depth (term_of q.now) ≤ 62 }
+    requires first_traps { at.now.traps + trap_depth (term_of p.now) ≤ 62 }
+    requires second_traps { at.now.traps + trap_depth (term_of q.now) ≤ 62 }
     ensures { (a b : _)
-        → IsResumed (Par' a p.now b q.now) at pauses.now run env.now table.old.cells.items
+        → IsResumed (Par' a p.now b q.now) at.now pauses.now run env.now table.old.cells.items
         table.new.cells.items result }
 {
     let go = table.learn(at.cell, Status::Absent);
@@ -364,9 +365,9 @@ fn resume_par_back(
         cell: past(place.cell, true, p, at.traps),
         traps: at.traps,
     };
-    let second = part(table, later, q, pauses, second_on, go, run, env);
+    let second = part(table, &later, q, pauses, second_on, go, run, env);
     let inside = cells::told(env, second.judged.must.signals);
-    let first = part(table, place, p, pauses, first_on, go, run, &inside);
+    let first = part(table, &place, p, pauses, first_on, go, run, &inside);
     let left = side(first_on, &first, run);
     let right = side(second_on, &second, run);
     let own = cells::beside(&left, &right);
@@ -377,20 +378,20 @@ fn resume_par_back(
 #[cycle(resume)]
 fn resume_trap(
     table: &mut Table,
-    at: Place,
+    at: &Place,
     p: &Statement,
     pauses: &PauseSet,
     run: Status,
     env: &Env,
 ) -> Found
-    requires main { at.main ≡ true }
+    requires main { at.now.main ≡ true }
     requires live { is_live p.now (pauses_of pauses.now) ≡ true }
     requires fits { FitsMasks p.now }
-    requires within { at.cell + at.traps + 3 + sheet_size true p.now
-        (at.traps + 1) ≤ length table.old.cells.items }
-    requires traps { at.traps + 1 + trap_depth (term_of p.now) ≤ 62 }
+    requires within { at.now.cell + at.now.traps + 3 + sheet_size true p.now
+        (at.now.traps + 1) ≤ length table.old.cells.items }
+    requires traps { at.now.traps + 1 + trap_depth (term_of p.now) ≤ 62 }
     ensures { (a : _)
-        → IsResumed (Trap' a p.now) at pauses.now run env.now table.old.cells.items
+        → IsResumed (Trap' a p.now) at.now pauses.now run env.now table.old.cells.items
         table.new.cells.items result }
 {
     table.learn(at.cell, Status::Absent);
@@ -400,7 +401,7 @@ fn resume_trap(
         cell: at.cell + at.traps + 3,
         traps: at.traps + 1,
     };
-    let body = resume(table, place, p, pauses, run, env);
+    let body = resume(table, &place, p, pauses, run, env);
     let own = cells::out_of_trap(&body.judged);
     cells::leave(table, at, &own, body.past)
 }
@@ -410,21 +411,21 @@ fn resume_trap(
 #[cycle(resume)]
 fn resume_local(
     table: &mut Table,
-    at: Place,
+    at: &Place,
     s: LocalSignal,
     p: &Statement,
     pauses: &PauseSet,
     run: Status,
     env: &Env,
 ) -> Found
-    requires main { at.main ≡ true }
+    requires main { at.now.main ≡ true }
     requires live { is_live p.now (pauses_of pauses.now) ≡ true }
     requires fits { (s.index < 64) × FitsMasks p.now }
-    requires within { at.cell + at.traps + 4 + sheet_size true p.now at.traps
+    requires within { at.now.cell + at.now.traps + 4 + sheet_size true p.now at.now.traps
         ≤ length table.old.cells.items }
-    requires traps { at.traps + trap_depth (term_of p.now) ≤ 62 }
+    requires traps { at.now.traps + trap_depth (term_of p.now) ≤ 62 }
     ensures { (a : _)
-        → IsResumed (Binder' s a p.now) at pauses.now run env.now table.old.cells.items
+        → IsResumed (Binder' s a p.now) at.now pauses.now run env.now table.old.cells.items
         table.new.cells.items result }
 {
     table.learn(at.cell, Status::Absent);
@@ -436,7 +437,7 @@ fn resume_local(
         cell: cell + 1,
         traps: at.traps,
     };
-    let body = resume(table, place, p, pauses, run, &inside);
+    let body = resume(table, &place, p, pauses, run, &inside);
     table.learn(cell, cells::status_of(&body.judged, s));
     let own = cells::hiding(&body.judged, s);
     cells::leave(table, at, &own, body.past)
@@ -446,18 +447,18 @@ fn resume_local(
 #[cycle(resume)]
 fn resume_each(
     table: &mut Table,
-    at: Place,
+    at: &Place,
     s: &Statement,
     pauses: &PauseSet,
     run: Status,
     env: &Env,
 ) -> Found
-    requires main { at.main ≡ true }
+    requires main { at.now.main ≡ true }
     requires live { is_live s.now (pauses_of pauses.now) ≡ true }
     requires fits { FitsMasks s.now }
-    requires within { at.cell + sheet_size true s.now at.traps ≤ length table.old.cells.items }
-    requires traps { at.traps + trap_depth (term_of s.now) ≤ 62 }
-    ensures { IsResumed s.now at pauses.now run env.now table.old.cells.items table.new.cells.items
+    requires within { at.now.cell + sheet_size true s.now at.now.traps ≤ length table.old.cells.items }
+    requires traps { at.now.traps + trap_depth (term_of s.now) ≤ 62 }
+    ensures { IsResumed s.now at.now pauses.now run env.now table.old.cells.items table.new.cells.items
         result }
 {
     match s {
@@ -490,18 +491,18 @@ fn resume_each(
 #[cycle(resume)]
 pub fn resume(
     table: &mut Table,
-    at: Place,
+    at: &Place,
     s: &Statement,
     pauses: &PauseSet,
     run: Status,
     env: &Env,
 ) -> Found
-    requires main { at.main ≡ true }
+    requires main { at.now.main ≡ true }
     requires live { is_live s.now (pauses_of pauses.now) ≡ true }
     requires fits { FitsMasks s.now }
-    requires within { at.cell + sheet_size true s.now at.traps ≤ length table.old.cells.items }
-    requires traps { at.traps + trap_depth (term_of s.now) ≤ 62 }
-    ensures { IsResumed s.now at pauses.now run env.now table.old.cells.items table.new.cells.items
+    requires within { at.now.cell + sheet_size true s.now at.now.traps ≤ length table.old.cells.items }
+    requires traps { at.now.traps + trap_depth (term_of s.now) ≤ 62 }
+    ensures { IsResumed s.now at.now pauses.now run env.now table.old.cells.items table.new.cells.items
         result }
 {
     if decided::is_decided(&*table, at, s) {

@@ -50,9 +50,9 @@ fn sweep(
         direction,
     };
     match state {
-        State::Fresh => begin(table, place, root, Status::Present, env),
-        State::Done => begin(table, place, root, Status::Absent, env),
-        State::Paused(pauses) => resume(table, place, root, pauses, Status::Present, env),
+        State::Fresh => begin(table, &place, root, Status::Present, env),
+        State::Done => begin(table, &place, root, Status::Absent, env),
+        State::Paused(pauses) => resume(table, &place, root, pauses, Status::Present, env),
     }
 }
 

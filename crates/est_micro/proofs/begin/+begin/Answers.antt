@@ -12,7 +12,7 @@ use Rattle.est_micro.proofs.begin.+begin.Goals as goal
 
 pub begin_present-returns : goal.begin_present-returns
 begin_present-returns t c = λ q a b asks.
-    present_begun c.args.at q a c.args.p.now b c.args.q.now c.args.gate c.args.asked _ _ _ _ c.args.env.now _ _ _ _ _ _
+    present_begun c.args.at.now q a c.args.p.now b c.args.q.now c.args.gate c.args.asked _ _ _ _ c.args.env.now _ _ _ _ _ _
     _ _ _ asks
     c.learn-go.ensures.learns c.learn-go.ensures.known c.and.ensures c.opposite.ensures c.and-2.ensures
     c.begin-first.ensures
@@ -20,19 +20,19 @@ begin_present-returns t c = λ q a b asks.
 
 pub begin_suspend-returns : goal.begin_suspend-returns
 begin_suspend-returns t c = λ q a.
-    suspend_begun c.args.at q a c.args.p.now c.args.gate _ c.args.env.now _ _ _ _ _ _ c.learn-go.ensures.learns
+    suspend_begun c.args.at.now q a c.args.p.now c.args.gate _ c.args.env.now _ _ _ _ _ _ c.learn-go.ensures.learns
     c.learn-go.ensures.known c.begin-body.ensures c.leave.ensures
 
 pub begin_seq-returns : goal.begin_seq-returns
 begin_seq-returns t c = λ a b.
-    seq_begun c.args.at a c.args.p.now b c.args.q.now c.args.gate _ _ c.args.env.now _ _ _ _ _ _ _ _ _ _
+    seq_begun c.args.at.now a c.args.p.now b c.args.q.now c.args.gate _ _ c.args.env.now _ _ _ _ _ _ _ _ _ _
     c.learn-go.ensures.learns c.learn-go.ensures.known c.ends-later.ensures c.told-inside.ensures c.begin-first.ensures
     c.begin-second.ensures
     c.followed-own.ensures c.leave.ensures
 
 pub begin_par-returns : goal.begin_par-returns
 begin_par-returns t c = λ a b.
-    par_begun c.args.at a c.args.p.now b c.args.q.now c.args.gate _ c.args.env.now _ _ _ _ _ _ _ _ _ _
+    par_begun c.args.at.now a c.args.p.now b c.args.q.now c.args.gate _ c.args.env.now _ _ _ _ _ _ _ _ _ _
     c.requires.direction c.learn-go.ensures.learns c.learn-go.ensures.known c.told-inside.ensures
     c.begin-first.ensures
     c.begin-second.ensures
@@ -40,7 +40,7 @@ begin_par-returns t c = λ a b.
 
 pub begin_par_back-returns : goal.begin_par_back-returns
 begin_par_back-returns t c = λ a b.
-    par_begun_back c.args.at a c.args.p.now b c.args.q.now c.args.gate _ _ c.args.env.now _ _ _ _ _ _ _ _ _ _
+    par_begun_back c.args.at.now a c.args.p.now b c.args.q.now c.args.gate _ _ c.args.env.now _ _ _ _ _ _ _ _ _ _
     c.requires.direction c.learn-go.ensures.learns c.learn-go.ensures.known c.past.ensures c.told-inside.ensures
     c.begin-second.ensures
     c.begin-first.ensures
@@ -48,18 +48,18 @@ begin_par_back-returns t c = λ a b.
 
 pub begin_trap-returns : goal.begin_trap-returns
 begin_trap-returns t c = λ a.
-    trap_begun c.args.at a c.args.p.now c.args.gate _ c.args.env.now _ _ _ _ _ _ _ c.learn-go.ensures.learns
+    trap_begun c.args.at.now a c.args.p.now c.args.gate _ c.args.env.now _ _ _ _ _ _ _ c.learn-go.ensures.learns
     c.learn-go.ensures.known c.begin-body.ensures c.out_of_trap-own.ensures c.leave.ensures
 
 pub begin_again-returns : goal.begin_again-returns
 begin_again-returns t c = λ a.
-    again_begun c.args.at.direction c.args.at.main c.args.at.cell c.args.at.traps a c.args.p.now c.args.gate _
+    again_begun c.args.at.now.direction c.args.at.now.main c.args.at.now.cell c.args.at.now.traps a c.args.p.now c.args.gate _
     c.args.env.now _ _ _ _ _ _
     c.requires.main c.learn-go.ensures.learns c.learn-go.ensures.known c.begin-body.ensures c.leave.ensures
 
 pub begin_loop-returns : goal.begin_loop-returns
 begin_loop-returns t c = λ a.
-    loop_begun c.args.at.direction c.args.at.main c.args.at.cell c.args.at.traps a c.args.p.now c.args.gate _
+    loop_begun c.args.at.now.direction c.args.at.now.main c.args.at.now.cell c.args.at.now.traps a c.args.p.now c.args.gate _
     c.args.env.now _ _ _ _ _ _ _ _
     _
     c.requires.main c.learn-go.ensures.learns c.learn-go.ensures.known c.begin-first.ensures c.begin-again.ensures
@@ -67,7 +67,7 @@ begin_loop-returns t c = λ a.
 
 pub begin_local-returns : goal.begin_local-returns
 begin_local-returns t c = λ a.
-    local_begun c.args.at c.args.s a c.args.p.now c.args.gate _ _ c.args.env.now _ _ _ _ _ _ _ _ _
+    local_begun c.args.at.now c.args.s a c.args.p.now c.args.gate _ _ c.args.env.now _ _ _ _ _ _ _ _ _
     c.learn-go.ensures.learns c.learn-go.ensures.known
     (c.set_local-inside.ensures ∙ ap (λ (v : Status). with_local (env_of c.args.env.now) c.args.s.index v)
     c.status.ensures)
@@ -199,15 +199,15 @@ begin_loop-begin-again-requires t c = (
 
 pub begin_local-learn-requires : goal.begin_local-learn-requires
 begin_local-learn-requires t c =
-    within_local (c.args.at.cell + c.args.at.traps) _ c.args.table.now.cells.items _ _ _ _ _ _ _ c.requires.within
+    within_local (c.args.at.now.cell + c.args.at.now.traps) _ c.args.table.now.cells.items _ _ _ _ _ _ _ c.requires.within
     c.learn-go.ensures.learns.size c.begin-body.ensures
 
 pub begin_local-leave-requires-clause-within : goal.begin_local-leave-requires-clause-within
 begin_local-leave-requires-clause-within t c =
-    within_told (c.args.at.cell + c.args.at.traps) _ c.args.table.now.cells.items _ _ _ _ _ _ _ _ c.requires.within
+    within_told (c.args.at.now.cell + c.args.at.now.traps) _ c.args.table.now.cells.items _ _ _ _ _ _ _ _ c.requires.within
     c.learn-go.ensures.learns.size c.begin-body.ensures c.learn.ensures.learns.size
 
 pub begin-returns-in-Some : goal.begin-returns-in-Some
 begin-returns-in-Some t c =
-    idle_begun c.args.s.now c.args.at c.args.gate c.args.env.now c.args.table.now.cells.items _ _ _
+    idle_begun c.args.s.now c.args.at.now c.args.gate c.args.env.now c.args.table.now.cells.items _ _ _
     (rw c.in-Some.is at c.past_idle.ensures) c.make_false.ensures c.nothing.ensures.judged c.nothing.ensures.past

@@ -4,5 +4,5 @@ use Rattle.est_micro.proofs.idle.past_idle.Goals as goal
 
 pub status-requires : goal.status-requires
 status-requires c =
-    let least = size_least c.args.at.main c.args.s.now c.args.at.traps in
+    let least = size_least c.args.at.now.main c.args.s.now c.args.at.now.traps in
     omega (arith, least, c.requires)
