@@ -108,7 +108,8 @@ fn begin_suspend(table: &mut Table, at: &Place, p: &Statement, gate: Status, env
         ≤ length table.old.cells.items }
     requires traps { at.now.traps + trap_depth (term_of p.now) ≤ 62 }
     ensures { (t a : _)
-        → IsBegun (Suspend' t a p.now) at.now gate env.now table.old.cells.items table.new.cells.items
+        → IsBegun (Suspend' t a p.now) at.now gate env.now table.old.cells.items
+        table.new.cells.items
         result }
 {
     let go = table.learn(at.cell, gate);
@@ -139,7 +140,8 @@ fn begin_seq(
     requires first_traps { at.now.traps + trap_depth (term_of p.now) ≤ 62 }
     requires second_traps { at.now.traps + trap_depth (term_of q.now) ≤ 62 }
     ensures { (a b : _)
-        → IsBegun (Seq' a p.now b q.now) at.now gate env.now table.old.cells.items table.new.cells.items
+        → IsBegun (Seq' a p.now b q.now) at.now gate env.now table.old.cells.items
+        table.new.cells.items
         result }
 {
     let go = table.learn(at.cell, gate);
@@ -236,7 +238,8 @@ fn begin_par(
     requires first_traps { at.now.traps + trap_depth (term_of p.now) ≤ 62 }
     requires second_traps { at.now.traps + trap_depth (term_of q.now) ≤ 62 }
     ensures { (a b : _)
-        → IsBegun (Par' a p.now b q.now) at.now gate env.now table.old.cells.items table.new.cells.items
+        → IsBegun (Par' a p.now b q.now) at.now gate env.now table.old.cells.items
+        table.new.cells.items
         result }
 {
     let go = table.learn(at.cell, gate);
@@ -277,7 +280,8 @@ fn begin_par_back(
     requires first_traps { at.now.traps + trap_depth (term_of p.now) ≤ 62 }
     requires second_traps { at.now.traps + trap_depth (term_of q.now) ≤ 62 }
     ensures { (a b : _)
-        → IsBegun (Par' a p.now b q.now) at.now gate env.now table.old.cells.items table.new.cells.items
+        → IsBegun (Par' a p.now b q.now) at.now gate env.now table.old.cells.items
+        table.new.cells.items
         result }
 {
     let go = table.learn(at.cell, gate);
@@ -339,7 +343,8 @@ fn begin_local(
         ≤ length table.old.cells.items }
     requires traps { at.now.traps + trap_depth (term_of p.now) ≤ 62 }
     ensures { (a : _)
-        → IsBegun (Binder' s a p.now) at.now gate env.now table.old.cells.items table.new.cells.items
+        → IsBegun (Binder' s a p.now) at.now gate env.now table.old.cells.items
+        table.new.cells.items
         result }
 {
     let go = table.learn(at.cell, gate);
@@ -361,7 +366,8 @@ fn begin_local(
 #[cycle(begin)]
 fn begin_each(table: &mut Table, at: &Place, s: &Statement, gate: Status, env: &Env) -> Found
     requires fits { FitsMasks s.now }
-    requires within { at.now.cell + sheet_size at.now.main s.now at.now.traps ≤ length table.old.cells.items }
+    requires within { at.now.cell + sheet_size at.now.main s.now at.now.traps
+        ≤ length table.old.cells.items }
     requires traps { at.now.traps + trap_depth (term_of s.now) ≤ 62 }
     ensures { IsBegun s.now at.now gate env.now table.old.cells.items table.new.cells.items result }
 {
@@ -397,7 +403,8 @@ fn begin_each(table: &mut Table, at: &Place, s: &Statement, gate: Status, env: &
 #[cycle(begin)]
 pub fn begin(table: &mut Table, at: &Place, s: &Statement, gate: Status, env: &Env) -> Found
     requires fits { FitsMasks s.now }
-    requires within { at.now.cell + sheet_size at.now.main s.now at.now.traps ≤ length table.old.cells.items }
+    requires within { at.now.cell + sheet_size at.now.main s.now at.now.traps
+        ≤ length table.old.cells.items }
     requires traps { at.now.traps + trap_depth (term_of s.now) ≤ 62 }
     ensures { IsBegun s.now at.now gate env.now table.old.cells.items table.new.cells.items result }
 {

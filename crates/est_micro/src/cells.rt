@@ -482,7 +482,8 @@ fn with_possible(present: u64, more: u64, possible: u64) -> u64
 pub fn leave(table: &mut Table, at: &Place, own: &Judgement, past: usize) -> Found
     requires within { at.now.cell + at.now.traps + 3 ≤ length table.old.cells.items }
     requires few { at.now.traps ≤ 62 }
-    ensures { IsLeft at.now.cell at.now.traps own.now past table.old.cells.items table.new.cells.items
+    ensures { IsLeft at.now.cell at.now.traps own.now past table.old.cells.items
+        table.new.cells.items
         result }
 {
     let read = tell(table, at.cell + 1, at.traps + 2, own);

@@ -175,8 +175,10 @@ fn is_known(status: Status) -> bool
 /// where the codes 0 and 1 are decided: as a rule all others are decided then too.
 #[inline(always)]
 pub fn is_decided(table: &Table, at: &Place, s: &Statement) -> bool
-    requires { at.now.cell + sheet_size at.now.main s.now at.now.traps ≤ length table.now.cells.items }
-    ensures { result ≡ true → AllDecided at.now.cell (at.now.cell + sheet_size at.now.main s.now at.now.traps)
+    requires { at.now.cell + sheet_size at.now.main s.now at.now.traps
+        ≤ length table.now.cells.items }
+    ensures { result ≡ true → AllDecided at.now.cell
+        (at.now.cell + sheet_size at.now.main s.now at.now.traps)
         table.now.cells.items }
 {
     is_known(table.status(at.cell + 2))
@@ -189,9 +191,11 @@ pub fn is_decided(table: &Table, at: &Place, s: &Statement) -> bool
 #[inline(always)]
 pub fn read(table: &Table, at: &Place, s: &Statement) -> Found
     requires fits { FitsMasks s.now }
-    requires within { at.now.cell + sheet_size at.now.main s.now at.now.traps ≤ length table.now.cells.items }
+    requires within { at.now.cell + sheet_size at.now.main s.now at.now.traps
+        ≤ length table.now.cells.items }
     requires few { at.now.traps ≤ 62 }
-    requires decided { AllDecided at.now.cell (at.now.cell + sheet_size at.now.main s.now at.now.traps)
+    requires decided { AllDecided at.now.cell
+        (at.now.cell + sheet_size at.now.main s.now at.now.traps)
         table.now.cells.items }
     ensures { IsRead s.now at.now table.now.cells.items result }
 {

@@ -70,7 +70,8 @@ fn is_off(go: Status, gate: Status) -> bool
 /// The first place after the cells of a statement with parts that is not begun, by its go cell and
 /// the gate, if none of its cells is true.
 pub fn past_idle(table: &Table, at: &Place, s: &Statement, gate: Status) -> Option<usize>
-    requires { at.now.cell + sheet_size at.now.main s.now at.now.traps ≤ length table.now.cells.items }
+    requires { at.now.cell + sheet_size at.now.main s.now at.now.traps
+        ≤ length table.now.cells.items }
     ensures { IfSome result (IsIdle s.now at.now gate table.now.cells.items) }
 {
     if !has_parts(s) || !is_off(table.status(at.cell), gate) {

@@ -42,7 +42,8 @@ fn resume_pause(table: &mut Table, at: &Place, run: Status) -> Found
     requires within { at.now.cell + at.now.traps + 3 ≤ length table.old.cells.items }
     requires few { at.now.traps ≤ 62 }
     ensures { (e n pauses : _)
-        → IsResumed (Pause n) at.now pauses run e table.old.cells.items table.new.cells.items result }
+        → IsResumed (Pause n) at.now
+        pauses run e table.old.cells.items table.new.cells.items result }
 {
     table.learn(at.cell, Status::Absent);
     let own = cells::leaf(run, Completion::End);
@@ -65,7 +66,8 @@ fn part(
     requires main { at.now.main ≡ true }
     requires live { is_on ≡ true → is_live p.now (pauses_of pauses.now) ≡ true }
     requires fits { FitsMasks p.now }
-    requires within { at.now.cell + sheet_size true p.now at.now.traps ≤ length table.old.cells.items }
+    requires within { at.now.cell + sheet_size true p.now at.now.traps
+        ≤ length table.old.cells.items }
     requires traps { at.now.traps + trap_depth (term_of p.now) ≤ 62 }
     ensures { IsChosen p.now at.now pauses.now is_on gate run env.now table.old.cells.items
         table.new.cells.items result }
@@ -456,9 +458,11 @@ fn resume_each(
     requires main { at.now.main ≡ true }
     requires live { is_live s.now (pauses_of pauses.now) ≡ true }
     requires fits { FitsMasks s.now }
-    requires within { at.now.cell + sheet_size true s.now at.now.traps ≤ length table.old.cells.items }
+    requires within { at.now.cell + sheet_size true s.now at.now.traps
+        ≤ length table.old.cells.items }
     requires traps { at.now.traps + trap_depth (term_of s.now) ≤ 62 }
-    ensures { IsResumed s.now at.now pauses.now run env.now table.old.cells.items table.new.cells.items
+    ensures { IsResumed s.now at.now pauses.now run env.now table.old.cells.items
+        table.new.cells.items
         result }
 {
     match s {
@@ -500,9 +504,11 @@ pub fn resume(
     requires main { at.now.main ≡ true }
     requires live { is_live s.now (pauses_of pauses.now) ≡ true }
     requires fits { FitsMasks s.now }
-    requires within { at.now.cell + sheet_size true s.now at.now.traps ≤ length table.old.cells.items }
+    requires within { at.now.cell + sheet_size true s.now at.now.traps
+        ≤ length table.old.cells.items }
     requires traps { at.now.traps + trap_depth (term_of s.now) ≤ 62 }
-    ensures { IsResumed s.now at.now pauses.now run env.now table.old.cells.items table.new.cells.items
+    ensures { IsResumed s.now at.now pauses.now run env.now table.old.cells.items
+        table.new.cells.items
         result }
 {
     if decided::is_decided(&*table, at, s) {

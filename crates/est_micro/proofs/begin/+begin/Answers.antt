@@ -12,7 +12,8 @@ use Rattle.est_micro.proofs.begin.+begin.Goals as goal
 
 pub begin_present-returns : goal.begin_present-returns
 begin_present-returns t c = λ q a b asks.
-    present_begun c.args.at.now q a c.args.p.now b c.args.q.now c.args.gate c.args.asked _ _ _ _ c.args.env.now _ _ _ _ _ _
+    present_begun c.args.at.now q a c.args.p.now b c.args.q.now c.args.gate c.args.asked _ _ _ _ c.args.env.now _ _ _ _
+    _ _
     _ _ _ asks
     c.learn-go.ensures.learns c.learn-go.ensures.known c.and.ensures c.opposite.ensures c.and-2.ensures
     c.begin-first.ensures
@@ -53,13 +54,15 @@ begin_trap-returns t c = λ a.
 
 pub begin_again-returns : goal.begin_again-returns
 begin_again-returns t c = λ a.
-    again_begun c.args.at.now.direction c.args.at.now.main c.args.at.now.cell c.args.at.now.traps a c.args.p.now c.args.gate _
+    again_begun c.args.at.now.direction c.args.at.now.main c.args.at.now.cell c.args.at.now.traps a c.args.p.now
+    c.args.gate _
     c.args.env.now _ _ _ _ _ _
     c.requires.main c.learn-go.ensures.learns c.learn-go.ensures.known c.begin-body.ensures c.leave.ensures
 
 pub begin_loop-returns : goal.begin_loop-returns
 begin_loop-returns t c = λ a.
-    loop_begun c.args.at.now.direction c.args.at.now.main c.args.at.now.cell c.args.at.now.traps a c.args.p.now c.args.gate _
+    loop_begun c.args.at.now.direction c.args.at.now.main c.args.at.now.cell c.args.at.now.traps a c.args.p.now
+    c.args.gate _
     c.args.env.now _ _ _ _ _ _ _ _
     _
     c.requires.main c.learn-go.ensures.learns c.learn-go.ensures.known c.begin-first.ensures c.begin-again.ensures
@@ -199,12 +202,14 @@ begin_loop-begin-again-requires t c = (
 
 pub begin_local-learn-requires : goal.begin_local-learn-requires
 begin_local-learn-requires t c =
-    within_local (c.args.at.now.cell + c.args.at.now.traps) _ c.args.table.now.cells.items _ _ _ _ _ _ _ c.requires.within
+    within_local (c.args.at.now.cell + c.args.at.now.traps) _ c.args.table.now.cells.items _ _ _ _ _ _ _
+    c.requires.within
     c.learn-go.ensures.learns.size c.begin-body.ensures
 
 pub begin_local-leave-requires-clause-within : goal.begin_local-leave-requires-clause-within
 begin_local-leave-requires-clause-within t c =
-    within_told (c.args.at.now.cell + c.args.at.now.traps) _ c.args.table.now.cells.items _ _ _ _ _ _ _ _ c.requires.within
+    within_told (c.args.at.now.cell + c.args.at.now.traps) _ c.args.table.now.cells.items _ _ _ _ _ _ _ _
+    c.requires.within
     c.learn-go.ensures.learns.size c.begin-body.ensures c.learn.ensures.learns.size
 
 pub begin-returns-in-Some : goal.begin-returns-in-Some

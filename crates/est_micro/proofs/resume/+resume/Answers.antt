@@ -17,7 +17,8 @@ part-returns-then-is_on t c =
 
 pub part-returns-else-is_on : goal.part-returns-else-is_on
 part-returns-else-is_on t c =
-    begun_chosen c.args.at.now.direction c.args.at.now.main c.args.at.now.cell c.args.at.now.traps c.args.p.now c.args.pauses.now
+    begun_chosen c.args.at.now.direction c.args.at.now.main c.args.at.now.cell c.args.at.now.traps c.args.p.now
+    c.args.pauses.now
     c.args.is_on c.args.gate
     c.args.run
     c.args.env.now _ _ _ c.requires.main c.if-is_on.false c.begin.ensures
@@ -104,14 +105,17 @@ resume_loop-begin-again-requires-clause-within t c =
 
 pub resume_local-learn-requires-2 : goal.resume_local-learn-requires-2
 resume_local-learn-requires-2 t c =
-    resumed_local (c.args.at.now.cell + c.args.at.now.traps) _ c.args.table.now.cells.items _ _ _ _ _ _ _ _ c.requires.within
+    resumed_local (c.args.at.now.cell + c.args.at.now.traps) _ c.args.table.now.cells.items _ _ _ _ _ _ _ _
+    c.requires.within
     c.learn.ensures.learns.size c.resume-body.ensures
 
 pub resume_local-leave-requires-clause-within : goal.resume_local-leave-requires-clause-within
 resume_local-leave-requires-clause-within t c =
-    resumed_told (c.args.at.now.cell + c.args.at.now.traps) _ c.args.table.now.cells.items _ _ _ _ _ _ _ _ _ c.requires.within
+    resumed_told (c.args.at.now.cell + c.args.at.now.traps) _ c.args.table.now.cells.items _ _ _ _ _ _ _ _ _
+    c.requires.within
     c.learn.ensures.learns.size c.resume-body.ensures c.learn-2.ensures.learns.size
 
 pub resume-returns-then-is_decided : goal.resume-returns-then-is_decided
 resume-returns-then-is_decided t c =
-    read_resumed c.args.s.now c.args.at.now c.args.pauses.now c.args.run c.args.env.now _ _ c.requires.main c.read.ensures
+    read_resumed c.args.s.now c.args.at.now c.args.pauses.now c.args.run c.args.env.now _ _ c.requires.main
+    c.read.ensures
