@@ -22,7 +22,7 @@ use Rattle.est_cells.proofs.Reach.{none_union}
 use Rattle.est_cells.proofs.ValuesAreMeant.{two}
 use Rattle.est_cells.specs.Tables.{Node, Parts, Sheet, emits, if_run, is_sure, is_possible}
 use Rattle.est_cells.specs.Tables.{make_again, map_again, of_again, sheet_size}
-use Rattle.est_net.specs.Cells.{AllDecided, cell_at, learned}
+use Rattle.est_net.specs.Cells.{AllDecided, cell_at, is_known, learned}
 use Rattle.est_net.specs.Layout.{node_in, parts_in, possible_codes, sheet_in, sure_codes}
 use Rattle.est_rounds.specs.Views.{env_of, set_of}
 use Rattle.est_rounds.specs.declared.signal_set.Env.{Env as Known}
@@ -383,3 +383,17 @@ decided_read s at cells old new codes past r none adds all given is =
       };
       past = adds.past_is;
     })
+
+-- of a range whose cells are all decided, one that isn't decided is none
+pub not_all_known : (lo hi i : ℕ) (cells : List Status) (b : Bool) → lo ≤ i → i < hi → b ≡ is_known (cell_at cells i)
+    → b ≡ false → (false ≡ true → AllDecided lo hi cells) × (AllDecided lo hi cells → false ≡ true)
+not_all_known lo hi i cells b l u is off =
+    (λ h. absurd (no_true h), λ h. sym off ∙ (is ∙ known_now (cell_at cells i) (decided_of lo hi cells h i l u)))
+  where
+    no_true : false ≡ true → ⊥
+    no_true h = cc
+
+    known_now : (v : Status) → v ≢ Unknown → is_known v ≡ true
+    known_now Present d = refl
+    known_now Absent d = refl
+    known_now Unknown d = absurd (d refl)

@@ -3,7 +3,7 @@
 //! What calls itself here does so on a part of the statement that it was given, and goes as deep as
 //! the statement is.
 
-ghost use Rattle.std.specs.Prelude.{◌≡◌, ◌<◌, ◌≤◌, ◌+◌, true, false, length};
+ghost use Rattle.std.specs.Prelude.{◌≡◌, ◌↔◌, ◌<◌, ◌≤◌, ◌+◌, true, false, length};
 ghost use Rattle.est_kernel.specs.CodeViews.{codes_of};
 ghost use Rattle.est_kernel.specs.Masks.{FitsMasks, HasSignalBit};
 ghost use Rattle.est_kernel.specs.View.{name_of};
@@ -11,16 +11,15 @@ ghost use Rattle.est_kernel.specs.declared.statement.Statement.TheVariants.{Loop
 ghost use Rattle.est_kernel.specs.declared.statement.Statement.TheVariants.{Local' as Binder'};
 ghost use Rattle.est_meaning.specs.Signals.{union};
 ghost use Rattle.est_cells.specs.Tables.{if_run, is_sure, sheet_size};
-ghost use Rattle.est_net.specs.Cells.{AllDecided, cell_at, is_known};
+ghost use Rattle.est_net.specs.Cells.{AllDecided, cell_at};
 ghost use Rattle.est_net.specs.Layout.{sure_codes};
 ghost use Rattle.est_rounds.specs.Views.{set_of};
 ghost use Rattle.est_micro.specs.Views.{AddsBoth, AddsEmitted, IsRead};
 
 use crate::cells::{self, Found, Place};
-use crate::idle::{has_parts, past};
+use crate::idle::past;
 use est_kernel::code_set::CodeSet;
 use est_kernel::statement::{LocalSignal, Signal, Statement};
-use est_meaning::status::Status;
 use est_net::table::Table;
 use est_rounds::acts::{Acts, Judgement};
 use est_rounds::signal_set::{self, SignalSet};
@@ -161,30 +160,23 @@ fn read_codes(table: &Table, cell: usize, count: usize) -> CodeSet
     codes
 }
 
-/// Whether a cell is decided.
-fn is_known(status: Status) -> bool
-    ensures { result ≡ is_known status }
-{
-    match status {
-        Status::Present | Status::Absent => true,
-        Status::Unknown => false,
-    }
-}
-
-/// Whether a statement has parts, and all of its cells are decided. They are gone through only
-/// where the codes 0 and 1 are decided: as a rule all others are decided then too.
+/// Whether all cells of a statement are decided. They are gone through only where the codes 0 and 1
+/// are decided: as a rule all others are decided then too.
 #[inline(always)]
 pub fn is_decided(table: &Table, at: &Place, s: &Statement) -> bool
     requires { at.now.cell + sheet_size at.now.main s.now at.now.traps
         ≤ length table.now.cells.items }
-    ensures { result ≡ true → AllDecided at.now.cell
+    ensures { (result ≡ true) ↔ AllDecided at.now.cell
         (at.now.cell + sheet_size at.now.main s.now at.now.traps)
         table.now.cells.items }
 {
-    is_known(table.status(at.cell + 2))
-        && is_known(table.status(at.cell + 1))
-        && has_parts(s)
-        && table.all_decided(at.cell, past(at.cell, at.main, s, at.traps))
+    if !table.is_decided(at.cell + 2) {
+        return false;
+    }
+    if !table.is_decided(at.cell + 1) {
+        return false;
+    }
+    table.all_decided(at.cell, past(at.cell, at.main, s, at.traps))
 }
 
 /// What is found of a statement all of whose cells are decided.

@@ -40,7 +40,7 @@ pub fn past(cell: usize, main: bool, s: &Statement, traps: usize) -> usize
 }
 
 /// Whether a statement has parts. One that has none is swept as fast as it is passed over.
-pub fn has_parts(s: &Statement) -> bool {
+fn has_parts(s: &Statement) -> bool {
     match s {
         Statement::Nothing | Statement::Pause(_) | Statement::Emit(_) | Statement::Exit(_) => false,
         Statement::Present(_, _, _)

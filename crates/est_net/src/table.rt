@@ -282,6 +282,14 @@ impl Table {
         has_no_true(self.cells.as_slice(), from, past)
     }
 
+    /// Whether a cell is decided.
+    pub fn is_decided(&self, cell: usize) -> bool
+        requires { cell < length self.now.cells.items }
+        ensures { result ≡ is_known (cell_at self.now.cells.items cell) }
+    {
+        is_decided(self.cells[cell])
+    }
+
     /// Whether each cell of a range is decided.
     pub fn all_decided(&self, from: usize, past: usize) -> bool
         requires range { from ≤ past }
