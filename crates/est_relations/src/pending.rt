@@ -121,9 +121,8 @@ impl<'a> Pending<'a> {
         }
     }
 
-    /// The same of this signal, for an owner that looks names up itself: it is answered as an offer
-    /// of its name.
-    pub fn offer_signal(&mut self, signal: InterfaceSignal) -> Result<(), Refusal>
+    /// The same of this signal: it is answered as an offer of its name.
+    fn offer_signal(&mut self, signal: InterfaceSignal) -> Result<(), Refusal>
         requires { signal.index < length self.old.interface }
         ensures { (name : List ℕ) → place_of self.old.interface name ≡ Some signal.index
             → OfferAnswer self.old name result self.new }

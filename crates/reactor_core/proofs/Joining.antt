@@ -1,23 +1,15 @@
 -- What the pending inputs of a module answer to an offer, and to an instant that is to take them.
-use Rattle.std.proofs.Common.{◌≡◌, ◌∙◌, ◌<◌, ℕ, List, length, Option, None, option_map, inl, inr, refl, ap, sym, subst}
-use Rattle.std.proofs.Common.{arith}
-use Rattle.std.proofs.lemmas.List.{length-map}
+use Rattle.std.proofs.Common.{◌≡◌, ◌∙◌, ℕ, List, inl, inr, refl, ap, sym, subst}
 use Rattle.std.specs.Prelude.{Result, Ok, Err}
 use Rattle.est_kernel.specs.Bits.{bits}
-use Rattle.est_kernel.specs.declared.interface.Declaration.{Declaration}
-use Rattle.est_kernel.specs.declared.statement.InterfaceSignal.{InterfaceSignal}
 use Rattle.est_relations.specs.Keeping.{AreLawful}
 use Rattle.est_relations.specs.Offers.{PendingInputs, KeepsExclusions, Adds, OfferAnswer as PendingAnswer, ReadyAnswer}
-use Rattle.est_relations.specs.Offers.{offer_rules as pending_rules, place_of}
+use Rattle.est_relations.specs.Offers.{offer_rules as pending_rules}
 use Rattle.est_relations.specs.declared.refusal.Refusal.{Refusal as PendingRefusal}
-use Rattle.est_relations.specs.declared.refusal.Refusal.TheVariants.{UnknownSignal}
-use Rattle.est_relations.proofs.Answering.{refused_name}
 use Rattle.refusal_rules.proofs.RuleLemmas.{all_passed, answered}
 use Rattle.reactor_core.specs.declared.loaded.Module.{Module}
 use Rattle.reactor_core.specs.Faults.{refusal_of_pending}
 use Rattle.reactor_core.specs.Standing.{pending_inputs, AreKept, JoinsAs, RefusesName, RefusesInstant}
-use Rattle.reactor_core.specs.SignalIndexes.{place_among}
-use Rattle.reactor_core.proofs.SignalIndexes.{place_in_interface}
 
 pub no_err : {A E : Type 0} (x : A) (e : E) → Ok x ≡ Err e → ⊥
 no_err x e h = cc
@@ -74,29 +66,6 @@ refuses m pending name before after e is h =
       told = refl;
       answer = subst (λ (p : PendingInputs). PendingAnswer (pending_inputs m pending) name (Err e) p) same answer;
     }
-
--- a name of no signal may not join them
-pub refuses_unknown : (m : Module) (pending : ℕ) (name : List ℕ) → AreKept m pending
-    → place_of m.kernel.interface name ≡ None → RefusesName m pending name (refusal_of_pending UnknownSignal)
-refuses_unknown m pending name kept none = record {
-  given = UnknownSignal;
-  told = refl;
-  answer = refused_name (pending_inputs m pending) name UnknownSignal kept none;
-}
-
--- the place of a name in the interface is that which the index tells
-pub place_told : (m : Module) (name : List ℕ) (found : Option InterfaceSignal)
-    → option_map (λ (s : InterfaceSignal). s.index) found ≡ place_among m.signals name
-    → place_of m.kernel.interface name ≡ option_map (λ (s : InterfaceSignal). s.index) found
-place_told m name found told =
-    sym (told ∙ ap (λ (names : List (List ℕ)). place_among names name) m.indexed
-    ∙ place_in_interface m.kernel.interface name)
-
--- a signal of the index is one of the interface
-pub within_interface : (m : Module) (at : ℕ) → at < length m.signals → at < length m.kernel.interface
-within_interface m at within =
-    let long = ap length m.indexed ∙ length-map m.kernel.interface (λ (d : Declaration). d.name) in
-    omega (arith, long, within)
 
 -- an instant may take pending inputs that are ready
 lawful_where : (p : PendingInputs) → ReadyAnswer p (Ok (record {})) → AreLawful p.relations (bits p.mask)

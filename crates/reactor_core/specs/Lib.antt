@@ -10,4 +10,3 @@ pub mod Answers
 pub mod Instants
 pub mod Left
 pub mod Engines
-pub mod SignalIndexes

@@ -18,5 +18,4 @@ pub mod nesting;
 pub mod reactor;
 mod reading;
 pub mod refusal;
-mod signal_index;
 pub mod text;

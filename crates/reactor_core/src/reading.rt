@@ -5,16 +5,14 @@ ghost use Rattle.reactor_core.specs.Standing.{given_by};
 
 use crate::loaded::Module;
 use crate::refusal::Refusal;
-use crate::signal_index::SignalIndex;
 use est_link::link::link;
 use est_reduce::reduce::reduce;
 use est_syntax::parse::parse;
 use est_text::lex::lex;
 use std::alloc::Global;
 
-/// The main module of a text: it is cut, read by the grammar, linked and reduced, and its signals
-/// are indexed. Each stage ends before the next begins, so a fault of an earlier one is answered
-/// before any of a later one.
+/// The main module of a text: it is cut, read by the grammar, linked and reduced. Each stage ends
+/// before the next begins, so a fault of an earlier one is answered before any of a later one.
 pub fn read_module(alloc: Global, main: &str, text: &str) -> Result<Module, Refusal>
     ensures given { IfOk result (λ m. Gives main.now text.now (given_by m)) }
     ensures fault { IfErr result (IsLoadFault main.now text.now) }
@@ -23,10 +21,8 @@ pub fn read_module(alloc: Global, main: &str, text: &str) -> Result<Module, Refu
     let library = parse(alloc, &tokens)?;
     let flat = link(alloc, &library, main)?;
     let kernel = reduce(alloc, &flat)?;
-    let signals = SignalIndex::of(alloc, kernel.interface())?;
     Ok(Module {
         kernel,
         relations: flat.relations,
-        signals,
     })
 }

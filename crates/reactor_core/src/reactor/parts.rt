@@ -18,7 +18,6 @@ use crate::reactor::engine::ModuleEngine;
 use crate::refusal::Refusal;
 use est_kernel::state::{Inputs, Outcome, State, Stuck};
 use est_relations::pending::Pending;
-use est_relations::refusal::Refusal as PendingRefusal;
 use est_rounds::engine::Engine;
 use est_text::identifier::Identifier;
 
@@ -43,11 +42,8 @@ pub fn join(loaded: &Module, pending: u64, name: &Identifier) -> Result<u64, Ref
         (JoinsAs loaded.now pending name.now)
         (RefusesName loaded.now pending name.now) }
 {
-    let Some(signal) = loaded.signals.find(name) else {
-        return Err(Refusal::from(PendingRefusal::UnknownSignal));
-    };
     let mut pending = Pending::resume(loaded.kernel.interface(), &loaded.relations, pending);
-    pending.offer_signal(signal)?;
+    pending.offer(name)?;
     Ok(pending.inputs())
 }
 

@@ -17,7 +17,6 @@ use Rattle.est_text.specs.declared.lex.LexFault.TheVariants as lex
 use Rattle.reactor_core.specs.Faults.{refusal_of_link}
 use Rattle.reactor_core.specs.Loading.{IsCutOf, Spells, LinksTo, IsLoadFault, in_cutting, in_grammar, in_linking}
 use Rattle.reactor_core.specs.Loading.{in_reduction}
-use Rattle.reactor_core.specs.SignalIndexes.{names_of}
 use Rattle.reactor_core.proofs.OneLoad.{no_fault}
 use Rattle.reactor_core.proofs.reading.read_module.Goals as goal
 
@@ -68,11 +67,6 @@ returns-in_err-kernel-clause-fault c =
     record { library = library; spells = spells; sound = no_fault library c.args.main.now f.first; is = f.flat } in
     rw (p.1, p.2) (in_reduction (flat_of c.in_ok-flat.flat) links c.in_err-kernel.field-0.0 c.in_err-kernel.ensures)
 
-pub returns-in_err-signals-clause-fault : goal.returns-in_err-signals-clause-fault
-returns-in_err-signals-clause-fault c =
-    let p = err_from_is_err_and c.from_residual-in_err-signals.result c.from_residual-in_err-signals.ensures.1 in
-    rw (p.1, p.2) (in_cutting lex.Memory tt)
-
 pub returns-clause-given : goal.returns-clause-given
 returns-clause-given c =
     let e = c.in_ok-tokens.ensures in
@@ -102,5 +96,4 @@ pub invariant_of-result : goal.invariant_of-result
 invariant_of-result c = record {
   over_inputs = subst (λ (i : List Declaration). AreOverInputs i c.in_ok-flat.flat.relations)
       (sym c.in_ok-kernel.ensures.declares) c.in_ok-flat.flat.over_inputs;
-  indexed = c.in_ok-signals.ensures ∙ ap names_of c.interface.ensures;
 }
