@@ -1,6 +1,6 @@
 -- Tests and their operands, as trees and as the code has them.
 use Rattle.std.proofs.Common.{◌≡◌, ℕ, ◌+◌, List, [], ◌∷◌, map, refl, ap, sym, ◌∙◌, arith, rules}
-use Rattle.std.specs.Prelude.{◌≤◌, Bool, true, false, ◌&&◌, nat_lt, ◌<◌, ◌↔◌, IsTrue, length}
+use Rattle.std.specs.Prelude.{Bool, true, false, ◌&&◌, nat_lt, ◌<◌, ◌↔◌, IsTrue, length}
 use Rattle.std.specs.List.{fold}
 use Rattle.std.proofs.lemmas.Bool.Decides.{nat_tests}
 use Rattle.est_kernel.specs.declared.interface.Declaration.{Declaration}
@@ -61,10 +61,6 @@ operands_words o =
     let parts = out-Operands o in
     ap joint_word_count (operands_seen o) ∙ ap (λ n. word_count (query_of parts.first.value) + n)
     (listed_words (query_of parts.second.value) parts.later.items)
-
--- operands have a word between them
-pub some_word : (o : Operands) → 1 ≤ joint_word_count (joint_of o)
-some_word o = rw (operands_words o) (omega arith)
 
 -- whether the tests of a list pass too
 abbrev pub and_each : (Name → Bool) → Bool → Test → Bool

@@ -1,8 +1,7 @@
 //! How large a kernel may be: how many statements it has, and how deep its loops, traps and local
 //! signals are nested.
 
-ghost use Rattle.std.specs.Prelude.{◌≡◌, ◌≤◌, ◌+◌};
-ghost use Rattle.est_kernel.specs.Inner.Counting.{LeavesRoom};
+ghost use Rattle.std.specs.Prelude.{◌≡◌, ◌≤◌, ◌+◌, ◌-◌};
 ghost use Rattle.est_kernel.specs.View.{joint_of, query_of, term_of};
 ghost use Rattle.est_kernel.specs.Limits.{joint_word_count, statement_count, word_count};
 ghost use Rattle.est_kernel.specs.Limits.{loop_depth, trap_depth, local_depth, limit_passed};
@@ -102,59 +101,51 @@ fn nesting_of(s: &Statement) -> Depths
     }
 }
 
-/// What is left of a room for statements after the words of a test (`not`, `and`, `or`), if they
-/// fit. Recursion is no deeper than the room.
+/// What is left of a room for statements after the words of a test (`not`, `and`, `or`). A room is
+/// one more than may be used: what takes all of it leaves no room, and from then on nothing is
+/// counted. Recursion is no deeper than the room.
 #[cycle(words)]
-#[tactic(auto, using(crate::proofs::Tests::some_word))]
-fn room_after_test(t: &Test, room: u16) -> Option<u16>
-    ensures { LeavesRoom result room (word_count (query_of t.now)) }
+fn room_after_test(t: &Test, room: u16) -> u16
+    ensures { result ≡ room - word_count (query_of t.now) }
 {
+    if room == 0 {
+        return 0;
+    }
     match t {
-        Test::Tick | Test::Status(_) => Some(room),
-        Test::Not(t) => room_after_test(t, room.checked_sub(1)?),
-        Test::Joined(_, operands) => {
-            if room == 0 {
-                None
-            } else {
-                room_after_operands(operands, room - 1)
-            }
-        }
+        Test::Tick | Test::Status(_) => room,
+        Test::Not(t) => room_after_test(t, room - 1),
+        Test::Joined(_, operands) => room_after_operands(operands, room - 1),
     }
 }
 
 /// The same for operands, whose first connective is counted already.
 #[cycle(words)]
 #[tactic(auto, using(crate::proofs::Tests::operands_words))]
-fn room_after_operands(operands: &Operands, room: u16) -> Option<u16>
-    ensures { LeavesRoom result (room + 1) (joint_word_count (joint_of operands.now)) }
+fn room_after_operands(operands: &Operands, room: u16) -> u16
+    ensures { result ≡ room + 1 - joint_word_count (joint_of operands.now) }
 {
-    let first = room_after_test(&operands.first, room)?;
-    let mut left = room_after_test(&operands.second, first)?;
+    let first = room_after_test(&operands.first, room);
+    let mut left = room_after_test(&operands.second, first);
     for test in &operands.later {
-        left = room_after_test(test, left.checked_sub(1)?)?;
+        left = room_after_test(test, left.saturating_sub(1));
     }
-    Some(left)
+    left
 }
 
-/// What is left of a room for statements after this statement, if it fits. Recursion is no deeper
-/// than the room, whatever the statement.
-fn room_after(s: &Statement, room: u16) -> Option<u16>
-    ensures { LeavesRoom result room (statement_count (term_of s.now)) }
+/// What is left of a room for statements after this statement. Recursion is no deeper than the
+/// room, whatever the statement.
+fn room_after(s: &Statement, room: u16) -> u16
+    ensures { result ≡ room - statement_count (term_of s.now) }
 {
     if room == 0 {
-        return None;
+        return 0;
     }
     let room = room - 1;
     match s {
-        Statement::Nothing | Statement::Pause(_) | Statement::Emit(_) | Statement::Exit(_) => {
-            Some(room)
-        }
-        Statement::Present(t, p, q) => {
-            let room = room_after_test(t, room)?;
-            room_after(q, room_after(p, room)?)
-        }
-        Statement::Suspend(t, p) => room_after(p, room_after_test(t, room)?),
-        Statement::Seq(p, q) | Statement::Par(p, q) => room_after(q, room_after(p, room)?),
+        Statement::Nothing | Statement::Pause(_) | Statement::Emit(_) | Statement::Exit(_) => room,
+        Statement::Present(t, p, q) => room_after(q, room_after(p, room_after_test(t, room))),
+        Statement::Suspend(t, p) => room_after(p, room_after_test(t, room)),
+        Statement::Seq(p, q) | Statement::Par(p, q) => room_after(q, room_after(p, room)),
         Statement::Loop(p) | Statement::Trap(p) | Statement::Local(_, p) => room_after(p, room),
     }
 }
@@ -163,7 +154,7 @@ fn room_after(s: &Statement, room: u16) -> Option<u16>
 pub fn limit_passed(s: &Statement) -> Option<Limit>
     ensures { result ≡ limit_passed (term_of s.now) }
 {
-    if room_after(s, MOST_STATEMENTS).is_none() {
+    if room_after(s, MOST_STATEMENTS + 1) == 0 {
         return Some(Limit::Statements);
     }
     let depths = nesting_of(s);

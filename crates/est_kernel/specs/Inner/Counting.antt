@@ -1,6 +1,5 @@
 -- Counts that stop at the largest number of their type (this project's own form).
-use Rattle.std.specs.Prelude.{◌≡◌, ◌+◌, ◌<◌, ◌↔◌, ◌&&◌, ℕ, Bool, true, nat_lt, IsTrue, List, length, MatchOption}
-use Rattle.std.specs.Prelude.{Option, min}
+use Rattle.std.specs.Prelude.{◌≡◌, ◌↔◌, ◌&&◌, ℕ, Bool, true, nat_lt, IsTrue, List, length, min}
 use Rattle.est_kernel.specs.Scope.{IsClosed}
 use Rattle.est_kernel.specs.Term.{Name, outer, inner, Query, tick, of, negated, joined, Queries, last, more, Joint}
 use Rattle.est_kernel.specs.Term.{Term}
@@ -14,10 +13,6 @@ Counts n counted = min n 4294967295 ≡ counted
 abbrev pub TellsClosed : Bool → List Declaration → (traps locals : ℕ) → Term → Type 0
 TellsClosed answer i traps locals t =
     (m n : ℕ) → Counts m traps → Counts n locals → IsTrue answer ↔ IsClosed i m n t
-
--- what is left of a room after what is needed, or no answer where the room is too small
-abbrev pub LeavesRoom : Option ℕ → (room needed : ℕ) → Type 0
-LeavesRoom answer room needed = MatchOption answer (room < needed) (λ left. left + needed ≡ room)
 
 -- whether a signal is of the interface, or one of `locals` local signals
 abbrev pub is_seen : List Declaration → ℕ → Name → Bool
