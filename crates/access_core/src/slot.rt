@@ -8,7 +8,7 @@ ghost use Rattle.access_core.specs.Answering.{ByRules, no_memory};
 ghost use Rattle.access_core.specs.SlotStep.{SlotStep, access_rules, IsAdmitted, no_instant};
 ghost use Rattle.access_core.specs.SlotStep.{NamesUndecided, settle_rules, step_rules, entry_rules};
 ghost use Rattle.access_core.specs.SlotStep.{journal_full, stamp_of, Offers, AddsEntry, Steps};
-ghost use Rattle.access_core.specs.SlotStep.{Looks, Audits};
+ghost use Rattle.access_core.specs.SlotStep.{Looks, Audits, Loads};
 ghost use Rattle.reactor_core.specs.Meaning.{is_loaded};
 ghost use Rattle.reactor_core.specs.declared.entry.Action.TheVariants as action;
 ghost use Rattle.reactor_core.specs.Instants.{IsOutcome, HasNoOutcome};
@@ -134,6 +134,33 @@ fn refuse_stuck(
     }
 }
 
+/// Loads a module: the reply, and what the slot holds afterwards.
+fn load_module(
+    alloc: Global,
+    journal: Journal,
+    stamp: Stamp,
+    main: &str,
+    text: &str,
+) -> (Reply, Content)
+    requires { is_loaded journal ≡ false }
+    ensures held { IsHeldRight result.1 }
+    ensures step { Loads stamp main.now text.now journal result.0 (journal_of result.1) }
+{
+    match Reactor::load(alloc, journal, stamp, main, text) {
+        Ok(reactor) => {
+            let reply = Reply::Load {
+                place: reactor.journal().len() as u64,
+                version: stamp.version,
+            };
+            (reply, Content::Loaded(reactor))
+        }
+        Err((refusal, journal)) => (
+            Reply::Refused(Refusal::from(refusal)),
+            Content::Empty(journal),
+        ),
+    }
+}
+
 /// Offers the signal to the reactor.
 fn offer_signal(reactor: &mut Reactor, stamp: Stamp, signal: &Identifier) -> Reply
     ensures loaded { is_loaded reactor.new ≡ true }
@@ -248,7 +275,7 @@ fn step_reactor(
 
 impl Slot {
     ghost use Rattle.access_core.specs.Desk.{empty_slot};
-    ghost use Rattle.access_core.specs.SlotStep.{occupied, empty, Loads};
+    ghost use Rattle.access_core.specs.SlotStep.{occupied, empty};
 
     /// An empty slot with an empty journal. It takes no memory.
     pub fn new(alloc: Global, number: SlotNumber) -> Slot
@@ -308,20 +335,11 @@ impl Slot {
         // The content is moved out; each arm puts it back.
         let empty = Content::Empty(Journal::new(self.alloc));
         match mem::replace(&mut self.content, empty) {
-            Content::Empty(journal) => match Reactor::load(self.alloc, journal, stamp, main, text) {
-                Ok(reactor) => {
-                    let place = reactor.journal().len() as u64;
-                    self.content = Content::Loaded(reactor);
-                    Reply::Load {
-                        place,
-                        version: stamp.version,
-                    }
-                }
-                Err((refusal, journal)) => {
-                    self.content = Content::Empty(journal);
-                    Reply::Refused(Refusal::from(refusal))
-                }
-            },
+            Content::Empty(journal) => {
+                let (reply, loaded) = load_module(self.alloc, journal, stamp, main, text);
+                self.content = loaded;
+                reply
+            }
             Content::Loaded(reactor) => {
                 self.content = Content::Loaded(reactor);
                 Reply::Refused(Refusal::Occupied)

@@ -1,0 +1,30 @@
+use Rattle.std.proofs.Common.{◌∙◌, refl, ap, length}
+use Rattle.std.specs.Prelude.{Ok, Err}
+use Rattle.reactor_core.specs.Meaning.{is_loaded}
+use Rattle.reactor_core.proofs.AnswerLemmas.{load_stays}
+use Rattle.access_core.specs.declared.reply.Reply.TheVariants.{Refused, Load as Loaded}
+use Rattle.access_core.proofs.slot.load_module.Goals as goal
+
+pub returns-in-Ok-clause-step : goal.returns-in-Ok-clause-step
+returns-in-Ok-clause-step c = record {
+  answer = Ok c.in-Ok.reactor;
+  given = c.in-Ok.ensures;
+  replied = (refl, ap (λ n. Loaded n c.args.stamp.version) (c.len.ensures ∙ ap length c.journal.ensures.same));
+}
+
+pub returns-in-Err-clause-held : goal.returns-in-Err-clause-held
+returns-in-Err-clause-held c =
+    ap is_loaded (load_stays c.args.journal c.args.stamp c.args.main.now c.args.text.now
+    (c.in-Err.refusal, c.in-Err.journal) c.in-Err.ensures)
+    ∙ c.requires
+
+pub returns-in-Err-clause-step : goal.returns-in-Err-clause-step
+returns-in-Err-clause-step c = record {
+  answer = Err (c.in-Err.refusal, c.in-Err.journal);
+  given = c.in-Err.ensures;
+  replied = record {
+    replied = ap Refused c.from.ensures;
+    stays = load_stays c.args.journal c.args.stamp c.args.main.now c.args.text.now
+        (c.in-Err.refusal, c.in-Err.journal) c.in-Err.ensures;
+  };
+}
