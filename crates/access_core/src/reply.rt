@@ -50,7 +50,7 @@ impl SignalNames {
 }
 
 /// A signal that is shown, and whether it is present.
-#[derive(Clone, Copy, PartialEq, Eq, Debug)]
+#[derive(Clone, Copy, PartialEq, Eq)]
 pub struct ShownSignal {
     pub name: Identifier,
     pub present: bool,
@@ -100,7 +100,7 @@ impl ShownSignals {
 }
 
 /// The policy commands that are answered by the new version alone: all but the login.
-#[derive(Clone, Copy, PartialEq, Eq, Debug)]
+#[derive(Clone, Copy, PartialEq, Eq)]
 pub enum Change {
     AddUser,
     DeleteUser,

@@ -64,7 +64,7 @@ pub fn first() -> SessionId {
 pub fn give(policy: &mut Policy, session: Option<SessionId>, command: AdminCommand) -> Result<()> {
     match decide(policy, session, command) {
         Ok(entry) => policy.absorb(&entry),
-        Err(refusal) => bail!("refused: {refusal:?}"),
+        Err(refusal) => bail!("refused: {}", refusal.label().1),
     }
     Ok(())
 }

@@ -46,7 +46,7 @@ fn count_decided(policy: &Policy, command: &AdminCommand, repetitions: u32) -> R
     for _ in 0..repetitions {
         match decide(policy, Some(first()), command.clone()?) {
             Ok(_) => count = count.wrapping_add(1),
-            Err(refusal) => bail!("refused: {refusal:?}"),
+            Err(refusal) => bail!("refused: {}", refusal.label().1),
         }
     }
     Ok(count)

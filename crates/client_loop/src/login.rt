@@ -17,7 +17,7 @@ use std::mem;
 use std::sync::Wait;
 
 /// What a logout did.
-#[derive(Clone, Copy, Debug, PartialEq, Eq)]
+#[derive(Clone, Copy, PartialEq, Eq)]
 pub enum Logout {
     /// The session lived, and was ended.
     Ended,

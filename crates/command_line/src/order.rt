@@ -15,7 +15,7 @@ pub const WORKERS: usize = 4;
 pub const MOST_CONNECTIONS: u64 = 65_535;
 
 /// A number of workers: from 1 to `MOST_WORKERS`. A contract sees the number.
-#[derive(Clone, Copy, PartialEq, Eq, Debug)]
+#[derive(Clone, Copy, PartialEq, Eq)]
 pub struct WorkerCount {
     count: usize,
 }
@@ -64,7 +64,7 @@ impl Default for WorkerCount {
 }
 
 /// A service of the connections that come to a socket.
-#[derive(Clone, Copy, Debug)]
+#[derive(Clone, Copy)]
 pub struct Service<'a> {
     /// Where the socket is made.
     pub path: &'a str,
@@ -75,7 +75,7 @@ pub struct Service<'a> {
 }
 
 /// What the words ask for.
-#[derive(Clone, Copy, Debug)]
+#[derive(Clone, Copy)]
 pub enum Order<'a> {
     /// To serve standard input and standard output as one connection.
     Script {

@@ -10,7 +10,7 @@ use crate::completion::Completion;
 use crate::mask;
 
 /// A set of completion codes below 64.
-#[derive(Clone, Copy, PartialEq, Eq, Debug)]
+#[derive(Clone, Copy, PartialEq, Eq)]
 pub struct CodeSet {
     /// A bit for each code.
     mask: u64,

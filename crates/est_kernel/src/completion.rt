@@ -7,7 +7,7 @@ ghost use Rattle.est_kernel.specs.CodeViews.{code_of};
 use crate::statement::TrapIndex;
 
 /// How a statement completes in an instant. A contract sees its code.
-#[derive(Clone, Copy, PartialEq, Eq, Debug)]
+#[derive(Clone, Copy, PartialEq, Eq)]
 pub enum Completion {
     /// It ends: code 0.
     End,

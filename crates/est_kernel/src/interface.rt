@@ -17,7 +17,7 @@ use std::marker::Model;
 pub const MOST_SIGNALS: usize = 64;
 
 /// Whether a signal comes from outside, goes there, or both.
-#[derive(Clone, Copy, PartialEq, Eq, Debug)]
+#[derive(Clone, Copy, PartialEq, Eq)]
 pub enum Kind {
     /// It may be offered, and isn't emitted.
     Input,
@@ -62,7 +62,7 @@ impl Kind {
 }
 
 /// A signal of an interface.
-#[derive(Clone, Copy, PartialEq, Eq, Debug)]
+#[derive(Clone, Copy, PartialEq, Eq)]
 pub struct Declaration {
     /// Its name.
     pub name: Identifier,

@@ -3,7 +3,7 @@
 use crate::pause_set::PauseSet;
 
 /// Where a kernel stands between two instants.
-#[derive(Clone, Copy, PartialEq, Eq, Debug)]
+#[derive(Clone, Copy, PartialEq, Eq)]
 pub enum State {
     /// It has not begun.
     Fresh,
@@ -14,14 +14,14 @@ pub enum State {
 }
 
 /// The inputs that are present in an instant.
-#[derive(Clone, Copy, PartialEq, Eq, Debug)]
+#[derive(Clone, Copy, PartialEq, Eq)]
 pub struct Inputs {
     /// A bit for each signal of the interface, in declaration order.
     pub signals: u64,
 }
 
 /// What a reaction gives.
-#[derive(Clone, Copy, PartialEq, Eq, Debug)]
+#[derive(Clone, Copy, PartialEq, Eq)]
 pub struct Outcome {
     /// The outputs that are emitted: a bit for each signal of the interface, in declaration order.
     pub outputs: u64,
@@ -30,7 +30,7 @@ pub struct Outcome {
 }
 
 /// Why there is no reaction.
-#[derive(Clone, Copy, PartialEq, Eq, Debug)]
+#[derive(Clone, Copy, PartialEq, Eq)]
 pub struct Stuck {
     /// The outputs and inputoutputs whose status is not decided: a bit for each signal of the
     /// interface, in declaration order.

@@ -6,7 +6,7 @@ ghost use Rattle.est_meaning.specs.Environments.{opposite, and_status, or_status
 use est_kernel::statement::Connective;
 
 /// What is known of a signal, or of a test, in an instant.
-#[derive(Clone, Copy, PartialEq, Eq, Debug)]
+#[derive(Clone, Copy, PartialEq, Eq)]
 pub enum Status {
     /// It must be emitted, or it was offered.
     Present,

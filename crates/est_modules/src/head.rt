@@ -11,7 +11,7 @@ use est_text::identifier::Identifier;
 use std::marker::Model;
 
 /// Whether a signal comes from outside, goes there, or both.
-#[derive(Clone, Copy, PartialEq, Eq, Debug)]
+#[derive(Clone, Copy, PartialEq, Eq)]
 pub enum Kind {
     /// `input`
     Input,

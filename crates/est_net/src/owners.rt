@@ -14,7 +14,7 @@ use est_kernel::mask;
 use est_kernel::statement::Statement;
 
 /// What a cell tells of its statement.
-#[derive(Clone, Copy, PartialEq, Eq, Debug)]
+#[derive(Clone, Copy, PartialEq, Eq)]
 pub enum CellKind {
     /// Whether it is begun.
     Go,
@@ -26,7 +26,7 @@ pub enum CellKind {
 }
 
 /// A cell of a statement.
-#[derive(Clone, Copy, PartialEq, Eq, Debug)]
+#[derive(Clone, Copy, PartialEq, Eq)]
 pub struct StatementCell {
     /// The statement's number: statements are counted from 0, each before its parts, in the order
     /// of the text.
@@ -39,7 +39,7 @@ pub struct StatementCell {
 }
 
 /// Whose a cell is.
-#[derive(Clone, Copy, PartialEq, Eq, Debug)]
+#[derive(Clone, Copy, PartialEq, Eq)]
 pub enum Owner {
     /// The signal at this place of the interface: whether it is present.
     Signal(usize),

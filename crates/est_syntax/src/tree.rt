@@ -68,7 +68,7 @@ pub struct Names {
 }
 
 /// A renaming `outer/inner`: the caller's signal stands for the signal of the module that is run.
-#[derive(Clone, Copy, PartialEq, Eq, Debug)]
+#[derive(Clone, Copy, PartialEq, Eq)]
 pub struct Renaming {
     /// The caller's signal.
     pub outer: Identifier,
@@ -77,7 +77,7 @@ pub struct Renaming {
 }
 
 /// How the `end` of a `weak abort` is written.
-#[derive(Clone, Copy, PartialEq, Eq, Debug)]
+#[derive(Clone, Copy, PartialEq, Eq)]
 pub enum WeakEnd {
     /// Not at all.
     LeftOut,

@@ -64,7 +64,7 @@ pub fn plain_unit(
 }
 
 /// What is around one statement.
-#[derive(Clone, Copy, PartialEq, Eq, Debug)]
+#[derive(Clone, Copy, PartialEq, Eq)]
 pub enum Frame {
     Suspend,
     Abort,
@@ -77,7 +77,7 @@ pub enum Frame {
 }
 
 /// What begins a unit with a body: a `present`, or a frame.
-#[derive(Clone, Copy, PartialEq, Eq, Debug)]
+#[derive(Clone, Copy, PartialEq, Eq)]
 pub enum Opener {
     /// `present`: its test comes first, and then its branches.
     Test,

@@ -13,7 +13,7 @@ use crate::scan::{close_at, is_blank, line_len, word_len};
 use crate::token::{Symbol, Token};
 
 /// What a text is cut into.
-#[derive(Clone, Copy, PartialEq, Eq, Debug)]
+#[derive(Clone, Copy, PartialEq, Eq)]
 pub enum Piece {
     Blank,
     LineComment,

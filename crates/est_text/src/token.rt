@@ -24,7 +24,7 @@ pub enum Symbol {
 }
 
 /// A keyword, an identifier that is no keyword, or a symbol.
-#[derive(Clone, Copy, PartialEq, Eq, Debug)]
+#[derive(Clone, Copy, PartialEq, Eq)]
 pub enum Token {
     Keyword(Keyword),
     Identifier(Identifier),
@@ -32,7 +32,7 @@ pub enum Token {
 }
 
 /// A token, and where it lies in its text.
-#[derive(Clone, Copy, PartialEq, Eq, Debug)]
+#[derive(Clone, Copy, PartialEq, Eq)]
 pub struct Located {
     pub token: Token,
     pub span: Span,

@@ -22,7 +22,7 @@ pub const LINE_BYTES: usize = 65_536;
 const ROOM: usize = 131_073;
 
 /// What is next.
-#[derive(Clone, Copy, Debug, PartialEq, Eq)]
+#[derive(Clone, Copy, PartialEq, Eq)]
 pub enum Line {
     /// A line, which the reader of lines lends until the next is asked for.
     Whole,
@@ -31,7 +31,7 @@ pub enum Line {
 }
 
 /// Why there is no next line.
-#[derive(Clone, Copy, Debug, PartialEq, Eq)]
+#[derive(Clone, Copy, PartialEq, Eq)]
 pub enum LineFault {
     /// More than 65,536 bytes stand before the next LF, or the end.
     TooLong,
@@ -40,7 +40,7 @@ pub enum LineFault {
 }
 
 /// Why no more lines come.
-#[derive(Clone, Copy, Debug, PartialEq, Eq)]
+#[derive(Clone, Copy, PartialEq, Eq)]
 pub enum Ending {
     /// The end was reached.
     End,

@@ -15,7 +15,7 @@ use std::io::Write;
 const ROOM: usize = 65_536;
 
 /// The writer failed, or took nothing.
-#[derive(Clone, Copy, Debug, PartialEq, Eq)]
+#[derive(Clone, Copy, PartialEq, Eq)]
 pub struct WriteFault;
 
 /// Writes a text, in parts where the writer takes no more at once.

@@ -2,7 +2,7 @@
 use rbac_admin::refusals::Refusal as PolicyRefusal;
 
 /// Why a call of the board is refused. A refusal leaves the policy and its list as they were.
-#[derive(Clone, Copy, PartialEq, Eq, Debug)]
+#[derive(Clone, Copy, PartialEq, Eq)]
 pub enum Refusal {
     /// The policy step refuses the command.
     Policy(PolicyRefusal),

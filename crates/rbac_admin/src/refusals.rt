@@ -7,7 +7,7 @@ use rbac_policy::names::Name;
 use rbac_policy::objects::{Object, Operation};
 
 /// Why a policy command is refused: the first cause in the order of `decide`.
-#[derive(Clone, Copy, PartialEq, Eq, Debug)]
+#[derive(Clone, Copy, PartialEq, Eq)]
 pub enum Refusal {
     /// No session gives the command, or the session has ended.
     NoSession,

@@ -44,7 +44,7 @@ impl SessionId {
 /// What a policy command asks for. The sixteen are those of ANSI INCITS 359-2004 that change users,
 /// roles, assignments, permissions, the order of roles, sets of dynamic separation of duty, and
 /// sessions.
-#[derive(Clone, PartialEq, Eq, Debug, Drop)]
+#[derive(Clone, PartialEq, Eq, Drop)]
 pub enum AdminCommand {
     /// Adds a user of this name, to whom nothing is assigned.
     AddUser {
@@ -171,7 +171,7 @@ impl AdminCommand {
 
 /// An accepted command, with the session that gave it. A CreateSession has none. It is small, and
 /// its clone takes no memory.
-#[derive(PartialEq, Eq, Debug, Drop)]
+#[derive(PartialEq, Eq, Drop)]
 pub struct Entry {
     /// The session that gave the command.
     pub session: Option<SessionId>,
@@ -194,7 +194,7 @@ impl Clone for Entry {
 const _: () = prove!(size_of::<Entry>() < 128);
 
 /// The tables of the policy; a command that one has no room for is refused.
-#[derive(Clone, Copy, PartialEq, Eq, Debug)]
+#[derive(Clone, Copy, PartialEq, Eq)]
 pub enum Table {
     /// Users, at most `USERS`.
     Users,

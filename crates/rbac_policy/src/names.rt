@@ -19,7 +19,7 @@ pub const LISTED_ROLES: usize = 32;
 
 /// A name of a user, a role or a separation set: letters, digits, `_` and `-`, at least one and at
 /// most `NAME_BYTES`. A contract sees the list of its bytes.
-#[derive(Clone, Copy, Debug)]
+#[derive(Clone, Copy)]
 pub struct Name {
     bytes: [u8; NAME_BYTES],
     count: u8,
@@ -125,7 +125,7 @@ impl Eq for Name {
 
 /// The roles that a command lists, at most `LISTED_ROLES`, in the order of the command. A clone
 /// shares the list and takes no memory. A contract sees the list of their names.
-#[derive(Debug, Drop)]
+#[derive(Drop)]
 pub struct RoleNames {
     names: ArcSlice<Name, Global>,
 }

@@ -8,7 +8,7 @@ use est_text::identifier::Identifier;
 use std::marker::Model;
 
 /// What a permission allows to do.
-#[derive(Clone, Copy, PartialEq, Eq, Debug)]
+#[derive(Clone, Copy, PartialEq, Eq)]
 pub enum Operation {
     /// To put an input signal into the next instant.
     Offer,
@@ -47,7 +47,7 @@ impl Model for SlotNumber {
 }
 
 /// What a permission is for: the policy, a slot, or a signal of the module in a slot.
-#[derive(Clone, Copy, Debug)]
+#[derive(Clone, Copy)]
 pub enum Object {
     /// The policy itself.
     Policy,

@@ -6,7 +6,7 @@ use crate::objects::{Object, Operation};
 use rbac_closure::sets::RoleSet;
 
 /// A user, with the roles that are assigned to it.
-#[derive(Clone, Copy, PartialEq, Eq, Debug)]
+#[derive(Clone, Copy, PartialEq, Eq)]
 pub struct User {
     /// Its name.
     pub name: Name,
@@ -15,7 +15,7 @@ pub struct User {
 }
 
 /// A pair of an operation and an object, with the roles that are granted it.
-#[derive(Clone, Copy, PartialEq, Eq, Debug)]
+#[derive(Clone, Copy, PartialEq, Eq)]
 pub struct Grant {
     /// What may be done.
     pub operation: Operation,
@@ -26,7 +26,7 @@ pub struct Grant {
 }
 
 /// A live session, with the roles that are active in it.
-#[derive(Clone, Copy, PartialEq, Eq, Debug)]
+#[derive(Clone, Copy, PartialEq, Eq)]
 pub struct Session {
     /// Its number.
     pub number: SessionId,
@@ -38,7 +38,7 @@ pub struct Session {
 
 /// A separation set: its name, its number, its roles, and the place of its entry in the list, which
 /// orders the sets.
-#[derive(Clone, Copy, PartialEq, Eq, Debug)]
+#[derive(Clone, Copy, PartialEq, Eq)]
 pub struct DsdSet {
     /// Its name.
     pub name: Name,

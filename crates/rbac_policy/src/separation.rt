@@ -10,7 +10,7 @@ use crate::rows::{DsdSet, Session};
 use rbac_closure::rows::Rows;
 
 /// A separation set, and a session that violates it.
-#[derive(Clone, Copy, PartialEq, Eq, Debug)]
+#[derive(Clone, Copy, PartialEq, Eq)]
 pub struct Violation {
     /// The place of the entry that made the set, counted from 0.
     pub place: u64,

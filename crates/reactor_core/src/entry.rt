@@ -3,7 +3,7 @@ use crate::text::Text;
 use est_text::identifier::Identifier;
 
 /// The policy version at which a command was judged, and the number of the session that gave it.
-#[derive(Clone, Copy, PartialEq, Eq, Debug)]
+#[derive(Clone, Copy, PartialEq, Eq)]
 pub struct Stamp {
     pub version: u64,
     pub session: u16,
@@ -11,7 +11,7 @@ pub struct Stamp {
 
 /// An instant that has passed: its present inputs and outputs, as masks over the interface in the
 /// order of declaration.
-#[derive(Clone, Copy, PartialEq, Eq, Debug)]
+#[derive(Clone, Copy, PartialEq, Eq)]
 pub struct PastInstant {
     pub inputs: u64,
     pub outputs: u64,

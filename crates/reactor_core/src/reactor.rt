@@ -37,7 +37,7 @@ mod parts;
 
 /// What is shown of an instant: the signals that were asked for, and those of them that were
 /// present, as masks over the interface in the order of declaration.
-#[derive(Clone, Copy, PartialEq, Eq, Debug)]
+#[derive(Clone, Copy, PartialEq, Eq)]
 pub struct Shown {
     pub mask: u64,
     pub present: u64,

@@ -13,7 +13,7 @@ use est_text::place::Place;
 use std::alloc::AllocError;
 
 /// A limit of a module's size.
-#[derive(Clone, Copy, PartialEq, Eq, Debug)]
+#[derive(Clone, Copy, PartialEq, Eq)]
 pub enum Limit {
     /// Open units around a unit of the text.
     Nesting,
@@ -78,7 +78,7 @@ pub fn limit_text(limit: &Limit) -> &'static str
 }
 
 /// Why a module refuses a command. Relations are numbered from 1, in the order of the text.
-#[derive(Clone, Copy, PartialEq, Eq, Debug)]
+#[derive(Clone, Copy, PartialEq, Eq)]
 pub enum ModuleRefusal {
     /// The pending inputs don't take the input, or the next instant doesn't take them.
     Pending(PendingRefusal),
@@ -142,7 +142,7 @@ impl ModuleRefusal {
 }
 
 /// Why a command on a module was refused.
-#[derive(Clone, Copy, PartialEq, Eq, Debug)]
+#[derive(Clone, Copy, PartialEq, Eq)]
 pub enum Refusal {
     /// The module refuses it.
     Module(ModuleRefusal),
