@@ -1,2 +1,3 @@
+mod playing;
 mod receipts;
 mod sharing;

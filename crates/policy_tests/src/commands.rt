@@ -1,7 +1,7 @@
 //! Policy commands, refusals and questions as text, so that a story of a policy is a table.
 use rbac_admin::decisions::decide;
-use rbac_admin::refusals::Refusal;
-use rbac_policy::commands::{AdminCommand, Entry, SessionId, Table};
+use rbac_admin::refusals::{Refusal, table_text};
+use rbac_policy::commands::{AdminCommand, Entry, SessionId};
 use rbac_policy::names::{LISTED_ROLES, Name, RoleNames};
 use rbac_policy::objects::{Object, Operation};
 use rbac_policy::policy::Policy;
@@ -11,6 +11,10 @@ use std::process::Abort;
 /// A command of a story: the number of the session that gives it, or 0 for none; the command; and
 /// its refusal, or no text where it is accepted.
 pub type Line = (u16, &'static str, &'static str);
+
+/// A part of a story: its commands; then, among the sessions numbered from 1 to the last one, those
+/// that live; and then questions.
+pub type Part = (&'static [Line], u16, &'static [u16], &'static [Question]);
 
 /// An entry: the number of its session, or 0 for none, and the command.
 pub type Given = (u16, &'static str);
@@ -32,8 +36,16 @@ pub fn names(rt: &impl Abort, alloc: Global, texts: &[&str]) -> RoleNames {
     RoleNames::from_vec(roles).expect(rt, "room")
 }
 
-fn session(rt: &impl Abort, text: &str) -> SessionId {
-    SessionId::new(text.parse::<u16>().ok().expect(rt, "a number"))
+/// The number that these digits spell.
+fn number(rt: &impl Abort, digits: &str) -> u16 {
+    let mut number = 0u16;
+    for digit in digits.as_bytes() {
+        assert!(rt; digit.is_ascii_digit(), "no number: {digits}");
+        number = number
+            .saturating_mul(10)
+            .saturating_add(u16::from(digit.saturating_sub(b'0')));
+    }
+    number
 }
 
 fn operation(rt: &impl Abort, text: &str) -> Operation {
@@ -45,11 +57,7 @@ fn object(rt: &impl Abort, text: &str) -> Object {
 }
 
 fn words_of<'a>(rt: &impl Abort, alloc: Global, text: &'a str) -> Vec<&'a str> {
-    let mut words = Vec::new(alloc);
-    for word in text.split(' ') {
-        words.push(word).expect(rt, "room");
-    }
-    words
+    text.split(' ').collect(alloc).expect(rt, "room")
 }
 
 /// The command of this word on a user, a role or a set.
@@ -124,48 +132,10 @@ pub fn command(rt: &impl Abort, alloc: Global, text: &str) -> AdminCommand {
         },
         ["dsd", set, count, roles @ ..] => AdminCommand::CreateDsdSet {
             set: name(rt, set),
-            count: count.parse::<u64>().ok().expect(rt, "a number"),
+            count: u64::from(number(rt, count)),
             roles: names(rt, alloc, roles),
         },
         words => plain_command(rt, words).expect(rt, "a command"),
-    }
-}
-
-fn name_of(refusal: &Refusal) -> &'static str {
-    match refusal {
-        Refusal::NoSession => "NoSession",
-        Refusal::SessionsExhausted => "SessionsExhausted",
-        Refusal::Permission { .. } => "Permission",
-        Refusal::DsdViolated { .. } => "DsdViolated",
-        Refusal::NotAuthorized { .. } => "NotAuthorized",
-        Refusal::AlreadyActive { .. } => "AlreadyActive",
-        Refusal::NotActive { .. } => "NotActive",
-        Refusal::Cycle => "Cycle",
-        Refusal::UnknownUser { .. } => "UnknownUser",
-        Refusal::UnknownRole { .. } => "UnknownRole",
-        Refusal::UserExists { .. } => "UserExists",
-        Refusal::RoleExists { .. } => "RoleExists",
-        Refusal::AlreadyAssigned => "AlreadyAssigned",
-        Refusal::NotAssigned => "NotAssigned",
-        Refusal::AlreadyGranted => "AlreadyGranted",
-        Refusal::NotGranted => "NotGranted",
-        Refusal::EdgeExists => "EdgeExists",
-        Refusal::NoEdge => "NoEdge",
-        Refusal::DsdExists { .. } => "DsdExists",
-        Refusal::NoDsd { .. } => "NoDsd",
-        Refusal::DsdShape => "DsdShape",
-        Refusal::RoleInDsd { .. } => "RoleInDsd",
-        Refusal::Full { .. } => "Full",
-    }
-}
-
-fn name_of_table(table: Table) -> &'static str {
-    match table {
-        Table::Users => "users",
-        Table::Roles => "roles",
-        Table::Permissions => "permissions",
-        Table::Sessions => "sessions",
-        Table::Sets => "sets",
     }
 }
 
@@ -190,8 +160,8 @@ fn has_fields(rt: &impl Abort, refusal: &Refusal, words: &[&str]) -> bool {
                 set,
                 session: violator,
             },
-            [wanted, number],
-        ) => { set.as_str() == *wanted && *violator == session(rt, number) }
+            [wanted, digits],
+        ) => { set.as_str() == *wanted && violator.number() == number(rt, digits) }
         (
             Refusal::Permission {
                 operation: op,
@@ -199,7 +169,7 @@ fn has_fields(rt: &impl Abort, refusal: &Refusal, words: &[&str]) -> bool {
             },
             [wanted, wanted_on],
         ) => { *op == operation(rt, wanted) && *on == object(rt, wanted_on) }
-        (Refusal::Full { table }, [wanted]) => name_of_table(*table) == *wanted,
+        (Refusal::Full { table }, [wanted]) => table_text(table) == *wanted,
         (
             Refusal::NoSession
             | Refusal::SessionsExhausted
@@ -224,7 +194,7 @@ fn is_answer(rt: &impl Abort, alloc: Global, answer: Option<Refusal>, text: &str
     };
     let words = words_of(rt, alloc, text);
     match words.as_slice() {
-        [word, rest @ ..] => *word == name_of(&refusal) && has_fields(rt, &refusal, rest),
+        [word, rest @ ..] => *word == refusal.name() && has_fields(rt, &refusal, rest),
         [] => false,
     }
 }
@@ -238,14 +208,13 @@ pub fn give(
     command: &AdminCommand,
 ) -> Option<Refusal> {
     let given = command.clone().expect(rt, "room");
+    let giver = if command.is_login() { None } else { session };
     let version = policy.version();
     match decide(policy, session, given) {
         Ok(entry) => {
-            let is_login = matches!(command, AdminCommand::CreateSession { .. });
-            assert!(rt; entry.command == *command);
-            assert!(rt; entry.session == if is_login { None } else { session });
+            assert!(rt; entry.command == *command && entry.session == giver);
             policy.absorb(&entry);
-            assert_eq!(rt; policy.version(), version.wrapping_add(1));
+            assert!(rt; policy.version() == version.wrapping_add(1));
             None
         }
         Err(refusal) => Some(refusal),
@@ -281,6 +250,22 @@ pub fn story(rt: &impl Abort, alloc: Global, story: &[Line]) -> Policy {
     let mut policy = Policy::opening();
     follow(rt, alloc, &mut policy, story);
     policy
+}
+
+/// Follows each story, from the opening policy on.
+pub fn follow_each(rt: &impl Abort, alloc: Global, stories: &[&[Line]]) {
+    for lines in stories {
+        let _policy = story(rt, alloc, lines);
+    }
+}
+
+/// Follows the parts of a story one after another.
+pub fn follow_parts(rt: &impl Abort, alloc: Global, policy: &mut Policy, parts: &[Part]) {
+    for (lines, last, living, questions) in parts {
+        follow(rt, alloc, policy, lines);
+        assert!(rt; live(policy, *last, living), "not {living:?}");
+        ask(rt, policy, questions);
+    }
 }
 
 /// The policy takes in the entries one after another, whether they would be accepted or not.

@@ -1,5 +1,5 @@
 //! The answers to policy commands, on policies that a server could come to.
-use crate::commands::{Given, Line, follow, story, take};
+use crate::commands::{Line, follow, story, take};
 use rbac_policy::policy::Policy;
 
 /// A login is asked from no session, and may be given by any.
@@ -14,8 +14,7 @@ const LOGINS: [Line; 5] = [
 #[test]
 fn logins(rt: HostRuntime) {
     let mut policy = Policy::opening();
-    let driver: [Given; 1] = [(0, "addrole driver")];
-    take(&rt, rt.alloc(), &mut policy, &driver);
+    take(&rt, rt.alloc(), &mut policy, &[(0, "addrole driver")]);
     follow(&rt, rt.alloc(), &mut policy, &LOGINS);
 }
 

@@ -1,5 +1,5 @@
 //! The order of roles, and duties kept apart.
-use crate::commands::{Line, story};
+use crate::commands::{Line, follow_each};
 
 /// A set counts what lies below a role: a user with the senior of both roles may act in one of the
 /// two at a time.
@@ -167,20 +167,19 @@ const SHAPES: [Line; 13] = [
     (1, "delrole a", ""),
 ];
 
+const STORIES: &[&[Line]] = &[
+    &ROLES_BELOW,
+    &AN_EDGE,
+    &CYCLES,
+    &THREE_WAYS,
+    &COUNTED_ONCE,
+    &FIRST_SET,
+    &LEAST_SESSION,
+    &SET_BEFORE_SESSION,
+    &SHAPES,
+];
+
 #[test]
 fn duties_are_kept_apart(rt: HostRuntime) {
-    let stories: [&[Line]; 9] = [
-        &ROLES_BELOW,
-        &AN_EDGE,
-        &CYCLES,
-        &THREE_WAYS,
-        &COUNTED_ONCE,
-        &FIRST_SET,
-        &LEAST_SESSION,
-        &SET_BEFORE_SESSION,
-        &SHAPES,
-    ];
-    for lines in stories {
-        let _policy = story(&rt, rt.alloc(), lines);
-    }
+    follow_each(&rt, rt.alloc(), STORIES);
 }

@@ -1,5 +1,7 @@
 //! What ends a session, what a deletion takes along, and places that are used again.
-use crate::commands::{Line, ask, follow, live, name, story};
+use crate::commands::{Line, Part, follow, follow_parts, name, story};
+use rbac_policy::policy::Policy;
+use std::process::Abort;
 
 /// A session ends where its user loses a role that is active in it. Its number is not used again.
 const AUTHORIZATION_TAKEN: [Line; 10] = [
@@ -37,20 +39,22 @@ const A_CHAIN: [Line; 15] = [
 /// Who goes on after a role is taken: ann has the lower role by itself too, and bob has all that he
 /// had. An edge that is deleted ends the session of another user. The session that gives the
 /// command may be one of those that end.
+const CHAIN_IS_CUT: &[Part] = &[
+    (&A_CHAIN, 6, &[1, 2, 3, 4, 5], &[]),
+    (&[(1, "deassign ann upper", "")], 6, &[1, 3, 5], &[]),
+    (&[(1, "disinherit middle lower", "")], 6, &[1, 3], &[]),
+    (
+        &[(1, "deassign root root", ""), (1, "addrole a", "NoSession")],
+        6,
+        &[3],
+        &[],
+    ),
+];
+
 #[test]
 fn authorization_is_taken(rt: HostRuntime) {
     let _policy = story(&rt, rt.alloc(), &AUTHORIZATION_TAKEN);
-    let mut policy = story(&rt, rt.alloc(), &A_CHAIN);
-    assert!(rt; live(&policy, 6, &[1, 2, 3, 4, 5]));
-    let deassign = [(1, "deassign ann upper", "")];
-    follow(&rt, rt.alloc(), &mut policy, &deassign);
-    assert!(rt; live(&policy, 6, &[1, 3, 5]));
-    let disinherit = [(1, "disinherit middle lower", "")];
-    follow(&rt, rt.alloc(), &mut policy, &disinherit);
-    assert!(rt; live(&policy, 6, &[1, 3]));
-    let own = [(1, "deassign root root", ""), (1, "addrole a", "NoSession")];
-    follow(&rt, rt.alloc(), &mut policy, &own);
-    assert!(rt; live(&policy, 6, &[3]));
+    follow_parts(&rt, rt.alloc(), &mut Policy::opening(), CHAIN_IS_CUT);
 }
 
 /// Root may delete itself, and is then gone.
@@ -122,20 +126,28 @@ const PLACES_AGAIN: [Line; 19] = [
     (1, "delrole b", "RoleInDsd d"),
 ];
 
+/// What is left of each story: which sessions live, and what the later ones may do.
+const LEFT: &[Part] = &[
+    (&ROOT_GOES, 3, &[], &[]),
+    (&WITHOUT_ROLES, 3, &[1, 2], &[]),
+    (
+        &ROLE_AGAIN,
+        4,
+        &[1, 3],
+        &[(3, "load", "0", false), (1, "administer", "policy", true)],
+    ),
+    (
+        &PLACES_AGAIN,
+        4,
+        &[1, 3],
+        &[(3, "load", "0", false), (1, "administer", "policy", true)],
+    ),
+];
+
 #[test]
 fn what_goes_leaves_nothing(rt: HostRuntime) {
-    let policy = story(&rt, rt.alloc(), &ROOT_GOES);
-    assert!(rt; live(&policy, 3, &[]));
-    let policy = story(&rt, rt.alloc(), &WITHOUT_ROLES);
-    assert!(rt; live(&policy, 3, &[1, 2]));
-    for lines in [&ROLE_AGAIN[..], &PLACES_AGAIN[..]] {
-        let policy = story(&rt, rt.alloc(), lines);
-        assert!(rt; live(&policy, 4, &[1, 3]));
-        ask(
-            &rt,
-            &policy,
-            &[(3, "load", "0", false), (1, "administer", "policy", true)],
-        );
+    for part in LEFT {
+        follow_parts(&rt, rt.alloc(), &mut Policy::opening(), &[*part]);
     }
 }
 
@@ -149,27 +161,31 @@ const AN_ORDER: [Line; 7] = [
     (1, "inherit a c", ""),
 ];
 
-/// After each command, whether b lies below a, c below a, and c below b.
-const EDGES_GO: [(Line, [bool; 3]); 4] = [
-    ((1, "disinherit b c", ""), [true, true, false]),
-    ((1, "disinherit a b", ""), [false, true, false]),
-    ((1, "delrole c", ""), [false, false, false]),
-    ((1, "addrole c", ""), [false, false, false]),
+/// After each command, whether a lies at or below a, b below a, c below a, and c below b.
+const EDGES_GO: &[(&[Line], [bool; 4])] = &[
+    (&[(1, "disinherit b c", "")], [true, true, true, false]),
+    (&[(1, "disinherit a b", "")], [true, false, true, false]),
+    (&[(1, "delrole c", "")], [true, false, false, false]),
+    (&[(1, "addrole c", "")], [true, false, false, false]),
 ];
+
+/// Whether a lies at or below a, b below a, c below a, and c below b.
+fn order_of(rt: &impl Abort, policy: &Policy) -> [bool; 4] {
+    let (a, b, c) = (name(rt, "a"), name(rt, "b"), name(rt, "c"));
+    [
+        policy.lies_below(&a, &a),
+        policy.lies_below(&b, &a),
+        policy.lies_below(&c, &a),
+        policy.lies_below(&c, &b),
+    ]
+}
 
 #[test]
 fn the_order_is_that_of_the_edges_left(rt: HostRuntime) {
     let mut policy = story(&rt, rt.alloc(), &AN_ORDER);
-    let (a, b, c) = (name(&rt, "a"), name(&rt, "b"), name(&rt, "c"));
-    for (line, lies) in EDGES_GO {
-        follow(&rt, rt.alloc(), &mut policy, &[line]);
-        assert!(rt; policy.lies_below(&a, &a));
-        let found = [
-            policy.lies_below(&b, &a),
-            policy.lies_below(&c, &a),
-            policy.lies_below(&c, &b),
-        ];
-        assert_eq!(rt; found, lies);
+    for (lines, lies) in EDGES_GO {
+        follow(&rt, rt.alloc(), &mut policy, lines);
+        assert!(rt; order_of(&rt, &policy) == *lies);
     }
 }
 
@@ -207,5 +223,5 @@ const REFUSALS: [Line; 26] = [
 #[test]
 fn each_refusal_has_its_name(rt: HostRuntime) {
     let policy = story(&rt, rt.alloc(), &REFUSALS);
-    assert_eq!(rt; policy.version(), 6);
+    assert!(rt; policy.version() == 6);
 }

@@ -1,33 +1,104 @@
 //! Edges between roles, and what then lies below and above each.
+ghost use Rattle.std.specs.Prelude.{◌<◌};
+ghost use Rattle.rbac_closure.specs.declared.sets.TheConstants.{ROLES};
+
 use rbac_closure::rows::Rows;
 use rbac_closure::sets::{ROLES, RoleSet};
+use std::process::Abort;
 
-fn set(places: &[usize]) -> RoleSet {
+/// What is done with the edges between places, or what is then found of them.
+enum Line {
+    /// An edge is added, from a senior to a junior.
+    Add(usize, usize),
+    /// An edge is removed.
+    Remove(usize, usize),
+    /// The edges of a place are cleared.
+    Clear(usize),
+    /// Just these places lie at or below one.
+    Below(usize, &'static [usize]),
+    /// Just these lie at or above one.
+    Above(usize, &'static [usize]),
+    /// Just these lie at or below one of two.
+    BelowTwo([usize; 2], &'static [usize]),
+    /// Whether there is an edge, from a senior to a junior.
+    Edge(usize, usize, bool),
+}
+
+/// A place that a story names.
+fn at(rt: &impl Abort, place: usize) -> usize
+    ensures { result < ROLES }
+{
+    assert!(rt; place < ROLES, "no place: {place}");
+    place
+}
+
+fn set(rt: &impl Abort, places: &[usize]) -> RoleSet {
     let mut set = RoleSet::empty();
     for place in places {
-        if *place < ROLES {
-            set = set.with(*place);
-        }
+        set = set.with(at(rt, *place));
     }
     set
 }
 
+/// Whether the line is done, or found so.
+fn holds(rt: &impl Abort, rows: &mut Rows, line: &Line) -> bool {
+    match line {
+        Line::Add(senior, junior) => {
+            rows.add_edge(at(rt, *senior), at(rt, *junior));
+            true
+        }
+        Line::Remove(senior, junior) => {
+            rows.remove_edge(at(rt, *senior), at(rt, *junior));
+            true
+        }
+        Line::Clear(place) => {
+            rows.clear_role(at(rt, *place));
+            true
+        }
+        Line::Below(place, wanted) => rows.below(at(rt, *place)) == set(rt, wanted),
+        Line::Above(place, wanted) => rows.above(at(rt, *place)) == set(rt, wanted),
+        Line::BelowTwo(places, wanted) => rows.below_some(set(rt, places)) == set(rt, wanted),
+        Line::Edge(senior, junior, wanted) => {
+            rows.has_edge(at(rt, *senior), at(rt, *junior)) == *wanted
+        }
+    }
+}
+
+/// From no edge on, each line is done, or found so.
+fn follow(rt: &impl Abort, lines: &[Line]) {
+    let mut rows = Rows::new();
+    for (number, line) in lines.iter().enumerate() {
+        assert!(rt; holds(rt, &mut rows, line), "line {number}");
+    }
+}
+
+/// What lies below a new junior comes along, and every role above the senior takes it in.
+const CHAIN_OF_THREE: &[Line] = &[
+    Line::Add(1, 2),
+    Line::Add(0, 1),
+    Line::Below(0, &[0, 1, 2]),
+    Line::Above(2, &[0, 1, 2]),
+    Line::BelowTwo([1, 5], &[1, 2, 5]),
+    Line::Add(3, 4),
+    Line::Add(2, 3),
+    Line::Below(0, &[0, 1, 2, 3, 4]),
+    Line::Below(2, &[2, 3, 4]),
+    Line::Above(4, &[0, 1, 2, 3, 4]),
+    Line::Edge(2, 3, true),
+    Line::Edge(2, 4, false),
+    Line::Edge(3, 2, false),
+];
+
 #[test]
 fn chain_of_three(rt: HostRuntime) {
-    let mut rows = Rows::new();
-    rows.add_edge(1, 2);
-    rows.add_edge(0, 1);
-    assert_eq!(rt; rows.below(0), set(&[0, 1, 2]));
-    assert_eq!(rt; rows.above(2), set(&[0, 1, 2]));
-    assert_eq!(rt; rows.below_some(set(&[1, 5])), set(&[1, 2, 5]));
+    follow(&rt, CHAIN_OF_THREE);
+}
 
-    // what lies below a new junior comes along, and every role above the senior takes it in
-    rows.add_edge(3, 4);
-    rows.add_edge(2, 3);
-    assert_eq!(rt; rows.below(0), set(&[0, 1, 2, 3, 4]));
-    assert_eq!(rt; rows.below(2), set(&[2, 3, 4]));
-    assert_eq!(rt; rows.above(4), set(&[0, 1, 2, 3, 4]));
-    assert!(rt; rows.has_edge(2, 3) && !rows.has_edge(2, 4) && !rows.has_edge(3, 2));
+/// Whether this is what is found where each place stands above the next, up to the last.
+fn is_chain(rt: &impl Abort, rows: &Rows, last: usize) -> bool {
+    (rows.below(0).len(), rows.above(at(rt, last)).len()) == (64, 64)
+        && rows.below(at(rt, last)) == set(rt, &[last])
+        && rows.below_some(set(rt, &[60, 62])) == set(rt, &[60, 61, 62, last])
 }
 
 // Each place stands above the next.
@@ -37,77 +108,84 @@ fn chain_over_all_places(rt: HostRuntime) {
     for place in 1..ROLES {
         rows.add_edge(place - 1, place);
     }
-    let last = ROLES - 1;
-    assert_eq!(rt; rows.below(0).len(), 64);
-    assert_eq!(rt; rows.above(last).len(), 64);
-    assert_eq!(rt; rows.below(last), set(&[last]));
-    assert_eq!(rt; rows.below_some(set(&[60, 62])), set(&[60, 61, 62, last]));
+    assert!(rt; is_chain(&rt, &rows, ROLES - 1));
     rows.remove_edge(31, 32);
-    assert_eq!(rt; rows.below(0).len(), 32);
-    assert_eq!(rt; rows.above(last).len(), 32);
-    assert!(rt; rows.below(0).has(31) && !rows.below(0).meets(rows.above(last)));
+    let (below, above) = (rows.below(0), rows.above(ROLES - 1));
+    assert!(rt; (below.len(), above.len()) == (32, 32));
+    assert!(rt; below.has(31) && !below.meets(above));
 }
 
-// 0 stands above 3 by 1 and by 2, and above 4 by 2 alone.
+/// 0 stands above 3 by 1 and by 2, and above 4 by 2 alone.
+const TWO_WAYS_DOWN: &[Line] = &[
+    Line::Add(0, 1),
+    Line::Add(0, 2),
+    Line::Add(1, 3),
+    Line::Add(2, 3),
+    Line::Add(2, 4),
+    Line::Below(0, &[0, 1, 2, 3, 4]),
+    Line::Remove(0, 2),
+    Line::Below(0, &[0, 1, 3]),
+    Line::Above(3, &[0, 1, 2, 3]),
+    Line::Above(4, &[2, 4]),
+];
+
 #[test]
 fn two_ways_down(rt: HostRuntime) {
-    let mut rows = Rows::new();
-    rows.add_edge(0, 1);
-    rows.add_edge(0, 2);
-    rows.add_edge(1, 3);
-    rows.add_edge(2, 3);
-    rows.add_edge(2, 4);
-    assert_eq!(rt; rows.below(0), set(&[0, 1, 2, 3, 4]));
-    rows.remove_edge(0, 2);
-    assert_eq!(rt; rows.below(0), set(&[0, 1, 3]));
-    assert_eq!(rt; rows.above(3), set(&[0, 1, 2, 3]));
-    assert_eq!(rt; rows.above(4), set(&[2, 4]));
+    follow(&rt, TWO_WAYS_DOWN);
 }
+
+const NOTHING_CHANGES: &[Line] = &[
+    Line::Add(0, 1),
+    Line::Add(1, 2),
+    Line::Add(0, 1),
+    Line::Remove(0, 2),
+    Line::Below(0, &[0, 1, 2]),
+    Line::Remove(0, 1),
+    Line::Below(0, &[0]),
+    Line::Above(2, &[1, 2]),
+];
 
 #[test]
 fn nothing_changes(rt: HostRuntime) {
-    let mut rows = Rows::new();
-    rows.add_edge(0, 1);
-    rows.add_edge(1, 2);
-    rows.add_edge(0, 1);
-    rows.remove_edge(0, 2);
-    assert_eq!(rt; rows.below(0), set(&[0, 1, 2]));
-    rows.remove_edge(0, 1);
-    assert_eq!(rt; rows.below(0), set(&[0]));
-    assert_eq!(rt; rows.above(2), set(&[1, 2]));
+    follow(&rt, NOTHING_CHANGES);
 }
+
+const PLACE_AGAIN: &[Line] = &[
+    Line::Add(0, 1),
+    Line::Add(1, 2),
+    Line::Add(3, 1),
+    Line::Add(0, 2),
+    Line::Clear(1),
+    Line::Below(1, &[1]),
+    Line::Above(1, &[1]),
+    Line::Below(0, &[0, 2]),
+    Line::Below(3, &[3]),
+    Line::Add(2, 1),
+    Line::Below(0, &[0, 1, 2]),
+];
 
 #[test]
 fn place_is_used_again(rt: HostRuntime) {
-    let mut rows = Rows::new();
-    rows.add_edge(0, 1);
-    rows.add_edge(1, 2);
-    rows.add_edge(3, 1);
-    rows.add_edge(0, 2);
-    rows.clear_role(1);
-    assert_eq!(rt; rows.below(1), set(&[1]));
-    assert_eq!(rt; rows.above(1), set(&[1]));
-    assert_eq!(rt; rows.below(0), set(&[0, 2]));
-    assert_eq!(rt; rows.below(3), set(&[3]));
-    rows.add_edge(2, 1);
-    assert_eq!(rt; rows.below(0), set(&[0, 1, 2]));
+    follow(&rt, PLACE_AGAIN);
 }
+
+const LAST: usize = ROLES - 1;
 
 #[test]
 fn last_place(rt: HostRuntime) {
-    let last = ROLES - 1;
-    let own = RoleSet::single(last);
-    assert!(rt; own.has(last) && !own.has(0) && !own.is_empty());
-    assert!(rt; own.with(0).without(last).is_subset(RoleSet::single(0)));
-    assert!(rt; own.meets(own.with(0)) && !own.meets(RoleSet::single(0)));
-    assert!(rt; !own.with(0).is_subset(own));
-    assert_eq!(rt; own.with(0).common(own.with(1)), own);
+    let own = RoleSet::single(LAST);
     let both = own.with(0);
-    assert_eq!(rt; both.len(), 2);
-    assert_eq!(rt; both.first_from(0), Some(0));
-    assert_eq!(rt; both.first_from(1), Some(last));
-    assert!(rt; both.first_from(ROLES).is_none());
-    let mut rows = Rows::new();
-    rows.add_edge(last, 0);
-    assert_eq!(rt; rows.below(last), set(&[0, last]));
+    let first = RoleSet::single(0);
+    assert!(rt; [own.has(LAST), own.has(0), own.is_empty()] == [true, false, false]);
+    assert!(rt; both.without(LAST).is_subset(first) && !both.is_subset(own));
+    assert!(rt; own.meets(both) && !own.meets(first));
+    assert!(rt; both.common(own.with(1)) == own);
+    assert!(rt; both.len() == 2);
+    let found = [
+        both.first_from(0),
+        both.first_from(1),
+        both.first_from(ROLES),
+    ];
+    assert!(rt; found == [Some(0), Some(LAST), None]);
+    follow(&rt, &[Line::Add(LAST, 0), Line::Below(LAST, &[0, LAST])]);
 }

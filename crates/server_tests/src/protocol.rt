@@ -2,5 +2,4 @@ mod connections;
 mod devices;
 mod lines;
 mod logins;
-mod replies;
 mod requests;

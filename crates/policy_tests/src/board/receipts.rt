@@ -1,18 +1,17 @@
 //! What the seats of a board keep of their calls.
-ghost use Rattle.std.specs.Prelude.{◌≡◌};
-
-use crate::board::sharing::{close, enter, give, grant, login, may_audit, open, revoke};
+use crate::board::playing::{Example, play};
+use crate::board::sharing::{
+    enter, first, give, grant, grant_once, login, may_audit, refusal, revoke,
+};
 use policy_board::board::Board;
 use policy_board::history::{BoardName, Fresh};
 use policy_board::seat::Seat;
-use rbac_policy::commands::{AdminCommand, SessionId};
-use rbac_policy::journal::PolicyJournal;
+use rbac_policy::commands::AdminCommand;
 use seat_receipts::receipt::{Asked, Kept, SlotReceipt};
 use std::alloc::Global;
 use std::marker::Brand;
 use std::process::Abort;
 use std::sync::Wait;
-use std::test::Fail;
 
 /// Whether the seat keeps, at this place, the receipt of a policy command with this version and
 /// this command.
@@ -67,118 +66,96 @@ fn count<B: BoardName, R: Wait + Abort>(rt: &R, board: &Board<B>, seat: &mut Sea
 
 /// A seat keeps what it was given, and no refusal: a command before it has a session, a login, a
 /// grant, and the same grant again.
-fn command<B: BoardName, R: Wait + Abort>(rt: &R, alloc: Global, fresh: Fresh) -> PolicyJournal
-    requires { fresh.seen.book ≡ B.book }
-{
-    let (board, mut seats, readers) = open::<B, R>(rt, alloc, fresh, 2);
-    let mut seat = seats.pop().expect(rt, "a seat");
-    let mut other = seats.pop().expect(rt, "a seat");
-    assert!(rt;
-        board
-            .admin(rt, &mut seat, Some(SessionId::new(1)), grant())
-            .is_err()
-    );
-    assert_eq!(rt; seat.kept().len(), 0);
-    enter(rt, alloc, &board, &mut seat);
-    give(rt, &board, &mut seat, grant());
-    assert!(rt;
-        board
-            .admin(rt, &mut seat, Some(SessionId::new(1)), grant())
-            .is_err()
-    );
-    assert_eq!(rt; seat.kept().len(), 2);
+pub(crate) fn command<B: BoardName, R: Wait + Abort>(
+    rt: &R,
+    alloc: Global,
+    board: &Board<B>,
+    seat: &mut Seat<B>,
+    other: &mut Seat<B>,
+) {
+    assert!(rt; refusal(rt, board, seat, grant()).is_some());
+    assert!(rt; seat.kept().len() == 0);
+    grant_once(rt, alloc, board, seat);
+    assert!(rt; refusal(rt, board, seat, grant()).is_some());
     let command = login(alloc).expect(rt, "room");
-    assert!(rt; keeps_admin(&seat, 0, 5, &command));
-    assert!(rt; keeps_admin(&seat, 1, 6, &grant()));
-    assert!(rt; board.admin(rt, &mut other, None, command).is_ok());
-    assert_eq!(rt; other.kept().len(), 1);
-    assert_eq!(rt; other.into_receipts().as_slice().len(), 1);
-    close(rt, board, readers)
+    assert!(rt; seat.kept().len() == 2);
+    assert!(rt; keeps_admin(seat, 0, 5, &command) && keeps_admin(seat, 1, 6, &grant()));
+    assert!(rt; board.admin(rt, other, None, command).is_ok());
+    assert!(rt; other.kept().len() == 1);
 }
 
 /// Whatever is refused, a seat keeps a receipt for each entry and no others. It gives a login,
 /// grants and revokes, and passes over refusals.
-fn give_all<B: BoardName, R: Wait + Abort>(rt: &R, alloc: Global, fresh: Fresh) -> PolicyJournal
-    requires { fresh.seen.book ≡ B.book }
-{
-    let (board, mut seats, readers) = open::<B, R>(rt, alloc, fresh, 1);
-    let mut seat = seats.pop().expect(rt, "a seat");
+pub(crate) fn give_all<B: BoardName, R: Wait>(
+    rt: &R,
+    alloc: Global,
+    board: &Board<B>,
+    seat: &mut Seat<B>,
+) {
     if let Ok(command) = login(alloc) {
-        let _answer = board.admin(rt, &mut seat, None, command);
+        let _answer = board.admin(rt, seat, None, command);
     }
     for _ in 0..3u32 {
-        let _answer = board.admin(rt, &mut seat, Some(SessionId::new(1)), grant());
-        let _answer = board.admin(rt, &mut seat, Some(SessionId::new(1)), revoke());
+        refusal(rt, board, seat, grant());
+        refusal(rt, board, seat, revoke());
     }
-    let journal = close(rt, board, readers);
-    assert_eq!(rt; journal.len().saturating_sub(4), seat.kept().len());
-    journal
 }
 
 /// A seat that is told of a grant has seen its version, keeps no receipt of it, and finds the
 /// permission granted.
-fn learn<B: BoardName, R: Wait + Abort>(rt: &R, alloc: Global, fresh: Fresh) -> PolicyJournal
-    requires { fresh.seen.book ≡ B.book }
-{
-    let (board, mut seats, readers) = open::<B, R>(rt, alloc, fresh, 2);
-    let mut giver = seats.pop().expect(rt, "a seat");
-    let mut asker = seats.pop().expect(rt, "a seat");
-    assert!(rt; matches!(may_audit(&board, &mut asker), Ok(false)));
-    assert_eq!(rt; asker.seen(), 4);
-    enter(rt, alloc, &board, &mut giver);
-    let receipt = give(rt, &board, &mut giver, grant());
-    asker.learn(receipt);
-    assert_eq!(rt; asker.seen(), 6);
-    assert_eq!(rt; asker.kept().len(), 0);
-    assert!(rt; matches!(may_audit(&board, &mut asker), Ok(true)));
-    close(rt, board, readers)
+pub(crate) fn learn<B: BoardName, R: Wait + Abort>(
+    rt: &R,
+    alloc: Global,
+    board: &Board<B>,
+    giver: &mut Seat<B>,
+    asker: &mut Seat<B>,
+) {
+    assert!(rt; matches!(may_audit(board, asker), Ok(false)));
+    assert!(rt; asker.seen() == 4);
+    asker.learn(grant_once(rt, alloc, board, giver));
+    assert!(rt; asker.seen() == 6 && asker.kept().len() == 0);
+    assert!(rt; matches!(may_audit(board, asker), Ok(true)));
 }
 
 /// Slot commands are counted from 1, whichever seat keeps them, and stand among the policy commands
 /// of their seat.
-fn count_three<B: BoardName, R: Wait + Abort>(rt: &R, alloc: Global, fresh: Fresh) -> PolicyJournal
-    requires { fresh.seen.book ≡ B.book }
-{
-    let (board, mut seats, readers) = open::<B, R>(rt, alloc, fresh, 2);
-    let mut seat = seats.pop().expect(rt, "a seat");
-    let mut other = seats.pop().expect(rt, "a seat");
-    enter(rt, alloc, &board, &mut seat);
-    count(rt, &board, &mut seat);
-    count(rt, &board, &mut other);
-    count(rt, &board, &mut seat);
-    assert_eq!(rt; counted(&seat, 0), None);
-    assert_eq!(rt; counted(&seat, 1), Some(1));
-    assert_eq!(rt; counted(&seat, 2), Some(3));
-    assert_eq!(rt; counted(&other, 0), Some(2));
-    assert_eq!(rt; seat.kept().len(), 3);
-    assert_eq!(rt; other.kept().len(), 1);
-    close(rt, board, readers)
+pub(crate) fn count_three<B: BoardName, R: Wait + Abort>(
+    rt: &R,
+    alloc: Global,
+    board: &Board<B>,
+    seat: &mut Seat<B>,
+    other: &mut Seat<B>,
+) {
+    enter(rt, alloc, board, seat);
+    count(rt, board, seat);
+    count(rt, board, other);
+    count(rt, board, seat);
+    let numbers = [counted(seat, 0), counted(seat, 1), counted(seat, 2)];
+    assert!(rt; numbers == [None, Some(1), Some(3)]);
+    assert!(rt; counted(other, 0) == Some(2));
+    assert!(rt; (seat.kept().len(), other.kept().len()) == (3, 1));
 }
 
 #[test]
-fn accepted_commands_leave_receipts(rt: HostRuntime) -> Result<(), Fail> {
-    let journal = command::<Brand, _>(&rt, rt.alloc(), Fresh::new());
-    assert_eq!(rt; journal.len(), 7);
-    Ok(())
+fn accepted_commands_leave_receipts(rt: HostRuntime) {
+    let left = play::<Brand, _>(&rt, rt.alloc(), Fresh::new(), Example::Kept);
+    assert!(rt; left == (7, 3));
 }
 
 #[test]
-fn receipts_without_memory(rt: HostRuntime) -> Result<(), Fail> {
-    let journal = give_all::<Brand, _>(&rt, rt.alloc(), Fresh::new());
-    assert!(rt; 4 <= journal.len());
-    Ok(())
+fn receipts_without_memory(rt: HostRuntime) {
+    let (entries, kept) = play::<Brand, _>(&rt, rt.alloc(), Fresh::new(), Example::AllGiven);
+    assert!(rt; 4 <= entries && entries - 4 == kept);
 }
 
 #[test]
-fn learned_versions_leave_none(rt: HostRuntime) -> Result<(), Fail> {
-    let journal = learn::<Brand, _>(&rt, rt.alloc(), Fresh::new());
-    assert_eq!(rt; journal.len(), 6);
-    Ok(())
+fn learned_versions_leave_none(rt: HostRuntime) {
+    let left = play::<Brand, _>(&rt, rt.alloc(), Fresh::new(), Example::Learned);
+    assert!(rt; left == (6, 2));
 }
 
 #[test]
-fn slot_commands_are_counted(rt: HostRuntime) -> Result<(), Fail> {
-    let journal = count_three::<Brand, _>(&rt, rt.alloc(), Fresh::new());
-    assert_eq!(rt; journal.len(), 5);
-    Ok(())
+fn slot_commands_are_counted(rt: HostRuntime) {
+    let left = play::<Brand, _>(&rt, rt.alloc(), Fresh::new(), Example::Counted);
+    assert!(rt; left == (5, 4));
 }

@@ -1,23 +1,17 @@
-//! Boards that several threads share.
-ghost use Rattle.std.specs.Prelude.{◌≡◌, ◌≤◌};
-
+//! A board that several threads share.
+use crate::board::playing::{Example, Sharing, play, play_in_threads};
 use policy_board::board::Board;
 use policy_board::history::{BoardName, Fresh};
-use policy_board::opening::Opened;
-use policy_board::reader::SlotReader;
 use policy_board::refusal::Refusal;
 use policy_board::seat::{Receipt, Seat};
 use rbac_admin::refusals::Refusal as PolicyRefusal;
 use rbac_policy::commands::{AdminCommand, SessionId};
-use rbac_policy::journal::PolicyJournal;
 use rbac_policy::names::{Name, RoleNames};
 use rbac_policy::objects::{Object, Operation};
-use seat_receipts::receipt_list::SEATS;
 use std::alloc::{AllocError, Global};
 use std::marker::Brand;
 use std::process::Abort;
 use std::sync::Wait;
-use std::test::Fail;
 use std::thread::{Threads, join};
 
 /// A login of root, in its role.
@@ -46,12 +40,17 @@ pub(crate) fn revoke() -> AdminCommand {
     }
 }
 
+/// The session that is made first.
+pub(crate) fn first() -> SessionId {
+    SessionId::new(1)
+}
+
 /// Whether the first session may audit the policy, as this seat reads it.
 pub(crate) fn may_audit<B: BoardName>(
     board: &Board<B>,
     seat: &mut Seat<B>,
 ) -> Result<bool, Refusal> {
-    board.check_access(seat, SessionId::new(1), Operation::Audit, &Object::Policy)
+    board.check_access(seat, first(), Operation::Audit, &Object::Policy)
 }
 
 /// Logs root in, whose session is the first.
@@ -62,13 +61,11 @@ pub(crate) fn enter<B: BoardName, R: Wait + Abort>(
     seat: &mut Seat<B>,
 ) {
     let command = login(alloc).expect(rt, "room");
-    match board.admin(rt, seat, None, command) {
-        Ok(receipt) => {
-            assert_eq!(rt; receipt.version(), 5);
-            assert_eq!(rt; receipt.session(), Some(SessionId::new(1)));
-        }
-        Err(_) => assert!(rt; false),
-    }
+    let receipt = board
+        .admin(rt, seat, None, command)
+        .ok()
+        .expect(rt, "a receipt");
+    assert!(rt; receipt.version() == 5 && receipt.session() == Some(first()));
 }
 
 /// The receipt of a command that the first session gives, and that is accepted.
@@ -79,31 +76,66 @@ pub(crate) fn give<B: BoardName, R: Wait + Abort>(
     command: AdminCommand,
 ) -> Receipt<B> {
     board
-        .admin(rt, seat, Some(SessionId::new(1)), command)
+        .admin(rt, seat, Some(first()), command)
         .ok()
         .expect(rt, "a receipt")
 }
 
+/// Why a command that the first session gives is refused, if it is.
+pub(crate) fn refusal<B: BoardName, R: Wait>(
+    rt: &R,
+    board: &Board<B>,
+    seat: &mut Seat<B>,
+    command: AdminCommand,
+) -> Option<Refusal> {
+    board.admin(rt, seat, Some(first()), command).err()
+}
+
 /// Asks again and again for what may change meanwhile. What the seat has seen never falls.
-fn ask<B: BoardName, R: Abort>(rt: &R, board: &Board<B>, mut seat: Seat<B>) -> Seat<B> {
+fn keep_asking<B: BoardName, R: Abort>(rt: &R, board: &Board<B>, seat: &mut Seat<B>) {
     for _ in 0..200u32 {
         let before = seat.seen();
-        assert!(rt; may_audit(board, &mut seat).is_ok());
+        assert!(rt; may_audit(board, seat).is_ok());
         assert!(rt; before <= seat.seen());
     }
+}
+
+/// Asks again and again at this seat.
+fn ask<B: BoardName, R: Abort>(rt: &R, board: &Board<B>, mut seat: Seat<B>) -> Seat<B> {
+    keep_asking(rt, board, &mut seat);
     seat
 }
 
 /// Logs root in, and grants.
-fn grant_once<B: BoardName, R: Wait + Abort>(
+pub(crate) fn grant_once<B: BoardName, R: Wait + Abort>(
+    rt: &R,
+    alloc: Global,
+    board: &Board<B>,
+    seat: &mut Seat<B>,
+) -> Receipt<B> {
+    enter(rt, alloc, board, seat);
+    give(rt, board, seat, grant())
+}
+
+/// Logs root in, and grants, at a seat that nobody needs any more.
+fn grant_at<B: BoardName, R: Wait + Abort>(
     rt: &R,
     alloc: Global,
     board: &Board<B>,
     mut seat: Seat<B>,
-) -> (Seat<B>, Receipt<B>) {
-    enter(rt, alloc, board, &mut seat);
-    let receipt = give(rt, board, &mut seat, grant());
-    (seat, receipt)
+) -> Receipt<B> {
+    grant_once(rt, alloc, board, &mut seat)
+}
+
+/// The first session grants and revokes in turn, which is seen at once.
+fn keep_changing<B: BoardName, R: Wait + Abort>(rt: &R, board: &Board<B>, seat: &mut Seat<B>) {
+    for _ in 0..50u32 {
+        let version = give(rt, board, seat, grant()).version();
+        assert!(rt; version == seat.seen());
+        assert!(rt; matches!(may_audit(board, seat), Ok(true)));
+        give(rt, board, seat, revoke());
+        assert!(rt; matches!(may_audit(board, seat), Ok(false)));
+    }
 }
 
 /// Logs root in, and grants and revokes in turn.
@@ -112,149 +144,104 @@ fn change<B: BoardName, R: Wait + Abort>(
     alloc: Global,
     board: &Board<B>,
     mut seat: Seat<B>,
-) -> Seat<B> {
+) {
     enter(rt, alloc, board, &mut seat);
-    for _ in 0..50u32 {
-        let receipt = give(rt, board, &mut seat, grant());
-        assert_eq!(rt; receipt.version(), seat.seen());
-        assert!(rt; matches!(may_audit(board, &mut seat), Ok(true)));
-        give(rt, board, &mut seat, revoke());
-        assert!(rt; matches!(may_audit(board, &mut seat), Ok(false)));
-    }
-    seat
-}
-
-/// A board with n seats, and its readers.
-pub(crate) fn open<B: BoardName, R: Wait + Abort>(
-    rt: &R,
-    alloc: Global,
-    fresh: Fresh,
-    count: usize,
-) -> (Board<B>, Vec<Seat<B>>, Vec<SlotReader<B>>)
-    requires name { fresh.seen.book ≡ B.book }
-    requires count { (1 ≤ count) × (count ≤ SEATS) }
-{
-    let Opened {
-        board,
-        seats,
-        readers,
-    } = Board::<B>::open(rt, alloc, fresh, count)
-        .ok()
-        .expect(rt, "a board");
-    (board, seats, readers)
-}
-
-/// Closes the board: its readers saw beginnings of the journal.
-pub(crate) fn close<B: BoardName, R: Wait + Abort>(
-    rt: &R,
-    board: Board<B>,
-    readers: Vec<SlotReader<B>>,
-) -> PolicyJournal {
-    let mut closed = board.close();
-    for reader in readers {
-        assert!(rt; closed.reader(reader).is_ok());
-    }
-    closed.journal(rt)
-}
-
-/// A second seat, which asks in a thread of its own, sees the grant once it has learned the
-/// receipt.
-fn tell<B: BoardName + Send + Sync, R: Threads + Wait + Abort + Sync>(
-    rt: &R,
-    alloc: Global,
-    fresh: Fresh,
-) -> PolicyJournal
-    requires { fresh.seen.book ≡ B.book }
-{
-    let (board, mut seats, readers) = open::<B, R>(rt, alloc, fresh, 2);
-    let giver = seats.pop().expect(rt, "a seat");
-    let mut asker = seats.pop().expect(rt, "a seat");
-    assert!(rt; matches!(may_audit(&board, &mut asker), Ok(false)));
-    let ((_giver, receipt), mut asker) = join(
-        rt,
-        || grant_once(rt, alloc, &board, giver),
-        || ask(rt, &board, asker),
-    );
-    assert_eq!(rt; receipt.version(), 6);
-    asker.learn(receipt);
-    assert_eq!(rt; asker.seen(), 6);
-    let (_, asker) = join(rt, || {}, || ask_granted(rt, &board, asker));
-    assert_eq!(rt; asker.seen(), 6);
-    close(rt, board, readers)
+    keep_changing(rt, board, &mut seat);
 }
 
 /// The grant is seen.
 fn ask_granted<B: BoardName, R: Abort>(rt: &R, board: &Board<B>, mut seat: Seat<B>) -> Seat<B> {
     assert!(rt; matches!(may_audit(board, &mut seat), Ok(true)));
-    assert!(rt; matches!(seat.lives(SessionId::new(1)), Ok(true)));
+    assert!(rt; matches!(seat.lives(first()), Ok(true)));
     assert!(rt; matches!(seat.lives(SessionId::new(2)), Ok(false)));
     seat
 }
 
-/// Two seats ask while a third changes what they ask.
-fn share<B: BoardName + Send + Sync, R: Threads + Wait + Abort + Sync>(
+/// A second seat, which asks in a thread of its own, sees the grant once it has learned the
+/// receipt. A third seat stays idle.
+pub(crate) fn tell<B: BoardName + Send + Sync, R: Threads + Wait + Abort + Sync>(
     rt: &R,
     alloc: Global,
-    fresh: Fresh,
-) -> PolicyJournal
-    requires { fresh.seen.book ≡ B.book }
-{
-    let (board, mut seats, readers) = open::<B, R>(rt, alloc, fresh, 3);
-    let changer = seats.pop().expect(rt, "a seat");
-    let one = seats.pop().expect(rt, "a seat");
-    let other = seats.pop().expect(rt, "a seat");
-    let (_changer, (_one, _other)) = join(
+    board: &Board<B>,
+    giver: Seat<B>,
+    mut asker: Seat<B>,
+    _idle: Seat<B>,
+) {
+    assert!(rt; matches!(may_audit(board, &mut asker), Ok(false)));
+    let (receipt, mut asker) = join(
         rt,
-        || change(rt, alloc, &board, changer),
-        || join(rt, || ask(rt, &board, one), || ask(rt, &board, other)),
+        || grant_at(rt, alloc, board, giver),
+        || ask(rt, board, asker),
     );
-    close(rt, board, readers)
+    assert!(rt; receipt.version() == 6);
+    asker.learn(receipt);
+    assert!(rt; asker.seen() == 6);
+    let (_, asker) = join(rt, || {}, || ask_granted(rt, board, asker));
+    assert!(rt; asker.seen() == 6);
+}
+
+/// Two seats ask, each in a thread of its own.
+fn ask_both<B: BoardName + Send + Sync, R: Threads + Abort + Sync>(
+    rt: &R,
+    board: &Board<B>,
+    one: Seat<B>,
+    other: Seat<B>,
+) {
+    join(rt, || ask(rt, board, one), || ask(rt, board, other));
+}
+
+/// Two seats ask while a third changes what they ask.
+pub(crate) fn share<B: BoardName + Send + Sync, R: Threads + Wait + Abort + Sync>(
+    rt: &R,
+    alloc: Global,
+    board: &Board<B>,
+    changer: Seat<B>,
+    one: Seat<B>,
+    other: Seat<B>,
+) {
+    join(
+        rt,
+        || change(rt, alloc, board, changer),
+        || ask_both(rt, board, one, other),
+    );
 }
 
 /// Refusals, which leave the list.
-fn refuse<B: BoardName, R: Wait + Abort>(rt: &R, alloc: Global, fresh: Fresh) -> PolicyJournal
-    requires { fresh.seen.book ≡ B.book }
-{
-    let (board, mut seats, readers) = open::<B, R>(rt, alloc, fresh, 2);
-    let mut seat = seats.pop().expect(rt, "a seat");
-    let mut other = seats.pop().expect(rt, "a seat");
-    assert_eq!(rt; seat.seen(), 0);
-    let early = board.admin(rt, &mut seat, Some(SessionId::new(1)), grant());
-    assert!(rt; matches!(early, Err(Refusal::Policy(PolicyRefusal::NoSession))));
-    assert_eq!(rt; seat.seen(), 4);
-    enter(rt, alloc, &board, &mut seat);
-    give(rt, &board, &mut seat, grant());
-    let twice = board.admin(rt, &mut seat, Some(SessionId::new(1)), grant());
-    assert!(rt; matches!(twice, Err(Refusal::Policy(PolicyRefusal::AlreadyGranted))));
+pub(crate) fn refuse<B: BoardName, R: Wait + Abort>(
+    rt: &R,
+    alloc: Global,
+    board: &Board<B>,
+    seat: &mut Seat<B>,
+    other: &mut Seat<B>,
+) {
+    assert!(rt; seat.seen() == 0);
+    let early = refusal(rt, board, seat, grant());
+    assert!(rt; matches!(early, Some(Refusal::Policy(PolicyRefusal::NoSession))));
+    assert!(rt; seat.seen() == 4);
+    grant_once(rt, alloc, board, seat);
+    let twice = refusal(rt, board, seat, grant());
+    assert!(rt; matches!(twice, Some(Refusal::Policy(PolicyRefusal::AlreadyGranted))));
     seat.saw(7);
-    assert!(rt;
-        matches!(
-            may_audit(&board, &mut seat),
-            Err(Refusal::Behind { found: 6, seen: 7 })
-        )
-    );
-    assert_eq!(rt; seat.seen(), 7);
-    assert!(rt; matches!(may_audit(&board, &mut other), Ok(true)));
-    close(rt, board, readers)
+    let behind = may_audit(board, seat);
+    assert!(rt; matches!(behind, Err(Refusal::Behind { found: 6, seen: 7 })));
+    assert!(rt; seat.seen() == 7);
+    assert!(rt; matches!(may_audit(board, other), Ok(true)));
 }
 
 #[test]
-fn grant_is_seen_once_learned(rt: HostRuntime) -> Result<(), Fail> {
-    let journal = tell::<Brand, _>(&rt, rt.alloc(), Fresh::new());
-    assert_eq!(rt; journal.len(), 6);
-    Ok(())
+fn grant_is_seen_once_learned(rt: HostRuntime) {
+    let entries = play_in_threads::<Brand, _>(&rt, rt.alloc(), Fresh::new(), Sharing::Told);
+    assert!(rt; entries == 6);
 }
 
 #[test]
-fn two_ask_while_one_changes(rt: HostRuntime) -> Result<(), Fail> {
-    let journal = share::<Brand, _>(&rt, rt.alloc(), Fresh::new());
-    assert_eq!(rt; journal.len(), 105);
-    Ok(())
+fn two_ask_while_one_changes(rt: HostRuntime) {
+    let entries = play_in_threads::<Brand, _>(&rt, rt.alloc(), Fresh::new(), Sharing::Asked);
+    assert!(rt; entries == 105);
 }
 
 #[test]
-fn refusals_leave_the_list(rt: HostRuntime) -> Result<(), Fail> {
-    let journal = refuse::<Brand, _>(&rt, rt.alloc(), Fresh::new());
-    assert_eq!(rt; journal.len(), 6);
-    Ok(())
+fn refusals_leave_the_list(rt: HostRuntime) {
+    let left = play::<Brand, _>(&rt, rt.alloc(), Fresh::new(), Example::Refused);
+    assert!(rt; left == (6, 2));
 }

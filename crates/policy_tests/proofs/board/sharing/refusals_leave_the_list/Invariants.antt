@@ -1,5 +1,5 @@
 use Rattle.policy_tests.proofs.board.sharing.refusals_leave_the_list.Given as goal
 
 -- the list that was just begun
-abbrev pub ghosts-refuse : goal.ghosts-refuse
-ghosts-refuse g a = record { book = a.fresh.seen.book }
+abbrev pub ghosts-play : goal.ghosts-play
+ghosts-play g a = record { book = a.fresh.seen.book }
