@@ -45,6 +45,14 @@ module _ (held before read left : List Entry) (slot : ℕ) (journal : List SlotE
       (still_legal before read slot journal (subst (λ (l : List Entry). Begins l read) same later) legal)
       session command reply after (subst (λ n. SlotStep read n session command journal reply after) is step))
 
+-- what is answered on a slot is answered on the same slot
+pub command_on : (slot session : ℕ) (command : SlotCommand) (old same : LockedState) (seat : SeatState) (reply : Reply)
+    (new : LockedState) (after : SeatState) → old ≡ same
+    → LockedCommand slot session command old seat reply new after
+    → LockedCommand slot session command same seat reply new after
+command_on slot session command old same seat reply new after is h =
+    subst (λ (s : LockedState). LockedCommand slot session command s seat reply new after) is h
+
 -- a command under the lock takes nothing from journal and list, and leaves the journal legal
 pub command_legal : (slot session : ℕ) (command : SlotCommand) (old : LockedState) (seat : SeatState) (reply : Reply)
     (new : LockedState) (after : SeatState)
