@@ -1,0 +1,34 @@
+//! What many tests begin with: the name, the library, the flat module and the kernel of a text.
+use est_kernel::kernel::Kernel;
+use est_link::link::link;
+use est_reduce::flat::Flat;
+use est_reduce::reduce::reduce;
+use est_syntax::parse::parse;
+use est_syntax::tree::Library;
+use est_text::identifier::Identifier;
+use est_text::lex::lex;
+use std::alloc::Global;
+use std::process::Abort;
+
+/// The name that a text is.
+pub fn name(rt: &impl Abort, text: &str) -> Identifier {
+    Identifier::from_text(text).expect(rt, "a name")
+}
+
+/// The library of a text.
+pub fn library_of(rt: &impl Abort, alloc: Global, text: &str) -> Library {
+    let tokens = lex(alloc, text).expect(rt, text);
+    parse(alloc, &tokens).expect(rt, text)
+}
+
+/// The flat module M of a text.
+pub fn flat_of(rt: &impl Abort, alloc: Global, text: &str) -> Flat {
+    let library = library_of(rt, alloc, text);
+    link(alloc, &library, "M").ok().expect(rt, text)
+}
+
+/// The kernel of the module M of a text.
+pub fn kernel_of(rt: &impl Abort, alloc: Global, text: &str) -> Kernel {
+    let flat = flat_of(rt, alloc, text);
+    reduce(alloc, &flat).ok().expect(rt, text)
+}
