@@ -54,7 +54,8 @@ const WAITING: [(&str, &str); 8] = [
         every KeyOn do \
             abort abort emit Start; await End5; abort sustain Alarm when End10 when BeltOn when \
             KeyOff end end module",
-        ">; KeyOn > Start; End5 > Alarm; > Alarm; BeltOn >; End5 >; KeyOn > Start; End5 > Alarm; End10 >; KeyOn > Start; KeyOff End5 >; KeyOn > Start; End5 > Alarm; KeyOn > Start",
+        ">; KeyOn > Start; End5 > Alarm; > Alarm; BeltOn >; End5 >; KeyOn > Start; End5 > Alarm; \
+        End10 >; KeyOn > Start; KeyOff End5 >; KeyOn > Start; End5 > Alarm; KeyOn > Start",
     ),
     // the sender of the alternating bit: a frame again at each Timer, until it is acknowledged by
     // its own bit
@@ -64,7 +65,8 @@ const WAITING: [(&str, &str); 8] = [
             Frame1/Frame] end end module \
             module Half: input Send, Ack, Timer; output Frame, Ready; \
             await Send; abort loop emit Frame each Timer when Ack; emit Ready end module",
-        ">; Send > Frame0; >; Timer > Frame0; Ack1 >; Timer Ack1 > Frame0; Ack0 > Ready; Ack0 >; Send > Frame1; Ack0 Timer > Frame1; Ack1 Timer > Ready; Send Ack0 > Frame0; Ack0 > Ready",
+        ">; Send > Frame0; >; Timer > Frame0; Ack1 >; Timer Ack1 > Frame0; Ack0 > Ready; Ack0 >; \
+        Send > Frame1; Ack0 Timer > Frame1; Ack1 Timer > Ready; Send Ack0 > Frame0; Ack0 > Ready",
     ),
 ];
 
@@ -76,7 +78,8 @@ const LEAVING: [(&str, &str); 6] = [
         "module M: input Morning, Second, Lap; output Walk, Run, Jump; every Morning do \
             loop weak abort sustain Walk when Second; weak abort sustain Run when Lap; \
             emit Jump end end end module",
-        ">; Second >; Morning > Walk; > Walk; Second > Walk Run; Second > Run; Lap > Run Jump Walk; Lap > Walk; Second Lap > Walk Run; Lap Morning > Walk",
+        ">; Second >; Morning > Walk; > Walk; Second > Walk Run; Second > Run; \
+        Lap > Run Jump Walk; Lap > Walk; Second Lap > Walk Run; Lap Morning > Walk",
     ),
     // a reflex game's control part: wait for Ready, then for Delay, then for Stop
     (
@@ -90,7 +93,9 @@ const LEAVING: [(&str, &str); 6] = [
             trap Done in await Stop; emit Display; exit Done || await Limit; exit Error \
             || every Ready do emit Bell end end; \
             emit Over; exit End end; emit Tilt; emit Over end end end module",
-        ">; Coin > On; Stop > Bell; Ready >; Ready > Bell; Delay > Go; Ready > Bell; Stop > Display Over; Stop >; Coin > On; Limit > Tilt Over; Coin > On; Ready >; Stop > Tilt Over; Coin > On; Ready Stop > Bell; Delay Stop > Tilt Over",
+        ">; Coin > On; Stop > Bell; Ready >; Ready > Bell; Delay > Go; Ready > Bell; \
+        Stop > Display Over; Stop >; Coin > On; Limit > Tilt Over; Coin > On; Ready >; \
+        Stop > Tilt Over; Coin > On; Ready Stop > Bell; Delay Stop > Tilt Over",
     ),
     // held up as long as Hold is there
     (
@@ -103,7 +108,8 @@ const LEAVING: [(&str, &str); 6] = [
         "module M: input High, Low, Methane; output Pump, Alarm; \
             loop await High; abort suspend sustain Pump when immediate Methane when Low end \
             || every immediate Methane do emit Alarm end end module",
-        "High Methane > Alarm; High > Pump; > Pump; Methane > Alarm; Methane > Alarm; > Pump; Low >; High Methane > Alarm; > Pump; Methane Low > Alarm; High > Pump",
+        "High Methane > Alarm; High > Pump; > Pump; Methane > Alarm; Methane > Alarm; > Pump; \
+        Low >; High Methane > Alarm; > Pump; Methane Low > Alarm; High > Pump",
     ),
     // of two aborts in one instant the outer one counts
     (
@@ -171,7 +177,8 @@ const CIRCUITS: [(&str, &str); 8] = [
             module Cell: input R, T, C; output K, N; loop signal G in \
             [present T then emit G end || present C then emit G end \
             || present G then present R then emit K else emit N end end] end; pause end end module",
-        "> T0 N0 N1 N2 N3 N4 N5; R0 > T1 N2 N3 N4 N5 N0 K0; R0 R2 R4 > T2 K2; R0 R2 > T3 N4 N5 N0 K0; R4 R5 > T4 K4; R5 > T5 K5; R1 R2 > T0 N1 K1",
+        "> T0 N0 N1 N2 N3 N4 N5; R0 > T1 N2 N3 N4 N5 N0 K0; R0 R2 R4 > T2 K2; \
+        R0 R2 > T3 N4 N5 N0 K0; R4 R5 > T4 K4; R5 > T5 K5; R1 R2 > T0 N1 K1",
     ),
     // a signal that would be emitted where it isn't there
     (
