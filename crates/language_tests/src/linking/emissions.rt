@@ -1,10 +1,9 @@
 //! What modules emit that their callers see, and by which names.
-use crate::openers::{library_of, name};
+use crate::openers::{library_of, name, order_of};
 use crate::told::{add, expect_holds, expect_told};
 use est_checks::duplicates::first_duplicate;
 use est_modules::head_tree::Heads;
 use est_modules::library_heads::heads_of;
-use est_modules::module_order::order_heads;
 use est_syntax::tree::Renaming;
 use link_mistakes::emitting::{callers_name, emits};
 use link_mistakes::faults::first_unknown;
@@ -32,7 +31,7 @@ const EMITTED: [(&str, &str, &str); 4] = [
 fn emitted_by(rt: &impl Abort, alloc: Global, heads: &Heads<'_>, module: &str) -> String {
     assert!(rt; first_duplicate(alloc, &*heads).expect(rt, "room").is_none());
     assert!(rt; first_unknown(alloc, &*heads).expect(rt, "room").is_none());
-    let order = order_heads(alloc, &*heads).ok().expect(rt, "an order");
+    let order = order_of(rt, alloc, &*heads);
     let module = name(rt, module);
     let mut told = String::new(alloc);
     for signal in "A ,B ,O ,P ".split(',') {
