@@ -1,14 +1,12 @@
 //! Texts with a place of each, and how it is drawn.
 use crate::told::expect_told;
 use est_syntax::draw::draw;
-use est_syntax::parse::{ParseFault, parse};
-use est_text::lex::{LexFault, lex};
 use est_text::place::Place;
 use std::alloc::Global;
 use std::process::Abort;
 
 /// A text, a line and a column, and what is drawn.
-const PLACES: [(&str, u64, u64, &str); 15] = [
+const PLACES: [(&str, u64, u64, &str); 20] = [
     // within the first line, and on a later one
     ("emit O; emt P", 1, 9, "emit O; emt P\n        ^\n"),
     ("emit O;\nemt P;\nend", 2, 5, "emt P;\n    ^\n"),
@@ -36,6 +34,34 @@ const PLACES: [(&str, u64, u64, &str); 15] = [
     ("emit\nO", 1, 90, "emit\n    ^\n"),
     ("emit\nO", 3, 2, "\n^\n"),
     ("emit\nO", 0, 0, "emit\n^\n"),
+    // first faults of texts
+    (
+        "module M:\n  present I end\nend module\n",
+        2,
+        13,
+        "  present I end\n            ^\n",
+    ),
+    (
+        "module ABRO:\n  input A, B, R;\n  output O;\n  loop\n    [ await A \
+        || await B ]\n    emit O\n  each R\nend module\n",
+        6,
+        5,
+        "    emit O\n    ^\n",
+    ),
+    (
+        "module ABRO:\n  input A, B, R;\n  output O;\n  loop\n    [ await A \
+        || await B ];\n    emit O\n  each\nend module\n",
+        8,
+        1,
+        "end module\n^\n",
+    ),
+    (
+        "module M:\n\temit O;\t%{ à côté }% emit 1\nend module\n",
+        2,
+        31,
+        "\temit O;\t%{ à côté }% emit 1\n\t       \t                  ^\n",
+    ),
+    ("module M: pause\n", 2, 1, "\n^\n"),
 ];
 
 /// Fails where a place of a text is drawn otherwise.
@@ -44,78 +70,13 @@ fn expect_drawing(rt: &impl Abort, alloc: Global, text: &str, place: Place, draw
     expect_told(rt, drawn.as_str(), drawing, text);
 }
 
-/// Fails where a place of a table is drawn otherwise.
-fn expect_places(rt: &impl Abort, alloc: Global, rows: &[(&str, u64, u64, &str)]) {
-    for (text, line, column, drawing) in rows {
+#[test]
+fn places_are_drawn(rt: HostRuntime) {
+    for (text, line, column, drawing) in &PLACES {
         let place = Place {
             line: *line,
             column: *column,
         };
-        expect_drawing(rt, alloc, text, place, drawing);
+        expect_drawing(&rt, rt.alloc(), text, place, drawing);
     }
-}
-
-#[test]
-fn places_are_drawn(rt: HostRuntime) {
-    expect_places(&rt, rt.alloc(), &PLACES);
-}
-
-/// The place of a fault of a text's tokens.
-fn lexical_place(fault: LexFault) -> Option<Place> {
-    match fault {
-        LexFault::Lexical(place) => Some(place),
-        LexFault::Memory => None,
-    }
-}
-
-/// The place of a fault of a text's tree.
-fn syntax_place(fault: ParseFault) -> Option<Place> {
-    match fault {
-        ParseFault::Syntax(place) | ParseFault::TooLarge(place) => Some(place),
-        ParseFault::Memory => None,
-    }
-}
-
-/// The place where a text is at fault, if it is.
-fn fault_of(alloc: Global, text: &str) -> Option<Place> {
-    match lex(alloc, text) {
-        Ok(tokens) => syntax_place(parse(alloc, &tokens).err()?),
-        Err(fault) => lexical_place(fault),
-    }
-}
-
-/// Texts at fault, and how the first fault of each is drawn.
-const FAULTS: [(&str, &str); 5] = [
-    (
-        "module M:\n  present I end\nend module\n",
-        "  present I end\n            ^\n",
-    ),
-    (
-        "module ABRO:\n  input A, B, R;\n  output O;\n  loop\n    [ await A \
-        || await B ]\n    emit O\n  each R\nend module\n",
-        "    emit O\n    ^\n",
-    ),
-    (
-        "module ABRO:\n  input A, B, R;\n  output O;\n  loop\n    [ await A \
-        || await B ];\n    emit O\n  each\nend module\n",
-        "end module\n^\n",
-    ),
-    (
-        "module M:\n\temit O;\t%{ à côté }% emit 1\nend module\n",
-        "\temit O;\t%{ à côté }% emit 1\n\t       \t                  ^\n",
-    ),
-    ("module M: pause\n", "\n^\n"),
-];
-
-/// Fails where the first fault of a text is drawn otherwise.
-fn expect_faults(rt: &impl Abort, alloc: Global, rows: &[(&str, &str)]) {
-    for (text, drawing) in rows {
-        let place = fault_of(alloc, text).expect(rt, "a fault");
-        expect_drawing(rt, alloc, text, place, drawing);
-    }
-}
-
-#[test]
-fn faults_are_drawn(rt: HostRuntime) {
-    expect_faults(&rt, rt.alloc(), &FAULTS);
 }

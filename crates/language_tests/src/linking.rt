@@ -1,5 +1,5 @@
 mod bodies;
+mod emissions;
 mod faults;
 mod links;
 mod orders;
-mod strangers;

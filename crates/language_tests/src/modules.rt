@@ -1,10 +1,10 @@
 //! Modules that run each other: their order, and the number of statements of the linked module.
+use crate::openers::library_of;
 use crate::told::expect_told;
 use est_checks::statement_count::count_statements;
+use est_modules::head_tree::Heads;
 use est_modules::library_heads::heads_of;
 use est_modules::module_order::order_heads;
-use est_syntax::parse::parse;
-use est_text::lex::lex;
 use std::alloc::Global;
 use std::process::Abort;
 
@@ -21,15 +21,12 @@ const DOUBLING: &str = "module M: [run A; run A; run A; run A; run A; run A; run
     module K: run L; run L end module module L: pause end module";
 
 /// The number of statements of the linked module at a place, which the limit may refuse, or why the
-/// modules of the text have no order.
-fn counted(rt: &impl Abort, alloc: Global, text: &str, place: usize) -> String {
-    let tokens = lex(alloc, text).expect(rt, "tokens");
-    let library = parse(alloc, &tokens).expect(rt, "a library");
-    let heads = heads_of(alloc, &library).expect(rt, "room");
-    let words = match order_heads(alloc, &heads) {
+/// modules have no order.
+fn counted(rt: &impl Abort, alloc: Global, heads: &Heads<'_>, place: usize) -> String {
+    let main = heads.modules().get(place).expect(rt, "a module");
+    let words = match order_heads(alloc, &*heads) {
         Ok(order) => {
-            let main = heads.modules().get(place).expect(rt, "a module");
-            let count = count_statements(alloc, &heads, &order, &main.name).expect(rt, "room");
+            let count = count_statements(alloc, &*heads, &order, &main.name).expect(rt, "room");
             format!(in alloc; "{count:?}")
         }
         Err(fault) => format!(in alloc; "{fault:?}"),
@@ -38,8 +35,8 @@ fn counted(rt: &impl Abort, alloc: Global, text: &str, place: usize) -> String {
 }
 
 /// Texts, the place of a module in each, and the number of statements of that module before
-/// reduction.
-const COUNTS: [(&str, usize, &str); 6] = [
+/// reduction; of the last a module runs itself.
+const COUNTS: [(&str, usize, &str); 7] = [
     (
         "module M: nothing; pause; || emit S end module",
         0,
@@ -55,30 +52,25 @@ const COUNTS: [(&str, usize, &str); 6] = [
     (DOUBLING, 2, "Some(2047)"),
     (DOUBLING, 1, "None"),
     (DOUBLING, 0, "None"),
+    (
+        "module M: run A end module module A: run C; run B end module \
+         module B: run A end module module C: pause end module",
+        0,
+        "Recursive(1)",
+    ),
 ];
 
-/// A text of which a module runs itself.
-const RINGS: [(&str, usize, &str); 1] = [(
-    "module M: run A end module module A: run C; run B end module \
-     module B: run A end module module C: pause end module",
-    0,
-    "Recursive(1)",
-)];
-
-/// Fails where a module of a text of a table has another number of statements, or another fault.
-fn expect_counts(rt: &impl Abort, alloc: Global, rows: &[(&str, usize, &str)]) {
-    for (text, place, count) in rows {
-        let found = counted(rt, alloc, text, *place);
-        expect_told(rt, found.as_str(), count, text);
-    }
+/// Fails where a module of a text has another number of statements, or another fault.
+fn expect_count(rt: &impl Abort, alloc: Global, text: &str, place: usize, count: &str) {
+    let library = library_of(rt, alloc, text);
+    let heads = heads_of(alloc, &library).expect(rt, "room");
+    let found = counted(rt, alloc, &heads, place);
+    expect_told(rt, found.as_str(), count, text);
 }
 
 #[test]
 fn statements_before_reduction(rt: HostRuntime) {
-    expect_counts(&rt, rt.alloc(), &COUNTS);
-}
-
-#[test]
-fn modules_that_run_themselves(rt: HostRuntime) {
-    expect_counts(&rt, rt.alloc(), &RINGS);
+    for (text, place, count) in &COUNTS {
+        expect_count(&rt, rt.alloc(), text, *place, count);
+    }
 }

@@ -1,8 +1,6 @@
-//! Module texts and what the reader answers to them: `lex`, and then `parse`.
-mod expressions;
-mod faults;
+//! Module texts and what the reader answers to them, `lex` and then `parse`, as far as no line of
+//! the protocol shows it: where a unit too many is opened, and trees.
 mod nesting;
-mod prefixes;
 mod trees;
 
 use est_syntax::parse::{ParseFault, parse};
@@ -18,12 +16,6 @@ enum Answer {
     Syntax(u64, u64),
     TooLarge(u64, u64),
 }
-
-/// The keywords of the language.
-const KEYWORDS: &str =
-    "module end input output inputoutput relation nothing pause halt emit sustain present then \
-    else \
-    suspend when immediate loop each every do await abort weak trap in exit signal run and or not";
 
 /// The text of a module around a body.
 fn module_of(rt: &impl Abort, alloc: Global, body: &str) -> String {
@@ -48,12 +40,4 @@ fn answer_of(rt: &impl Abort, alloc: Global, text: &str) -> Answer {
 /// Fails where a text has another answer.
 fn expect_answer(rt: &impl Abort, alloc: Global, text: &str, answer: Answer) {
     assert_eq!(rt; answer_of(rt, alloc, text), answer, "{text}");
-}
-
-/// Fails where a text of a table has another answer. The same begin stands before each.
-fn expect_answers(rt: &impl Abort, alloc: Global, begin: &str, rows: &[(&str, Answer)]) {
-    for (end, answer) in rows {
-        let text = format!(in alloc; "{begin}{end}").expect(rt, "room");
-        expect_answer(rt, alloc, text.as_str(), *answer);
-    }
 }

@@ -1,7 +1,7 @@
-//! Texts, their tokens and their faults.
-use crate::told::{expect_holds, expect_told};
+//! Texts and their tokens. First faults of texts are dialogues.
+use crate::told::{add, expect_holds, expect_told};
 use est_text::identifier::Identifier;
-use est_text::lex::{LexFault, lex};
+use est_text::lex::lex;
 use est_text::place::Place;
 use est_text::token::{Located, Token};
 use est_text::token_list::Tokens;
@@ -55,9 +55,6 @@ const LONGEST: &str = "Aa0_Aa0_Aa0_Aa0_Aa0_Aa0_Aa0_Aa0_Aa0_Aa0_Aa0_Aa0_";
 const LONGEST_TWICE: &str = "Aa0_Aa0_Aa0_Aa0_Aa0_Aa0_Aa0_Aa0_Aa0_Aa0_Aa0_Aa0_ \
     inputoutputinputoutputinputoutputinputoutputend0";
 
-/// One byte more, and a fault after it.
-const TOO_LONG: &str = "% x\n  Aa0_Aa0_Aa0_Aa0_Aa0_Aa0_Aa0_Aa0_Aa0_Aa0_Aa0_Aa0_A ?";
-
 /// Texts, how many tokens they have, and line and column just after them.
 const COUNTED: [(&str, usize, u64, u64); 24] = [
     ("", 0, 1, 1),
@@ -89,50 +86,6 @@ const COUNTED: [(&str, usize, u64, u64); 24] = [
     ("a#b#c", 5, 1, 6),
 ];
 
-/// Texts, and line and column of their first fault.
-const FAULTS: [(&str, u64, u64); 32] = [
-    ("module M: await 3 S end module", 1, 17),
-    ("module M: pause. end module", 1, 16),
-    ("module M: %{ x", 1, 11),
-    // NUL and bytes over 127.
-    ("\u{0}", 1, 1),
-    ("module M:\r\n pause; \u{0} end module", 2, 9),
-    ("module M: pause; \u{e9} end module", 1, 18),
-    ("pause\u{e9}", 1, 6),
-    ("% \u{e9}\n%{ \u{e9} }% \u{e9} \u{e9}", 2, 10),
-    ("% \u{0}\n%{ \u{0} }%\u{0}", 2, 8),
-    ("a\u{a0}b", 1, 2),
-    ("\u{feff}module", 1, 1),
-    ("\u{7f}", 1, 1),
-    ("\u{b}", 1, 1),
-    // Comments that are not closed.
-    ("%{", 1, 1),
-    ("%{}", 1, 1),
-    ("%{%", 1, 1),
-    ("%{ }\n%", 1, 1),
-    ("emit %{ x", 1, 6),
-    ("a\n %{ }% %{ %", 2, 8),
-    ("%{ % }\n%{ }", 1, 1),
-    // Comments that end before one thinks.
-    ("%{ %{ }% }%", 1, 10),
-    ("%{ }%}%", 1, 6),
-    ("% a\n}", 2, 1),
-    // Symbols of two bytes.
-    ("emit | _x", 1, 6),
-    ("|||", 1, 3),
-    ("| |", 1, 1),
-    ("a = > b", 1, 3),
-    ("a =", 1, 3),
-    ("a >= b", 1, 3),
-    // Words.
-    ("a _b", 1, 3),
-    ("a 1b", 1, 3),
-    (TOO_LONG, 2, 3),
-];
-
-/// The printable characters with which no token, blank or comment begins.
-const OTHERS: &str = "! \" $ & \' * + - . 0 1 2 3 4 5 6 7 8 9 < = > ? @ \\ ^ _ ` { | } ~";
-
 /// Fails where one of these texts is an identifier and shouldn't be, or isn't and should be.
 fn expect_names(rt: &impl Abort, rows: &[(&str, bool)]) {
     for (text, is_name) in rows {
@@ -159,11 +112,9 @@ fn add_value(rt: &impl Abort, alloc: Global, values: &mut String, located: &Loca
         Token::Identifier(_) => format!(in alloc; "Identifier"),
     };
     if !values.is_empty() {
-        values.push_str(" ").expect(rt, "room");
+        add(rt, values, " ");
     }
-    values
-        .push_str(value.expect(rt, "room").as_str())
-        .expect(rt, "room");
+    add(rt, values, value.expect(rt, "room").as_str());
 }
 
 /// The values of a text's tokens, with blanks between them.
@@ -222,9 +173,7 @@ fn add_slice(
     let slice = str::from_utf8(bytes).ok().expect(rt, "characters");
     let separator = if index == 0 { "" } else { ", " };
     let part = format!(in alloc; "{separator}{}:{} {slice}", place.line, place.column);
-    slices
-        .push_str(part.expect(rt, "room").as_str())
-        .expect(rt, "room");
+    add(rt, slices, part.expect(rt, "room").as_str());
 }
 
 /// Places and slices of a text's tokens, with commas between them. There is no token after the
@@ -252,31 +201,4 @@ fn expect_slices(rt: &impl Abort, alloc: Global, rows: &[(&str, &str)]) {
 #[test]
 fn texts_are_slices(rt: HostRuntime) {
     expect_slices(&rt, rt.alloc(), &SLICES);
-}
-
-/// Fails where the first fault of a text is not at this place.
-fn expect_fault(rt: &impl Abort, alloc: Global, text: &str, line: u64, column: u64) {
-    let fault = Some(LexFault::Lexical(Place { line, column }));
-    expect_holds(rt, lex(alloc, text).err() == fault, text);
-}
-
-/// Fails where the first fault of a text of a table is at another place.
-fn expect_faults(rt: &impl Abort, alloc: Global, rows: &[(&str, u64, u64)]) {
-    for (text, line, column) in rows {
-        expect_fault(rt, alloc, text, *line, *column);
-    }
-}
-
-/// Fails where one of these characters, which have blanks between them, begins a token.
-fn expect_no_tokens(rt: &impl Abort, alloc: Global, characters: &str) {
-    for other in characters.split(' ') {
-        let text = format!(in alloc; "a;\nb;{other}").expect(rt, "room");
-        expect_fault(rt, alloc, text.as_str(), 2, 3);
-    }
-}
-
-#[test]
-fn first_faults_are_placed(rt: HostRuntime) {
-    expect_faults(&rt, rt.alloc(), &FAULTS);
-    expect_no_tokens(&rt, rt.alloc(), OTHERS);
 }

@@ -11,3 +11,8 @@ pub fn expect_told(rt: &impl Abort, told: &str, wanted: &str, row: &str) {
 pub fn expect_holds(rt: &impl Abort, holds: bool, row: &str) {
     assert!(rt; holds, "{row}");
 }
+
+/// Adds words to a text.
+pub fn add(rt: &impl Abort, text: &mut String, words: &str) {
+    text.push_str(words).expect(rt, "room");
+}

@@ -1,16 +1,14 @@
 //! Libraries and the flat body of their main module.
+use crate::openers::{library_of, name};
 use est_checks::duplicates::first_duplicate;
 use est_checks::missing_modules::first_missing;
 use est_modules::head_tree::Heads;
 use est_modules::library_heads::heads_of;
 use est_modules::module_order::order_heads;
 use est_reduce::body::{Body, BoundSignal};
-use est_syntax::parse::parse;
-use est_text::identifier::Identifier;
-use est_text::lex::lex;
 use link_mistakes::bodies::linked_body;
 use std::alloc::Global;
-use std::test::Fail;
+use std::process::Abort;
 
 /// What the last statement of a body does.
 #[derive(Clone, Copy, PartialEq, Eq, Debug)]
@@ -68,35 +66,30 @@ fn last_act(body: &Body) -> Act {
     }
 }
 
-/// The flat body of the main module.
-fn body_of(alloc: Global, heads: &Heads<'_>, main: &Identifier) -> Result<Body, Fail> {
-    if first_duplicate(alloc, &*heads)?.is_some()
-        || first_missing(alloc, &*heads, main)?.is_some()
-    {
-        return Err(Fail::from("a name or a module is at fault"));
-    }
-    let Ok(order) = order_heads(alloc, &*heads) else {
-        return Err(Fail::from("no order"));
-    };
-    Ok(linked_body(alloc, &*heads, &order, main)?)
+/// What the last statement of the flat body of M does.
+fn last_act_of(rt: &impl Abort, alloc: Global, heads: &Heads<'_>) -> Act {
+    let main = name(rt, "M");
+    assert!(rt; first_duplicate(alloc, &*heads).expect(rt, "room").is_none());
+    assert!(rt;
+        first_missing(alloc, &*heads, &main)
+            .expect(rt, "room")
+            .is_none()
+    );
+    let order = order_heads(alloc, &*heads).ok().expect(rt, "an order");
+    let body = linked_body(alloc, &*heads, &order, &main).expect(rt, "room");
+    last_act(&body)
+}
+
+/// Fails where the last statement of M does something else.
+fn expect_act(rt: &impl Abort, alloc: Global, text: &str, act: Act) {
+    let library = library_of(rt, alloc, text);
+    let heads = heads_of(alloc, &library).expect(rt, "room");
+    assert_eq!(rt; last_act_of(rt, alloc, &heads), act, "{text}");
 }
 
 #[test]
-fn names_are_bound(rt: HostRuntime) -> Result<(), Fail> {
-    let alloc = rt.alloc();
-    let Some(main) = Identifier::from_text("M") else {
-        return Err(Fail::from("no name"));
-    };
-    for (text, expected) in LAST_ACTS {
-        let tokens = lex(alloc, text)?;
-        let library = parse(alloc, &tokens)?;
-        let heads = heads_of(alloc, &library)?;
-        let found = last_act(&body_of(alloc, &heads, &main)?);
-        if found != expected {
-            return Err(Fail::from(format!(in alloc;
-                "{found:?} in place of {expected:?}: {text}"
-            )?));
-        }
+fn names_are_bound(rt: HostRuntime) {
+    for (text, act) in &LAST_ACTS {
+        expect_act(&rt, rt.alloc(), text, *act);
     }
-    Ok(())
 }

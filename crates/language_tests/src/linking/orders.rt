@@ -1,85 +1,79 @@
 //! Orders of a few modules, and of as many as one line holds.
 
-use est_order::order_fault::OrderFault;
+use crate::told::expect_told;
 use est_order::place_order::order_modules;
-use std::alloc::{AllocError, Global};
+use std::alloc::Global;
 use std::process::Abort;
-use std::test::Fail;
+
+/// The places of the modules that each module runs, and the order that is found, or why there is
+/// none.
+const ORDERS: [(&[&[usize]], &str); 7] = [
+    (&[], "[]"),
+    (&[&[1], &[2], &[]], "[2, 1, 0]"),
+    (&[&[1, 2], &[3], &[3, 3], &[]], "[3, 1, 2, 0]"),
+    (&[&[7], &[0]], "[0, 1]"),
+    // the first module that leads back to itself
+    (&[&[], &[1]], "Recursive(1)"),
+    (&[&[1], &[2], &[0]], "Recursive(0)"),
+    // the first module leads to a ring, and is in none
+    (&[&[4], &[], &[3], &[2], &[5], &[4]], "Recursive(2)"),
+];
+
+/// What is answered to these rows.
+fn told(rt: &impl Abort, alloc: Global, rows: &[Vec<usize>]) -> String {
+    let words = match order_modules(alloc, rows) {
+        Ok(order) => format!(in alloc; "{:?}", order.places()),
+        Err(fault) => format!(in alloc; "{fault:?}"),
+    };
+    words.expect(rt, "room")
+}
+
+/// Rows that have these places.
+fn rows_of(rt: &impl Abort, alloc: Global, runs: &[&[usize]]) -> Vec<Vec<usize>> {
+    let mut rows = Vec::new(alloc);
+    for row in runs {
+        let row = Vec::from_slice(alloc, row).expect(rt, "room");
+        rows.push(row).expect(rt, "room");
+    }
+    rows
+}
+
+#[test]
+fn few_modules_in_order(rt: HostRuntime) {
+    for (runs, wanted) in &ORDERS {
+        let rows = rows_of(&rt, rt.alloc(), runs);
+        let found = told(&rt, rt.alloc(), rows.as_slice());
+        expect_told(&rt, found.as_str(), wanted, wanted);
+    }
+}
 
 /// The most modules that one line holds.
 const MANY: usize = 1600;
 
-/// The places in their order, or why there is none.
-fn outcome(alloc: Global, runs: &[&[usize]]) -> Result<Vec<usize>, OrderFault> {
-    let mut rows = Vec::new(alloc);
-    for row in runs {
-        rows.push(Vec::from_slice(alloc, row)?)?;
-    }
-    let order = order_modules(alloc, &rows)?;
-    Ok(Vec::from_slice(alloc, order.places())?)
-}
-
-#[test]
-fn few_modules_in_order(rt: HostRuntime) -> Result<(), Fail> {
-    let alloc = rt.alloc();
-    let empty: &[&[usize]] = &[];
-    let chain: &[&[usize]] = &[&[1], &[2], &[]];
-    let diamond: &[&[usize]] = &[&[1, 2], &[3], &[3, 3], &[]];
-    let nowhere: &[&[usize]] = &[&[7], &[0]];
-    for (runs, order) in [
-        (empty, [].as_slice()),
-        (chain, [2, 1, 0].as_slice()),
-        (diamond, [3, 1, 2, 0].as_slice()),
-        (nowhere, [0, 1].as_slice()),
-    ] {
-        match outcome(alloc, runs) {
-            Ok(places) => assert_eq!(rt; places.as_slice(), order),
-            Err(_) => return Err(Fail::from("no order")),
-        }
-    }
-    Ok(())
-}
-
-#[test]
-fn first_recursive_module(rt: HostRuntime) -> Result<(), Fail> {
-    let alloc = rt.alloc();
-    let itself: &[&[usize]] = &[&[], &[1]];
-    let ring: &[&[usize]] = &[&[1], &[2], &[0]];
-    // The first module leads to a ring, and is in none.
-    let two_rings: &[&[usize]] = &[&[4], &[], &[3], &[2], &[5], &[4]];
-    for (runs, place) in [(itself, 1), (ring, 0), (two_rings, 2)] {
-        assert_eq!(rt;
-            outcome(alloc, runs).err(),
-            Some(OrderFault::Recursive(place))
-        );
-    }
-    Ok(())
-}
-
 /// Each module runs the next, and the last one the module at this place, if there is one.
-fn long_chain(alloc: Global, last: usize) -> Result<Vec<Vec<usize>>, AllocError> {
+fn long_chain(rt: &impl Abort, alloc: Global, last: usize) -> Vec<Vec<usize>> {
     let mut rows = Vec::new(alloc);
-    for place in 1..MANY {
-        rows.push(Vec::from_slice(alloc, &[place])?)?;
+    for place in 1..=MANY {
+        let next = if place == MANY { last } else { place };
+        let row = Vec::from_slice(alloc, &[next]).expect(rt, "room");
+        rows.push(row).expect(rt, "room");
     }
-    rows.push(Vec::from_slice(alloc, &[last])?)?;
-    Ok(rows)
+    rows
 }
 
+/// Fails where the answer to a long chain begins otherwise.
+fn expect_begin(rt: &impl Abort, alloc: Global, last: usize, begin: &str) {
+    let rows = long_chain(rt, alloc, last);
+    let found = told(rt, alloc, rows.as_slice());
+    let found = found.as_str().get(..begin.len()).expect(rt, "an answer");
+    expect_told(rt, found, begin, begin);
+}
+
+/// A chain without an end in it, a ring, and a chain whose last module runs itself.
 #[test]
-fn as_many_as_one_line_holds(rt: HostRuntime) -> Result<(), Fail> {
+fn as_many_as_one_line_holds(rt: HostRuntime) {
     let alloc = rt.alloc();
-    match order_modules(alloc, &long_chain(alloc, MANY)?) {
-        Ok(order) => assert_eq!(rt; order.places().first(), Some(&(MANY - 1))),
-        Err(_) => return Err(Fail::from("a chain has an order")),
-    }
-    assert_eq!(rt;
-        order_modules(alloc, &long_chain(alloc, 0)?).err(),
-        Some(OrderFault::Recursive(0))
-    );
-    assert_eq!(rt;
-        order_modules(alloc, &long_chain(alloc, MANY - 1)?).err(),
-        Some(OrderFault::Recursive(MANY - 1))
-    );
-    Ok(())
+    expect_begin(&rt, alloc, MANY, "[1599, ");
+    expect_begin(&rt, alloc, 0, "Recursive(0)");
+    expect_begin(&rt, alloc, MANY - 1, "Recursive(1599)");
 }

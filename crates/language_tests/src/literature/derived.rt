@@ -3,11 +3,12 @@
 
 ghost use Rattle.est_meaning.specs.States.{IsState};
 
-use crate::literature::loads::{load, step};
+use crate::literature::loads::step;
+use crate::openers::kernel_of;
 use est_kernel::kernel::Kernel;
 use est_kernel::state::State;
-use std::alloc::{AllocError, Global};
-use std::test::Fail;
+use std::alloc::Global;
+use std::process::Abort;
 
 /// What stands before each body.
 const HEAD: &str = "module M: input A, B; output O, P; ";
@@ -233,9 +234,10 @@ const TESTS: [(&str, &str); 18] = [
     ),
 ];
 
-/// The text of a body.
-fn text_of(alloc: Global, body: &str) -> Result<String, AllocError> {
-    format!(in alloc; "{HEAD}{body}{REST}")
+/// The kernel of a body.
+fn kernel_of_body(rt: &impl Abort, alloc: Global, body: &str) -> Kernel {
+    let text = format!(in alloc; "{HEAD}{body}{REST}").expect(rt, "room");
+    kernel_of(rt, alloc, text.as_str())
 }
 
 /// Whether two kernels show the same in four instants. The inputs of each are two bits of the code,
@@ -257,34 +259,23 @@ fn difference(first: &Kernel, second: &Kernel) -> Option<u64> {
     (0..256).find(|code| !agree(first, second, *code))
 }
 
-/// The code of the first four instants in which two bodies differ.
-fn body_difference(alloc: Global, derived: &str, kernel: &str) -> Result<Option<u64>, Fail> {
-    let derived = text_of(alloc, derived)?;
-    let kernel = text_of(alloc, kernel)?;
-    let first = load(alloc, &derived)?;
-    let second = load(alloc, &kernel)?;
-    Ok(difference(&first, &second))
-}
-
 /// Fails where two bodies that mean the same differ.
-fn expect_alike(alloc: Global, pairs: &[(&str, &str)]) -> Result<(), Fail> {
-    for (derived, kernel) in pairs {
-        let code = body_difference(alloc, derived, kernel)?;
-        if code.is_some() {
-            return Err(Fail::from(format!(in alloc; "{derived}: in the instants {code:?}")?));
-        }
+fn expect_alike(rt: &impl Abort, alloc: Global, derived: &str, kernel: &str) {
+    let first = kernel_of_body(rt, alloc, derived);
+    let second = kernel_of_body(rt, alloc, kernel);
+    assert_eq!(rt; difference(&first, &second), None, "{derived}");
+}
+
+#[test]
+fn derived_statements_are_their_kernel_forms(rt: HostRuntime) {
+    for (derived, kernel) in &PAIRS {
+        expect_alike(&rt, rt.alloc(), derived, kernel);
     }
-    Ok(())
 }
 
 #[test]
-fn derived_statements_are_their_kernel_forms(rt: HostRuntime) -> Result<(), Fail> {
-    let alloc = rt.alloc();
-    expect_alike(alloc, &PAIRS)
-}
-
-#[test]
-fn tests_are_kept_in_kernel_forms(rt: HostRuntime) -> Result<(), Fail> {
-    let alloc = rt.alloc();
-    expect_alike(alloc, &TESTS)
+fn tests_are_kept_in_kernel_forms(rt: HostRuntime) {
+    for (derived, kernel) in &TESTS {
+        expect_alike(&rt, rt.alloc(), derived, kernel);
+    }
 }

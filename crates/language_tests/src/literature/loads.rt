@@ -1,44 +1,27 @@
-//! Modules of texts, and their instants: what the tests of whole programs share.
+//! The instants of a kernel: what the tests of whole programs share.
 
 ghost use Rattle.est_meaning.specs.States.{IsState};
+ghost use Rattle.est_micro.specs.Engine.{IsNetOf};
 ghost use Rattle.est_rounds.specs.Contract.{AreInputs};
 
+use crate::openers::{kernel_of, name};
+use crate::told::expect_holds;
 use est_kernel::interface::Interface;
 use est_kernel::kernel::Kernel;
 use est_kernel::mask::{common, with};
 use est_kernel::state::{Inputs, Outcome, State, Stuck};
-use est_kernel::statement::InterfaceSignal;
-use est_link::link::link;
 use est_micro::micro::Micro;
 use est_net::net::Net;
-use est_reduce::reduce::reduce;
 use est_rounds::engine::Engine;
 use est_rounds::rounds::Rounds;
-use est_syntax::parse::parse;
-use est_text::identifier::Identifier;
-use est_text::lex::lex;
 use std::alloc::Global;
-use std::test::Fail;
+use std::process::Abort;
 
 /// The outputs of an instant as a mask, or those that are undecided.
 pub type Shown = Result<u64, u64>;
 
-/// The kernel of the module M of a text.
-pub fn load(alloc: Global, text: &str) -> Result<Kernel, Fail> {
-    let tokens = lex(alloc, text)?;
-    let library = parse(alloc, &tokens)?;
-    let flat = match link(alloc, &library, "M") {
-        Ok(flat) => flat,
-        Err(fault) => return Err(Fail::from(format!(in alloc; "{fault:?}: {text}")?)),
-    };
-    match reduce(alloc, &flat) {
-        Ok(kernel) => Ok(kernel),
-        Err(fault) => Err(Fail::from(format!(in alloc; "{fault:?}: {text}")?)),
-    }
-}
-
 /// Those of the signals in the mask that are inputs.
-fn offered(kernel: &Kernel, present: u64) -> Inputs
+pub fn offered(kernel: &Kernel, present: u64) -> Inputs
     ensures { AreInputs kernel.now result }
 {
     Inputs {
@@ -61,6 +44,13 @@ pub fn step(kernel: &Kernel, state: &mut State, present: u64) -> Shown
     }
 }
 
+/// The microstep engine of a kernel.
+pub fn engine_of(rt: &impl Abort, alloc: Global, kernel: &Kernel) -> Micro
+    ensures { IsNetOf result.net kernel.now }
+{
+    Micro::new(Net::build(alloc, kernel).expect(rt, "room"))
+}
+
 /// Whether an engine's answer is what is shown, and its next state the one that is then left.
 fn is_same(answer: &Result<Outcome, Stuck>, shown: Shown, left: &State) -> bool {
     match answer {
@@ -70,41 +60,69 @@ fn is_same(answer: &Result<Outcome, Stuck>, shown: Shown, left: &State) -> bool 
 }
 
 /// One instant on the plain engine and on the microstep engine. Fails where they differ.
-pub fn agreed_step(
-    alloc: Global,
+fn agreed_step(
+    rt: &impl Abort,
+    engine: &mut Micro,
     kernel: &Kernel,
     state: &mut State,
     present: u64,
-) -> Result<Shown, Fail>
-    requires { IsState kernel.now.root state.old }
-    ensures { IsState kernel.now.root state.new }
+) -> Shown
+    requires net { IsNetOf engine.old.net kernel.now }
+    requires state { IsState kernel.now.root state.old }
+    ensures net { IsNetOf engine.new.net kernel.now }
+    ensures state { IsState kernel.now.root state.new }
 {
-    let mut engine = Micro::new(Net::build(alloc, kernel)?);
     let answer = engine.react(kernel, &*state, &offered(kernel, present));
     let shown = step(kernel, state, present);
-    if is_same(&answer, shown, &*state) {
-        Ok(shown)
-    } else {
-        Err(Fail::from("the engines differ"))
-    }
-}
-
-/// The signal of a name.
-fn signal_named(interface: &Interface, name: &str) -> Result<InterfaceSignal, Fail> {
-    let Some(name) = Identifier::from_text(name) else {
-        return Err(Fail::from("no identifier"));
-    };
-    match interface.find(&name) {
-        Some(signal) => Ok(signal),
-        None => Err(Fail::from("no such signal")),
-    }
+    expect_holds(rt, is_same(&answer, shown, &*state), "the engines agree");
+    shown
 }
 
 /// The signals of names with blanks between them, as a mask.
-pub fn mask_of(interface: &Interface, names: &str) -> Result<u64, Fail> {
+fn mask_of(rt: &impl Abort, interface: &Interface, names: &str) -> u64 {
     let mut mask = 0;
-    for name in names.split_whitespace() {
-        mask = with(mask, signal_named(interface, name)?.index);
+    for text in names.split_whitespace() {
+        let signal = interface.find(&name(rt, text)).expect(rt, text);
+        mask = with(mask, signal.index);
     }
-    Ok(mask)
+    mask
+}
+
+/// What an instant shows, by the interface of the program.
+fn shown_of(rt: &impl Abort, interface: &Interface, words: &str) -> Shown {
+    match words.strip_prefix(" stuck") {
+        Some(undecided) => Err(mask_of(rt, interface, undecided)),
+        None => Ok(mask_of(rt, interface, words)),
+    }
+}
+
+/// Makes an instant, as it is written: before `>` the inputs, after it the outputs, or `stuck` and
+/// the outputs that are undecided. Tells whether it shows these.
+fn shows(
+    rt: &impl Abort,
+    engine: &mut Micro,
+    kernel: &Kernel,
+    state: &mut State,
+    instant: &str,
+) -> bool
+    requires net { IsNetOf engine.old.net kernel.now }
+    requires state { IsState kernel.now.root state.old }
+    ensures net { IsNetOf engine.new.net kernel.now }
+    ensures state { IsState kernel.now.root state.new }
+{
+    let (inputs, words) = instant.split_once('>').expect(rt, instant);
+    let present = mask_of(rt, kernel.interface(), inputs);
+    let shown = agreed_step(rt, engine, kernel, state, present);
+    shown == shown_of(rt, kernel.interface(), words)
+}
+
+/// Fails where the module M of a text shows something else in its instants.
+pub fn expect_instants(rt: &impl Abort, alloc: Global, text: &str, instants: &str) {
+    let kernel = kernel_of(rt, alloc, text);
+    let mut engine = engine_of(rt, alloc, &kernel);
+    let mut state = State::Fresh;
+    for instant in instants.split("; ") {
+        let holds = shows(rt, &mut engine, &kernel, &mut state, instant);
+        assert!(rt; holds, "{instant} in {text}");
+    }
 }

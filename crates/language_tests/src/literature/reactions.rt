@@ -1,15 +1,6 @@
 //! Kernel programs, each instant by instant. The interface is `input I; output O, P, Q`.
 
-use crate::literature::loads::{Shown, agreed_step, load, mask_of, step};
-use est_kernel::closed::is_closed;
-use est_kernel::interface::{Declaration, Interface, Kind, MOST_SIGNALS};
-use est_kernel::kernel::Kernel;
-use est_kernel::state::State;
-use est_kernel::statement::Statement;
-use est_text::identifier::Identifier;
-use std::alloc::{AllocError, Global};
-use std::process::Abort;
-use std::test::Fail;
+use crate::literature::loads::expect_instants;
 
 /// Programs, and four instants of each: before `>` the inputs, after it the outputs, or `stuck`
 /// and the outputs that are undecided.
@@ -85,98 +76,12 @@ const EXAMPLES: [(&str, &str); 18] = [
     ),
 ];
 
-/// What an instant shows, by the interface of the program.
-fn shown_of(interface: &Interface, words: &str) -> Result<Shown, Fail> {
-    match words.strip_prefix(" stuck") {
-        Some(undecided) => Ok(Err(mask_of(interface, undecided)?)),
-        None => Ok(Ok(mask_of(interface, words)?)),
-    }
-}
-
-/// The first instant that shows something else, as it is written.
-fn first_difference<'a>(
-    alloc: Global,
-    kernel: &Kernel,
-    instants: &'a str,
-) -> Result<Option<&'a str>, Fail> {
-    let mut state = State::Fresh;
-    for instant in instants.split("; ") {
-        let (inputs, words) = instant.split_once('>').ok_or("no instant")?;
-        let present = mask_of(kernel.interface(), inputs)?;
-        let shown = agreed_step(alloc, kernel, &mut state, present)?;
-        if shown != shown_of(kernel.interface(), words)? {
-            return Ok(Some(instant));
-        }
-    }
-    Ok(None)
-}
-
-/// Fails where a program of a table shows something else.
-fn expect_instants(alloc: Global, rows: &[(&str, &str)]) -> Result<(), Fail> {
-    for (body, instants) in rows {
-        let text = format!(in alloc; "module M: input I; output O, P, Q; {body} end module")?;
-        let kernel = load(alloc, text.as_str())?;
-        if let Some(instant) = first_difference(alloc, &kernel, instants)? {
-            return Err(Fail::from(format!(in alloc; "not {instant}: {body}")?));
-        }
-    }
-    Ok(())
-}
-
 /// Runs the table's programs for four instants each.
 #[test]
-fn worked_examples(rt: HostRuntime) -> Result<(), Fail> {
-    expect_instants(rt.alloc(), &EXAMPLES)
-}
-
-/// A sequence of 1,002 pauses, nested to the left and to the right.
-fn long_sequence(a: Global) -> Result<Statement, AllocError> {
-    let mut first = Statement::pause();
-    let mut last = Statement::pause();
-    for _ in 0..500 {
-        first = Statement::seq(a, first, Statement::pause())?;
-        last = Statement::seq(a, Statement::pause(), last)?;
-    }
-    Statement::seq(a, first, last)
-}
-
-/// A long sequence under six local signals.
-fn under_locals(a: Global) -> Result<Statement, AllocError> {
-    let mut root = long_sequence(a)?;
-    for locals in (0..6u16).rev() {
-        root = Statement::local(a, locals, root)?;
-    }
-    Ok(root)
-}
-
-/// Declares a signal.
-fn declare(rt: &impl Abort, interface: &mut Interface, name: &str, kind: Kind) {
-    let name = Identifier::from_text(name).expect(rt, "an identifier");
-    assert!(rt; interface.len() < MOST_SIGNALS);
-    assert!(rt; !interface.has(&name));
-    interface
-        .declare(Declaration { name, kind })
-        .expect(rt, "room");
-}
-
-fn interface(rt: &impl Abort, alloc: Global) -> Interface {
-    let mut interface = Interface::new(alloc);
-    declare(rt, &mut interface, "I", Kind::Input);
-    for output in "O P Q".split(' ') {
-        declare(rt, &mut interface, output, Kind::Output);
-    }
-    interface
-}
-
-/// Runs four instants of a long sequence under six local signals.
-#[test]
-fn long_sequences(rt: HostRuntime) {
-    let interface = interface(&rt, rt.alloc());
-    let root = under_locals(rt.alloc()).expect(&rt, "room");
-    assert!(rt; is_closed(&interface, &root));
-    let kernel = Kernel::build(interface, root).ok().expect(&rt, "a kernel");
-    let mut state = State::Fresh;
-    for _ in 0..4 {
-        assert_eq!(rt; step(&kernel, &mut state, 0), Ok(0));
+fn worked_examples(rt: HostRuntime) {
+    for (body, instants) in &EXAMPLES {
+        let text = format!(in rt.alloc(); "module M: input I; output O, P, Q; {body} end module");
+        let text = text.expect(&rt, "room");
+        expect_instants(&rt, rt.alloc(), text.as_str(), instants);
     }
 }

@@ -1,6 +1,7 @@
 //! Units in one another: 128 may be open at once.
 use super::Answer::{self, Accepted, Lexical, Syntax, TooLarge};
 use super::{expect_answer, module_of};
+use crate::told::add;
 use std::alloc::Global;
 use std::process::Abort;
 
@@ -38,49 +39,104 @@ fn mixed(rt: &impl Abort, alloc: Global, first: usize, depth: usize) -> (String,
     let mut text = String::new(alloc);
     let mut closes = String::new(alloc);
     let mut column = 1;
-    text.push_str("module M: ").expect(rt, "room");
+    add(rt, &mut text, "module M: ");
     for (open, close) in NESTS.iter().cycle().skip(first).take(depth) {
         column = (text.len() as u64).saturating_add(1);
-        text.push_str(open).expect(rt, "room");
+        add(rt, &mut text, open);
         closes.insert_str(0, close).expect(rt, "room");
     }
-    text.push_str("pause").expect(rt, "room");
-    text.push_str(closes.as_str()).expect(rt, "room");
-    text.push_str(" end module").expect(rt, "room");
+    add(rt, &mut text, "pause");
+    add(rt, &mut text, closes.as_str());
+    add(rt, &mut text, " end module");
     (text, column)
 }
 
-/// Units of one kind in one another, in a module.
-fn alike(rt: &impl Abort, alloc: Global, open: &str, close: &str, depth: usize) -> String {
-    let opens = open.repeat(alloc, depth).expect(rt, "room");
-    let closes = close.repeat(alloc, depth).expect(rt, "room");
-    format!(in alloc; "module M: {opens}pause{closes} end module").expect(rt, "room")
+/// What stands before the `not` or `(` of a test and after them, and the most that may stand
+/// there: in an `await` as many as units may be open, and one less where a unit is open. The
+/// bracket of a test opens none.
+const DEPTHS: [(&str, &str, &str, &str, usize); 8] = [
+    ("await ", "not ", "", "", 128),
+    ("await ", "(", ")", "", 128),
+    ("await [", "not ", "", "]", 128),
+    ("present ", "not ", "", " then pause end", 127),
+    ("present [", "(", ")", "] else pause end", 127),
+    ("abort pause when ", "(", ")", "", 127),
+    ("loop pause each ", "not ", "", "", 127),
+    ("every immediate ", "(", ")", " do pause end", 127),
+];
+
+/// What may stand in one another, and where.
+#[derive(Clone, Copy)]
+struct Nest<'a> {
+    before: &'a str,
+    open: &'a str,
+    inside: &'a str,
+    close: &'a str,
+    after: &'a str,
 }
 
-/// Fails unless 128 units of each of these kinds are taken, and the last of 129 is one too many.
-fn expect_alike(rt: &impl Abort, alloc: Global, nests: &[(&str, &str)]) {
-    for (open, close) in nests {
-        let text = alike(rt, alloc, open, close, 128);
-        expect_answer(rt, alloc, text.as_str(), Accepted);
-        let text = alike(rt, alloc, open, close, 129);
-        let column = (open.len() as u64).saturating_mul(128).saturating_add(11);
-        expect_answer(rt, alloc, text.as_str(), TooLarge(1, column));
+/// Units or words of tests in one another, in a module.
+fn nested(rt: &impl Abort, alloc: Global, nest: Nest<'_>, depth: usize) -> String {
+    let opens = nest.open.repeat(alloc, depth).expect(rt, "room");
+    let closes = nest.close.repeat(alloc, depth).expect(rt, "room");
+    let (before, inside, after) = (nest.before, nest.inside, nest.after);
+    format!(in alloc; "module M: {before}{opens}{inside}{closes}{after} end module").expect(
+        rt, "room",
+    )
+}
+
+/// Fails unless as many as these are taken, and the last of one more is one too many.
+fn expect_most(rt: &impl Abort, alloc: Global, nest: Nest<'_>, most: usize) {
+    let text = nested(rt, alloc, nest, most);
+    expect_answer(rt, alloc, text.as_str(), Accepted);
+    let text = nested(rt, alloc, nest, most.saturating_add(1));
+    let openers = nest.open.len().saturating_mul(most);
+    let column = openers.saturating_add(nest.before.len()).saturating_add(11);
+    expect_answer(rt, alloc, text.as_str(), TooLarge(1, column as u64));
+}
+
+/// 128 units of each kind, and one more.
+#[test]
+fn units_of_a_kind_are_counted(rt: HostRuntime) {
+    for (open, close) in &NESTS {
+        let nest = Nest {
+            before: "",
+            open,
+            inside: "pause",
+            close,
+            after: "",
+        };
+        expect_most(&rt, rt.alloc(), nest, 128);
     }
 }
 
 #[test]
-fn units_of_a_kind_are_counted(rt: HostRuntime) {
-    expect_alike(&rt, rt.alloc(), &NESTS);
+fn words_of_tests_are_counted_as_open(rt: HostRuntime) {
+    for (before, open, close, after, most) in &DEPTHS {
+        let nest = Nest {
+            before,
+            open,
+            inside: "A",
+            close,
+            after,
+        };
+        expect_most(&rt, rt.alloc(), nest, *most);
+    }
+}
+
+/// Fails unless 128 units of all kinds in turn, from this one on, are taken, and the last of 129 is
+/// one too many.
+fn expect_mixed(rt: &impl Abort, alloc: Global, first: usize) {
+    let (text, _) = mixed(rt, alloc, first, 128);
+    expect_answer(rt, alloc, text.as_str(), Accepted);
+    let (text, column) = mixed(rt, alloc, first, 129);
+    expect_answer(rt, alloc, text.as_str(), TooLarge(1, column));
 }
 
 #[test]
 fn mixed_units_are_counted(rt: HostRuntime) {
-    let alloc = rt.alloc();
     for first in 0..NESTS.len() {
-        let (text, _) = mixed(&rt, alloc, first, 128);
-        expect_answer(&rt, alloc, text.as_str(), Accepted);
-        let (text, column) = mixed(&rt, alloc, first, 129);
-        expect_answer(&rt, alloc, text.as_str(), TooLarge(1, column));
+        expect_mixed(&rt, rt.alloc(), first);
     }
 }
 
@@ -103,19 +159,23 @@ const GROUPS: [(usize, &str, Answer); 9] = [
 ];
 
 /// Fails where that many `[` and an end have another answer.
-fn expect_groups(rt: &impl Abort, alloc: Global, rows: &[(usize, &str, Answer)]) {
-    for (count, end, answer) in rows {
-        let groups = "[".repeat(alloc, *count).expect(rt, "room");
-        let text = format!(in alloc; "module M: {groups}{end}").expect(rt, "room");
-        expect_answer(rt, alloc, text.as_str(), *answer);
-    }
+fn expect_group(rt: &impl Abort, alloc: Global, count: usize, end: &str, answer: Answer) {
+    let groups = "[".repeat(alloc, count).expect(rt, "room");
+    let text = format!(in alloc; "module M: {groups}{end}").expect(rt, "room");
+    expect_answer(rt, alloc, text.as_str(), answer);
 }
 
 #[test]
 fn open_units_are_counted(rt: HostRuntime) {
-    let alloc = rt.alloc();
-    expect_groups(&rt, alloc, &GROUPS);
-    let body = "[pause]; ".repeat(alloc, 300).expect(&rt, "room");
-    let text = module_of(&rt, alloc, body.as_str());
-    expect_answer(&rt, alloc, text.as_str(), Accepted);
+    for (count, end, answer) in &GROUPS {
+        expect_group(&rt, rt.alloc(), *count, end, *answer);
+    }
+}
+
+/// 300 units one after another.
+#[test]
+fn units_that_are_closed_do_not_count(rt: HostRuntime) {
+    let body = "[pause]; ".repeat(rt.alloc(), 300).expect(&rt, "room");
+    let text = module_of(&rt, rt.alloc(), body.as_str());
+    expect_answer(&rt, rt.alloc(), text.as_str(), Accepted);
 }

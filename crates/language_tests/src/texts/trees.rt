@@ -1,81 +1,11 @@
 //! Texts and their trees.
-use super::Answer::Accepted;
-use super::{expect_answer, module_of};
-use crate::told::{expect_holds, expect_told};
-use est_syntax::parse::parse;
-use est_syntax::tree::{Branches, Library, Module, Renaming, Sequence, Unit, WeakEnd};
+use super::module_of;
+use crate::openers::library_of;
+use crate::told::{add, expect_holds, expect_told};
+use est_syntax::tree::{Branches, Module, Renaming, Sequence, Unit, WeakEnd};
 use est_text::identifier::Identifier;
-use est_text::lex::lex;
 use std::alloc::Global;
 use std::process::Abort;
-
-/// Bodies of modules: each form of the grammar, and `;` and `||` in each place where they may
-/// stand.
-const BODIES: [&str; 27] = [
-    "nothing",
-    "pause;",
-    "halt; halt",
-    "emit tick; sustain B; exit T;",
-    "await S; await immediate S",
-    "emit A || emit B; pause || [emit C || pause;];",
-    "pause; || pause;",
-    "present S then emit A; else emit B; end",
-    "present S then emit A || halt else emit B || halt; end present",
-    "suspend pause; when S; abort pause; when S; weak abort pause; when S;",
-    "loop pause; end; loop pause; each S; every S do pause; end;",
-    "trap T in pause; end; signal A in pause; end; [pause;];",
-    "suspend pause when immediate S; abort pause when immediate S; \
-    weak abort pause when immediate S",
-    "every immediate S do pause end",
-    "signal A, B, C in emit A end",
-    "run P",
-    "run P [signal A/B]",
-    "run P [signal A/B, C/D]; [pause]",
-    "loop abort pause when S end",
-    "loop weak abort pause when S end loop",
-    "present S then suspend pause when S end",
-    "present S then suspend pause when S else abort pause when S end present",
-    "input I; pause",
-    "output O, P; pause",
-    "relation A # B; pause",
-    "relation A => B; pause",
-    "input I; output O, P; relation A # B # C, I => O; input J; relation A => B, A # B; pause",
-];
-
-/// Texts of modules: blanks and comments between tokens, and around them, and the least that stands
-/// between two words.
-const TEXTS: [&str; 9] = [
-    "module M:pause end module",
-    "\tmodule\nM\r\n:\x0cpause end\r\nmodule\n",
-    "% \u{e9}\u{0}\nmodule%{ \u{e9}\u{0} }%M:pause end module%",
-    "module M: pause end module%{}%",
-    "module M: pause end module % \u{e9}",
-    "module M: emit A||emit B end module",
-    "module M: relation A=>B;pause;end module",
-    "module M: pause end module module M: pause end module",
-    "module M: pause end module\r\n%\r\nmodule N: input I; halt end module\r\n",
-];
-
-/// Fails where a body isn't taken.
-fn expect_bodies(rt: &impl Abort, alloc: Global, bodies: &[&str]) {
-    for body in bodies {
-        let text = module_of(rt, alloc, body);
-        expect_answer(rt, alloc, text.as_str(), Accepted);
-    }
-}
-
-/// Fails where a text isn't taken.
-fn expect_texts(rt: &impl Abort, alloc: Global, texts: &[&str]) {
-    for text in texts {
-        expect_answer(rt, alloc, text, Accepted);
-    }
-}
-
-#[test]
-fn texts_are_taken(rt: HostRuntime) {
-    expect_bodies(&rt, rt.alloc(), &BODIES);
-    expect_texts(&rt, rt.alloc(), &TEXTS);
-}
 
 /// Units whose last words may be left out, and those words.
 const CLOSINGS: [(&str, &str); 17] = [
@@ -111,12 +41,6 @@ fn is_closed(unit: &Unit) -> bool {
     }
 }
 
-/// The library of a text.
-fn library_of(rt: &impl Abort, alloc: Global, text: &str) -> Library {
-    let tokens = lex(alloc, text).expect(rt, "tokens");
-    parse(alloc, &tokens).expect(rt, "a library")
-}
-
 /// Whether the last words of the first unit of a body are written.
 fn is_body_closed(rt: &impl Abort, alloc: Global, body: &str) -> bool {
     let text = module_of(rt, alloc, body);
@@ -125,21 +49,18 @@ fn is_body_closed(rt: &impl Abort, alloc: Global, body: &str) -> bool {
 }
 
 /// Fails where a tree tells the last words of a unit otherwise, left out or written.
-fn expect_last_words(rt: &impl Abort, alloc: Global, rows: &[(&str, &str)]) {
-    for (unit, last) in rows {
-        let whole = format!(in alloc; "{unit}{last}").expect(rt, "room");
-        expect_holds(rt, !is_body_closed(rt, alloc, unit), unit);
-        expect_holds(
-            rt,
-            is_body_closed(rt, alloc, whole.as_str()),
-            whole.as_str(),
-        );
-    }
+fn expect_last_words(rt: &impl Abort, alloc: Global, unit: &str, last: &str) {
+    let whole = format!(in alloc; "{unit}{last}").expect(rt, "room");
+    let left_out = is_body_closed(rt, alloc, unit);
+    let written = is_body_closed(rt, alloc, whole.as_str());
+    expect_holds(rt, !left_out && written, unit);
 }
 
 #[test]
 fn last_words_are_kept(rt: HostRuntime) {
-    expect_last_words(&rt, rt.alloc(), &CLOSINGS);
+    for (unit, last) in &CLOSINGS {
+        expect_last_words(&rt, rt.alloc(), unit, last);
+    }
 }
 
 /// Texts, and a sketch of their trees: of each module its name, how many declarations it has, and
@@ -161,11 +82,6 @@ const SKETCHES: [(&str, &str); 3] = [
         "M with 0: pause; halt; nothing",
     ),
 ];
-
-/// Adds words to a sketch.
-fn add(rt: &impl Abort, sketch: &mut String, words: &str) {
-    sketch.push_str(words).expect(rt, "room");
-}
 
 /// Adds a run to a sketch, each renaming with its sides.
 fn add_run(rt: &impl Abort, sketch: &mut String, name: &Identifier, renamings: &[Renaming]) {
@@ -226,15 +142,10 @@ fn sketch_of(rt: &impl Abort, alloc: Global, text: &str) -> String {
     sketch
 }
 
-/// Fails where a text has another sketch.
-fn expect_sketches(rt: &impl Abort, alloc: Global, rows: &[(&str, &str)]) {
-    for (text, sketch) in rows {
-        let found = sketch_of(rt, alloc, text);
-        expect_told(rt, found.as_str(), sketch, text);
-    }
-}
-
 #[test]
 fn trees_are_as_they_are_written(rt: HostRuntime) {
-    expect_sketches(&rt, rt.alloc(), &SKETCHES);
+    for (text, sketch) in &SKETCHES {
+        let found = sketch_of(&rt, rt.alloc(), text);
+        expect_told(&rt, found.as_str(), sketch, text);
+    }
 }
