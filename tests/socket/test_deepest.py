@@ -1,7 +1,9 @@
-"""The deepest modules that are accepted, on a worker's stack: each comes to 2,048 statements of the kernel."""
+"""Modules at the limits of their sizes, on a worker's stack: the deepest ones that are accepted, each of which comes to 2,048 statements
+of the kernel and is audited too; and each limit of a text, met exactly and passed by one."""
 import unittest
 
-from running import Server
+from running import Server, report
+from estserve_client.connection import Refusal
 
 # what stands around `sustain O`, before and after it; how often in each module; and how many modules run one another
 NESTS = [
@@ -36,6 +38,49 @@ class Deepest(unittest.TestCase):
             for nest in NESTS:
                 for _ in range(2):
                     self.has_two_instants(root, text_of(*nest))
+
+    def test_they_are_audited(self):
+        with Server("--workers", "1", "--connections", "1") as server:
+            with server.root() as root:
+                for operation, place in [("load", "0"), ("step", "0"), ("observe", "0.O")]:
+                    root.grant("root", operation, place)
+                for nest in NESTS:
+                    self.has_two_instants(root, text_of(*nest))
+            counts = f"{4 * len(NESTS)} entries, {len(NESTS)} loads, {2 * len(NESTS)} instants"
+            self.assertEqual(server.end(), (0, report(9, f"slot 0: {counts}"), b""))
+
+
+RELATIONS = "module M: input A; relation A # A"
+# texts, each with its refusal, or none
+LIMITS = [
+    ("module M: " + 129 * "[", ("TooLarge", {"limit": "nesting"})),
+    ("module M: " + 128 * "[" + "pause", ("Syntax", {"line": 1, "column": 144})),
+    ("module M: " + 128 * "[" + "pause" + 128 * "]" + " end module", None),
+    ("module M: " + 1_024 * "pause;" + "end module", None),
+    ("module M: " + 1_025 * "pause;" + "end module", ("TooLarge", {"limit": "statements"})),
+    (RELATIONS + 31 * ", A # A" + "; pause end module", None),
+    (RELATIONS + 32 * ", A # A" + "; pause end module", ("TooLarge", {"limit": "relations"})),
+    ("module M" + 47 * "m" + ": pause end module", ("UnknownModule", {"name": "M"})),
+    ("module M" + 48 * "m" + ": pause end module", ("Lexical", {"line": 1, "column": 8})),
+]
+
+
+class Limits(unittest.TestCase):
+    def refusal_of(self, root, text):
+        """How a load of the text is refused. A module that is accepted is taken out again."""
+        try:
+            root.load(0, "M", text)
+        except Refusal as refusal:
+            return refusal.fault, refusal.fields
+        root.unload(0)
+        return None
+
+    def test_sizes_are_limited(self):
+        with Server("--workers", "1") as server, server.root() as root:
+            root.grant("root", "load", "0")
+            for text, wanted in LIMITS:
+                with self.subTest(text[:20], length=len(text)):
+                    self.assertEqual(self.refusal_of(root, text), wanted)
 
 
 if __name__ == "__main__":
