@@ -1,9 +1,17 @@
 """Modules at the limits of their sizes, on a worker's stack: the deepest ones that are accepted, each of which comes to 2,048 statements
 of the kernel and is audited too; and each limit of a text, met exactly and passed by one."""
+import resource
+import subprocess
+import sys
 import unittest
 
-from running import Server, report
-from estserve_client.connection import Refusal
+from running import ROOT, WAIT_SECONDS, Server, program, report
+
+sys.path.insert(0, str(ROOT / "tests" / "journals"))
+from wire import written  # noqa: E402
+from estserve_client.connection import Refusal  # noqa: E402
+
+STACK_BYTES = 32 * 1024 * 1024  # of a worker
 
 # what stands around `sustain O`, before and after it; how often in each module; and how many modules run one another
 NESTS = [
@@ -39,15 +47,17 @@ class Deepest(unittest.TestCase):
                 for _ in range(2):
                     self.has_two_instants(root, text_of(*nest))
 
-    def test_they_are_audited(self):
-        with Server("--workers", "1", "--connections", "1") as server:
-            with server.root() as root:
-                for operation, place in [("load", "0"), ("step", "0"), ("observe", "0.O")]:
-                    root.grant("root", operation, place)
-                for nest in NESTS:
-                    self.has_two_instants(root, text_of(*nest))
-            counts = f"{4 * len(NESTS)} entries, {len(NESTS)} loads, {2 * len(NESTS)} instants"
-            self.assertEqual(server.end(), (0, report(9, f"slot 0: {counts}"), b""))
+    def test_one_is_audited_on_as_much_stack(self):
+        granted = [("load", "0"), ("step", "0"), ("observe", "0.O")]
+        lines = [{"cmd": "login", "roles": ["root"], "user": "root"}]
+        lines += [{"cmd": "grant", "object": name, "op": op, "role": "root"} for op, name in granted]
+        lines += [{"cmd": "load", "main": "M", "slot": 0, "text": text_of(*NESTS[0])}, *[{"cmd": "step", "slot": 0}] * 2]
+        ran = subprocess.run(
+            [*program(), "script", "--report"], input=b"".join(map(written, lines)), capture_output=True, timeout=WAIT_SECONDS,
+            preexec_fn=lambda: resource.setrlimit(resource.RLIMIT_STACK, (STACK_BYTES, STACK_BYTES)),
+        )
+        self.assertEqual((ran.returncode, ran.stderr), (0, b""))
+        self.assertTrue(ran.stdout.endswith(report(9, "slot 0: 3 entries, 1 loads, 2 instants")), ran.stdout[-200:])
 
 
 RELATIONS = "module M: input A; relation A # A"
