@@ -3,28 +3,16 @@ use crate::audit::changes::{Change, apply};
 use crate::audit::journals::{
     journals_of, journals_of_one, policy_entries, policy_of, slot_entries, stamped, stepped,
 };
-use audit_report::audit::check;
 use audit_report::reports::report;
 use rbac_policy::commands::Entry;
 use reactor_core::entry::SlotEntry;
-use reactor_core::journal::Journal;
 use std::alloc::Global;
 use std::process::Abort;
 
 /// Changes of the journals of the opening script, and what the audit then says.
 type Row = (&'static [Change], &'static str);
 
-/// What the audit says of these journals.
-fn found(rt: &impl Abort, alloc: Global, policy: &[Entry], slots: &[Journal; 16]) -> String {
-    let policy = policy_of(rt, alloc, policy);
-    match check(alloc, &policy, slots) {
-        Ok(()) => String::from_str(alloc, "ok"),
-        Err(finding) => format!(in alloc; "{finding}"),
-    }
-    .expect(rt, "room")
-}
-
-/// The audit says this of the entries.
+/// The audit says this of the entries, in the last line of the report on them.
 fn expect_found(
     rt: &impl Abort,
     alloc: Global,
@@ -32,8 +20,10 @@ fn expect_found(
     slot: Vec<SlotEntry>,
     wanted: &str,
 ) {
-    let said = found(rt, alloc, policy, &journals_of_one(rt, alloc, slot));
-    assert_eq!(rt; said.as_str(), wanted);
+    let policy = policy_of(rt, alloc, policy);
+    let text = report(alloc, &policy, &journals_of_one(rt, alloc, slot)).expect(rt, "room");
+    let (_, said) = text.as_str().split_once("check: ").expect(rt, "a verdict");
+    assert_eq!(rt; said.strip_suffix("\n"), Some(wanted));
 }
 
 /// The audit says this of the journals of the opening script with these changes.

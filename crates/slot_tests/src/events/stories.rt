@@ -5,7 +5,6 @@ use access_events::event::{Event, SeatNumber};
 use access_events::run::{World, run_events};
 use rbac_policy::commands::SessionId;
 use std::alloc::Global;
-use std::mem;
 use std::process::Abort;
 use wire_lines::request::Request;
 
@@ -92,6 +91,4 @@ pub fn follow(rt: &impl Abort, alloc: Global, opening: &[Line], story: &[Line], 
     let world = run(rt, alloc, &events);
     compare_all(rt, alloc, &world, opening, story);
     compare_left(rt, &world, left);
-    // What a destructor of each of its parts does would be proved once more here.
-    mem::forget(world);
 }
