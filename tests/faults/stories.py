@@ -110,6 +110,47 @@ def growing():
     return first + body
 
 
+def instants(text):
+    """Three instants of a module, with I in each; O is there in the first and in the last."""
+    shared = [("load", "0"), ("step", "0"), ("audit", "policy"), ("offer", "0.I"), ("observe", "0.I"), ("observe", "0.O")]
+    told = [
+        turn("root", "login", {"session": 1, "version": 5}, roles=["root"], user="root"),
+        *changes(6, *grants("root", *shared)),
+        turn("root", "load", {"place": 1, "version": 11}, main="M", slot=0, text=text),
+    ]
+    for instant, is_there in enumerate((True, False, True), 1):
+        signals = [["I", True], ["O", is_there]]
+        told += [
+            turn("root", "offer", {"place": 2 * instant, "version": 11}, signal="I", slot=0),
+            turn("root", "step", {"instant": instant, "place": 2 * instant + 1, "version": 11}, slot=0),
+            turn("root", "look", {"instant": instant, "signals": signals, "version": 11}, instant=instant, slot=0),
+        ]
+    return told
+
+
+def taken_back():
+    """What is offered is taken back, and at last goes with the module. The slot's list grows at its entries 5, an offer, 9, a discard,
+    and 17, the unload; at the last two I is pending."""
+    told = [
+        turn("root", "login", {"session": 1, "version": 5}, roles=["root"], user="root"),
+        *changes(6, *grants("root", ("load", "0"), ("step", "0"), ("audit", "policy"), ("offer", "0.I"))),
+        turn("root", "load", {"place": 1, "version": 9}, main="M", slot=0, text="module M: input I; pause end module"),
+    ]
+    words = ["offer", "discard", "discard"] * 2 + ["offer", "discard"] * 4 + ["offer", "unload"]
+    for place, cmd in enumerate(words, 2):
+        keys = {"signal": "I"} if cmd == "offer" else {}
+        told.append(turn("root", cmd, {"place": place, "version": 9}, slot=0, **keys))
+    return told
+
+
+THREE = "module M: input I; output O; emit O; pause; pause; present I then emit O end end module"
+# shows the same; its local signals nest four deep, so that its load builds a table of cells
+THREE_NESTED = (
+    "module M: input I; output O; emit O; pause; pause; "
+    "signal A, B, C, D in [present I then emit A end || present A then emit B end "
+    "|| present B then emit C end || present C then emit D end || present D then emit O end] end end module"
+)
+
 STORIES = {
     "opening script": lambda: stored(STORED / "stdin", STORED / "stdout"),
     "one duty at a time": lambda: script("one_duty_at_a_time"),
@@ -118,4 +159,7 @@ STORIES = {
     "a slot is emptied": lambda: script("a_slot_is_emptied"),
     "nested local signals": nested,
     "growing lists": growing,
+    "three instants": lambda: instants(THREE),
+    "three instants with nested local signals": lambda: instants(THREE_NESTED),
+    "offers that are taken back": taken_back,
 }

@@ -13,18 +13,9 @@ from refusing import Growths, tests_of
 # of a test, the words with which its runs may end, and how many have to, at least; `went on` is the end as always
 CALLS = {
     "slot_tests": {
-        "access::memory::want_of_memory": {"refused a load": 20, "refused a commit": 2},
-        "access::memory::nested_locals_without_memory": {"refused a load": 30, "refused a commit": 2},
-        "access::memory::tables_without_memory": {"refused a load": 30, "refused a table": 5},
-        "access::memory::entries_without_memory": {
-            "refused a load": 20,
-            "refused an offer": 1,
-            "refused a discard": 1,
-            "refused an unload": 1,
-        },
         "events::runs::a_version_behind_or_ahead": {"room": 1, "went on": 20},
         "events::runs::a_discard_and_an_unload_take_what_was_offered": {"room": 1, "went on": 20},
-        "audit::memory::audits_without_memory": {"AllocError": 1, "AllocFailed": 1, "refused a check": 1, "refused a report": 1},
+        "audit::memory::audits_without_memory": {"room": 1, "refused a check": 1, "refused a report": 1},
     },
     "policy_tests": {"board::receipts::receipts_without_memory": {"a board": 5, "went on": 1}},
 }

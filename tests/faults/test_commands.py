@@ -12,7 +12,7 @@ from stories import STORIES
 from wire import KEYS, request_of
 
 MEMORY = refused(90)
-# what tells how the policy and slot 0 are, and changes nothing
+# what tells how the policy and slot 0 are, and changes nothing; what is pending is asked for besides
 PROBES = [
     command("audit", slot=0),
     *(command("look", instant=instant, slot=0) for instant in (0, 1, 2)),
@@ -55,9 +55,14 @@ class Serving:
         self.take(who, line, answer)
         return answer
 
+    def pending(self):
+        """An offer of each signal that is pending in the slot, by the reading: it is refused, whoever asks."""
+        slot = self.histories.slots.get(0)
+        return [command("offer", signal=name, slot=0) for name in sorted(slot.pending)] if slot else []
+
     def state(self):
         """What each client is told of the policy and of the slot."""
-        return [self.say(who, line) for who in self.peers for line in PROBES]
+        return [self.say(who, line) for who in self.peers for line in PROBES + self.pending()]
 
     def end(self):
         """Ends all connections. The server's end has to be that of the reading."""

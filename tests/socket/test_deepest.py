@@ -1,7 +1,17 @@
-"""The deepest modules that are accepted, on a worker's stack: each comes to 2,048 statements of the kernel."""
+"""Modules at the limits of their sizes, on a worker's stack: the deepest ones that are accepted, each of which comes to 2,048 statements
+of the kernel and is audited too; and each limit of a text, met exactly and passed by one."""
+import resource
+import subprocess
+import sys
 import unittest
 
-from running import Server
+from running import ROOT, WAIT_SECONDS, Server, program, report
+
+sys.path.insert(0, str(ROOT / "tests" / "journals"))
+from wire import written  # noqa: E402
+from estserve_client.connection import Refusal  # noqa: E402
+
+STACK_BYTES = 32 * 1024 * 1024  # of a worker
 
 # what stands around `sustain O`, before and after it; how often in each module; and how many modules run one another
 NESTS = [
@@ -36,6 +46,51 @@ class Deepest(unittest.TestCase):
             for nest in NESTS:
                 for _ in range(2):
                     self.has_two_instants(root, text_of(*nest))
+
+    def test_one_is_audited_on_as_much_stack(self):
+        granted = [("load", "0"), ("step", "0"), ("observe", "0.O")]
+        lines = [{"cmd": "login", "roles": ["root"], "user": "root"}]
+        lines += [{"cmd": "grant", "object": name, "op": op, "role": "root"} for op, name in granted]
+        lines += [{"cmd": "load", "main": "M", "slot": 0, "text": text_of(*NESTS[0])}, *[{"cmd": "step", "slot": 0}] * 2]
+        ran = subprocess.run(
+            [*program(), "script", "--report"], input=b"".join(map(written, lines)), capture_output=True, timeout=WAIT_SECONDS,
+            preexec_fn=lambda: resource.setrlimit(resource.RLIMIT_STACK, (STACK_BYTES, STACK_BYTES)),
+        )
+        self.assertEqual((ran.returncode, ran.stderr), (0, b""))
+        self.assertTrue(ran.stdout.endswith(report(9, "slot 0: 3 entries, 1 loads, 2 instants")), ran.stdout[-200:])
+
+
+RELATIONS = "module M: input A; relation A # A"
+# texts, each with its refusal, or none
+LIMITS = [
+    ("module M: " + 129 * "[", ("TooLarge", {"limit": "nesting"})),
+    ("module M: " + 128 * "[" + "pause", ("Syntax", {"line": 1, "column": 144})),
+    ("module M: " + 128 * "[" + "pause" + 128 * "]" + " end module", None),
+    ("module M: " + 1_024 * "pause;" + "end module", None),
+    ("module M: " + 1_025 * "pause;" + "end module", ("TooLarge", {"limit": "statements"})),
+    (RELATIONS + 31 * ", A # A" + "; pause end module", None),
+    (RELATIONS + 32 * ", A # A" + "; pause end module", ("TooLarge", {"limit": "relations"})),
+    ("module M" + 47 * "m" + ": pause end module", ("UnknownModule", {"name": "M"})),
+    ("module M" + 48 * "m" + ": pause end module", ("Lexical", {"line": 1, "column": 8})),
+]
+
+
+class Limits(unittest.TestCase):
+    def refusal_of(self, root, text):
+        """How a load of the text is refused. A module that is accepted is taken out again."""
+        try:
+            root.load(0, "M", text)
+        except Refusal as refusal:
+            return refusal.fault, refusal.fields
+        root.unload(0)
+        return None
+
+    def test_sizes_are_limited(self):
+        with Server("--workers", "1") as server, server.root() as root:
+            root.grant("root", "load", "0")
+            for text, wanted in LIMITS:
+                with self.subTest(text[:20], length=len(text)):
+                    self.assertEqual(self.refusal_of(root, text), wanted)
 
 
 if __name__ == "__main__":

@@ -1,6 +1,4 @@
 mod changes;
-mod deepest;
 mod findings;
-mod journals;
+pub mod journals;
 mod memory;
-mod nested;

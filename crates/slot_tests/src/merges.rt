@@ -1,72 +1,64 @@
 //! What journals and receipts say of each other.
+use crate::audit::journals::{journals_of, stamped, stepped};
 use est_text::identifier::Identifier;
 use history_merge::compare::compare;
 use rbac_policy::commands::{AdminCommand, Entry, SessionId};
 use rbac_policy::names::Name;
-use rbac_policy::objects::SLOTS;
 use rbac_policy::opening::opening_entries;
-use reactor_core::entry::{Action, PastInstant, SlotEntry, Stamp};
+use reactor_core::entry::Action;
 use reactor_core::journal::Journal;
 use seat_receipts::mismatch::{Mismatch, POLICY_LIST};
 use seat_receipts::receipt::{Asked, Kept, SlotReceipt};
 use seat_receipts::receipt_list::Receipts;
-use std::alloc::{AllocError, Global};
+use std::alloc::Global;
 use std::process::Abort;
-use std::test::Fail;
 
-/// What is wrong in journals and receipts.
-#[derive(Clone, Copy, PartialEq, Eq)]
-enum Fault {
-    None,
-    /// The second command on slot 2 has no receipt.
-    NoReceipt,
-    /// Its receipt tells another signal.
-    OtherSignal,
-    /// Its receipt has the number of the one before it.
-    SameNumber,
-    /// Seat 0 keeps the command on slot 3 too, whose number is lower than that of the command
-    /// before.
-    FallingNumber,
-    /// The other seat keeps a receipt of it too.
-    TwoReceipts,
-    /// Nobody keeps a receipt of the last policy entry.
-    NoPolicyReceipt,
-    /// Its receipt is kept twice.
-    TwoPolicyReceipts,
-    /// Its receipt tells the entry before it.
-    OtherPolicyEntry,
+/// A receipt of a command of session 1.
+#[derive(Clone, Copy)]
+enum Row {
+    /// The user root is added, at this version.
+    Adds(u64),
+    /// The user root is deleted, at this version.
+    Deletes(u64),
+    /// The signal is offered to slot 2: the place, the version and the number.
+    Offers(&'static str, u64, u64, u64),
+    /// Slot 3 is stepped at version 6, with this number.
+    Steps(u64),
 }
 
-/// A policy command of session 1, as an entry.
-fn entry(command: AdminCommand) -> Entry {
+/// What three seats keep, and what is found.
+type Case = ([&'static [Row]; 3], Result<(), Mismatch>);
+
+/// The commands on slot 2.
+const FIRST: Row = Row::Offers("A", 1, 5, 2);
+
+const SECOND: Row = Row::Offers("B", 2, 6, 4);
+
+/// What seat 0 keeps where there is no fault: the fifth policy entry, and the commands on slot 2.
+const LOW: &[Row] = &[Row::Adds(5), FIRST, SECOND];
+
+/// What seat 1 keeps where there is no fault: the sixth policy entry, and the command on slot 3.
+const HIGH: &[Row] = &[Row::Deletes(6), Row::Steps(1)];
+
+/// A policy entry of session 1, by which the user root is added, or deleted.
+fn entry(is_added: bool) -> Entry {
+    let user = Name::root();
     Entry {
         session: Some(SessionId::new(1)),
-        command,
-    }
-}
-
-/// The user root is added, and deleted: the two policy entries after the opening ones.
-fn fifth() -> Entry {
-    entry(AdminCommand::AddUser { user: Name::root() })
-}
-
-fn sixth() -> Entry {
-    entry(AdminCommand::DeleteUser { user: Name::root() })
-}
-
-/// An entry of session 1, at this version.
-fn slot_entry(version: u64, action: Action) -> SlotEntry {
-    SlotEntry {
-        stamp: Stamp {
-            version,
-            session: 1,
+        command: if is_added {
+            AdminCommand::AddUser { user }
+        } else {
+            AdminCommand::DeleteUser { user }
         },
-        action,
     }
 }
 
-/// The receipt of a command of session 1.
-fn receipt(slot: u64, place: u64, version: u64, number: u64, asked: Asked) -> Kept {
+fn identifier(rt: &impl Abort, text: &str) -> Identifier {
+    Identifier::from_text(text).expect(rt, "a name")
+}
+
+/// The receipt of a command on a slot.
+fn on_slot(slot: u64, (place, version, number): (u64, u64, u64), asked: Asked) -> Kept {
     Kept::Slot(SlotReceipt {
         slot,
         place,
@@ -77,165 +69,161 @@ fn receipt(slot: u64, place: u64, version: u64, number: u64, asked: Asked) -> Ke
     })
 }
 
-/// Sixteen journals, all empty but those of slots 2 and 3.
-fn journals(
+/// The receipt of a row.
+fn kept(rt: &impl Abort, row: Row) -> Kept {
+    match row {
+        Row::Adds(version) => Kept::Admin {
+            version,
+            entry: entry(true),
+        },
+        Row::Deletes(version) => Kept::Admin {
+            version,
+            entry: entry(false),
+        },
+        Row::Offers(signal, place, version, number) => on_slot(
+            2,
+            (place, version, number),
+            Asked::Offer(identifier(rt, signal)),
+        ),
+        Row::Steps(number) => on_slot(3, (1, 6, number), Asked::Step),
+    }
+}
+
+/// The receipts of the rows.
+fn receipts(rt: &impl Abort, alloc: Global, rows: &[Row]) -> Receipts {
+    let mut receipts = Vec::new(alloc);
+    for row in rows {
+        receipts.push(kept(rt, *row)).expect(rt, "room");
+    }
+    Receipts::from_vec(receipts)
+}
+
+/// What is found where three seats keep these.
+fn find(
+    rt: &impl Abort,
     alloc: Global,
-    two: Vec<SlotEntry>,
-    three: Vec<SlotEntry>,
-) -> [Journal; SLOTS as usize] {
-    [
-        Journal::new(alloc),
-        Journal::new(alloc),
-        Journal::from_entries(two),
-        Journal::from_entries(three),
-        Journal::new(alloc),
-        Journal::new(alloc),
-        Journal::new(alloc),
-        Journal::new(alloc),
-        Journal::new(alloc),
-        Journal::new(alloc),
-        Journal::new(alloc),
-        Journal::new(alloc),
-        Journal::new(alloc),
-        Journal::new(alloc),
-        Journal::new(alloc),
-        Journal::new(alloc),
-    ]
+    policy: &[Entry],
+    journals: &[Journal; 16],
+    [first, second, third]: [&[Row]; 3],
+) -> Result<(), Mismatch> {
+    let seats = [
+        receipts(rt, alloc, first),
+        receipts(rt, alloc, second),
+        receipts(rt, alloc, third),
+    ];
+    compare(policy, journals, &seats)
 }
 
-/// What seat 0 keeps: the fifth policy entry, and both commands on slot 2.
-fn first_seat(
-    alloc: Global,
-    fault: Fault,
-    a: Identifier,
-    b: Identifier,
-) -> Result<Receipts, AllocError> {
-    let mut kept = Vec::new(alloc);
-    kept.push(Kept::Admin {
-        version: 5,
-        entry: fifth(),
-    })?;
-    kept.push(receipt(2, 1, 5, 2, Asked::Offer(a)))?;
-    match fault {
-        Fault::NoReceipt => {}
-        Fault::OtherSignal => kept.push(receipt(2, 2, 6, 4, Asked::Offer(a)))?,
-        Fault::SameNumber => kept.push(receipt(2, 2, 6, 2, Asked::Offer(b)))?,
-        Fault::FallingNumber => {
-            kept.push(receipt(3, 1, 6, 1, Asked::Step))?;
-            kept.push(receipt(2, 2, 6, 4, Asked::Offer(b)))?;
-        }
-        Fault::None
-        | Fault::TwoReceipts
-        | Fault::NoPolicyReceipt
-        | Fault::TwoPolicyReceipts
-        | Fault::OtherPolicyEntry => kept.push(receipt(2, 2, 6, 4, Asked::Offer(b)))?,
-    }
-    Ok(Receipts::from_vec(kept))
-}
-
-/// What seat 1 keeps: the sixth policy entry, and the command on slot 3.
-fn second_seat(alloc: Global, fault: Fault, b: Identifier) -> Result<Receipts, AllocError> {
-    let mut kept = Vec::new(alloc);
-    if fault != Fault::NoPolicyReceipt {
-        kept.push(Kept::Admin {
-            version: 6,
-            entry: if fault == Fault::OtherPolicyEntry {
-                fifth()
-            } else {
-                sixth()
-            },
-        })?;
-    }
-    if fault != Fault::FallingNumber {
-        kept.push(receipt(3, 1, 6, 1, Asked::Step))?;
-    }
-    if fault == Fault::TwoReceipts {
-        kept.push(receipt(2, 2, 6, 5, Asked::Offer(b)))?;
-    }
-    Ok(Receipts::from_vec(kept))
-}
-
-/// What seat 2 keeps: nothing, where there is no fault.
-fn third_seat(alloc: Global, fault: Fault) -> Result<Receipts, AllocError> {
-    let mut kept = Vec::new(alloc);
-    if fault == Fault::TwoPolicyReceipts {
-        kept.push(Kept::Admin {
-            version: 6,
-            entry: sixth(),
-        })?;
-    }
-    Ok(Receipts::from_vec(kept))
+/// The policy list: root is added once more, and deleted.
+fn policy(rt: &impl Abort, alloc: Global) -> Vec<Entry> {
+    let mut policy = Vec::from_array(alloc, opening_entries()).expect(rt, "room");
+    policy.push(entry(true)).expect(rt, "room");
+    policy.push(entry(false)).expect(rt, "room");
+    policy
 }
 
 /// Slot 3 reads version 6 and draws number 1, while slot 2, which read version 5 before, waits and
 /// draws number 2. Then slot 2 reads version 6, and draws number 4.
-fn answer<R: Abort>(
-    rt: &R,
-    alloc: Global,
-    fault: Fault,
-) -> Result<Result<(), Mismatch>, AllocError> {
-    let a = Identifier::from_text("A").expect(rt, "a name");
-    let b = Identifier::from_text("B").expect(rt, "a name");
-    let mut policy = Vec::from_array(alloc, opening_entries())?;
-    policy.push(fifth())?;
-    policy.push(sixth())?;
-    let step = Action::Step(PastInstant {
-        inputs: 0,
-        outputs: 0,
-    });
+fn journals(rt: &impl Abort, alloc: Global) -> [Journal; 16] {
+    let (a, b) = (identifier(rt, "A"), identifier(rt, "B"));
     let two = vec![in alloc;
-        slot_entry(5, Action::Offer(a)),
-        slot_entry(6, Action::Offer(b)),
-    ]?;
-    let three = vec![in alloc; slot_entry(6, step)]?;
-    let journals = journals(alloc, two, three);
-    let seats = [
-        first_seat(alloc, fault, a, b)?,
-        second_seat(alloc, fault, b)?,
-        third_seat(alloc, fault)?,
+        stamped(5, 1, Action::Offer(a)),
+        stamped(6, 1, Action::Offer(b)),
     ];
-    Ok(compare(policy.as_slice(), &journals, &seats))
+    let three = vec![in alloc; stamped(6, 1, stepped(0, 0))];
+    let two = (2, two.expect(rt, "room"));
+    journals_of(rt, alloc, two, (3, three.expect(rt, "room")))
 }
 
-/// The mismatch that names this list.
-fn of_list(slot: u64) -> Result<(), Mismatch> {
-    Err(Mismatch::Count { slot })
+/// In each case the mismatch of its row is found.
+fn find_each(rt: &impl Abort, alloc: Global, cases: &[Case]) {
+    let policy = policy(rt, alloc);
+    let journals = journals(rt, alloc);
+    for (seats, found) in cases {
+        let answer = find(rt, alloc, policy.as_slice(), &journals, *seats);
+        assert_eq!(rt; answer, *found);
+    }
 }
 
-/// The mismatch that names this receipt.
-fn of_receipt(seat: u64, slot: u64, place: u64) -> Result<(), Mismatch> {
-    Err(Mismatch::Receipt { seat, slot, place })
-}
+/// What seat 0 keeps where its receipt of the second command on slot 2 tells another signal, and
+/// where it has the number of the one before it.
+const OTHER_SIGNAL: &[Row] = &[Row::Adds(5), FIRST, Row::Offers("A", 2, 6, 4)];
+
+const SAME_NUMBER: &[Row] = &[Row::Adds(5), FIRST, Row::Offers("B", 2, 6, 2)];
+
+/// What seat 0 keeps where it keeps the command on slot 3 too, whose number is lower than that of
+/// the command before.
+const FALLING: &[Row] = &[Row::Adds(5), FIRST, Row::Steps(1), SECOND];
+
+/// What seat 1 keeps where it keeps the second command on slot 2 too.
+const TWO_RECEIPTS: &[Row] = &[Row::Deletes(6), Row::Steps(1), Row::Offers("B", 2, 6, 5)];
+
+/// What seat 1 keeps where its receipt of the last policy entry tells the entry before it.
+const OTHER_ENTRY: &[Row] = &[Row::Adds(6), Row::Steps(1)];
+
+/// The receipts fit; the second command on slot 2 has none; its receipt is wrong; the one before it
+/// is; there are two; nobody keeps one of the last policy entry, it is kept twice, it is wrong.
+const CASES: &[Case] = &[
+    ([LOW, HIGH, &[]], Ok(())),
+    (
+        [&[Row::Adds(5), FIRST], HIGH, &[]],
+        Err(Mismatch::Count { slot: 2 }),
+    ),
+    (
+        [OTHER_SIGNAL, HIGH, &[]],
+        Err(Mismatch::Receipt {
+            seat: 0,
+            slot: 2,
+            place: 2,
+        }),
+    ),
+    (
+        [SAME_NUMBER, HIGH, &[]],
+        Err(Mismatch::Receipt {
+            seat: 0,
+            slot: 2,
+            place: 2,
+        }),
+    ),
+    (
+        [FALLING, &[Row::Deletes(6)], &[]],
+        Err(Mismatch::Receipt {
+            seat: 0,
+            slot: 3,
+            place: 1,
+        }),
+    ),
+    (
+        [LOW, TWO_RECEIPTS, &[]],
+        Err(Mismatch::Receipt {
+            seat: 1,
+            slot: 2,
+            place: 2,
+        }),
+    ),
+    (
+        [LOW, &[Row::Steps(1)], &[]],
+        Err(Mismatch::Count { slot: POLICY_LIST }),
+    ),
+    (
+        [LOW, HIGH, &[Row::Deletes(6)]],
+        Err(Mismatch::Receipt {
+            seat: 2,
+            slot: POLICY_LIST,
+            place: 6,
+        }),
+    ),
+    (
+        [LOW, OTHER_ENTRY, &[]],
+        Err(Mismatch::Receipt {
+            seat: 1,
+            slot: POLICY_LIST,
+            place: 6,
+        }),
+    ),
+];
 
 #[test]
-fn journals_and_receipts(rt: HostRuntime) -> Result<(), Fail> {
-    let alloc = rt.alloc();
-    assert_eq!(rt; answer(&rt, alloc, Fault::None)?, Ok(()));
-    assert_eq!(rt; answer(&rt, alloc, Fault::NoReceipt)?, of_list(2));
-    assert_eq!(rt;
-        answer(&rt, alloc, Fault::OtherSignal)?,
-        of_receipt(0, 2, 2)
-    );
-    assert_eq!(rt; answer(&rt, alloc, Fault::SameNumber)?, of_receipt(0, 2, 2));
-    assert_eq!(rt;
-        answer(&rt, alloc, Fault::FallingNumber)?,
-        of_receipt(0, 3, 1)
-    );
-    assert_eq!(rt;
-        answer(&rt, alloc, Fault::TwoReceipts)?,
-        of_receipt(1, 2, 2)
-    );
-    assert_eq!(rt;
-        answer(&rt, alloc, Fault::NoPolicyReceipt)?,
-        of_list(POLICY_LIST)
-    );
-    assert_eq!(rt;
-        answer(&rt, alloc, Fault::TwoPolicyReceipts)?,
-        of_receipt(2, POLICY_LIST, 6)
-    );
-    assert_eq!(rt;
-        answer(&rt, alloc, Fault::OtherPolicyEntry)?,
-        of_receipt(1, POLICY_LIST, 6)
-    );
-    Ok(())
+fn journals_and_receipts(rt: HostRuntime) {
+    find_each(&rt, rt.alloc(), CASES);
 }

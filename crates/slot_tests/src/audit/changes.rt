@@ -1,13 +1,13 @@
 //! Changes of written journals.
-use crate::audit::journals::{TWO_OUTPUTS, Written, granted, loaded, stamped};
-use rbac_policy::commands::SessionId;
-use rbac_policy::objects::Operation;
-use reactor_core::entry::{Action, PastInstant};
+use crate::audit::journals::{loaded, stepped};
+use crate::lines::entry;
+use rbac_policy::commands::{Entry, SessionId};
+use reactor_core::entry::{Action, SlotEntry};
 use std::alloc::Global;
-use std::test::Fail;
+use std::process::Abort;
 
 /// A change of journals. Places are counted from 0.
-#[derive(Clone, Copy, Debug)]
+#[derive(Clone, Copy)]
 pub enum Change {
     /// The policy entry at this place stands a second time, right after itself.
     Doubled(usize),
@@ -35,13 +35,18 @@ pub enum Change {
     Skipped(usize),
 }
 
+/// The entry by which session 1 lets the role root load on slot 1.
+fn granted_on_one(rt: &impl Abort, alloc: Global) -> Entry {
+    let line = "{\"cmd\":\"grant\",\"object\":\"1\",\"op\":\"load\",\"role\":\"root\"}";
+    entry(rt, alloc, 1, line)
+}
+
 /// Changes the policy list, if the change is one of the policy list.
-fn change_policy(written: &mut Written, change: Change) -> Result<(), Fail> {
-    let entries = &mut written.policy;
+fn change_policy(rt: &impl Abort, alloc: Global, entries: &mut Vec<Entry>, change: Change) {
     match change {
         Change::Doubled(place) if place < entries.len() => {
-            let entry = entries[place].clone()?;
-            entries.insert(place, entry)?;
+            let entry = entries[place].clone().expect(rt, "room");
+            entries.insert(place, entry).expect(rt, "room");
         }
         Change::Lost(place) if place < entries.len() => {
             let _lost = entries.remove(place);
@@ -51,51 +56,54 @@ fn change_policy(written: &mut Written, change: Change) -> Result<(), Fail> {
             entries.swap(place, place + 1);
         }
         Change::GrantsOnOne(place) if place < entries.len() => {
-            entries[place] = granted(Operation::Load, "1")?;
+            entries[place] = granted_on_one(rt, alloc);
         }
         Change::GivenBy(place, session) if place < entries.len() => {
             entries[place].session = Some(SessionId::new(session));
         }
         _ => {}
     }
-    Ok(())
 }
 
-/// Changes the entry of the slot at this place to what this action is.
-fn change_action(written: &mut Written, place: usize, action: Action) {
-    if let Some(entry) = written.slot.get_mut(place) {
-        *entry = stamped(entry.stamp.version, entry.stamp.session, action);
+/// Changes an entry of the slot, if the change is one of an entry's stamp or action.
+fn change_entry(rt: &impl Abort, alloc: Global, entry: &mut SlotEntry, change: Change) {
+    match change {
+        Change::Version(_, version) => entry.stamp.version = version,
+        Change::Session(_, session) => entry.stamp.session = session,
+        Change::Steps(_, inputs, outputs) => entry.action = stepped(inputs, outputs),
+        Change::Loads(_) => entry.action = loaded(rt, alloc),
+        Change::Unloads(_) => entry.action = Action::Unload,
+        _ => {}
+    }
+}
+
+/// Changes the slot's entries, if the change is one of the slot.
+fn change_slot(rt: &impl Abort, alloc: Global, entries: &mut Vec<SlotEntry>, change: Change) {
+    match change {
+        Change::Version(place, _)
+        | Change::Session(place, _)
+        | Change::Steps(place, _, _)
+        | Change::Loads(place)
+        | Change::Unloads(place) => {
+            if let Some(entry) = entries.get_mut(place) {
+                change_entry(rt, alloc, entry, change);
+            }
+        }
+        Change::Skipped(place) if place < entries.len() => {
+            let _skipped = entries.remove(place);
+        }
+        _ => {}
     }
 }
 
 /// Changes the journals.
-pub fn apply(alloc: Global, written: &mut Written, change: Change) -> Result<(), Fail> {
-    match change {
-        Change::Version(place, version) => {
-            if let Some(entry) = written.slot.get_mut(place) {
-                entry.stamp.version = version;
-            }
-        }
-        Change::Session(place, session) => {
-            if let Some(entry) = written.slot.get_mut(place) {
-                entry.stamp.session = session;
-            }
-        }
-        Change::Steps(place, inputs, outputs) => {
-            change_action(
-                written,
-                place,
-                Action::Step(PastInstant { inputs, outputs }),
-            );
-        }
-        Change::Loads(place) => change_action(written, place, loaded(alloc, TWO_OUTPUTS)?),
-        Change::Unloads(place) => change_action(written, place, Action::Unload),
-        Change::Skipped(place) => {
-            if place < written.slot.len() {
-                let _skipped = written.slot.remove(place);
-            }
-        }
-        _ => change_policy(written, change)?,
-    }
-    Ok(())
+pub fn apply(
+    rt: &impl Abort,
+    alloc: Global,
+    policy: &mut Vec<Entry>,
+    slot: &mut Vec<SlotEntry>,
+    change: Change,
+) {
+    change_policy(rt, alloc, policy, change);
+    change_slot(rt, alloc, slot, change);
 }

@@ -3,51 +3,50 @@
 //! with the words for the call that took none; the faults script has each allocation refused in
 //! turn.
 use crate::audit::findings::OPENING_REPORT;
-use crate::audit::journals::{Histories, histories_of, opening_script};
+use crate::audit::journals::{journals_of_one, policy_entries, policy_of, slot_entries};
 use audit_report::audit::check;
 use audit_report::finding::Finding;
 use audit_report::reports::report;
+use rbac_policy::journal::PolicyJournal;
+use reactor_core::journal::Journal;
 use std::alloc::Global;
 use std::process::Abort;
-use std::test::Fail;
 
-/// The journals that the opening script leaves.
-fn histories(alloc: Global) -> Result<Histories, Fail> {
-    histories_of(alloc, opening_script(alloc)?)
+/// The test goes on, or ends with these words where memory was refused.
+fn go_on(rt: &impl Abort, is_refused: bool, words: &str) {
+    let going = if is_refused { None } else { Some(()) };
+    going.expect(rt, words);
 }
 
 /// Nothing is found in the journals.
-fn check_them(rt: &impl Abort, alloc: Global, histories: &Histories) -> Result<(), Fail> {
-    let Histories { policy, slots } = histories;
-    let found = check(alloc, policy, slots);
-    if found == Err(Finding::Memory) {
-        assert_eq!(rt; check(alloc, policy, slots), Ok(()));
-        return Err(Fail::from("refused a check"));
-    }
+fn check_them(rt: &impl Abort, alloc: Global, policy: &PolicyJournal, slots: &[Journal; 16]) {
+    let first = check(alloc, policy, slots);
+    let is_refused = first == Err(Finding::Memory);
+    let found = if is_refused {
+        check(alloc, policy, slots)
+    } else {
+        first
+    };
     assert_eq!(rt; found, Ok(()));
-    Ok(())
+    go_on(rt, is_refused, "refused a check");
 }
 
 /// The report on the journals is the one that is always written.
-fn report_on_them(rt: &impl Abort, alloc: Global, histories: &Histories) -> Result<(), Fail> {
-    let Histories { policy, slots } = histories;
-    match report(alloc, policy, slots) {
-        Ok(text) => {
-            assert_eq!(rt; text.as_str(), OPENING_REPORT);
-            Ok(())
-        }
-        Err(_refused) => {
-            let text = report(alloc, policy, slots).ok().expect(rt, "room");
-            assert_eq!(rt; text.as_str(), OPENING_REPORT);
-            Err(Fail::from("refused a report"))
-        }
-    }
+fn report_on_them(rt: &impl Abort, alloc: Global, policy: &PolicyJournal, slots: &[Journal; 16]) {
+    let (text, is_refused) = match report(alloc, policy, slots) {
+        Ok(text) => (text, false),
+        Err(_) => (report(alloc, policy, slots).expect(rt, "room"), true),
+    };
+    assert_eq!(rt; text.as_str(), OPENING_REPORT);
+    go_on(rt, is_refused, "refused a report");
 }
 
 /// What is refused is the making of the journals, the audit, or the report.
 #[test]
-fn audits_without_memory(rt: HostRuntime) -> Result<(), Fail> {
-    let histories = histories(rt.alloc())?;
-    check_them(&rt, rt.alloc(), &histories)?;
-    report_on_them(&rt, rt.alloc(), &histories)
+fn audits_without_memory(rt: HostRuntime) {
+    let alloc = rt.alloc();
+    let policy = policy_of(&rt, alloc, policy_entries(&rt, alloc).as_slice());
+    let slots = journals_of_one(&rt, alloc, slot_entries(&rt, alloc));
+    check_them(&rt, alloc, &policy, &slots);
+    report_on_them(&rt, alloc, &policy, &slots);
 }

@@ -1,155 +1,451 @@
 //! Worked runs: at which version a command is judged, what a revocation leaves, duties kept apart,
 //! and a session that is ended.
-use crate::events::stories::{Line, follow, seen};
+use crate::events::stories::{Line, follow};
+use crate::lines::{
+    DISCARD, GRANT_LOAD, GRANT_O, GRANT_P, GRANT_STEP, LOGIN, LOGOUT, LOOK, OFFER_A, STEP, UNLOAD,
+};
+
+/// O in the first instant, P in the second.
+const LOAD_TWO_OUTPUTS: &str = "{\"cmd\":\"load\",\"main\":\"M\",\"slot\":0,\
+    \"text\":\"module M: output O, P; emit O; pause; emit P end module\"}";
+
+/// An input, and nothing to do.
+const LOAD_ONE_INPUT: &str = "{\"cmd\":\"load\",\"main\":\"M\",\"slot\":0,\
+    \"text\":\"module M: input A; pause end module\"}";
+
+const GRANT_A: &str = "{\"cmd\":\"grant\",\"object\":\"0.A\",\"op\":\"observe\",\"role\":\"root\"}";
+
+const GRANT_OFFER_A: &str =
+    "{\"cmd\":\"grant\",\"object\":\"0.A\",\"op\":\"offer\",\"role\":\"root\"}";
 
 /// Root's login and four grants of the opening script, by seat 0, up to version 9.
-const OPENING: [Line; 5] = [
-    ("0 - login root root", "login 1 5"),
-    ("0 1 grant root load 0", "grant 6"),
-    ("0 1 grant root step 0", "grant 7"),
-    ("0 1 grant root observe 0.O", "grant 8"),
-    ("0 1 grant root observe 0.P", "grant 9"),
+const OPENING: &[Line] = &[
+    (
+        0,
+        0,
+        0,
+        LOGIN,
+        "{\"ok\":\"login\",\"session\":1,\"version\":5}",
+    ),
+    (0, 1, 0, GRANT_LOAD, "{\"ok\":\"grant\",\"version\":6}"),
+    (0, 1, 0, GRANT_STEP, "{\"ok\":\"grant\",\"version\":7}"),
+    (0, 1, 0, GRANT_O, "{\"ok\":\"grant\",\"version\":8}"),
+    (0, 1, 0, GRANT_P, "{\"ok\":\"grant\",\"version\":9}"),
 ];
 
 /// Root and ann are logged in by seats 0 and 1, ann with role chief, which stands over driver;
 /// driver and judge are kept apart. The version is 13.
-const CHIEF: [Line; 9] = [
-    ("0 - login root root", "login 1 5"),
-    ("0 1 addrole driver", "addrole 6"),
-    ("0 1 addrole judge", "addrole 7"),
-    ("0 1 addrole chief", "addrole 8"),
-    ("0 1 inherit chief driver", "inherit 9"),
-    ("0 1 dsd d1 2 driver judge", "dsd 10"),
-    ("0 1 adduser ann", "adduser 11"),
-    ("0 1 assign ann chief", "assign 12"),
-    ("1 - login ann chief", "login 2 13"),
+const CHIEF: &[Line] = &[
+    (
+        0,
+        0,
+        0,
+        LOGIN,
+        "{\"ok\":\"login\",\"session\":1,\"version\":5}",
+    ),
+    (
+        0,
+        1,
+        0,
+        "{\"cmd\":\"addrole\",\"role\":\"driver\"}",
+        "{\"ok\":\"addrole\",\"version\":6}",
+    ),
+    (
+        0,
+        1,
+        0,
+        "{\"cmd\":\"addrole\",\"role\":\"judge\"}",
+        "{\"ok\":\"addrole\",\"version\":7}",
+    ),
+    (
+        0,
+        1,
+        0,
+        "{\"cmd\":\"addrole\",\"role\":\"chief\"}",
+        "{\"ok\":\"addrole\",\"version\":8}",
+    ),
+    (
+        0,
+        1,
+        0,
+        "{\"cmd\":\"inherit\",\"junior\":\"driver\",\"senior\":\"chief\"}",
+        "{\"ok\":\"inherit\",\"version\":9}",
+    ),
+    (
+        0,
+        1,
+        0,
+        "{\"cmd\":\"dsd\",\"count\":2,\"name\":\"d1\",\"roles\":[\"driver\",\"judge\"]}",
+        "{\"ok\":\"dsd\",\"version\":10}",
+    ),
+    (
+        0,
+        1,
+        0,
+        "{\"cmd\":\"adduser\",\"user\":\"ann\"}",
+        "{\"ok\":\"adduser\",\"version\":11}",
+    ),
+    (
+        0,
+        1,
+        0,
+        "{\"cmd\":\"assign\",\"role\":\"chief\",\"user\":\"ann\"}",
+        "{\"ok\":\"assign\",\"version\":12}",
+    ),
+    (
+        1,
+        0,
+        0,
+        "{\"cmd\":\"login\",\"roles\":[\"chief\"],\"user\":\"ann\"}",
+        "{\"ok\":\"login\",\"session\":2,\"version\":13}",
+    ),
 ];
 
 /// Seat 1 has seen nothing when it gives its first command, but the slot is at version 9.
+const BEHIND_OR_AHEAD: &[Line] = &[
+    (
+        0,
+        1,
+        9,
+        LOAD_TWO_OUTPUTS,
+        "{\"ok\":\"load\",\"place\":1,\"version\":9}",
+    ),
+    (
+        0,
+        1,
+        8,
+        STEP,
+        "{\"code\":68,\"fault\":\"Behind\",\"found\":8,\"seen\":9}",
+    ),
+    (
+        0,
+        1,
+        10,
+        STEP,
+        "{\"code\":68,\"fault\":\"Behind\",\"found\":10,\"seen\":9}",
+    ),
+    (
+        0,
+        1,
+        9,
+        STEP,
+        "{\"instant\":1,\"ok\":\"step\",\"place\":2,\"version\":9}",
+    ),
+    (
+        1,
+        1,
+        8,
+        STEP,
+        "{\"code\":68,\"fault\":\"Behind\",\"found\":8,\"seen\":9}",
+    ),
+    (
+        1,
+        1,
+        9,
+        LOOK,
+        "{\"instant\":1,\"ok\":\"look\",\"signals\":[[\"O\",true],[\"P\",false]],\"version\":9}",
+    ),
+];
+
 #[test]
 fn a_version_behind_or_ahead(rt: HostRuntime) {
-    let world = follow(
+    follow(
         &rt,
         rt.alloc(),
-        &OPENING,
-        &[
-            ("0 1 at 9 load two_outputs", "load 1 9"),
-            ("0 1 at 8 step", "Behind 8 9"),
-            ("0 1 at 10 step", "Behind 10 9"),
-            ("0 1 at 9 step", "step 1 2 9"),
-            ("1 1 at 8 step", "Behind 8 9"),
-            ("1 1 at 9 look 1", "look 1 9 O+ P-"),
-        ],
+        OPENING,
+        BEHIND_OR_AHEAD,
+        (&[(0, 9), (1, 9), (2, 0)], 9),
     );
-    assert_eq!(rt; seen(&rt, &world, "0"), 9);
-    assert_eq!(rt; seen(&rt, &world, "1"), 9);
-    assert_eq!(rt; seen(&rt, &world, "2"), 0);
-    assert_eq!(rt; world.entries().len(), 9);
 }
 
 /// No session lives before version 5, and no load is granted there yet. O may be observed from
 /// version 8 on. Seat 0 has seen 9 through its grants.
+const AT_ITS_VERSION: &[Line] = &[
+    (
+        1,
+        1,
+        0,
+        LOAD_TWO_OUTPUTS,
+        "{\"code\":4,\"fault\":\"NoSession\"}",
+    ),
+    (
+        1,
+        1,
+        4,
+        LOAD_TWO_OUTPUTS,
+        "{\"code\":4,\"fault\":\"NoSession\"}",
+    ),
+    (
+        1,
+        1,
+        5,
+        LOAD_TWO_OUTPUTS,
+        "{\"code\":10,\"fault\":\"Permission\",\"object\":\"0\",\"op\":\"load\"}",
+    ),
+    (
+        1,
+        1,
+        6,
+        LOAD_TWO_OUTPUTS,
+        "{\"ok\":\"load\",\"place\":1,\"version\":6}",
+    ),
+    (
+        2,
+        1,
+        6,
+        STEP,
+        "{\"code\":10,\"fault\":\"Permission\",\"object\":\"0\",\"op\":\"step\"}",
+    ),
+    (
+        1,
+        1,
+        10,
+        STEP,
+        "{\"code\":68,\"fault\":\"Behind\",\"found\":10,\"seen\":9}",
+    ),
+    (
+        2,
+        1,
+        7,
+        STEP,
+        "{\"instant\":1,\"ok\":\"step\",\"place\":2,\"version\":7}",
+    ),
+    (
+        1,
+        1,
+        7,
+        LOOK,
+        "{\"instant\":1,\"ok\":\"look\",\"signals\":[],\"version\":7}",
+    ),
+    (
+        1,
+        1,
+        8,
+        LOOK,
+        "{\"instant\":1,\"ok\":\"look\",\"signals\":[[\"O\",true]],\"version\":8}",
+    ),
+    (
+        0,
+        1,
+        8,
+        LOOK,
+        "{\"code\":68,\"fault\":\"Behind\",\"found\":8,\"seen\":9}",
+    ),
+];
+
 #[test]
 fn each_command_at_its_version(rt: HostRuntime) {
-    let world = follow(
+    follow(
         &rt,
         rt.alloc(),
-        &OPENING,
-        &[
-            ("1 1 at 0 load two_outputs", "NoSession"),
-            ("1 1 at 4 load two_outputs", "NoSession"),
-            ("1 1 at 5 load two_outputs", "Permission load 0"),
-            ("1 1 at 6 load two_outputs", "load 1 6"),
-            ("2 1 at 6 step", "Permission step 0"),
-            ("1 1 at 10 step", "Behind 10 9"),
-            ("2 1 at 7 step", "step 1 2 7"),
-            ("1 1 at 7 look 1", "look 1 7"),
-            ("1 1 at 8 look 1", "look 1 8 O+"),
-            ("0 1 at 8 look 1", "Behind 8 9"),
-        ],
+        OPENING,
+        AT_ITS_VERSION,
+        (&[(1, 8), (2, 7)], 9),
     );
-    assert_eq!(rt; seen(&rt, &world, "1"), 8);
-    assert_eq!(rt; seen(&rt, &world, "2"), 7);
 }
 
 /// What was offered before the permission was revoked is in the next instant; nothing more may be
 /// offered.
+const REVOKED: &[Line] = &[
+    (0, 1, 0, GRANT_A, "{\"ok\":\"grant\",\"version\":10}"),
+    (0, 1, 0, GRANT_OFFER_A, "{\"ok\":\"grant\",\"version\":11}"),
+    (
+        1,
+        1,
+        11,
+        LOAD_ONE_INPUT,
+        "{\"ok\":\"load\",\"place\":1,\"version\":11}",
+    ),
+    (
+        1,
+        1,
+        11,
+        OFFER_A,
+        "{\"ok\":\"offer\",\"place\":2,\"version\":11}",
+    ),
+    (
+        0,
+        1,
+        0,
+        "{\"cmd\":\"revoke\",\"object\":\"0.A\",\"op\":\"offer\",\"role\":\"root\"}",
+        "{\"ok\":\"revoke\",\"version\":12}",
+    ),
+    (
+        1,
+        1,
+        12,
+        STEP,
+        "{\"instant\":1,\"ok\":\"step\",\"place\":3,\"version\":12}",
+    ),
+    (
+        1,
+        1,
+        12,
+        LOOK,
+        "{\"instant\":1,\"ok\":\"look\",\"signals\":[[\"A\",true]],\"version\":12}",
+    ),
+    (
+        1,
+        1,
+        12,
+        OFFER_A,
+        "{\"code\":10,\"fault\":\"Permission\",\"object\":\"0.A\",\"op\":\"offer\"}",
+    ),
+    (
+        1,
+        1,
+        12,
+        STEP,
+        "{\"instant\":2,\"ok\":\"step\",\"place\":4,\"version\":12}",
+    ),
+    (
+        1,
+        1,
+        12,
+        "{\"cmd\":\"look\",\"instant\":2,\"slot\":0}",
+        "{\"instant\":2,\"ok\":\"look\",\"signals\":[[\"A\",false]],\"version\":12}",
+    ),
+];
+
 #[test]
 fn a_revocation_leaves_what_was_offered(rt: HostRuntime) {
-    let _world = follow(
-        &rt,
-        rt.alloc(),
-        &OPENING,
-        &[
-            ("0 1 grant root observe 0.A", "grant 10"),
-            ("0 1 grant root offer 0.A", "grant 11"),
-            ("1 1 at 11 load one_input", "load 1 11"),
-            ("1 1 at 11 offer A", "offer 2 11"),
-            ("0 1 revoke root offer 0.A", "revoke 12"),
-            ("1 1 at 12 step", "step 1 3 12"),
-            ("1 1 at 12 look 1", "look 1 12 A+"),
-            ("1 1 at 12 offer A", "Permission offer 0.A"),
-            ("1 1 at 12 step", "step 2 4 12"),
-            ("1 1 at 12 look 2", "look 2 12 A-"),
-        ],
-    );
+    follow(&rt, rt.alloc(), OPENING, REVOKED, (&[(0, 12), (1, 12)], 12));
 }
+
+/// What a discard takes enters no instant, and neither does what an unload takes.
+const TAKEN: &[Line] = &[
+    (0, 1, 0, GRANT_A, "{\"ok\":\"grant\",\"version\":10}"),
+    (0, 1, 0, GRANT_OFFER_A, "{\"ok\":\"grant\",\"version\":11}"),
+    (
+        1,
+        1,
+        11,
+        LOAD_ONE_INPUT,
+        "{\"ok\":\"load\",\"place\":1,\"version\":11}",
+    ),
+    (
+        1,
+        1,
+        11,
+        OFFER_A,
+        "{\"ok\":\"offer\",\"place\":2,\"version\":11}",
+    ),
+    (
+        2,
+        1,
+        11,
+        DISCARD,
+        "{\"ok\":\"discard\",\"place\":3,\"version\":11}",
+    ),
+    (
+        1,
+        1,
+        11,
+        STEP,
+        "{\"instant\":1,\"ok\":\"step\",\"place\":4,\"version\":11}",
+    ),
+    (
+        1,
+        1,
+        11,
+        LOOK,
+        "{\"instant\":1,\"ok\":\"look\",\"signals\":[[\"A\",false]],\"version\":11}",
+    ),
+    (
+        1,
+        1,
+        11,
+        OFFER_A,
+        "{\"ok\":\"offer\",\"place\":5,\"version\":11}",
+    ),
+    (
+        2,
+        1,
+        11,
+        UNLOAD,
+        "{\"ok\":\"unload\",\"place\":6,\"version\":11}",
+    ),
+    (1, 1, 11, STEP, "{\"code\":62,\"fault\":\"Empty\"}"),
+    (
+        1,
+        1,
+        11,
+        LOAD_ONE_INPUT,
+        "{\"ok\":\"load\",\"place\":7,\"version\":11}",
+    ),
+    (
+        1,
+        1,
+        11,
+        STEP,
+        "{\"instant\":1,\"ok\":\"step\",\"place\":8,\"version\":11}",
+    ),
+    (
+        1,
+        1,
+        11,
+        LOOK,
+        "{\"instant\":1,\"ok\":\"look\",\"signals\":[[\"A\",false]],\"version\":11}",
+    ),
+];
 
 #[test]
 fn a_discard_and_an_unload_take_what_was_offered(rt: HostRuntime) {
-    let _world = follow(
-        &rt,
-        rt.alloc(),
-        &OPENING,
-        &[
-            ("0 1 grant root observe 0.A", "grant 10"),
-            ("0 1 grant root offer 0.A", "grant 11"),
-            ("1 1 at 11 load one_input", "load 1 11"),
-            ("1 1 at 11 offer A", "offer 2 11"),
-            ("2 1 at 11 discard", "discard 3 11"),
-            ("1 1 at 11 step", "step 1 4 11"),
-            ("1 1 at 11 look 1", "look 1 11 A-"),
-            ("1 1 at 11 offer A", "offer 5 11"),
-            ("2 1 at 11 unload", "unload 6 11"),
-            ("1 1 at 11 step", "Empty"),
-            ("1 1 at 11 load one_input", "load 7 11"),
-            ("1 1 at 11 step", "step 1 8 11"),
-            ("1 1 at 11 look 1", "look 1 11 A-"),
-        ],
-    );
+    follow(&rt, rt.alloc(), OPENING, TAKEN, (&[(1, 11), (2, 11)], 11));
 }
 
 /// An order of roles that would give a session both of the separated roles is refused, and so adds
 /// no entry.
+const KEPT_APART: &[Line] = &[
+    (
+        0,
+        1,
+        0,
+        "{\"cmd\":\"inherit\",\"junior\":\"judge\",\"senior\":\"chief\"}",
+        "{\"code\":20,\"fault\":\"DsdViolated\",\"session\":2,\"set\":\"d1\"}",
+    ),
+    (
+        0,
+        1,
+        0,
+        "{\"cmd\":\"disinherit\",\"junior\":\"judge\",\"senior\":\"chief\"}",
+        "{\"code\":34,\"fault\":\"NoEdge\"}",
+    ),
+];
+
 #[test]
 fn duties_are_kept_apart_on_two_seats(rt: HostRuntime) {
-    let world = follow(
-        &rt,
-        rt.alloc(),
-        &CHIEF,
-        &[
-            ("0 1 inherit chief judge", "DsdViolated d1 2"),
-            ("0 1 disinherit chief judge", "NoEdge"),
-        ],
-    );
-    assert_eq!(rt; world.entries().len(), 13);
-    assert_eq!(rt; seen(&rt, &world, "0"), 13);
+    follow(&rt, rt.alloc(), CHIEF, KEPT_APART, (&[(0, 13)], 13));
 }
 
 /// At version 13 the session still lives.
+const ENDED: &[Line] = &[
+    (
+        0,
+        1,
+        0,
+        "{\"cmd\":\"deassign\",\"role\":\"chief\",\"user\":\"ann\"}",
+        "{\"ok\":\"deassign\",\"version\":14}",
+    ),
+    (
+        2,
+        2,
+        13,
+        STEP,
+        "{\"code\":10,\"fault\":\"Permission\",\"object\":\"0\",\"op\":\"step\"}",
+    ),
+    (1, 2, 14, STEP, "{\"code\":4,\"fault\":\"NoSession\"}"),
+    (1, 2, 0, LOGOUT, "{\"code\":4,\"fault\":\"NoSession\"}"),
+    (
+        1,
+        0,
+        0,
+        "{\"cmd\":\"login\",\"roles\":[],\"user\":\"ann\"}",
+        "{\"ok\":\"login\",\"session\":3,\"version\":15}",
+    ),
+];
+
 #[test]
 fn a_session_is_ended(rt: HostRuntime) {
-    let world = follow(
-        &rt,
-        rt.alloc(),
-        &CHIEF,
-        &[
-            ("0 1 deassign ann chief", "deassign 14"),
-            ("2 2 at 13 step", "Permission step 0"),
-            ("1 2 at 14 step", "NoSession"),
-            ("1 2 logout", "NoSession"),
-            ("1 - login ann", "login 3 15"),
-        ],
-    );
-    assert_eq!(rt; seen(&rt, &world, "1"), 15);
+    follow(&rt, rt.alloc(), CHIEF, ENDED, (&[(1, 15)], 15));
 }

@@ -1,81 +1,58 @@
-//! Stories of a run: who gives what by which seat, and what is told, as text, so that a story is a
-//! table.
-use crate::words::{admin_command, is_told, number, session, slot_command, words_of};
+//! Stories of a run: who gives what by which seat, and what is told, so that a story is a table.
+use crate::lines::{asked, expect_told, giver};
 use access_core::reply::Reply;
 use access_events::event::{Event, SeatNumber};
 use access_events::run::{World, run_events};
+use rbac_policy::commands::SessionId;
 use std::alloc::Global;
 use std::process::Abort;
+use wire_lines::request::Request;
 
-/// A line of a story: an event, and what its reply tells.
-///
-/// An event is the seat, the session or `-`, and a policy command; or the seat, the session, `at`,
-/// the version at which it is judged, and a command on slot 0.
-pub type Line = (&'static str, &'static str);
+/// An event, and what its reply tells: the seat, the session or 0, the version at which a command
+/// on a slot is judged, and the command, both as lines of the protocol. A policy command has
+/// version 0 here: it is judged by the whole list.
+pub type Line = (u8, u16, u64, &'static str, &'static str);
 
-/// O in the first instant, P in the second.
-const TWO_OUTPUTS: &str = "module M: output O, P; emit O; pause; emit P end module";
+/// What a story leaves: the newest version that each seat of a table has seen, and how many policy
+/// entries there are.
+pub type Left = (&'static [(u8, u64)], usize);
 
-/// An input, and nothing to do.
-const ONE_INPUT: &str = "module M: input A; pause end module";
-
-fn seat(rt: &impl Abort, text: &str) -> SeatNumber {
-    let number = text.parse::<u8>().ok().expect(rt, "a number");
+fn seat(rt: &impl Abort, number: u8) -> SeatNumber {
     SeatNumber::new(number).expect(rt, "a seat")
 }
 
-/// The text that these words load, with a module M.
-fn text_of(words: &[&str]) -> &'static str {
-    match words {
-        ["load", "two_outputs"] => TWO_OUTPUTS,
-        ["load", "one_input"] => ONE_INPUT,
-        _ => "",
-    }
-}
-
-/// The event of these words.
-fn event(rt: &impl Abort, alloc: Global, words: &[&str]) -> Event {
-    match words {
-        [by, giver, "at", version, command @ ..] => Event::OnSlot {
-            seat: seat(rt, by),
-            version: number(rt, version),
-            slot: 0,
-            session: session(rt, giver),
-            command: slot_command(rt, alloc, command, text_of(command)),
+/// The event of a line.
+fn event(rt: &impl Abort, alloc: Global, (by, session, version, line, _): Line) -> Event {
+    let seat = seat(rt, by);
+    match asked(rt, alloc, line) {
+        Request::Policy(command) => Event::Admin {
+            seat,
+            session: giver(session),
+            command,
         },
-        [by, "-", command @ ..] => Event::Admin {
-            seat: seat(rt, by),
-            session: None,
-            command: admin_command(rt, alloc, command),
+        Request::Slot { slot, command } => Event::OnSlot {
+            seat,
+            version,
+            slot,
+            session: SessionId::new(session),
+            command,
         },
-        [by, giver, command @ ..] => Event::Admin {
-            seat: seat(rt, by),
-            session: Some(session(rt, giver)),
-            command: admin_command(rt, alloc, command),
-        },
-        _ => None.expect(rt, "an event"),
+        Request::Check { .. } => None.expect(rt, "a command"),
     }
 }
 
 /// Adds the events of the lines.
 fn add_events(rt: &impl Abort, alloc: Global, events: &mut Vec<Event>, lines: &[Line]) {
-    for (text, _) in lines {
-        let words = words_of(rt, alloc, text);
-        events
-            .push(event(rt, alloc, words.as_slice()))
-            .expect(rt, "room");
+    for line in lines {
+        events.push(event(rt, alloc, *line)).expect(rt, "room");
     }
 }
 
-/// Each of the replies, from this place on, is told as its line says.
+/// Each of the replies is told as its line says.
 fn compare(rt: &impl Abort, alloc: Global, replies: &[Reply], lines: &[Line]) {
     assert_eq!(rt; replies.len(), lines.len());
-    for (reply, (text, wanted)) in replies.iter().zip(lines) {
-        let words = words_of(rt, alloc, wanted);
-        assert!(rt;
-            is_told(rt, reply, words.as_slice()),
-            "{text}: not {wanted}"
-        );
+    for (reply, (_, _, _, line, wanted)) in replies.iter().zip(lines) {
+        expect_told(rt, alloc, line, reply, wanted);
     }
 }
 
@@ -88,22 +65,30 @@ fn run(rt: &impl Abort, alloc: Global, events: &[Event]) -> World {
     }
 }
 
-/// The run of the opening lines and then of the story; each event is told as its line says.
-pub fn follow(rt: &impl Abort, alloc: Global, opening: &[Line], story: &[Line]) -> World {
-    let mut events = Vec::new(alloc);
-    add_events(rt, alloc, &mut events, opening);
-    add_events(rt, alloc, &mut events, story);
-    let world = run(rt, alloc, &events);
+/// The replies of the world are those of the opening lines and then of the story.
+fn compare_all(rt: &impl Abort, alloc: Global, world: &World, opening: &[Line], story: &[Line]) {
     let (first, rest) = world
         .replies()
         .split_at_checked(opening.len())
         .expect(rt, "a reply to each event");
     compare(rt, alloc, first, opening);
     compare(rt, alloc, rest, story);
-    world
 }
 
-/// What the seat of this number has seen in the end.
-pub fn seen(rt: &impl Abort, world: &World, by: &str) -> u64 {
-    world.seen(seat(rt, by))
+/// The world is left like this.
+fn compare_left(rt: &impl Abort, world: &World, (seen, entries): Left) {
+    for (by, version) in seen {
+        assert_eq!(rt; world.seen(seat(rt, *by)), *version, "seat {by}");
+    }
+    assert_eq!(rt; world.entries().len(), entries);
+}
+
+/// The run of the opening lines and then of the story; each event is told as its line says.
+pub fn follow(rt: &impl Abort, alloc: Global, opening: &[Line], story: &[Line], left: Left) {
+    let mut events = Vec::new(alloc);
+    add_events(rt, alloc, &mut events, opening);
+    add_events(rt, alloc, &mut events, story);
+    let world = run(rt, alloc, &events);
+    compare_all(rt, alloc, &world, opening, story);
+    compare_left(rt, &world, left);
 }

@@ -1,95 +1,59 @@
 //! What a table of slots answers.
-ghost use Rattle.std.specs.Prelude.{◌≡◌};
-
-use crate::table::server::{Server, ask, begin, enter, give, load, open, revoke, root};
-use access_core::command::SlotCommand;
-use access_core::refusal::Refusal;
-use access_core::reply::Reply;
-use policy_board::history::{BoardName, Fresh};
-use rbac_admin::refusals::Refusal as PolicyRefusal;
-use rbac_policy::objects::{Operation, SlotNumber};
-use std::alloc::Global;
+use crate::lines::{GRANT_LOAD, GRANT_STEP, LOGIN, STEP};
+use crate::table::server::{Line, entries, play};
+use policy_board::history::Fresh;
 use std::marker::Brand;
-use std::process::Abort;
-use std::sync::Wait;
-use std::test::Fail;
+
+const STEP_16: &str = "{\"cmd\":\"step\",\"slot\":16}";
+
+/// What is behind the version 9 that the seat has seen.
+const BEHIND: &str = "{\"code\":68,\"fault\":\"Behind\",\"found\":7,\"seen\":9}";
+
+/// What is denied to root.
+const DENIED: &str = "{\"code\":10,\"fault\":\"Permission\",\"object\":\"0\",\"op\":\"step\"}";
 
 /// Refusals on the table.
-fn refuse<B: BoardName, R: Wait + Abort>(rt: &R, alloc: Global, fresh: Fresh) -> usize
-    requires { fresh.seen.book ≡ B.book }
-{
-    let Server {
-        board,
-        mut seats,
-        table,
-    } = open::<B, R>(rt, alloc, fresh, 2);
-    let mut seat = seats.pop().expect(rt, "a seat");
-    let mut other = seats.pop().expect(rt, "a seat");
-    let slot = SlotNumber::new(0).expect(rt, "a slot");
-    let early = ask(rt, &board, &table, &mut other, 16, SlotCommand::Step);
-    assert!(rt;
-        matches!(
-            early,
-            Reply::Refused(Refusal::Policy(PolicyRefusal::NoSession))
-        )
-    );
-    enter(rt, alloc, &board, &mut seat);
-    begin(rt, alloc, &board, &table, &mut seat, 0);
-    let none = ask(rt, &board, &table, &mut seat, 16, SlotCommand::Step);
-    assert!(rt; matches!(none, Reply::Refused(Refusal::NoSlot)));
-    let denied = ask(rt, &board, &table, &mut seat, 15, load(rt, alloc));
-    assert!(rt;
-        matches!(
-            denied,
-            Reply::Refused(Refusal::Policy(PolicyRefusal::Permission { .. }))
-        )
-    );
-    other.saw(9);
-    let behind = ask(rt, &board, &table, &mut other, 0, SlotCommand::Step);
-    assert!(rt;
-        matches!(
-            behind,
-            Reply::Refused(Refusal::Behind { found: 7, seen: 9 })
-        )
-    );
-    let behind = ask(rt, &board, &table, &mut other, 16, SlotCommand::Step);
-    assert!(rt;
-        matches!(
-            behind,
-            Reply::Refused(Refusal::Behind { found: 7, seen: 9 })
-        )
-    );
-    let stepped = ask(rt, &board, &table, &mut seat, 0, SlotCommand::Step);
-    assert!(rt;
-        matches!(
-            stepped,
-            Reply::Step {
-                instant: 1,
-                place: 2,
-                version: 7
-            }
-        )
-    );
-    give(
-        rt,
-        &board,
-        &mut seat,
-        Some(root()),
-        revoke(Operation::Step, slot),
-    );
-    let denied = ask(rt, &board, &table, &mut seat, 0, SlotCommand::Step);
-    assert!(rt;
-        matches!(
-            denied,
-            Reply::Refused(Refusal::Policy(PolicyRefusal::Permission { .. }))
-        )
-    );
-    assert_eq!(rt; seat.seen(), 8);
-    board.close().journal(rt).len()
-}
+const STORY: &[Line] = &[
+    Line::Says(0, STEP_16, "{\"code\":4,\"fault\":\"NoSession\"}", 0),
+    Line::Says(1, LOGIN, "5", 1),
+    Line::Says(1, GRANT_LOAD, "6", 2),
+    Line::Says(1, GRANT_STEP, "7", 3),
+    Line::Says(
+        1,
+        "{\"cmd\":\"load\",\"main\":\"M\",\"slot\":0,\"text\":\"module M: output O; \
+        emit O end module\"}",
+        "{\"ok\":\"load\",\"place\":1,\"version\":7}",
+        4,
+    ),
+    Line::Says(1, STEP_16, "{\"code\":60,\"fault\":\"NoSlot\"}", 4),
+    Line::Says(
+        1,
+        "{\"cmd\":\"load\",\"main\":\"M\",\"slot\":15,\"text\":\"module M: output O; \
+        emit O end module\"}",
+        "{\"code\":10,\"fault\":\"Permission\",\"object\":\"15\",\"op\":\"load\"}",
+        4,
+    ),
+    Line::Saw(0, 9),
+    Line::Says(0, STEP, BEHIND, 0),
+    Line::Says(0, STEP_16, BEHIND, 0),
+    Line::Says(
+        1,
+        STEP,
+        "{\"instant\":1,\"ok\":\"step\",\"place\":2,\"version\":7}",
+        5,
+    ),
+    Line::Says(
+        1,
+        "{\"cmd\":\"revoke\",\"object\":\"0\",\"op\":\"step\",\"role\":\"root\"}",
+        "8",
+        6,
+    ),
+    Line::Says(1, STEP, DENIED, 6),
+    Line::HasSeen(1, 8),
+];
 
 #[test]
-fn refusals_on_the_table(rt: HostRuntime) -> Result<(), Fail> {
-    assert_eq!(rt; refuse::<Brand, _>(&rt, rt.alloc(), Fresh::new()), 8);
-    Ok(())
+fn refusals_on_the_table(rt: HostRuntime) {
+    let left = play::<Brand, _>(&rt, rt.alloc(), Fresh::new(), STORY, false);
+    assert_eq!(rt; entries(&left), Ok(8));
 }

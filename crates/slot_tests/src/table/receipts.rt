@@ -1,114 +1,80 @@
 //! Which receipts commands on slots leave.
-ghost use Rattle.std.specs.Prelude.{◌≡◌};
-
-use crate::table::server::{Server, ask, begin, enter, give, offering, open, root};
-use access_core::command::SlotCommand;
-use access_core::refusal::Refusal;
-use access_core::reply::Reply;
-use est_relations::refusal::Refusal as PendingRefusal;
-use est_text::identifier::Identifier;
-use policy_board::history::{BoardName, Fresh};
-use policy_board::seat::Seat;
-use rbac_admin::refusals::Refusal as PolicyRefusal;
-use reactor_core::refusal::ModuleRefusal;
-use seat_receipts::receipt::{Asked, Kept, SlotReceipt};
-use std::alloc::Global;
+use crate::lines::LOGIN;
+use crate::table::server::{Line, entries, play};
+use policy_board::history::Fresh;
 use std::marker::Brand;
-use std::process::Abort;
-use std::sync::Wait;
-use std::test::Fail;
-
-/// The receipt that the seat keeps last, which is of a slot command; the seat keeps `count`
-/// receipts.
-fn last<B: BoardName, R: Abort>(rt: &R, seat: &Seat<B>, count: usize) -> SlotReceipt {
-    let kept = seat.kept();
-    assert_eq!(rt; kept.len(), count);
-    match kept.last() {
-        Some(Kept::Slot(receipt)) => Some(*receipt),
-        Some(Kept::Admin { .. }) | None => None,
-    }
-    .expect(rt, "a slot command")
-}
 
 /// One seat keeps a receipt of each command that adds an entry, and of no other.
-fn keep<B: BoardName, R: Wait + Abort>(rt: &R, alloc: Global, fresh: Fresh) -> usize
-    requires { fresh.seen.book ≡ B.book }
-{
-    let Server {
-        board,
-        mut seats,
-        table,
-    } = open::<B, R>(rt, alloc, fresh, 1);
-    let mut seat = seats.pop().expect(rt, "a seat");
-    let signal = Identifier::from_text("I").expect(rt, "a name");
-    enter(rt, alloc, &board, &mut seat);
-    begin(rt, alloc, &board, &table, &mut seat, 3);
-    let loaded = last(rt, &seat, 4);
-    assert!(rt; matches!(loaded.asked, Asked::Load));
-    assert!(rt; loaded.slot == 3 && loaded.place == 1 && loaded.version == 7);
-    assert!(rt; loaded.session == 1 && loaded.number == 1);
-    give(rt, &board, &mut seat, Some(root()), offering(3, signal, rt));
-    let offer = SlotCommand::Offer { signal };
-    let reply = ask(rt, &board, &table, &mut seat, 3, offer);
-    assert!(rt;
-        matches!(
-            reply,
-            Reply::Offer {
-                place: 2,
-                version: 8
-            }
-        )
-    );
-    let offered = last(rt, &seat, 6);
-    assert!(rt; matches!(&offered.asked, Asked::Offer(name) if *name == signal));
-    assert!(rt; offered.place == 2 && offered.version == 8 && offered.number == 2);
-    let again = SlotCommand::Offer { signal };
-    let reply = ask(rt, &board, &table, &mut seat, 3, again);
-    assert!(rt;
-        matches!(
-            reply,
-            Reply::Refused(Refusal::Module(ModuleRefusal::Pending(PendingRefusal::AlreadyOffered)))
-        )
-    );
-    assert_eq!(rt; seat.kept().len(), 6);
-    let reply = ask(rt, &board, &table, &mut seat, 3, SlotCommand::Step);
-    assert!(rt;
-        matches!(
-            reply,
-            Reply::Step {
-                instant: 1,
-                place: 3,
-                version: 8
-            }
-        )
-    );
-    let stepped = last(rt, &seat, 7);
-    assert!(rt; matches!(stepped.asked, Asked::Step));
-    assert!(rt; stepped.place == 3 && stepped.version == 8 && stepped.number == 3);
-    let reply = ask(
-        rt,
-        &board,
-        &table,
-        &mut seat,
+const STORY: &[Line] = &[
+    Line::Says(0, LOGIN, "5", 1),
+    Line::Says(
+        0,
+        "{\"cmd\":\"grant\",\"object\":\"3\",\"op\":\"load\",\"role\":\"root\"}",
+        "6",
+        2,
+    ),
+    Line::Says(
+        0,
+        "{\"cmd\":\"grant\",\"object\":\"3\",\"op\":\"step\",\"role\":\"root\"}",
+        "7",
         3,
-        SlotCommand::Look { instant: 1 },
-    );
-    assert!(rt; matches!(reply, Reply::Look { instant: 1, .. }));
-    let reply = ask(rt, &board, &table, &mut seat, 2, SlotCommand::Step);
-    assert!(rt;
-        matches!(
-            reply,
-            Reply::Refused(Refusal::Policy(PolicyRefusal::Permission { .. }))
-        )
-    );
-    let reply = ask(rt, &board, &table, &mut seat, 16, SlotCommand::Step);
-    assert!(rt; matches!(reply, Reply::Refused(Refusal::NoSlot)));
-    assert_eq!(rt; seat.kept().len(), 7);
-    board.close().journal(rt).len()
-}
+    ),
+    Line::Says(
+        0,
+        "{\"cmd\":\"load\",\"main\":\"M\",\"slot\":3,\"text\":\"module M: input I; \
+        pause end module\"}",
+        "{\"ok\":\"load\",\"place\":1,\"version\":7}",
+        4,
+    ),
+    Line::Says(
+        0,
+        "{\"cmd\":\"grant\",\"object\":\"3.I\",\"op\":\"offer\",\"role\":\"root\"}",
+        "8",
+        5,
+    ),
+    Line::Says(
+        0,
+        "{\"cmd\":\"offer\",\"signal\":\"I\",\"slot\":3}",
+        "{\"ok\":\"offer\",\"place\":2,\"version\":8}",
+        6,
+    ),
+    Line::Says(
+        0,
+        "{\"cmd\":\"offer\",\"signal\":\"I\",\"slot\":3}",
+        "{\"code\":65,\"fault\":\"AlreadyOffered\"}",
+        6,
+    ),
+    Line::Says(
+        0,
+        "{\"cmd\":\"step\",\"slot\":3}",
+        "{\"instant\":1,\"ok\":\"step\",\"place\":3,\"version\":8}",
+        7,
+    ),
+    Line::Says(
+        0,
+        "{\"cmd\":\"look\",\"instant\":1,\"slot\":3}",
+        "{\"instant\":1,\"ok\":\"look\",\"signals\":[],\"version\":8}",
+        7,
+    ),
+    Line::Says(
+        0,
+        "{\"cmd\":\"step\",\"slot\":2}",
+        "{\"code\":10,\"fault\":\"Permission\",\"object\":\"2\",\"op\":\"step\"}",
+        7,
+    ),
+    Line::Says(
+        0,
+        "{\"cmd\":\"step\",\"slot\":16}",
+        "{\"code\":60,\"fault\":\"NoSlot\"}",
+        7,
+    ),
+    Line::Keeps(0, 3, ("load", "", [3, 1, 7, 1])),
+    Line::Keeps(0, 5, ("offer", "I", [3, 2, 8, 2])),
+    Line::Keeps(0, 6, ("step", "", [3, 3, 8, 3])),
+];
 
 #[test]
-fn receipts_of_slot_commands(rt: HostRuntime) -> Result<(), Fail> {
-    assert_eq!(rt; keep::<Brand, _>(&rt, rt.alloc(), Fresh::new()), 8);
-    Ok(())
+fn receipts_of_slot_commands(rt: HostRuntime) {
+    let left = play::<Brand, _>(&rt, rt.alloc(), Fresh::new(), STORY, false);
+    assert_eq!(rt; entries(&left), Ok(8));
 }

@@ -1,85 +1,50 @@
-//! A board with its seats, and its slots.
+//! A board with its seats and its slots, and stories of it.
 ghost use Rattle.std.specs.Prelude.{◌≡◌, ◌≤◌};
 ghost use Rattle.seat_receipts.specs.declared.receipt_list.TheConstants.{SEATS};
 
-use access_core::command::SlotCommand;
-use access_core::reply::Reply;
-use est_text::identifier::Identifier;
+use crate::lines::{asked, expect_told};
 use policy_board::board::Board;
 use policy_board::history::{BoardName, Fresh};
 use policy_board::opening::Opened;
 use policy_board::seat::Seat;
 use rbac_policy::commands::{AdminCommand, SessionId};
-use rbac_policy::names::{Name, RoleNames};
-use rbac_policy::objects::{Object, Operation, SlotNumber};
-use reactor_core::text::Text;
+use seat_receipts::mismatch::Mismatch;
+use seat_receipts::receipt::{Asked, Kept};
 use seat_receipts::receipt_list::SEATS;
+use slot_table::closing::Histories;
 use slot_table::table::SlotTable;
-use std::alloc::{AllocError, Global};
+use std::alloc::Global;
 use std::process::Abort;
 use std::sync::Wait;
+use wire_lines::request::Request;
 
-/// An output in the first instant, if the input is there.
-const ONCE: &str = "module M: input I; output O; present I then emit O end end module";
+/// A line of a story. The first number is that of the seat.
+#[derive(Clone, Copy)]
+pub(crate) enum Line {
+    /// Root says this, and is told this; then the seat keeps so many receipts. An accepted policy
+    /// command is told the version with it.
+    Says(usize, &'static str, &'static str, usize),
+    /// The seat notes that it has seen this version.
+    Saw(usize, u64),
+    /// The greatest version that the seat has seen is this.
+    HasSeen(usize, u64),
+    /// The receipt at this place, counted from 0, is one of a slot command of session 1.
+    Keeps(usize, usize, Told),
+}
+
+/// What a receipt tells: what was asked for, and the signal of an offer; the slot, the place, the
+/// version and the number.
+pub(crate) type Told = (&'static str, &'static str, [u64; 4]);
 
 /// A board with its seats, and the slots of its readers.
-pub(crate) struct Server<B: BoardName> {
-    pub board: Board<B>,
-    pub seats: Vec<Seat<B>>,
-    pub table: SlotTable<B>,
-}
-
-/// The session that root logs in with.
-pub(crate) fn root() -> SessionId {
-    SessionId::new(1)
-}
-
-/// A login of root, in its role.
-fn login(alloc: Global) -> Result<AdminCommand, AllocError> {
-    let roles = RoleNames::from_vec(vec![in alloc; Name::root()]?)?;
-    Ok(AdminCommand::CreateSession {
-        user: Name::root(),
-        roles,
-    })
-}
-
-/// The permission for the operation on the slot, given to role root.
-fn grant(operation: Operation, slot: SlotNumber) -> AdminCommand {
-    AdminCommand::GrantPermission {
-        role: Name::root(),
-        operation,
-        object: Object::Slot(slot),
-    }
-}
-
-/// The permission to offer the signal to the module of the slot, given to role root.
-pub(crate) fn offering<R: Abort>(slot: u8, signal: Identifier, rt: &R) -> AdminCommand {
-    AdminCommand::GrantPermission {
-        role: Name::root(),
-        operation: Operation::Offer,
-        object: Object::Signal(SlotNumber::new(slot).expect(rt, "a slot"), signal),
-    }
-}
-
-/// The permission for the operation on the slot, taken from role root.
-pub(crate) fn revoke(operation: Operation, slot: SlotNumber) -> AdminCommand {
-    AdminCommand::RevokePermission {
-        role: Name::root(),
-        operation,
-        object: Object::Slot(slot),
-    }
-}
-
-/// The module of the text `ONCE`.
-pub(crate) fn load<R: Abort>(rt: &R, alloc: Global) -> SlotCommand {
-    SlotCommand::Load {
-        main: Identifier::from_text("M").expect(rt, "a name"),
-        text: Text::copied(alloc, ONCE).ok().expect(rt, "room"),
-    }
+struct Server<B: BoardName> {
+    board: Board<B>,
+    seats: Vec<Seat<B>>,
+    table: SlotTable<B>,
 }
 
 /// A board with n seats, and its slots.
-pub(crate) fn open<B: BoardName, R: Wait + Abort>(
+fn open<B: BoardName, R: Wait + Abort>(
     rt: &R,
     alloc: Global,
     fresh: Fresh,
@@ -102,63 +67,127 @@ pub(crate) fn open<B: BoardName, R: Wait + Abort>(
     }
 }
 
-/// A policy command of root, which is accepted. Answers the version with it.
-pub(crate) fn give<B: BoardName, R: Wait + Abort>(
-    rt: &R,
-    board: &Board<B>,
-    seat: &mut Seat<B>,
-    session: Option<SessionId>,
-    command: AdminCommand,
-) -> u64 {
-    board
-        .admin(rt, seat, session, command)
-        .ok()
-        .expect(rt, "a receipt")
-        .version()
+/// The session that root logs in with.
+fn root() -> SessionId {
+    SessionId::new(1)
 }
 
-/// Logs root in, and grants it loads and steps of the slot.
-pub(crate) fn enter<B: BoardName, R: Wait + Abort>(
+/// A policy command of root is accepted, with this version.
+fn change<B: BoardName, R: Wait + Abort>(
     rt: &R,
     alloc: Global,
     board: &Board<B>,
     seat: &mut Seat<B>,
+    command: AdminCommand,
+    version: &str,
 ) {
-    let command = login(alloc).ok().expect(rt, "room");
-    assert_eq!(rt; give(rt, board, seat, None, command), 5);
+    let session = match &command {
+        AdminCommand::CreateSession { .. } => None,
+        _ => Some(root()),
+    };
+    let receipt = board.admin(rt, seat, session, command);
+    let receipt = receipt.ok().expect(rt, "a receipt");
+    let found = format!(in alloc; "{}", receipt.version()).expect(rt, "room");
+    assert_eq!(rt; found.as_str(), version);
 }
 
-/// Grants root loads and steps of the slot, and loads the module there: the first entry of the
-/// slot.
-pub(crate) fn begin<B: BoardName, R: Wait + Abort>(
+/// A line of root is told this, without its LF.
+fn say<B: BoardName, R: Wait + Abort>(
     rt: &R,
     alloc: Global,
     board: &Board<B>,
     table: &SlotTable<B>,
     seat: &mut Seat<B>,
-    number: u8,
+    line: &str,
+    wanted: &str,
 ) {
-    let slot = SlotNumber::new(number).expect(rt, "a slot");
-    give(rt, board, seat, Some(root()), grant(Operation::Load, slot));
-    let version = give(rt, board, seat, Some(root()), grant(Operation::Step, slot));
-    let reply = table.command(rt, board, seat, root(), u64::from(number), load(rt, alloc));
-    match reply {
-        Reply::Load {
-            place: 1,
-            version: found,
-        } => assert_eq!(rt; found, version),
-        _ => assert!(rt; false),
+    match asked(rt, alloc, line) {
+        Request::Policy(command) => change(rt, alloc, board, seat, command, wanted),
+        Request::Slot { slot, command } => {
+            let reply = table.command(rt, board, seat, root(), slot, command);
+            expect_told(rt, alloc, line, &reply, wanted);
+        }
+        Request::Check { .. } => assert!(rt; false, "a check"),
     }
 }
 
-/// What is answered to root's command on the slot.
-pub(crate) fn ask<B: BoardName, R: Wait>(
+/// What was asked for, and the signal of an offer.
+fn name_of(asked: &Asked) -> (&'static str, &str) {
+    match asked {
+        Asked::Load => ("load", ""),
+        Asked::Offer(signal) => ("offer", signal.as_str()),
+        Asked::Discard => ("discard", ""),
+        Asked::Step => ("step", ""),
+        Asked::Unload => ("unload", ""),
+    }
+}
+
+/// The receipt is one of a slot command of session 1, and tells this.
+fn expect_kept(rt: &impl Abort, kept: Option<&Kept>, (word, signal, numbers): Told) {
+    let receipt = match kept {
+        Some(Kept::Slot(receipt)) => Some(receipt),
+        Some(Kept::Admin { .. }) | None => None,
+    }
+    .expect(rt, "a slot command");
+    let told = [receipt.slot, receipt.place, receipt.version, receipt.number];
+    assert_eq!(rt; name_of(&receipt.asked), (word, signal));
+    assert_eq!(rt; told, numbers);
+    assert_eq!(rt; receipt.session, 1);
+}
+
+/// The line of the story comes true.
+fn follow<B: BoardName, R: Wait + Abort>(
     rt: &R,
+    alloc: Global,
     board: &Board<B>,
     table: &SlotTable<B>,
-    seat: &mut Seat<B>,
-    slot: u64,
-    command: SlotCommand,
-) -> Reply {
-    table.command(rt, board, seat, root(), slot, command)
+    seats: &mut [Seat<B>],
+    line: Line,
+) {
+    let (Line::Says(by, ..) | Line::Saw(by, _) | Line::HasSeen(by, _) | Line::Keeps(by, ..)) = line;
+    let seat = seats.get_mut(by).expect(rt, "a seat");
+    match line {
+        Line::Says(_, text, wanted, kept) => {
+            say(rt, alloc, board, table, seat, text, wanted);
+            assert_eq!(rt; seat.kept().len(), kept, "{text}");
+        }
+        Line::Saw(_, version) => seat.saw(version),
+        Line::HasSeen(_, version) => assert_eq!(rt; seat.seen(), version),
+        Line::Keeps(_, place, told) => expect_kept(rt, seat.kept().get(place), told),
+    }
+}
+
+/// The story of a server with two seats comes true, line by line, and the server is closed. Where
+/// a seat is held back, it is closed without the second one.
+pub(crate) fn play<B: BoardName, R: Wait + Abort>(
+    rt: &R,
+    alloc: Global,
+    fresh: Fresh,
+    story: &[Line],
+    is_held_back: bool,
+) -> Result<Histories, Mismatch>
+    requires { fresh.seen.book ≡ B.book }
+{
+    let Server {
+        board,
+        mut seats,
+        table,
+    } = open::<B, R>(rt, alloc, fresh, 2);
+    for line in story {
+        follow(rt, alloc, &board, &table, &mut seats, *line);
+    }
+    if is_held_back {
+        let seat = seats.pop().expect(rt, "a seat");
+        let _receipts = seat.into_receipts();
+    }
+    assert!(rt; seats.len() <= SEATS);
+    table.close(rt, alloc, board, seats)
+}
+
+/// How many policy entries a closed server has, or why it gives no journals.
+pub(crate) fn entries(left: &Result<Histories, Mismatch>) -> Result<usize, Mismatch> {
+    match left {
+        Ok(histories) => Ok(histories.policy.len()),
+        Err(mismatch) => Err(*mismatch),
+    }
 }

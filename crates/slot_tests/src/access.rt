@@ -1,4 +1,0 @@
-mod instants;
-mod loads;
-mod memory;
-mod reactors;
