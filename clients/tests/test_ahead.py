@@ -116,7 +116,7 @@ class Answers(unittest.TestCase):
     def test_a_refusal_ends_the_run_at_its_instant(self):
         for piece in (1, PIPE):
             program = Program(piece)
-            program.refused[7] = {"code": 68, "fault": "Stuck", "undecided": ["O"]}
+            program.refused[7] = {"code": 50, "fault": "Stuck", "undecided": ["O"]}
             ahead, seen = Ahead(client_of(program), INPUTS), []
             with self.assertRaises(Refusal) as raised:
                 for instants in ahead.instants(never):

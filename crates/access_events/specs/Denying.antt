@@ -29,7 +29,7 @@ use Rattle.access_events.specs.declared.event.Event.{Event}
 use Rattle.access_events.specs.declared.event.Event.TheVariants.{Admin, OnSlot}
 use Rattle.access_events.specs.Runs.{WorldState, journal_at, version_rules}
 
--- a rule of a crate below, whose refusals are told as those of a request
+-- a rule of a crate below, with each of its refusals told as one of access_core
 abbrev pub told_as : {R : Type 0} → (R → Refusal) → Rule R → Rule Refusal
 told_as {R = R} tell rule = record {
   refuses = λ refusal. (given : R) × (refusal ≡ tell given) × rule.refuses given;

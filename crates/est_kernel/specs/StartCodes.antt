@@ -1,11 +1,11 @@
--- The completion codes with which a term can be begun, and loops whose bodies take time. (Berry, The Constructive
+-- The completion codes that a term can give where it begins, and loops whose bodies take time. (Berry, The Constructive
 -- Semantics of Pure Esterel, instantaneous loops; the codes by cases are this project's own form)
 use Rattle.std.specs.Prelude.{◌≡◌, ◌+◌, false, cond}
 use Rattle.est_kernel.specs.Codes.{Codes, code, either_code, but_zero, max_codes, codes_out_of_trap}
 use Rattle.est_kernel.specs.Term.{Term, nothing, pause, emit, present, suspend, held, seq, loop, par, trap, exit}
 use Rattle.est_kernel.specs.Term.{signal}
 
--- the codes with which a term can be begun, both branches of each `present` taken
+-- the codes that a term can give in the instant in which it begins, both branches of each `present` taken
 abbrev pub start_codes : Term → Codes
 start_codes nothing = code 0
 start_codes pause = code 1

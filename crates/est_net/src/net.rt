@@ -53,7 +53,7 @@ fn count_outputs(interface: &Interface) -> usize
     rank(interface.emittable(), interface.len())
 }
 
-/// Adds `count` open cells, or memory was refused.
+/// This many open cells, or memory was refused.
 fn open_cells(alloc: Global, count: usize) -> Result<Vec<Status>, AllocError>
     ensures { IfOk result (λ cells. length cells.items ≡ count) }
 {

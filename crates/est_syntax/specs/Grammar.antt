@@ -1,4 +1,4 @@
--- The grammar: the tokens that a tree is spelt with, written onto a rest; and what begins a library.
+-- The grammar: the tokens that a tree is spelt with, before a rest (`x_onto tree rest`); and what begins a library.
 -- (Berry, The Esterel v5 Language Primer; the optional closing words are this project's own form)
 use Rattle.std.specs.Prelude.{ℕ, suc, max, List, [], ◌∷◌, map, Bool, true, false}
 use Rattle.est_text.specs.declared.token.Located.{Located}

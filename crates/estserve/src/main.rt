@@ -1,8 +1,8 @@
 //! The program: a shared simulator of Pure Esterel modules under role-based access control, one
 //! JSON command a line.
 //!
-//! It calls `run` of `program_run` with the words and streams of its process. The contract of `run`
-//! carries the program; that it is called so is for the reader to see.
+//! It calls `run` of `program_run` with the words and streams of its process. What is proved of the
+//! program is the contract of `run`. That `main` calls it with these is not proved: read it.
 #![tactic(auto)]
 
 use line_reader::meter::{MeteredMemory, MeteredReader, MeteredWriter};

@@ -14,7 +14,7 @@ ghost use Rattle.history_laws.specs.CallsInTurn.{AreOfOneRun, CallsEndSo};
 
 use access_events::laws::one_run;
 
-/// Suppose that the policy list is lawful, the journal of each slot is legal over it, and one list
+/// Suppose that the list is a policy list, the journal of each slot is legal over it, and one list
 /// of events has the journals and the receipts of the seats as its parts. Then these are the
 /// journals of the world of a run of exactly those events. Each event comes by the seat that keeps
 /// its receipt, and those of a seat come in the order of its receipts. Each is accepted with the

@@ -4,9 +4,9 @@
 //! engines, those of the literature among them (`literature`). What lines show is a dialogue of
 //! tests/dialogues, or a test of tests/hostile.
 //!
-//! This crate has no function but tests, and stands above the crates that it calls, so that each of
-//! those is proved once. A value that has to be let go is owned by few functions, which end in one
-//! way only; the others borrow it.
+//! This crate has tests and what they need, nothing else, and stands above the crates that it
+//! calls, so that each of those is proved once. A value that has to be let go is owned by few
+//! functions, which end in one way only; the others borrow it.
 #![tactic(auto)]
 
 #[cfg(test)]

@@ -1,9 +1,9 @@
 //! The worked examples of the policy, through public calls alone: edges between roles, what a
-//! policy list says, decisions on policy commands, what their entries leave, and one policy that
-//! threads ask while others change it (`board`).
+//! policy list says, decisions on policy commands, what their entries leave, and boards: what seats
+//! keep, and what threads ask while another changes the policy (`board`).
 //!
-//! This crate has no function but tests, and stands above the crates that it calls, so that each of
-//! those is proved once.
+//! This crate has tests and what they need, nothing else, and stands above the crates that it
+//! calls, so that each of those is proved once.
 #![tactic(auto)]
 
 #[cfg(test)]

@@ -18,7 +18,7 @@ abbrev pub makes_session : AdminCommand → Bool
 makes_session (CreateSession user roles) = true
 makes_session _ = false
 
--- the commands that only a session may give which has the right to administer the policy
+-- the commands that need the right to administer the policy
 abbrev pub is_administrative : AdminCommand → Bool
 is_administrative (CreateSession user roles) = false
 is_administrative DeleteSession = false

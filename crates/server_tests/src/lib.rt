@@ -3,8 +3,8 @@
 //! of connections (`protocol`); and threads that serve side by side, up to the closing of their
 //! server (`threads`). What lines ask for, and replies byte for byte, are shown by dialogues.
 //!
-//! This crate has no function but tests, and stands above the crates that it calls, so that each of
-//! those is proved once.
+//! This crate has tests and what they need, nothing else, and stands above the crates that it
+//! calls, so that each of those is proved once.
 #![tactic(auto)]
 
 #[cfg(test)]

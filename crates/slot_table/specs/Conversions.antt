@@ -1,4 +1,4 @@
--- The refusals of the board, as those of a request (this project's own form).
+-- The refusals of the board, as refusals of `access_core` (this project's own form).
 use Rattle.access_core.specs.declared.refusal.Refusal.{Refusal}
 use Rattle.access_core.specs.declared.refusal.Refusal.TheVariants.{Policy, Behind, JournalFull, Memory}
 use Rattle.policy_board.specs.declared.refusal.Refusal.{Refusal as BoardRefusal}

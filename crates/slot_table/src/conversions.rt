@@ -1,4 +1,4 @@
-//! The refusals of the board, as those of a request.
+//! The refusals of the board, as refusals of `access_core`.
 ghost use Rattle.std.specs.Prelude.{◌≡◌};
 ghost use Rattle.slot_table.specs.Conversions.{of_board};
 

@@ -6,8 +6,8 @@
 //!
 //! Where a command is asked for, it is a line of the protocol, and so is what it is told (`lines`).
 //!
-//! This crate has no function but tests, and stands above the crates that it calls, so that each of
-//! those is proved once.
+//! This crate has tests and what they need, nothing else, and stands above the crates that it
+//! calls, so that each of those is proved once.
 #![tactic(auto)]
 
 #[cfg(test)]

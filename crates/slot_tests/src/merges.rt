@@ -135,7 +135,7 @@ fn journals(rt: &impl Abort, alloc: Global) -> [Journal; 16] {
     journals_of(rt, alloc, two, (3, three.expect(rt, "room")))
 }
 
-/// In each case the mismatch of its row is found.
+/// In each case what its row says is found.
 fn find_each(rt: &impl Abort, alloc: Global, cases: &[Case]) {
     let policy = policy(rt, alloc);
     let journals = journals(rt, alloc);
@@ -161,8 +161,9 @@ const TWO_RECEIPTS: &[Row] = &[Row::Deletes(6), Row::Steps(1), Row::Offers("B", 
 /// What seat 1 keeps where its receipt of the last policy entry tells the entry before it.
 const OTHER_ENTRY: &[Row] = &[Row::Adds(6), Row::Steps(1)];
 
-/// The receipts fit; the second command on slot 2 has none; its receipt is wrong; the one before it
-/// is; there are two; nobody keeps one of the last policy entry, it is kept twice, it is wrong.
+/// The receipts fit; the second command on slot 2 has none; its receipt tells another signal; it
+/// has the number of the one before it; one seat's numbers fall; a command has two receipts; of the
+/// last policy entry nobody keeps one, two seats do, or the receipt tells another entry.
 const CASES: &[Case] = &[
     ([LOW, HIGH, &[]], Ok(())),
     (

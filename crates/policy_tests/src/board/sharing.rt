@@ -1,4 +1,4 @@
-//! A board that several threads share.
+//! What examples ask of a board; boards that several threads share; and refusals.
 use crate::board::playing::{Example, Sharing, play, play_in_threads};
 use policy_board::board::Board;
 use policy_board::history::{BoardName, Fresh};

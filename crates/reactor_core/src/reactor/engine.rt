@@ -47,7 +47,7 @@ fn sweeps_are_faster(kernel: &Kernel) -> bool {
 /// has is a matter of time alone.
 #[derive(Drop)]
 pub enum ModuleEngine {
-    /// The plain engine, where it judges few statements.
+    /// The plain engine, where it judges few statements, or is likely the faster one.
     Plain(Rounds),
     /// The microstep engine, on the table of the module's kernel.
     Microsteps(Micro),

@@ -5,7 +5,7 @@ use std::io::{ErrorKind, Read, Write};
 /// More calls or bytes than any test needs.
 pub const AMPLE: usize = 1_000_000;
 
-/// Gives one part of its bytes and then the other, and fails at a call where one is named.
+/// Gives one part of its bytes and then the other. After `calls_that_work` calls it fails.
 #[derive(Drop)]
 pub struct TwoParts<'a> {
     pub first: &'a [u8],

@@ -25,7 +25,7 @@ use std::sync::Wait;
 use std::test::Fail;
 use std::thread::{Threads, join};
 
-/// How many steps are given while the policy is changed.
+/// How many steps each of two threads gives while the policy is changed.
 const STEPS: u32 = 3;
 
 /// What a policy opens with, and what is given before the first round: root's login and two grants,

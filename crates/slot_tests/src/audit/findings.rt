@@ -43,7 +43,7 @@ fn find_each(rt: &impl Abort, alloc: Global, rows: &[Row]) {
     }
 }
 
-/// One change of each kind.
+/// No change, and one for each kind of finding.
 const CHANGED: &[Row] = &[
     (&[], "ok"),
     (&[Change::Doubled(5)], "policy 7"),
@@ -57,7 +57,8 @@ fn four_changed_journals(rt: HostRuntime) {
     find_each(&rt, rt.alloc(), CHANGED);
 }
 
-/// Policy lists that are none.
+/// Lists that are no policy list; and the opening entries alone, whose length the slot's versions
+/// pass.
 const NO_POLICY_LIST: &[Row] = &[
     (&[Change::GivenBy(0, 1)], "policy 1"),
     (&[Change::GrantsOnOne(1)], "policy 2"),

@@ -394,7 +394,7 @@ fn a_discard_and_an_unload_take_what_was_offered(rt: HostRuntime) {
     follow(&rt, rt.alloc(), OPENING, TAKEN, (&[(1, 11), (2, 11)], 11));
 }
 
-/// An order of roles that would give a session both of the separated roles is refused, and so adds
+/// An edge that would give a session both of the separated roles is refused, and so adds
 /// no entry.
 const KEPT_APART: &[Line] = &[
     (
