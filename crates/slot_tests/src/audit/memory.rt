@@ -1,7 +1,7 @@
-//! Want of memory: an audit or a report that is refused it says so, and the same call then answers
-//! as always. With ample memory nothing is refused. Where one allocation is refused, the test ends
-//! with the words for the call that was refused; tests/faults (test_calls.py) has each allocation
-//! refused in turn.
+//! Want of memory: an audit or a report that is refused memory says so, and the same call then
+//! answers as always. With ample memory nothing is refused. Where one allocation is refused, the
+//! test ends with words that name the call that was refused; tests/faults (test_calls.py) has each
+//! allocation refused in turn.
 use crate::audit::findings::OPENING_REPORT;
 use crate::audit::journals::{journals_of_one, policy_entries, policy_of, slot_entries};
 use audit_report::audit::check;
