@@ -35,8 +35,8 @@ pub enum Refusal {
     /// The journal has as many entries as it may have.
     JournalFull,
     /// The policy that was read is older than one seen before (`found` and `seen` are their
-    /// lengths). In the laws of runs also: the version that an event names is newer than the policy
-    /// list.
+    /// lengths). In the laws of runs also: the version that an event names is older than that of
+    /// the slot's last entry, or newer than the policy list.
     Behind { found: u64, seen: u64 },
     /// Memory was refused.
     Memory,

@@ -91,7 +91,7 @@ pub record MicrostepsAgree : Type 0 where
       → TableBelow j s T (table_meaning j inputs s x) → TableBelow j s (table_gates j inputs s x T) T
       → (n : ℕ) → j.has n ≡ true → T.outputs n ≡ last_env j inputs (state_term s x) (outer n)
 
--- the pauses that the cells of a reaction say are those of the step
+-- the pauses that are read off the cells of a reaction are those of the step
 pub record PausesFollow : Type 0 where
   pub begun : (main : Bool) (s : Statement) → HasDistinctPauses s
       → (bits : ℕ → Bool) (e : Env) (o : Signals) (k : ℕ) (u : Term)

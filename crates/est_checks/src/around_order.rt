@@ -23,8 +23,9 @@ use est_modules::name_table::NameTable;
 use est_text::identifier::Identifier;
 use std::alloc::{AllocError, Global};
 
-/// The checks that come before the order of the modules: names that are declared twice, modules
-/// that aren't there. Where they have no fault, the name of the main module is an identifier.
+/// The checks that come before the order of the modules: names that are declared twice, a name of
+/// the main module that is no identifier, modules that aren't there. Where they have no fault, the
+/// name of the main module is an identifier.
 ///
 /// # Errors
 ///

@@ -82,8 +82,8 @@ fn unbound_name(
 }
 
 /// The first interface name of a module that is run which is neither renamed nor visible. If the
-/// module has kept names, only these are looked at, but for those that a `signal` around the run
-/// declares. They lack the names that the module which runs it declares.
+/// module has kept names, only these are looked at, without those that a `signal` around the run
+/// declares. Names that the caller declares are not among the kept ones.
 fn unbound_in(
     check: &UnknownName<'_, '_>,
     kept: &OpenNames<'_, '_, '_>,

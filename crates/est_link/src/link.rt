@@ -52,9 +52,9 @@ fn link_heads(alloc: Global, heads: &Heads<'_>, main: &str) -> Result<Flat, Link
 ///
 /// # Errors
 ///
-/// The first fault of the checks in their order: names declared twice, modules that aren't there,
-/// recursive runs, renamings, names that aren't visible, emissions of inputs, relations of the main
-/// module, its limits; or `Memory`.
+/// The first fault of the checks in their order: names declared twice, a name of the main module
+/// that is no identifier, modules that aren't there, recursive runs, renamings, names that aren't
+/// visible, emissions of inputs, relations of the main module, its limits; or `Memory`.
 pub fn link(alloc: Global, library: &Library, main: &str) -> Result<Flat, LinkFault>
     ensures { IsLinkOf (library_view library.now) main.now result }
 {

@@ -10,7 +10,7 @@ use Rattle.est_cells.specs.Tables.{sheet_size}
 use Rattle.est_net.specs.Cells.{cell_at}
 use Rattle.est_net.specs.Layout.{sheet_in}
 
--- the pauses at which the statement stands, whose cells begin at place c, are put in, if it is on
+-- the pauses at which the statement stands, whose cells begin at place c, are put in, unless an exit leaves them
 pub record Collects (s : Statement) (main : Bool) (c traps : ℕ) (cells : List Status) (on : Bool)
     (pauses old new : PauseSet)
     (past : ℕ) : Type 0 where

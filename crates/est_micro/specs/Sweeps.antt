@@ -18,8 +18,9 @@ use Rattle.est_net.specs.Cells.{learned}
 use Rattle.est_micro.specs.declared.direction.Direction.{Direction}
 use Rattle.est_micro.specs.declared.direction.Direction.TheVariants.{Forwards, Backwards}
 
--- Code cells, of which m are true and n are not false, are told: a is surely given, b possibly. `sure_told`: those then
--- true; `may_told`: those then not false
+-- Code cells are told what is judged of their codes. m: those that are true; n: those that aren't false; a: the codes
+-- that are surely given; b: those that are possibly given. `sure_told`: the cells that are then true; `may_told`: those
+-- that are then not false
 unfoldable pub sure_told : (m n a b : Codes) → Codes
 sure_told m n a b k = is_sure (learned (verdict (m k) (n k)) (verdict (a k) (b k)))
 

@@ -1,4 +1,5 @@
-//! A sweep through the cells of a statement that is begun, if at all.
+//! A sweep through the cells of a statement that doesn't go on from its pauses: the gate says
+//! whether it is begun. (Below: a statement that is begun, if at all.)
 //!
 //! What calls itself here does so on a part of the statement that it was given, and goes as deep as
 //! the statement is.

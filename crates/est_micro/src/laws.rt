@@ -2,7 +2,7 @@
 
 ghost use Rattle.est_micro.specs.Laws.{SweepsAreSound, SweepsComeToRest};
 
-/// What a sweep decides, the meaning decides so.
+/// If what is decided before a sweep agrees with the meaning, so does what the sweep decides.
 pub fn sweeps_are_sound()
     ensures { SweepsAreSound }
 {}

@@ -1,7 +1,7 @@
 //! The pauses at which a statement stands after an instant, read off its cells.
 //!
-//! `main` tells whether the cells are those of the incarnation that can go on from its pauses, and
-//! `on` whether no exit of a `||` around the statement leaves it.
+//! `main` tells whether the cells are those of the incarnation that can go on from its pauses.
+//! `on` is false where a `||` around the statement exits: its pauses are then left.
 //!
 //! What calls itself here does so on a part of the statement that it was given, and goes as deep as
 //! the statement is.

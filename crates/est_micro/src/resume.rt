@@ -269,8 +269,8 @@ fn side(is_on: bool, found: &Found, run: Status) -> Judgement
     }
 }
 
-/// Whether a pause of the second side of a `||` is set, of which one side has such a pause. So the
-/// second isn't gone through where the first has none.
+/// Whether a pause of the second side of a `||` is set, where one side has a pause that is set. If
+/// the first side has none, the second has one, and is not searched.
 fn second_lives(first_on: bool, q: &Statement, pauses: &PauseSet) -> bool
     requires { first_on ≡ false → is_live q.now (pauses_of pauses.now) ≡ true }
     ensures { result ≡ is_live q.now (pauses_of pauses.now) }

@@ -29,7 +29,7 @@ value_of Unknown = None
 abbrev pub cell_at : List Status → ℕ → Status
 cell_at cells i = get_or cells i Absent
 
--- what a cell knows that is told something: one that is decided stays as it is
+-- what a cell knows once it is told something: an open cell takes it over, a decided one stays as it is
 abbrev pub learned : Status → Status → Status
 learned Present w = Present
 learned Absent w = Absent

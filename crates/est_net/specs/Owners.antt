@@ -1,5 +1,5 @@
 -- Whose a cell is: each statement has cells of its own in each of its incarnations. Incarnation 0 goes on or is begun
--- in due course; incarnation i is begun by the restart of the i-th loop around the statement, counted from the
+-- without a restart; incarnation i is begun by the restart of the i-th loop around the statement, counted from the
 -- innermost outwards (this project's own form of the incarnations in Berry, The Constructive Semantics of Pure
 -- Esterel).
 use Rattle.std.specs.Prelude.{◌≡◌, ◌⊎◌, ◌<◌, ◌≤◌, ◌+◌, ◌-◌, ℕ, suc, zero, Bool, true, false, cond, ltb, List, length}

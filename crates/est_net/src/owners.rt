@@ -1,4 +1,4 @@
-//! Whose a cell is.
+//! What a cell belongs to.
 
 ghost use Rattle.std.specs.Prelude.{◌≡◌, ◌<◌, ◌≤◌, ◌+◌, IfOk, IfErr};
 ghost use Rattle.est_kernel.specs.Bits.{bits};
@@ -31,14 +31,14 @@ pub struct StatementCell {
     /// The statement's number: statements are counted from 0, each before its parts, in the order
     /// of the text.
     pub statement: usize,
-    /// 0 where the statement goes on or is begun in due course, and i where it is begun by the
+    /// 0 where the statement goes on or is begun without a restart, and i where it is begun by the
     /// restart of the i-th loop around it, counted from the innermost outwards.
     pub incarnation: usize,
     /// What the cell tells.
     pub kind: CellKind,
 }
 
-/// Whose a cell is.
+/// What a cell belongs to.
 #[derive(Clone, Copy, PartialEq, Eq)]
 pub enum Owner {
     /// The signal at this place of the interface: whether it is present.
@@ -174,7 +174,7 @@ fn find_signal(interface: &Interface, cell: usize) -> Result<usize, usize>
     Err(left)
 }
 
-/// Whose a cell of the kernel's table is. It takes no memory.
+/// What a cell of the kernel's table belongs to. It takes no memory.
 pub fn owner_of(kernel: &Kernel, cell: usize) -> Owner
     requires { cell < cell_count kernel.now }
     ensures { IsOwnerOf kernel.now cell result }

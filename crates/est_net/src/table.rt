@@ -54,7 +54,7 @@ fn open_all(cells: &mut [Status])
     cells.fill(Status::Unknown);
 }
 
-/// Tells a cell something. It is decided by it if it is open and what it is told isn't Unknown.
+/// Decides an open cell by this status, if it is Present or Absent. Nothing else changes.
 fn tell(cells: &mut [Status], cell: usize, now: Status)
     requires { cell < length cells.old }
     ensures { Learns cell now cells.old cells.new }
@@ -135,7 +135,7 @@ fn all_decided(cells: &[Status], from: usize, past: usize) -> bool
     all
 }
 
-/// What a cell knows that is told that it is false.
+/// What a cell knows once it is told that it is false.
 #[inline(always)]
 fn falsified(status: Status) -> Status
     ensures { result ≡ learned status Absent }

@@ -39,7 +39,7 @@ pub fn has_live(s: &Statement, pauses: &PauseSet) -> bool
     }
 }
 
-/// What a statement can do as it goes on, in doubt whether it is reached. There is no answer where
+/// What a statement can do as it goes on (mode `maybe`). There is no answer where
 /// it has no pause in the set.
 #[cycle(doubt)]
 pub fn resume_maybe(s: &Statement, pauses: &PauseSet, env: &Env) -> Option<Acts>
@@ -70,7 +70,7 @@ pub fn resume_maybe(s: &Statement, pauses: &PauseSet, env: &Env) -> Option<Acts>
     }
 }
 
-/// What `suspend p when t` can do as it goes on, in doubt whether it is reached.
+/// What `suspend p when t` can do as it goes on (mode `maybe`).
 #[cycle(doubt)]
 fn suspend_maybe(t: &Test, p: &Statement, pauses: &PauseSet, env: &Env) -> Option<Acts>
     requires fits { FitsMasks p.now }
@@ -89,7 +89,7 @@ fn suspend_maybe(t: &Test, p: &Statement, pauses: &PauseSet, env: &Env) -> Optio
     }
 }
 
-/// What `p; q` can do as it goes on, in doubt whether it is reached.
+/// What `p; q` can do as it goes on (mode `maybe`).
 #[cycle(doubt)]
 fn seq_maybe(p: &Statement, q: &Statement, pauses: &PauseSet, env: &Env) -> Option<Acts>
     requires fits { FitsMasks p.now × FitsMasks q.now }
@@ -101,7 +101,7 @@ fn seq_maybe(p: &Statement, q: &Statement, pauses: &PauseSet, env: &Env) -> Opti
     }
 }
 
-/// What `loop p end` can do as it goes on, in doubt whether it is reached.
+/// What `loop p end` can do as it goes on (mode `maybe`).
 #[cycle(doubt)]
 fn loop_maybe(p: &Statement, pauses: &PauseSet, env: &Env) -> Option<Acts>
     requires fits { FitsMasks p.now }
@@ -111,7 +111,7 @@ fn loop_maybe(p: &Statement, pauses: &PauseSet, env: &Env) -> Option<Acts>
     Some(then_start_maybe(first, p, env))
 }
 
-/// What `p || q` can do as it goes on, in doubt whether it is reached.
+/// What `p || q` can do as it goes on (mode `maybe`).
 #[cycle(doubt)]
 fn par_maybe(p: &Statement, q: &Statement, pauses: &PauseSet, env: &Env) -> Option<Acts>
     requires fits { FitsMasks p.now × FitsMasks q.now }
@@ -125,7 +125,7 @@ fn par_maybe(p: &Statement, q: &Statement, pauses: &PauseSet, env: &Env) -> Opti
     }
 }
 
-/// What `trap p end` can do as it goes on, in doubt whether it is reached.
+/// What `trap p end` can do as it goes on (mode `maybe`).
 #[cycle(doubt)]
 fn trap_maybe(p: &Statement, pauses: &PauseSet, env: &Env) -> Option<Acts>
     requires fits { FitsMasks p.now }
@@ -134,7 +134,7 @@ fn trap_maybe(p: &Statement, pauses: &PauseSet, env: &Env) -> Option<Acts>
     Some(resume_maybe(p, pauses, env)?.out_of_trap())
 }
 
-/// What `signal s in p end` can do as it goes on, in doubt whether it is reached.
+/// What `signal s in p end` can do as it goes on (mode `maybe`).
 #[cycle(doubt)]
 fn local_maybe(s: LocalSignal, p: &Statement, pauses: &PauseSet, env: &Env) -> Option<Acts>
     requires fits { (s.index < 64) × FitsMasks p.now }

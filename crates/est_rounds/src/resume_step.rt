@@ -33,7 +33,7 @@ pub enum Resumed {
     Moved(Step),
 }
 
-/// Gives the second set those pauses of the statement that the first has, and no other of them.
+/// Of the pauses of the statement, the second set then has exactly those that the first has.
 fn keep(s: &Statement, pauses: &PauseSet, next: &mut PauseSet)
     ensures { TakesOver s.now pauses.now next.old next.new }
 {

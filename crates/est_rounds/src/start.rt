@@ -19,7 +19,7 @@ use est_kernel::completion::Completion;
 use est_kernel::statement::{LocalSignal, Statement};
 use est_meaning::status::Status;
 
-/// What a statement can do, in doubt whether it is reached.
+/// What a statement can do where it is in doubt whether it is reached (mode `maybe`).
 #[cycle(doubt)]
 pub fn start_maybe(s: &Statement, env: &Env) -> Acts
     requires fits { FitsMasks s.now }
@@ -47,7 +47,7 @@ pub fn start_maybe(s: &Statement, env: &Env) -> Acts
     }
 }
 
-/// What `p || q` can do, in doubt whether it is reached.
+/// What `p || q` can do (mode `maybe`).
 #[cycle(doubt)]
 fn par_maybe(p: &Statement, q: &Statement, env: &Env) -> Acts
     requires fits { FitsMasks p.now × FitsMasks q.now }
@@ -56,7 +56,7 @@ fn par_maybe(p: &Statement, q: &Statement, env: &Env) -> Acts
     start_maybe(p, env).beside(start_maybe(q, env))
 }
 
-/// What `trap p end` can do, in doubt whether it is reached.
+/// What `trap p end` can do (mode `maybe`).
 #[cycle(doubt)]
 fn trap_maybe(p: &Statement, env: &Env) -> Acts
     requires fits { FitsMasks p.now }
@@ -65,7 +65,7 @@ fn trap_maybe(p: &Statement, env: &Env) -> Acts
     start_maybe(p, env).out_of_trap()
 }
 
-/// What `signal s in p end` can do, in doubt whether it is reached.
+/// What `signal s in p end` can do (mode `maybe`).
 #[cycle(doubt)]
 fn local_maybe(s: LocalSignal, p: &Statement, env: &Env) -> Acts
     requires fits { (s.index < 64) × FitsMasks p.now }
@@ -77,7 +77,7 @@ fn local_maybe(s: LocalSignal, p: &Statement, env: &Env) -> Acts
     start_maybe(p, &known).hiding(s)
 }
 
-/// What a first part can do and then the statement after it, in doubt whether they are reached.
+/// What a first part can do and then the statement after it (mode `maybe`).
 #[cycle(doubt)]
 pub fn then_start_maybe(first: Acts, q: &Statement, env: &Env) -> Acts
     requires fits { FitsMasks q.now }

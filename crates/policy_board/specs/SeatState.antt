@@ -14,8 +14,7 @@ pub record SeatState : Type 0 where
   pub kept : List Kept
   pub room : ℕ
 
--- a seat that has seen nothing yet but that there are the opening entries, nor has its reader, and has no receipt, nor
--- memory for one
+-- a new seat: it and its reader have seen the opening entries alone; it has no receipt, and no memory for one
 abbrev pub new_seat : SeatState
 new_seat = record { known = opening_entries; read = opening_entries; seen = 0; kept = []; room = 0 }
 

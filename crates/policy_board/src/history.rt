@@ -3,8 +3,8 @@
 //! What runs is one atomic word, the length of the list (`Head`), and a count in each `Front`.
 //! `Seen`, `Offer` and `pen` are tokens of the kit's `logbook` without any content: by them the
 //! proofs know the entries. `Seen` stands for what was seen of the list, `Offer` for the update
-//! that a step is to make, and a pen for the right to write a word that the book doesn't hold yet.
-//! `Head` is a word of the book, so its step passes a pen without that right.
+//! that a step is to make, and a pen for the right to write a word that is not one of the book's.
+//! `Head` is one of them, so its step passes an empty pen (`no_pen`).
 ghost use Rattle.std.specs.Prelude.{◌≡◌, [], ◌<◌, ◌≤◌, ◌==◌, ◌^◌, ◌++◌, ◌∷◌, length, MatchBool};
 ghost use Rattle.std.specs.Prelude.{IfSome, IsTrue};
 ghost use Rattle.rbac_policy.specs.Opening.{opening_entries};
@@ -317,8 +317,8 @@ fn begins(one: &Trace, other: &Trace) -> bool
     true
 }
 
-// Looks at the list when both traces are known to begin it: where it has as many entries as the
-// one, that is all of it.
+// Looks how long the list is. Both traces begin it. Where it has as many entries as `one`, that
+// trace is all of it.
 fn is_whole(one: &Trace, head: &Word<Entry, u64, Law>, other: &Trace) -> bool
     requires head { head.now ≡ head_of one.now.book }
     requires book { other.now.book ≡ one.now.book }
