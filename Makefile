@@ -23,7 +23,7 @@ help:
 	@echo 'make hostile   lines that are cut or wrong, full journals and clients that go away, on the program built WITHOUT proof'
 	@echo 'make soak      hostile, with all journals filled and a soak of ten minutes; make build, and then'
 	@echo '               make soak ESTSERVE=$$PWD/$(PROGRAM) takes the proved program; no part of make test'
-	@echo 'make abro      the waves of ABRO, by the client, on the program built WITHOUT proof: a minute or two, and at once from then on'
+	@echo 'make abro      the waves of ABRO, by the client, on the program built WITHOUT proof: about a minute, and at once from then on'
 	@echo 'make install   put the proved program, the client, its page of the manual and completions under PREFIX (/usr/local)'
 	@echo 'make documents write the lists of docs/generated anew from the sources'
 	@echo 'make bench     prove and build, and then time commands, instants, texts, policies and the socket, and see how loads take memory'

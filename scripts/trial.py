@@ -71,7 +71,7 @@ def build(folder):
     CannotBuild.
     """
     print(
-        "The program is built WITHOUT proof, which takes a minute or two ..",
+        "The program is built WITHOUT proof, which takes about a minute ..",
         file=sys.stderr,
         flush=True,
     )

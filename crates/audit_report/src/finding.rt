@@ -8,7 +8,8 @@ use std::fmt;
 #[derive(Clone, Copy, PartialEq, Eq, Debug)]
 pub enum Finding {
     /// The entry at this place of the policy list is not the opening entry that belongs there; or
-    /// it is not the one that the policy step gives for its session and command.
+    /// it is not the one that the policy step gives for its session and command; or the list had no
+    /// room for it. A list that ends too early is wrong just after its last entry.
     Policy {
         place: u64,
     },

@@ -9,7 +9,7 @@ use est_kernel::mask;
 use est_kernel::state::Inputs;
 use std::alloc::Global;
 
-/// A kernel, and the inputs of its instants, which come round: a mask each.
+/// A kernel, and a mask of inputs for each instant. After the last mask the first one comes again.
 #[derive(Drop)]
 pub struct Case {
     pub kernel: Kernel,

@@ -11,14 +11,14 @@ use access_core::single::Single;
 use rbac_policy::commands::{AdminCommand, SessionId};
 use rbac_policy::objects::{Object, Operation};
 
-/// What one connection talks to: it is asked commands, and answers them. Either a desk of one
+/// What one connection talks to: it answers the connection's commands. It is either a desk of one
 /// client, or a seat at a policy and slots that many share.
 pub trait Desk {
     /// Relates the desk before, what it is asked, its reply, and the desk after.
     ghost answers: { Self → Ask → Reply → Self → Type 0 };
 
-    /// Answers a policy command, which this session gives; a login is given by none. A logout is
-    /// refused only where its session has ended, or where memory was refused.
+    /// Answers a policy command of this session, or a login, which has no session yet. A logout is
+    /// refused only if its session has ended, or if memory was refused.
     fn admin(&mut self, session: Option<SessionId>, command: AdminCommand) -> Reply
         ensures answered { answers self.old (to_policy session command) result self.new }
         ensures logout { command ≡ DeleteSession → IsLogoutReply result };

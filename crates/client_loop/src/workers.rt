@@ -68,8 +68,8 @@ impl<'a, B: BoardName + Send, L: Lends<Board<B>>, T: Lends<SlotTable<B>>, S: Sou
             table: self.table.lent(),
             seat,
         };
-        // Why a connection ended is no matter of the server's: it is dropped, and the next one is
-        // accepted.
+        // The reason for which a connection ended is dropped: whatever it is, the worker goes on
+        // with the next one.
         serve_connection(rt, self.alloc, connection, &mut desk, self.gate, worker);
         let SharedDesk {
             rt: _,

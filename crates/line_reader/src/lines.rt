@@ -90,8 +90,8 @@ fn read_from<R: Read>(
     reader.read(&mut bytes[at..])
 }
 
-/// A reader of lines, with all its room. Each byte is compared with LF once, however the reads are
-/// cut, and bytes move only when the buffer is full.
+/// A reader of lines, over a buffer of fixed size. Each byte is compared with LF once, however the
+/// reads are cut, and bytes move only when the buffer is full.
 #[derive(Drop)]
 pub struct LineReader {
     /// The buffer.
@@ -102,7 +102,7 @@ pub struct LineReader {
     to: usize,
     /// Where the bytes begin that are in no line yet.
     start: usize,
-    /// Up to where they were looked at: no LF stands before.
+    /// How far they were searched: from `start` up to here there is no LF.
     scanned: usize,
     /// Where they end.
     end: usize,

@@ -19,7 +19,7 @@ use Rattle.rbac_policy.specs.declared.policy.Policy.{Policy}
 use Rattle.rbac_policy.specs.StandsFor.{StandsFor}
 use Rattle.rbac_admin.specs.PolicyLists.{Begins, IsPolicyList}
 
--- what is shown is the policy of a policy list, which begins with all that each view has seen
+-- what is shown is the policy of a policy list, and each view is a beginning of that list
 pub record IsKept (policy : Policy) (list : List Entry) (views : List (List Entry)) : Type 0 where
   pub is_list : IsPolicyList list
   pub stands : StandsFor policy list

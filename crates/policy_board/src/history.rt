@@ -36,11 +36,11 @@ impl Rule<Entry, u64> for Law {
     // The log of a new book.
     ghost first = { opening_entries };
 
-    // What holds of words that the book doesn't follow: nothing, since here there are none.
+    // What holds of words outside the book: nothing, since the board's one word (`Head`) is in it.
     ghost hinted = { λ n log. Unit {0} };
 
-    // What clients of the book see of the log. A client owns something beside the log, and trades
-    // it in a step. Here there is none, so this and the next two say nothing.
+    // `shows`, `keeps` and `moves` are about clients that own something beside the log, and
+    // exchange it in a step. A board has no such clients, so all three are empty.
     ghost shows = { λ log. [] };
 
     // What clients own.

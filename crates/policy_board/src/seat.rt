@@ -140,7 +140,7 @@ impl<B: BoardName> Seat<B> {
         self.seen
     }
 
-    /// Notes that it has seen this version.
+    /// Notes that it has seen this version. The program never does so; tests do, to get a Behind.
     pub fn saw(&mut self, version: u64)
         ensures { self.new ≡ record self.old { seen = max self.old.seen version } }
     {
@@ -217,6 +217,7 @@ impl<B: BoardName> Seat<B> {
     }
 
     /// Learns of the list of an answer: from now on it is answered for no shorter one.
+    /// The program never does so; tests do.
     pub fn learn(&mut self, receipt: Receipt<B>)
         ensures before { Begins self.old.known self.new.known }
         ensures told { Begins receipt.list self.new.known }

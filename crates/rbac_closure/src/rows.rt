@@ -124,7 +124,8 @@ impl Rows {
         ensures within { (place : ℕ) → Has result place → place < ROLES }
         ensures places { length self.now ≡ ROLES }
     {
-        // Both are of places of the table.
+        // For the proof: it needs the invariants of `self` and of `roles`, and sees them once a
+        // field of each is looked at.
         let _ = &self.juniors;
         let _ = &roles.bits;
         let mut found = roles;
@@ -136,8 +137,8 @@ impl Rows {
         found
     }
 
-    /// Adds the edge. Whether it makes a cycle is the caller's to ask: it does where the senior is
-    /// at or below the junior.
+    /// Adds the edge. The caller has to ask for a cycle first: there would be one if the senior is
+    /// the junior or lies below it.
     pub fn add_edge(&mut self, senior: usize, junior: usize)
         requires senior_is { senior < ROLES }
         requires junior_is { junior < ROLES }

@@ -10,11 +10,11 @@ use std::marker::Model;
 /// What a permission allows to do.
 #[derive(Clone, Copy, PartialEq, Eq)]
 pub enum Operation {
-    /// To put an input signal into the next instant.
+    /// To put an input or inputoutput into the next instant.
     Offer,
     /// To be shown whether a signal was present.
     Observe,
-    /// To run the module in a slot through an instant.
+    /// To run the module in a slot through an instant, or to discard its pending inputs.
     Step,
     /// To put a module into a slot, or take it out.
     Load,

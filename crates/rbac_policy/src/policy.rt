@@ -112,8 +112,8 @@ impl Policy {
         end_sessions_of(&mut self.sessions, user);
     }
 
-    // The role stays active in sessions: the sweep after each entry has to see it there, and ends
-    // them.
+    // The role stays active in sessions: `end_unauthorized`, which runs after each entry, finds it
+    // there and ends them.
     fn delete_role(&mut self, role: &Name)
         ensures { self.new ≡ role_deleted role.now self.old }
     {

@@ -61,7 +61,7 @@ fn least_violator(set: &DsdSet, sessions: &[Option<Session>], juniors: &Rows) ->
     least
 }
 
-// The same, with one session more that is to come.
+// The same, with one more session beside those of the table.
 #[tactic(auto, unfolding(crate::specs::Violations::least_violator))]
 fn least_of_all(
     set: &DsdSet,
@@ -132,7 +132,7 @@ pub(crate) fn first_violation(
     first
 }
 
-/// The same, with one set more that is to come.
+/// The same, with one more set beside those of the table.
 #[tactic(auto, unfolding(crate::specs::Violations::first_violation))]
 pub(crate) fn first_violation_with(
     sets: &[Option<DsdSet>],

@@ -24,7 +24,7 @@ pub struct SlotReceipt {
     pub version: u64,
     /// The number of the session that gave the command.
     pub session: u16,
-    /// The number of the command among all slot commands of the server.
+    /// The number of the command among the server's slot commands that added an entry.
     pub number: u64,
     /// What was asked for.
     pub asked: Asked,

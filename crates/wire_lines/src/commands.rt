@@ -81,7 +81,7 @@ fn login(alloc: Global, reader: &mut Reader<'_>) -> Result<Option<Request>, Allo
     Ok(Some(Request::Policy(command)))
 }
 
-/// A separation set: how many of its roles no session may hold, its name and its roles.
+/// A separation set: its count, its name and its roles. No session may hold that many of them.
 #[tactic(auto, unfolding(crate::specs::Inner::Commands::request_of))]
 fn separation(alloc: Global, reader: &mut Reader<'_>) -> Result<Option<Request>, AllocError>
     ensures { IfOk result (λ request. request ≡ request_of count_name_roles reader.old) }
@@ -235,7 +235,7 @@ fn user_or_role(reader: &mut Reader<'_>, word: &str) -> Option<AdminCommand>
     }
 }
 
-/// Tries the words of sessions that list no roles, and `undsd`; then those of `user_or_role`.
+/// Tries `logout`, `activate`, `drop` and `undsd`; then the words of `user_or_role`.
 #[tactic(auto, unfolding(crate::specs::Inner::Commands::request_of, crate::specs::Inner::Commands::plain_rows))]
 fn plain(reader: &mut Reader<'_>, word: &str) -> Option<AdminCommand>
     ensures { option_map Policy result ≡ request_in plain_rows word.now reader.old }

@@ -21,8 +21,8 @@ use wire_lines::request::Request;
 /// A line of a story. The first number is that of the seat.
 #[derive(Clone, Copy)]
 pub(crate) enum Line {
-    /// Root says this, and is told this; then the seat keeps so many receipts. An accepted policy
-    /// command is told the version with it.
+    /// Root says this, and is told this; then the seat keeps this number of receipts. An accepted
+    /// policy command is told the version with it.
     Says(usize, &'static str, &'static str, usize),
     /// The seat notes that it has seen this version.
     Saw(usize, u64),
