@@ -19,12 +19,6 @@ can_be_emitted Input = false
 can_be_emitted Output = true
 can_be_emitted InputOutput = true
 
--- whether a signal of this kind comes from outside alone
-abbrev pub is_input_alone : Kind → Bool
-is_input_alone Input = true
-is_input_alone Output = false
-is_input_alone InputOutput = false
-
 -- whether the n-th signal of an interface is there and of a kind that passes the test
 abbrev pub declares : (Kind → Bool) → List Declaration → ℕ → Bool
 declares passes [] n = false

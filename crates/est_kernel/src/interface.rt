@@ -28,7 +28,7 @@ pub enum Kind {
 }
 
 impl Kind {
-    ghost use Rattle.est_kernel.specs.Interfaces.{can_be_offered, can_be_emitted, is_input_alone};
+    ghost use Rattle.est_kernel.specs.Interfaces.{can_be_offered, can_be_emitted};
 
     /// Whether a signal of this kind may be offered.
     pub fn can_be_offered(self) -> bool
@@ -47,16 +47,6 @@ impl Kind {
         match self {
             Kind::Input => false,
             Kind::Output | Kind::InputOutput => true,
-        }
-    }
-
-    /// Whether a signal of this kind comes from outside alone.
-    pub fn is_input_alone(self) -> bool
-        ensures { result ≡ is_input_alone self }
-    {
-        match self {
-            Kind::Input => true,
-            Kind::Output | Kind::InputOutput => false,
         }
     }
 }
