@@ -44,7 +44,7 @@ pub struct Served<I, O> {
 
 /// Serves a connection to its end over this desk, and has this worker go through the gate around
 /// each answer. If memory is refused for the logout at the end, the logout is asked again until it
-/// is answered.
+/// is done.
 pub fn serve_connection<R: Wait, I: Read + Drop, O: Write + Drop, D: Desk, G: Gate>(
     rt: &R,
     alloc: Global,

@@ -3,7 +3,7 @@
 //!
 //! `serving` answers the lines of one connection, over any reader and writer, and logs out at its
 //! end, or hands the login back if memory is refused for that. `connections` asks again until that
-//! logout is answered. `login` is a session that someone has to end.
+//! logout is done. `login` is a session that someone has to end.
 //!
 //! `desk` is what commands are asked of; `shared_desk` is the desk of a worker, at a board and a
 //! table that all workers share. `workers` runs a thread for each seat, which serves the

@@ -11,7 +11,7 @@ pub const MOST_WORKERS: usize = 16;
 /// How many workers there are if no number is given.
 pub const WORKERS: usize = 4;
 
-/// The most connections that may be given as those after which a worker ends.
+/// The greatest number of connections after which a worker may be told to end.
 pub const MOST_CONNECTIONS: u64 = 65_535;
 
 /// A number of workers: from 1 to `MOST_WORKERS`. A contract sees the number.

@@ -36,8 +36,8 @@ struct Numbers<'a, 'b> {
     numbers: &'a [u16],
 }
 
-/// The number of statements that the linked module `main` has before reduction, or none if it has
-/// more than `MOST_STATEMENTS`. A module that isn't there has none.
+/// The number of statements that the linked module `main` has before reduction, or `None` if it
+/// has more than `MOST_STATEMENTS`. A module that isn't there counts as 0 statements.
 ///
 /// # Errors
 /// Memory was refused.

@@ -1,5 +1,5 @@
 //! A sweep through the cells of a statement that doesn't go on from its pauses: the gate says
-//! whether it is begun. (Below: a statement that is begun, if at all.)
+//! whether it is begun. (The comments below call it a statement that is begun, if at all.)
 //!
 //! What calls itself here does so on a part of the statement that it was given, and goes as deep as
 //! the statement is.
@@ -166,7 +166,7 @@ fn begin_seq(
     cells::leave(table, at, &own, second.past)
 }
 
-/// Sweeps a loop that can go on.
+/// Sweeps a loop of the incarnation that can go on: its body, and then the cells of its restart.
 #[cycle(begin)]
 fn begin_loop(table: &mut Table, at: &Place, p: &Statement, gate: Status, env: &Env) -> Found
     requires main { at.now.main ≡ true }
@@ -198,7 +198,7 @@ fn begin_loop(table: &mut Table, at: &Place, p: &Statement, gate: Status, env: &
     cells::leave(table, at, &own, again.past)
 }
 
-/// Sweeps a loop that was begun again.
+/// Sweeps a loop inside a restart, which has no cells for a restart of its own.
 #[cycle(begin)]
 fn begin_again(table: &mut Table, at: &Place, p: &Statement, gate: Status, env: &Env) -> Found
     requires main { at.now.main ≡ false }

@@ -1,4 +1,5 @@
-//! The cells of one statement: they are entered, told what is judged of it, and read.
+//! The cells of one statement: they are told what is judged of it, and read; and what is judged of
+//! a statement is put together from what is judged of its parts.
 
 ghost use Rattle.std.specs.Prelude.{◌≡◌, ◌≢◌, ◌<◌, ◌≤◌, ◌+◌, ◌||◌, ◌&&◌, ℕ, false, length};
 ghost use Rattle.est_kernel.specs.Bits.{bits};
@@ -161,8 +162,8 @@ fn tell_code(
     with_cell(read, code, status)
 }
 
-/// Tells `count` code cells what is judged of their codes, and reads them. Those of codes 0 and 1,
-/// which every statement has, stand before the loop, since the compiler then knows their codes.
+/// Tells `count` code cells what is judged of their codes, and reads them. Codes 0 and 1, which
+/// every statement has, stand before the loop: there each is a constant for the compiler.
 #[inline(always)]
 fn tell(table: &mut Table, cell: usize, count: usize, judged: &Judgement) -> CodesRead
     requires within { cell + count ≤ length table.old.cells.items }
@@ -225,7 +226,7 @@ pub fn leaf(run: Status, completion: Completion) -> Judgement
     }
 }
 
-/// What is found of a statement that takes no part, with its cells before this place.
+/// What is found of a statement that takes no part; `past` is the first place after its cells.
 pub fn nothing(past: usize) -> Found
     ensures judged { IsJudged no_codes no_codes no_signals no_signals result.judged }
     ensures past { result.past ≡ past }

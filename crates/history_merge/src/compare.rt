@@ -93,8 +93,8 @@ pub fn compare(
     }
     let mut taken = Taken::start();
     while let Some((seat, kept)) = next(seats, &taken.read) {
-        // The length of a list is a number, so one more than the receipts that were taken is one
-        // too, as `take` asks.
+        // `take` requires that one receipt more can be counted. The list has one more, and a look
+        // at its length tells the prover that this number fits into a `usize`.
         let _receipts = seats[seat].as_slice().len();
         if !take(&mut taken, policy, journals, seat, kept) {
             return Err(name_mismatch(seat, kept));

@@ -126,6 +126,7 @@ impl Fresh {
     /// A new list, in a book of its own. No contract says which book: whoever has the list knows it
     /// as `seen.book`.
     pub fn new() -> Fresh {
+        // A book has two words: the length of the list, and one that stays 0 here.
         let (seen, mut first, _second) = Seen::open(Start::alone(), OPENING, 0);
         Fresh {
             head: Word::tracked(OPENING, &mut first),

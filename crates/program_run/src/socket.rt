@@ -43,7 +43,7 @@ impl<'a> Socket<'a> {
     pub fn bind<R: Files + Net>(rt: &R, path: &'a str) -> Result<Socket<'a>, Fault>
         ensures { IfErr result (λ f. f ≡ fault.Socket) }
     {
-        // The system would find a name of its own for a socket without one.
+        // With an empty path Linux would choose a name by itself, which no client knows.
         if path.is_empty() {
             return Err(Fault::Socket);
         }
@@ -82,7 +82,8 @@ impl<'a> SocketSource<'a> {
         SocketSource { socket }
     }
 
-    /// Closes the socket: a client that comes then, or waits, is refused. Its file is taken away.
+    /// Closes the socket, and takes its file away: a client that comes then is refused, and one
+    /// that waits finds its connection closed.
     pub fn close<R: Files>(self, rt: &R) {
         self.socket.close(rt);
     }

@@ -358,8 +358,8 @@ pub fn separated_set(
     }
 }
 
-/// Refuses if a session violates a separation set once the role, for which its user is authorized,
-/// is active in this one too.
+/// Refuses if some session would violate a separation set once the role is active in this session
+/// too. Its user is authorized for the role.
 pub fn separated_role(policy: &Policy, session: SessionId, role: &Name) -> Result<(), Refusal>
     ensures { (entries : List Entry) (user : NameText) → StandsFor policy.now entries
         → Lives entries session user → IsAuthorized entries user role.now

@@ -194,9 +194,9 @@ impl Policy {
         }
     }
 
-    /// The first separation set, in order of creation, that some session violates once the role,
-    /// for which its user is authorized, is active in this one too, and the least session that
-    /// does.
+    /// The first separation set, in order of creation, that some session violates once the role is
+    /// active in this session too, and the least session that does. The session's user is
+    /// authorized for the role.
     pub fn first_violated_by_role(&self, session: SessionId, role: &Name) -> Option<Violation>
         ensures { (entries : List Entry) (user : NameText) → StandsFor self.now entries
             → Lives entries session user → IsAuthorized entries user role.now

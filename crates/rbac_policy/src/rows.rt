@@ -46,6 +46,6 @@ pub struct DsdSet {
     pub count: u64,
     /// Its roles.
     pub roles: RoleSet,
-    /// The place of the entry that made it.
+    /// The place of the entry that made it, counted from 0.
     pub place: u64,
 }

@@ -272,7 +272,7 @@ fn grant_revoked(
     }
 }
 
-/// Takes the pair from the role at this place. A pair that no role has left frees its place.
+/// Takes the pair from the role at this place. If no role has it any more, its place is free.
 pub fn take_grant(
     grants: &mut [Option<Grant>; GRANTS],
     operation: &Operation,
@@ -297,7 +297,7 @@ fn grant_cleared(slot: &Option<Grant>, place: usize) -> Option<Grant>
     }
 }
 
-/// Takes each pair from the role at this place. A pair that no role has left frees its place.
+/// Takes each pair from the role at this place. If no role has a pair any more, its place is free.
 pub fn take_all_grants(grants: &mut [Option<Grant>; GRANTS], place: usize)
     requires { place < ROLES }
     ensures { grants.new ≡ map (grant_cleared place) grants.old }

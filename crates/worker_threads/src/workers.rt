@@ -35,7 +35,8 @@ pub trait Work {
         ensures { IsTurn turn seat result };
 }
 
-/// A worker's promise: its seat comes back, after any number of turns.
+/// A worker's promise: its seat comes back, after any number of turns. `seat` is the seat as it was
+/// handed out: a `Snapshot` keeps a value for the proofs alone.
 struct GivesBack<W: Work> {
     seat: Snapshot<W::Seat>,
     of: PhantomData<W>,
