@@ -36,7 +36,8 @@ IsDiscard command = command ≡ Discard
 abbrev pub IsLoad : SlotCommand → Type 0
 IsLoad command = (main : List ℕ) × (text : List ℕ) × (command ≡ Load main text)
 
--- nothing is pending after the command, where it is accepted
+-- nothing is pending after the command, where it is accepted. An unload is left out: before the slot's next offer or
+-- step is accepted there is a load
 abbrev pub EmptiesPending : SlotCommand → Type 0
 EmptiesPending command = IsLoad command ⊎ IsStep command ⊎ IsDiscard command
 

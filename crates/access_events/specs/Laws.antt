@@ -79,8 +79,8 @@ LooksShowTheReaction past m =
 abbrev pub ChangesWhatIsAllowed : (past : List Moment) → Moment → Type 0
 ChangesWhatIsAllowed past m = Changes m.event m
 
--- the reply is the first refusal, in the order of the rules of the event, whose condition holds, and none only where
--- none holds, unless memory was refused
+-- unless memory was refused, the reply is by the rules of the event in their order: the refusal of the first rule that
+-- refuses, or no refusal if all let pass
 abbrev pub DenialsNameTheFirst : (past : List Moment) → Moment → Type 0
 DenialsNameTheFirst past m = ¬ (m.reply ≡ Refused Memory) → AnswersBy (rules_of m.event m.before) m.reply
 

@@ -107,7 +107,7 @@ IsFirst entries slots (Reaction slot place) = IsFirstInSlots entries slots slot 
 IsFirst entries slots Memory = Unit {0}
 
 -- there is nothing to find: the policy list begins with the opening entries, each later one is the policy step's at its
--- place, and each entry of a slot is the slot step's at its version, and the versions rise
+-- place, and each entry of a slot is the slot step's at its version, and the versions never fall
 pub record HaveNoFinding (entries : List Entry) (slots : List (List SlotEntry)) : Type 0 where
   pub policy : IsPolicyList entries
   pub journals : (number : ℕ) (journal : List SlotEntry) → slice_get slots number ≡ Some journal

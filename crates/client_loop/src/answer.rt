@@ -109,7 +109,7 @@ fn ask_logout<D: Desk>(desk: &mut D, login: Option<Login>) -> Turn
 }
 
 /// Answers a policy command on a connection that holds this login. An accepted login or logout
-/// changes what login the connection holds.
+/// changes what login the connection holds; so does a logout whose session had ended.
 fn ask_policy<D: Desk>(desk: &mut D, login: Option<Login>, command: AdminCommand) -> Turn
     ensures asked { Asks D.answers (Policy command) (session_of login)
         desk.old result.reply desk.new }

@@ -101,8 +101,8 @@ fn nesting_of(s: &Statement) -> Depths
     }
 }
 
-/// What is left of a room for statements after the words of a test (`not`, `and`, `or`). A room is
-/// one more than may be used: what takes all of it leaves no room, and from then on nothing is
+/// What is left of a room for statements after the words of a test (`not`, `and`, `or`). A room
+/// begins as the limit plus one: it is 0 exactly when the limit is passed, and then nothing more is
 /// counted. Recursion is no deeper than the room.
 #[cycle(words)]
 fn room_after_test(t: &Test, room: u16) -> u16

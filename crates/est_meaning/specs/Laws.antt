@@ -37,11 +37,11 @@ pub record HasRule (t : Term) (e : Env) (k : ℕ) : Type 0 where
 abbrev pub HasNoCode : Acts → Type 0
 HasNoCode a = (k : ℕ) → a.codes k ≡ false
 
--- Decided by Must. Why care: whether a step is refused, and what it shows, depends on nothing but what must be emitted.
--- No guess is ever tried, and a refused step is one in which the program itself leaves something open. In every
--- environment, for a term whose loops' bodies take time: the rules react with a code exactly when Must has that code,
--- and they give nothing exactly when Must has none. Where they react, Must is that reaction and nothing else, and so
--- is Can
+-- Decided by Must. Why care: whether an instant is Stuck, and what it shows, depends on nothing but what must be
+-- emitted. No guess is ever tried, and a Stuck instant is one in which the program itself leaves something open. In
+-- every environment, for a term whose loops' bodies take time: the rules react with a code exactly when Must has that
+-- code, and they give nothing exactly when Must has none. Where they react, Must is that reaction and nothing else, and
+-- so is Can
 pub record DecidedByMust : Type 0 where
   pub reacts : (t : Term) (e : Env) → IsLoopSafe t → (k : ℕ)
       → HasRule t e k ↔ ((must t e).codes k ≡ true)

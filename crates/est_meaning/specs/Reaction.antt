@@ -7,9 +7,9 @@ use Rattle.est_meaning.specs.Environments.{is_unknown}
 use Rattle.est_meaning.specs.Rules.{Gives, HasNoRule}
 use Rattle.est_meaning.specs.Rounds.{JudgedSignals, last_env}
 
--- t reacts to the inputs: in the last round's environment the rules give signals, of which the interface sees the
--- outputs, a code, and the next term u. There is one such set of signals, one code and one next term at most
--- (`OneReactionAtMost`)
+-- t reacts to the inputs: in the last round's environment the rules give signals, a code and the next term u, and
+-- `outputs` are those of the signals that are of the interface. There is one such set of signals, one code and one next
+-- term at most (`OneReactionAtMost`)
 pub record Reacts (j : JudgedSignals) (inputs : ℕ → Bool) (t : Term) (outputs : ℕ → Bool) (u : Term) : Type 0 where
   pub signals : Signals
   pub code : ℕ

@@ -6,7 +6,7 @@
 ghost use Rattle.est_meaning.specs.Laws.{DecidedByMust, OneReactionAtMost, KnowledgeIsMonotone};
 ghost use Rattle.est_meaning.specs.Laws.{RoundsComeToRest, EmittedIsPresent, PausesAreEnough};
 
-/// Whether a step is refused, and what it shows, depends on nothing but what must be emitted: no
+/// Whether an instant is Stuck, and what it shows, depends on nothing but what must be emitted: no
 /// guess is ever tried.
 ///
 /// Where loops' bodies take time, the rules have a reaction exactly when Must has a code; its

@@ -77,8 +77,8 @@ abbrev pub past_named : (ℕ → ℕ) → ℕ → ℕ
 past_named leads zero = 0
 past_named leads (suc k) = leads k + 1
 
--- what a statement is in the kernel. Its k-th trap outwards is the (leads k)-th of the kernel, which counts the fresh
--- traps around it too. l local signals lie around it
+-- what a statement is in the kernel. `leads` says where its exits lead: the trap that lies k traps further out in the
+-- text lies (leads k) traps further out in the kernel, where fresh traps count too. l local signals lie around it
 abbrev pub reduced : (leads : ℕ → ℕ) → (l : ℕ) → Body → Term
 reduced leads l nothing = kernel.nothing
 reduced leads l pause = kernel.pause

@@ -1,7 +1,7 @@
 //! How many kernel statements a body comes to, before any is built.
 //!
-//! A room is one more than may be used, as in `room_after` of `est_kernel`. What takes all of it
-//! leaves no room, and from then on nothing is counted.
+//! A room begins as the limit plus one, as in `room_after` of `est_kernel`: it is 0 exactly when
+//! the limit is passed, and then nothing more is counted.
 ghost use Rattle.std.specs.Prelude.{◌≡◌, ◌+◌, ◌-◌};
 ghost use Rattle.est_kernel.specs.Limits.{joint_word_count, word_count};
 ghost use Rattle.est_reduce.specs.Inner.Sizes.{abort_statements, reduced_statements};

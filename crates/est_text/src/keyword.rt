@@ -1,4 +1,4 @@
-//! The keywords: the words that cannot be identifiers.
+//! The keywords: words of the form of an identifier that are no name.
 ghost use Rattle.std.specs.Prelude.{◌≡◌};
 ghost use Rattle.est_text.specs.Keywords.{keyword_of};
 

@@ -92,8 +92,8 @@ fn serve_source<B: BoardName + Send + Sync, R: Threads + Wait + Net + Files + Sy
 
 /// Serves the connections that come to a socket; each worker serves one after another. It ends when
 /// all workers have ended: each after `connections` of them, if the service names a number, or when
-/// it can accept no more. Then it closes the socket and takes its file away. If each worker served
-/// all of its connections, it writes the report on the journals.
+/// it can accept no more. Then it takes the socket's file away, and closes the socket. If each
+/// worker served all of its connections, it writes the report on the journals.
 ///
 /// # Errors
 ///

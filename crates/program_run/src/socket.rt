@@ -57,7 +57,7 @@ impl<'a> Socket<'a> {
         }
     }
 
-    /// Closes the socket, and removes its file, if it is still the one at its path.
+    /// Removes the socket's file, if it is still the one at its path, and closes the socket.
     pub fn close<R: Files>(self, rt: &R) {
         let Socket {
             listener: _,
@@ -82,8 +82,8 @@ impl<'a> SocketSource<'a> {
         SocketSource { socket }
     }
 
-    /// Closes the socket, and takes its file away: a client that comes then is refused, and one
-    /// that waits finds its connection closed.
+    /// Takes the socket's file away, and closes the socket: a client that comes then is refused,
+    /// and one that waits finds its connection closed.
     pub fn close<R: Files>(self, rt: &R) {
         self.socket.close(rt);
     }

@@ -3,7 +3,7 @@
 use Rattle.std.specs.Prelude.{ℕ, List}
 use Rattle.rbac_closure.proofs.Finding.{all_below}
 
--- the set with the roles of this one and all to which a chain of edges leads from one of them: there is one for any
--- edges, and one alone
+-- the roles of the set, and all to which a chain of edges leads from one of them: whatever the edges are, there is
+-- exactly one such set
 unfoldable pub below : List ℕ → ℕ → ℕ
 below edges set = (all_below edges set).found

@@ -11,8 +11,8 @@ use Rattle.reactor_core.specs.Instants.{IsOutcome}
 use Rattle.reactor_core.specs.Left.{IsKernelOf}
 use Rattle.audit_report.specs.declared.asked_again.TheConstants.{ASKED_LOCALS}
 
--- where the local signals of the module that runs nest no deeper than the plain engine is asked, the next instant after
--- these entries has an outcome with these outputs
+-- if local signals of the running module nest at most `ASKED_LOCALS` deep: the next instant after these entries has an
+-- outcome with these outputs
 abbrev pub GivesOutputs : List SlotEntry → (outputs : ℕ) → Type 0
 GivesOutputs journal outputs = (k : Kernel) → IsKernelOf journal k → local_depth (term_of k.root) ≤ ASKED_LOCALS
     → (next : Term) × IsOutcome journal outputs next
