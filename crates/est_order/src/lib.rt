@@ -2,10 +2,17 @@
 //!
 //! A list has, for each module, the places of those that it runs (`RunRows`). `order_modules` puts
 //! the places into an order in which each stands after all that it runs, or answers the first from
-//! which a chain of runs leads back to it. That takes time for each module and each run that can be
-//! reached from it, and no stack beyond its own.
+//! which a chain of runs leads back to it. It takes as long as a search over all modules and runs
+//! and a sort of the places, and no stack beyond its own.
+//!
+//! The search gives each module a level (`level_guess`). It isn't proved: the levels are a guess,
+//! and what follows from them is checked (`levels`). Should they ever be wrong, a slow search of
+//! what each module leads to gives other levels, and these are proved.
 #![tactic(auto)]
 
+mod level_guess;
+mod levels;
 pub mod order_fault;
 pub mod place_order;
+mod ranks;
 mod reach;
