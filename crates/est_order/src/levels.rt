@@ -74,6 +74,9 @@ fn first_not_falling(runs: &[Vec<usize>], levels: &[usize]) -> Option<usize>
 
 /// A level for each module, such that each runs those of lower levels alone.
 ///
+/// The levels of the search serve, and show the first recursive module: the first that runs one
+/// whose level isn't lower. Were they wrong, ranks would be taken; no list is known where they are.
+///
 /// # Errors
 ///
 /// `Recursive` with the place of the first module from which a chain of runs leads back to it,

@@ -6,8 +6,8 @@
 //! and a sort of the places, and no stack beyond its own.
 //!
 //! The search gives each module a level (`level_guess`). It isn't proved: the levels are a guess,
-//! and what follows from them is checked (`levels`). Should they ever be wrong, a slow search of
-//! what each module leads to gives other levels, and these are proved.
+//! and the code checks them before it relies on them (`levels`). So the answer is proved, and the
+//! time isn't. Were the levels wrong, a search for each module would give others (`ranks`).
 #![tactic(auto)]
 
 mod level_guess;
