@@ -1,3 +1,4 @@
+pub mod LevelLemmas
 pub mod OrderLemmas
 pub mod OrderPlaces
 pub mod SearchLemmas

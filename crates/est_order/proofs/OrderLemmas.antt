@@ -1,19 +1,14 @@
--- Modules sorted by how many they lead to stand in a bottom-up order.
+-- How many places a module leads to: fewer than each module that runs it, where none is recursive.
 use Rattle.std.proofs.Common.{◌≡◌, ℕ, zero, suc, ◌+◌, ◌<◌, ◌≤◌, inl, inr, Bool, true, false, List, [], ◌∷◌, ◌++◌}
-use Rattle.std.proofs.Common.{if◌then◌else◌, length, map, slice_index, slice_index_or, get_or, All, IsPermutation}
-use Rattle.std.proofs.Common.{map-id, refl, ap, sym, ◌∙◌, subst, arith}
-use Rattle.std.specs.List.{range_with_len}
-use Rattle.std.specs.List.Sorted.{IsNonDecreasingBy}
+use Rattle.std.proofs.Common.{if◌then◌else◌, length, slice_index, slice_index_or, refl, ap, sym, ◌∙◌, subst, arith}
 use Rattle.std.proofs.lemmas.Bool.{cases_lt, false≢true}
-use Rattle.std.proofs.lemmas.List.{length-map, get_or-map, map_push}
-use Rattle.std.proofs.lemmas.List.Elements.{All-get_or, All-push}
-use Rattle.std.proofs.lemmas.List.FromFn.{map-range_with_len_more}
+use Rattle.std.proofs.lemmas.List.{get_or_append_left, get_or_push, length_push}
 use Rattle.std.proofs.lemmas.List.Sums.{sum_by-cons}
-use Rattle.std.proofs.lemmas.List.Sorted.{All-permutation, IsPermutation-map}
 use Rattle.est_order.specs.RunRows.{IsRun, Leads, once, through, IsRecursive}
-use Rattle.est_order.specs.PlaceOrders.{IsBottomUp, NoneIsRecursive}
-use Rattle.est_order.specs.Inner.Reached.{IsIn, IsReach, IsRankOf, AreRanked, size}
-use Rattle.est_order.specs.declared.place_order.Ranked.{Ranked}
+use Rattle.est_order.specs.PlaceOrders.{NoneIsRecursive}
+use Rattle.est_order.specs.Inner.Levels.{AllFall}
+use Rattle.est_order.specs.Inner.Reached.{IsIn, IsReach, IsRankOf, AreRanks, size}
+use Rattle.est_order.proofs.LevelLemmas.{runs_lower_from}
 
 -- what a chain leads to is there
 pub leads_there : (rows : List (List ℕ)) {a b : ℕ} → Leads rows a b → b < length rows
@@ -71,48 +66,28 @@ fewer_below rows p q m n above below run none =
     ((above.reach.exact q).1 (once run)) in
     omega (arith, less, above.counted, below.counted)
 
--- the places of modules that are sorted by rank are in a bottom-up order
-pub sorted_is_bottom_up : (rows : List (List ℕ)) (xs ys : List Ranked) → AreRanked rows (length rows) xs
-    → NoneIsRecursive rows → IsPermutation xs ys → IsNonDecreasingBy (λ (m : Ranked). m.rank) ys
-    → IsBottomUp rows (map (λ (m : Ranked). m.place) ys)
-sorted_is_bottom_up rows xs ys ranked none same sorted =
-    let some : Ranked = record { place = 0; rank = 0 } in
-    let place : Ranked → ℕ = λ m. m.place in
-    let each : All (λ (m : Ranked). IsRankOf rows m.place m.rank) ys =
-    All-permutation (λ (m : Ranked). IsRankOf rows m.place m.rank) xs ys same ranked.ranks in
-    record {
-      each_once = subst (λ ps. IsPermutation ps (map place ys)) ranked.places (IsPermutation-map place xs ys same);
-      after_runs = λ i j i_in j_in run.
-          let li : i < length ys = omega (arith, i_in, length-map ys place) in
-          let lj : j < length ys = omega (arith, j_in, length-map ys place) in
-          let ri = All-get_or (λ (m : Ranked). IsRankOf rows m.place m.rank) ys i some li each in
-          let rj = All-get_or (λ (m : Ranked). IsRankOf rows m.place m.rank) ys j some lj each in
-          let there : IsRun rows (get_or ys i some).place (get_or ys j some).place =
-          subst (λ n. IsRun rows n (get_or ys j some).place) (get_or-map place ys i some 0 li)
-          (subst (λ n. IsRun rows (slice_index (map place ys) i) n) (get_or-map place ys j some 0 lj) run) in
-          let less = fewer_below rows _ _ _ _ ri rj there (none (get_or ys j some).place) in
-          elim (cases_lt j i) [
-            | inl l ↦ l
-            | inr g ↦ absurd (omega (arith, less, sorted i j some g lj))
-          ];
-    }
-
-range_more : (n : ℕ) → range_with_len 0 (n + 1) ≡ range_with_len 0 n ++ n ∷ []
-range_more n = sym (map-id (range_with_len 0 (n + 1))) ∙ map-range_with_len_more (λ (k : ℕ). k) 0 n n (omega arith)
-    ∙ ap (λ (ks : List ℕ). ks ++ n ∷ []) (map-id (range_with_len 0 n))
-
--- one more module, with its rank
-pub ranked_more : (rows : List (List ℕ)) (n rank : ℕ) (xs ys : List Ranked) (set : List Bool)
-    → ys ≡ xs ++ record { place = n; rank = rank } ∷ [] → AreRanked rows n xs → IsReach rows n set → rank ≡ size set
-    → AreRanked rows (n + 1) ys
-ranked_more rows n rank xs ys set e h reach counted =
-    let one : Ranked = record { place = n; rank = rank } in
-    subst (λ zs. AreRanked rows (n + 1) zs) (sym e) (record {
-      places = map_push (λ (m : Ranked). m.place) xs one ∙ ap (λ (ks : List ℕ). ks ++ n ∷ []) h.places
-          ∙ sym (range_more n);
-      ranks = All-push (λ (m : Ranked). IsRankOf rows m.place m.rank) xs one h.ranks
-          (record { set = set; reach = reach; counted = counted });
+-- the rank of one more module
+pub ranks_more : (rows : List (List ℕ)) (n rank : ℕ) (xs ys : List ℕ) (set : List Bool) → ys ≡ xs ++ rank ∷ []
+    → AreRanks rows n xs → IsReach rows n set → rank ≡ size set → AreRanks rows (n + 1) ys
+ranks_more rows n rank xs ys set e h reach counted =
+    subst (λ zs. AreRanks rows (n + 1) zs) (sym e) (record {
+      each = omega (arith, length_push xs rank, h.each);
+      ranked = λ p l. elim (cases_lt p n) [
+        | inl lower ↦
+            subst (λ r. IsRankOf rows p r) (sym (get_or_append_left xs (rank ∷ []) 0 p (omega (arith, lower, h.each))))
+            (h.ranked p lower)
+        | inr g ↦
+            let same : n ≡ p = omega arith in
+            subst (λ r. IsRankOf rows p r) (sym (get_or_push xs rank 0 p (h.each ∙ same)))
+            (subst (λ q. IsRankOf rows q rank) same (record { set = set; reach = reach; counted = counted }))
+      ];
     })
+
+-- ranks fall along each run, where no module is recursive
+pub ranks_fall : (rows : List (List ℕ)) (ranks : List ℕ) → AreRanks rows (length rows) ranks → NoneIsRecursive rows
+    → AllFall rows ranks
+ranks_fall rows ranks h none p l = runs_lower_from rows ranks p (λ q run.
+    fewer_below rows p q (slice_index ranks p) (slice_index ranks q) (h.ranked p l) (h.ranked q run.there) run (none q))
 
 -- none up to this one is recursive
 pub none_more : (rows : List (List ℕ)) (n : ℕ) (set : List Bool)

@@ -142,7 +142,7 @@ row_only s (p ∷ row) q h = elim (row_only (visited s p) row q h) [
   | inr x ↦ inr (Contains-append_right (p ∷ []) row q x)
 ]
 
-none_in_empty : (q : ℕ) → Contains {X = ℕ} [] q → ⊥
+pub none_in_empty : (q : ℕ) → Contains {X = ℕ} [] q → ⊥
 none_in_empty q h = omega (arith, h.1)
 
 -- each place of the row is seen

@@ -2,10 +2,17 @@
 //!
 //! A list has, for each module, the places of those that it runs (`RunRows`). `order_modules` puts
 //! the places into an order in which each stands after all that it runs, or answers the first from
-//! which a chain of runs leads back to it. That takes time for each module and each run that can be
-//! reached from it, and no stack beyond its own.
+//! which a chain of runs leads back to it. It takes as long as a search over all modules and runs
+//! and a sort of the places, and no stack beyond its own.
+//!
+//! The search gives each module a level (`level_guess`). It isn't proved: the levels are a guess,
+//! and the code checks them before it relies on them (`levels`). So the answer is proved, and the
+//! time isn't. Were the levels wrong, a search for each module would give others (`ranks`).
 #![tactic(auto)]
 
+mod level_guess;
+mod levels;
 pub mod order_fault;
 pub mod place_order;
+mod ranks;
 mod reach;

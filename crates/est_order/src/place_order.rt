@@ -1,12 +1,12 @@
 //! The order of modules.
-ghost use Rattle.std.specs.Prelude.{◌≡◌, IfOk, IfErr, OnOk, length, map, IsPermutation};
+ghost use Rattle.std.specs.Prelude.{◌≡◌, IfOk, IfErr, OnOk, IsPermutation, slice_index};
+ghost use Rattle.std.specs.List.{range_with_len};
 ghost use Rattle.std.specs.List.Sorted.{IsNonDecreasingBy};
 ghost use Rattle.est_order.specs.RunRows.{rows_of};
 ghost use Rattle.est_order.specs.PlaceOrders.{IsBottomUp, NoneIsRecursive, IsFaultOf};
-ghost use Rattle.est_order.specs.Inner.Reached.{AreRanked};
 
+use crate::levels::{falling_levels, level_of};
 use crate::order_fault::OrderFault;
-use crate::reach::{count, reach};
 use std::alloc::{AllocError, Global};
 use std::marker::Model;
 
@@ -33,13 +33,6 @@ impl Order {
     }
 }
 
-// A module's place, and to how many places it leads.
-#[derive(Clone, Copy)]
-struct Ranked {
-    place: usize,
-    rank: usize,
-}
-
 /// The modules in an order in which each stands after all that it runs. `runs` has, for each
 /// module, the places of those that it runs; a number that is no place is passed over.
 ///
@@ -52,47 +45,19 @@ pub fn order_modules(alloc: Global, runs: &[Vec<usize>]) -> Result<Order, OrderF
     ensures ok { OnOk result (NoneIsRecursive (rows_of runs.now)) }
     ensures err { IfErr result (λ fault. IsFaultOf (rows_of runs.now) fault) }
 {
-    let mut ranked = rank_modules(alloc, runs)?;
-    sort_by_rank(&mut ranked)?;
-    let places = places_of(alloc, &ranked)?;
+    let levels = falling_levels(alloc, runs)?;
+    let places = places_by_level(alloc, runs.len(), &levels)?;
     Ok(Order { places })
 }
 
-// Each module with its rank, in the order of their places.
-fn rank_modules(alloc: Global, runs: &[Vec<usize>]) -> Result<Vec<Ranked>, OrderFault>
-    ensures ranked { IfOk result
-        (λ ranked. AreRanked (rows_of runs.now) (length runs.now) ranked.items) }
-    ensures ok { OnOk result (NoneIsRecursive (rows_of runs.now)) }
-    ensures err { IfErr result (λ fault. IsFaultOf (rows_of runs.now) fault) }
+// The places, those of lower levels first.
+fn places_by_level(alloc: Global, count: usize, levels: &[usize]) -> Result<Vec<usize>, AllocError>
+    ensures each_once { IfOk result
+        (λ places. IsPermutation (range_with_len 0 count) places.items) }
+    ensures sorted { IfOk result
+        (λ places. IsNonDecreasingBy (λ place. slice_index levels.now place) places.items) }
 {
-    let mut ranked = Vec::new(alloc);
-    for place in 0..runs.len() {
-        let reached = reach(alloc, runs, place)?;
-        if reached[place] {
-            return Err(OrderFault::Recursive(place));
-        }
-        let rank = count(&reached);
-        ranked.push(Ranked { place, rank })?;
-    }
-    Ok(ranked)
-}
-
-// Modules that lead to fewer places come first.
-fn sort_by_rank(ranked: &mut Vec<Ranked>) -> Result<(), AllocError>
-    ensures same { IsPermutation ranked.old.items ranked.new.items }
-    ensures sorted { OnOk result (IsNonDecreasingBy (λ m. m.rank) ranked.new.items) }
-{
-    ranked.sort_by_key(|module| module.rank)?;
-    Ok(())
-}
-
-// The places alone.
-fn places_of(alloc: Global, ranked: &[Ranked]) -> Result<Vec<usize>, AllocError>
-    ensures { IfOk result (λ places. places.items ≡ map (λ m. m.place) ranked.now) }
-{
-    let mut places = Vec::new(alloc);
-    for module in ranked {
-        places.push(module.place)?;
-    }
+    let mut places: Vec<usize> = (0..count).collect(alloc)?;
+    places.sort_by_key(|place| level_of(levels, *place))?;
     Ok(places)
 }

@@ -1,13 +1,14 @@
 //! What a module leads to.
-ghost use Rattle.std.specs.Prelude.{◌≡◌, ℕ, ◌<◌, [], length, slice_index_or, IfOk, OnOk};
-ghost use Rattle.est_order.specs.RunRows.{rows_of};
+ghost use Rattle.std.specs.Prelude.{◌≡◌, ◌↔◌, ℕ, ◌<◌, [], length, slice_index_or, IsTrue, IfOk};
+ghost use Rattle.std.specs.Prelude.{OnOk};
+ghost use Rattle.est_order.specs.RunRows.{rows_of, IsRecursive};
 ghost use Rattle.est_order.specs.Inner.Reached.{IsReach, size, followed};
 
 use std::alloc::{AllocError, Global};
 
-// The places of the modules that this one runs.
+/// The places of the modules that this one runs.
 #[tactic(auto, using(crate::proofs::SearchLemmas::row_at))]
-fn row_of(runs: &[Vec<usize>], place: usize) -> &[usize]
+pub(crate) fn row_of(runs: &[Vec<usize>], place: usize) -> &[usize]
     requires { place < length runs.now }
     ensures { result.now ≡ slice_index_or (rows_of runs.now) place [] }
 {
@@ -46,6 +47,22 @@ pub(crate) fn reach(
         follow(row_of(runs, next), &mut seen, &mut waiting)?;
     }
     Ok(seen)
+}
+
+/// Whether a chain of runs leads from the module back to it.
+///
+/// # Errors
+/// Memory was refused.
+pub(crate) fn leads_back(
+    alloc: Global,
+    runs: &[Vec<usize>],
+    place: usize,
+) -> Result<bool, AllocError>
+    requires { place < length runs.now }
+    ensures { IfOk result (λ back. IsTrue back ↔ IsRecursive (rows_of runs.now) place) }
+{
+    let reached = reach(alloc, runs, place)?;
+    Ok(reached[place])
 }
 
 /// How many places a set has.

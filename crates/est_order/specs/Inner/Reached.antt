@@ -1,10 +1,8 @@
 -- Sets of places, as a list that has for each place whether it is in the set, and the search for what a module leads
 -- to.
 use Rattle.std.specs.Prelude.{◌≡◌, ℕ, ◌<◌, ◌⊎◌, ◌↔◌, ◌&&◌, Bool, true, false, not, List, [], ◌∷◌, ◌++◌, if◌then◌else◌}
-use Rattle.std.specs.Prelude.{length, map, slice_index_or, slice_set, nat_lt, ◌+◌, fold, count_by, Contains, All}
-use Rattle.std.specs.List.{range_with_len}
+use Rattle.std.specs.Prelude.{length, slice_index, slice_index_or, slice_set, nat_lt, ◌+◌, fold, count_by, Contains}
 use Rattle.est_order.specs.RunRows.{IsRun, Leads}
-use Rattle.est_order.specs.declared.place_order.Ranked.{Ranked}
 
 -- the place is in the set
 abbrev pub IsIn : List Bool → ℕ → Type 0
@@ -42,7 +40,7 @@ followed s row = fold visited s row
 abbrev pub left_to_do : Search → ℕ
 left_to_do s = count_by (λ seen. not seen) s.seen + length s.waiting
 
--- a module's place, and to how many places it leads
+-- the module leads to so many places
 pub record IsRankOf (rows : List (List ℕ)) (place rank : ℕ) : Type 0 where
   pub set : List Bool
   pub reach : IsReach rows place set
@@ -64,7 +62,7 @@ pub record IsSearching (rows : List (List ℕ)) (first : ℕ) (s : Search) : Typ
   pub sound : (place : ℕ) → IsIn s.seen place → Leads rows first place
   pub complete : (place : ℕ) → IsMet first s place → Contains s.waiting place ⊎ IsFollowed rows s.seen place
 
--- these are the first `count` modules in the order of their places, each with its rank
-pub record AreRanked (rows : List (List ℕ)) (count : ℕ) (ranked : List Ranked) : Type 0 where
-  pub places : map (λ (m : Ranked). m.place) ranked ≡ range_with_len 0 count
-  pub ranks : All (λ (m : Ranked). IsRankOf rows m.place m.rank) ranked
+-- these are the ranks of the first `count` modules
+pub record AreRanks (rows : List (List ℕ)) (count : ℕ) (ranks : List ℕ) : Type 0 where
+  pub each : length ranks ≡ count
+  pub ranked : (place : ℕ) → place < count → IsRankOf rows place (slice_index ranks place)

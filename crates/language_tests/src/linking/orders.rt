@@ -1,4 +1,4 @@
-//! Orders of a few modules, and of as many as one line holds.
+//! Orders of a few modules, of as many as one line holds, and of many more.
 
 use crate::told::expect_told;
 use est_order::place_order::order_modules;
@@ -50,11 +50,15 @@ fn few_modules_in_order(rt: HostRuntime) {
 /// The most modules that one line holds.
 const MANY: usize = 1600;
 
-/// Each module runs the next, and the last one the module at this place, if there is one.
-fn long_chain(rt: &impl Abort, alloc: Global, last: usize) -> Vec<Vec<usize>> {
+/// So many that a search for each of them would not end in a test's time.
+const MOST: usize = 200_000;
+
+/// Each of so many modules runs the next, and the last one the module at this place, if there is
+/// one.
+fn long_chain(rt: &impl Abort, alloc: Global, count: usize, last: usize) -> Vec<Vec<usize>> {
     let mut rows = Vec::new(alloc);
-    for place in 1..=MANY {
-        let next = if place == MANY { last } else { place };
+    for place in 1..=count {
+        let next = if place == count { last } else { place };
         let row = Vec::from_slice(alloc, &[next]).expect(rt, "room");
         rows.push(row).expect(rt, "room");
     }
@@ -62,8 +66,8 @@ fn long_chain(rt: &impl Abort, alloc: Global, last: usize) -> Vec<Vec<usize>> {
 }
 
 /// Fails where the answer to a long chain begins otherwise.
-fn expect_begin(rt: &impl Abort, alloc: Global, last: usize, begin: &str) {
-    let rows = long_chain(rt, alloc, last);
+fn expect_begin(rt: &impl Abort, alloc: Global, count: usize, last: usize, begin: &str) {
+    let rows = long_chain(rt, alloc, count, last);
     let found = told(rt, alloc, rows.as_slice());
     let found = found.as_str().get(..begin.len()).expect(rt, "an answer");
     expect_told(rt, found, begin, begin);
@@ -73,7 +77,13 @@ fn expect_begin(rt: &impl Abort, alloc: Global, last: usize, begin: &str) {
 #[test]
 fn as_many_as_one_line_holds(rt: HostRuntime) {
     let alloc = rt.alloc();
-    expect_begin(&rt, alloc, MANY, "[1599, ");
-    expect_begin(&rt, alloc, 0, "Recursive(0)");
-    expect_begin(&rt, alloc, MANY - 1, "Recursive(1599)");
+    expect_begin(&rt, alloc, MANY, MANY, "[1599, ");
+    expect_begin(&rt, alloc, MANY, 0, "Recursive(0)");
+    expect_begin(&rt, alloc, MANY, MANY - 1, "Recursive(1599)");
+}
+
+/// One search serves all modules, also where the last one is recursive.
+#[test]
+fn one_search_serves_all(rt: HostRuntime) {
+    expect_begin(&rt, rt.alloc(), MOST, MOST - 1, "Recursive(199999)");
 }
