@@ -150,9 +150,9 @@ pub name_noted : (t : NameTable) (bs : List Binder) (n : List ℕ) (i : ℕ) (ol
     → number_in t n ≡ Some i → is_local bs n ≡ false
     → ((j : ℕ) → numbers_of new j ≡ (numbers_of old j || nat_eq i j))
     → Adds t (λ s. not (is_local bs s) && bytes_eq n s) old new
-name_noted t bs n i old new is at open put =
+name_noted t bs n i old new is at outer put =
     adds_same t (bytes_eq n) (λ s. not (is_local bs s) && bytes_eq n s) old new
-    (λ s. ap (λ b. not b && bytes_eq n s) (sym open)
+    (λ s. ap (λ b. not b && bytes_eq n s) (sym outer)
     ∙ at_same (λ u. not (is_local bs u)) n s (bytes_eq n s) refl)
     (adds_number t n i old new is at put)
 
@@ -256,8 +256,8 @@ noted_along ps em t noted [] i =
     same_or (noted i) ∙ ap (λ b. noted i || b) (passes_none (slice_get t.names.items i))
 noted_along ps em t noted (o ∷ os) i =
     let name = slice_get t.names.items i in
-    let here = λ s. emits_here ps em s o in
-    let rest = λ s. list_any (emits_here ps em s) os in
+    let here = λ (s : List ℕ). emits_here ps em s o in
+    let rest = λ (s : List ℕ). list_any (emits_here ps em s) os in
     noted_along ps em t (noted_after ps em t noted o) os i
     ∙ or_assoc (noted i) (passes here name) (passes rest name)
     ∙ ap (λ b. noted i || b) (passes_or here rest name)

@@ -166,7 +166,8 @@ fn refused_of(
         (program_of check.now.home.now) (binders_of scope.now) (map renaming_view renamings.now)
         name.now (Some (program_of run.now))) }
 {
-    if are_allowed(check, kept, scope, renamings, name)? {
+    let allowed = are_allowed(check, kept, scope, renamings, name)?;
+    if allowed {
         return Ok(None);
     }
     let renamed = RunRenamings::of(check.alloc, renamings)?;

@@ -122,7 +122,8 @@ fn unknown_in_run(
     let Some(run) = check.heads.named(name) else {
         return Ok(None);
     };
-    if are_bound(check, kept, scope, renamings, name)? {
+    let bound = are_bound(check, kept, scope, renamings, name)?;
+    if bound {
         return Ok(None);
     }
     let renamings = RunRenamings::of(check.alloc, renamings)?;

@@ -1,4 +1,4 @@
-use Rattle.std.proofs.Common.{◌∙◌, ◌||◌, ◌&&◌, not, map, ap, sym}
+use Rattle.std.proofs.Common.{◌∙◌, ◌||◌, ◌&&◌, ℕ, List, not, map, ap, sym}
 use Rattle.std.specs.List.{slice_get}
 use Rattle.est_syntax.specs.Views.{renaming_view}
 use Rattle.est_modules.specs.Modules.{is_declared, program_of}
@@ -18,8 +18,8 @@ returns-in_ok-add_difference c q found i =
     let t = c.args.kept.now.table.now in
     let bs = binders_of c.args.scope.now in
     let rs = map renaming_view c.args.renamings.now in
-    let own = λ s. emitted_of sent.table.now c.args.name.now s && is_declared q.interface s in
-    let passed = λ s. is_local bs s || is_renamed rs s in
+    let own = λ (s : List ℕ). emitted_of sent.table.now c.args.name.now s && is_declared q.interface s in
+    let passed = λ (s : List ℕ). is_local bs s || is_renamed rs s in
     let old = numbers_of c.args.noted.now i in
     c.in_ok-add_difference.ensures i
     ∙ ap (λ b. old || (b && not (numbers_of c.in_ok-passed_over.field-0 i)))
@@ -33,8 +33,8 @@ returns-in_default c q found i =
     let t = c.args.kept.now.table.now in
     let bs = binders_of c.args.scope.now in
     let rs = map renaming_view c.args.renamings.now in
-    let own = λ s. emitted_of sent.table.now c.args.name.now s && is_declared q.interface s in
-    let passed = λ s. is_local bs s || is_renamed rs s in
+    let own = λ (s : List ℕ). emitted_of sent.table.now c.args.name.now s && is_declared q.interface s in
+    let passed = λ (s : List ℕ). is_local bs s || is_renamed rs s in
     let old = numbers_of c.args.noted.now i in
     let o = slice_get t.names.items i in
     same_or old

@@ -1,4 +1,5 @@
-use Rattle.std.proofs.Common.{◌∙◌, ◌&&◌, ℕ, List, map, not, ap, sym}
+use Rattle.std.proofs.Common.{◌≡◌, ◌∙◌, ◌&&◌, false, ℕ, List, map, not, ap, sym, subst}
+use Rattle.std.proofs.lemmas.List.{take_all}
 use Rattle.std.specs.Str.{bytes_eq}
 use Rattle.est_syntax.specs.Views.{renaming_view}
 use Rattle.est_syntax.specs.declared.tree.Renaming.{Renaming}
@@ -14,7 +15,7 @@ use Rattle.est_checks.specs.Inner.Noted.{sends, sends_renamed}
 use Rattle.est_checks.proofs.Leaving.{and_false}
 use Rattle.est_checks.proofs.Noting.{renamed_next, sent_is, unsent_is}
 use Rattle.est_checks.proofs.module_emissions.note_renamed.Goals as goal
-use Rattle.est_checks.proofs.module_emissions.note_renamed.Goals.{then-declares+then-emits, else-declares}
+use Rattle.est_checks.proofs.module_emissions.note_renamed.Goals.{then-declares+then-emits+in_ok-note_name, else-declares}
 use Rattle.est_checks.proofs.module_emissions.note_renamed.Goals.{else-declares-via-then-declares+else-emits}
 use Rattle.est_checks.proofs.module_emissions.note_renamed.Goals.{else-declares-via-else-declares}
 
@@ -37,7 +38,7 @@ loop-renaming-preserved c bs is tells =
     let declared = is_declared q.interface r.inner in
     let step : Adds t here now c.if-declares.noted =
     elim c.if-declares.branch [
-      | then-declares+then-emits w ↦
+      | then-declares+then-emits+in_ok-note_name w ↦
           let name = w.callers_name.ensures
           ∙ ap (λ (l : List Renaming). renamed (map renaming_view l) r.inner) c.requires in
           adds_same t (λ s. not (is_local bs s) && bytes_eq w.callers_name.result s) here now c.if-declares.noted
@@ -60,3 +61,15 @@ loop-renaming-preserved c bs is tells =
     adds_same t _ _ c.args.noted.now c.if-declares.noted
     (λ s. renamed_next em q bs rs all k r s c.renaming-item.is c.loop-renaming-test.true)
     (adds_both t _ here c.args.noted.now now c.if-declares.noted (c.loop-renaming.invariant bs is tells) step)
+
+pub returns : goal.returns
+returns c bs is tells =
+    let em = emitted_of c.args.table.now in
+    let q = program_of c.args.run.now in
+    let all = c.args.renamings.now in
+    subst
+    (λ (l : List Renaming). Adds c.args.kept.now.table.now
+    (λ s. not (is_local bs s) && sends_renamed em q (map renaming_view all) (map renaming_view l) s) c.args.noted.now
+    c.loop-renaming.noted)
+    (take_all c.loop-renaming.renaming-index all c.loop-renaming-test.false)
+    (c.loop-renaming.invariant bs is tells)

@@ -1,4 +1,4 @@
-use Rattle.std.proofs.Common.{sym, map}
+use Rattle.std.proofs.Common.{ℕ, List, sym, map}
 use Rattle.std.proofs.lemmas.Result.{IfOk-weaker}
 use Rattle.std.specs.Prelude.{◌||◌}
 use Rattle.est_syntax.specs.Views.{renaming_view}
@@ -17,7 +17,7 @@ unfolding is_unbound
 returns-in-Some c =
     let check = c.args.check.now in
     let ds = (program_of check.home.now).interface in
-    let own = λ s. is_declared ds s || is_tick s in
+    let own = λ (s : List ℕ). is_declared ds s || is_tick s in
     let bs = binders_of c.args.scope.now in
     let rs = map renaming_view c.args.renamings.now in
     let base = names_of (map program_of check.heads.now) in

@@ -31,14 +31,14 @@ returns c =
     ∙ ap (λ (l : List Renaming). names_of p bs l q) c.in_ok-renamings.ensures)
     ∙ ap (unknown_in_run p bs (map renaming_view rs)) c.in-Some-named.ensures
 
-pub returns-then-are_bound : goal.returns-then-are_bound
-returns-then-are_bound c =
+pub returns-then-bound : goal.returns-then-bound
+returns-then-bound c =
     let p = program_of c.args.check.now.home.now in
     let bs = binders_of c.args.scope.now in
     let rs = c.args.renamings.now in
     let q = program_of c.in-Some-named.run'.now in
     run_bound p bs rs q (sym c.in_default.is ∙ c.unknown_renaming.ensures)
-    (λ s here. c.in_ok-are_bound.ensures c.if-are_bound.true s
+    (λ s here. c.in_ok-bound.ensures c.if-bound.true s
     (ap (λ o. stands_in (names_in o) s) (sym c.in-Some-named.ensures) ∙ here))
     ∙ ap (unknown_in_run p bs (map renaming_view rs)) c.in-Some-named.ensures
 

@@ -1,7 +1,8 @@
-use Rattle.std.proofs.Common.{◌≡◌, false, refl, map, sym, subst}
+use Rattle.std.proofs.Common.{◌≡◌, inl, inr, ℕ, List, false, refl, map, sym, subst}
 use Rattle.std.proofs.lemmas.Result.{on_ok_weaker}
 use Rattle.est_modules.specs.Modules.{program_of}
 use Rattle.est_modules.specs.Scopes.{act_of, binders_of}
+use Rattle.est_modules.specs.declared.scope.Act.{Act}
 use Rattle.est_checks.specs.Emissions.{emitted_of, emits_by}
 use Rattle.est_checks.proofs.Noting.{act_noted, none_noted}
 use Rattle.est_checks.proofs.module_emissions.SentVisitor.visit.Goals as goal
@@ -21,22 +22,15 @@ pub returns-in-Tests : goal.returns-in-Tests
 returns-in-Tests c =
     let ps = map program_of c.args.self.now.heads.now in
     let em = emitted_of c.args.self.now.table.now in
+    let none = λ (s : List ℕ). λ (act : Act). emits_by ps em s (act_of act) ≡ false in
     none_noted ps em c.args.self.now.names.now c.args.seen.now (act_of c.args.act.now) (binders_of c.args.scope.now)
-    (λ s. subst (λ act. emits_by ps em s (act_of act) ≡ false) (sym c.in-Tests.is) refl)
-
-pub returns-in-Exits : goal.returns-in-Exits
-returns-in-Exits c =
-    let ps = map program_of c.args.self.now.heads.now in
-    let em = emitted_of c.args.self.now.table.now in
-    none_noted ps em c.args.self.now.names.now c.args.seen.now (act_of c.args.act.now) (binders_of c.args.scope.now)
-    (λ s. subst (λ act. emits_by ps em s (act_of act) ≡ false) (sym c.in-Exits.is) refl)
-
-pub returns-in-Binds : goal.returns-in-Binds
-returns-in-Binds c =
-    let ps = map program_of c.args.self.now.heads.now in
-    let em = emitted_of c.args.self.now.table.now in
-    none_noted ps em c.args.self.now.names.now c.args.seen.now (act_of c.args.act.now) (binders_of c.args.scope.now)
-    (λ s. subst (λ act. emits_by ps em s (act_of act) ≡ false) (sym c.in-Binds.is) refl)
+    (λ s. elim c.in-Tests.is [
+      | inl test ↦ subst (none s) (sym test.1) refl
+      | inr other ↦ (elim other [
+        | inl exit ↦ subst (none s) (sym exit.1) refl
+        | inr binding ↦ subst (none s) (sym binding.1) refl
+      ])
+    ])
 
 pub returns-in-Runs : goal.returns-in-Runs
 returns-in-Runs c =
