@@ -1,42 +1,24 @@
--- The first name for which a run is refused, among the names that are kept of its module.
-use Rattle.std.proofs.Common.{◌≡◌, ◌||◌, ◌&&◌, not, ℕ, List, [], ◌∷◌, Option, Some, None, Bool, true, false, cond, map}
-use Rattle.std.proofs.Common.{filter, option_map, refl, ap, sym, ◌∙◌, subst}
-use Rattle.std.proofs.lemmas.Bool.{true≢false}
+-- Names of a module that is run, for none of which the run is refused.
+use Rattle.std.proofs.Common.{◌≡◌, ◌||◌, ◌&&◌, not, ℕ, List, Option, Some, None, Bool, true, false, map, option_map, refl}
+use Rattle.std.proofs.Common.{ap, sym, ◌∙◌, subst}
+use Rattle.std.proofs.lemmas.Bool.{false≢true, true≢false}
 use Rattle.std.specs.List.{find, list_any}
 use Rattle.std.specs.Str.{bytes_eq}
 use Rattle.est_syntax.specs.Tree.{RenamingTree}
 use Rattle.est_syntax.specs.Views.{renaming_view}
 use Rattle.est_syntax.specs.declared.tree.Renaming.{Renaming}
-use Rattle.est_modules.specs.Modules.{Program, is_input}
+use Rattle.est_modules.specs.Modules.{Program, is_declared, is_input}
 use Rattle.est_modules.specs.Occurrences.{Binder}
-use Rattle.est_modules.specs.OpenNames.{open_at}
 use Rattle.est_modules.specs.Renamings.{is_renamed, renamed, callers_name}
-use Rattle.est_modules.specs.Visible.{is_local, is_tick}
+use Rattle.est_modules.specs.Visible.{is_local, is_tick, stands_in}
 use Rattle.est_modules.specs.declared.head.Declared.{Declared}
 use Rattle.est_modules.proofs.Lists.{any_map}
-use Rattle.est_modules.proofs.Testing.{same_bytes, found_passes, other_fails, none_found}
-use Rattle.est_checks.specs.Emissions.{is_refused, is_refused_in_run}
+use Rattle.est_modules.proofs.Testing.{and_both, found_passes, none_found, other_fails, same_bytes}
+use Rattle.est_checks.specs.Emissions.{is_refused, is_refused_in_run, refused_in_run}
+use Rattle.est_checks.specs.Inner.Emitted.{sent_in}
+use Rattle.est_checks.proofs.Leaving.{and_false, stands_left}
 use Rattle.est_checks.proofs.Noting.{keeps_name}
-use Rattle.est_checks.proofs.Unbinding.{found_among}
-
--- what passes two tests
-passed : {X : Type 0} (p : X → Bool) (x : X) (ys : List X) (b : Bool)
-    → filter p (cond b (x ∷ ys) ys) ≡ cond b (cond (p x) (x ∷ filter p ys) (filter p ys)) (filter p ys)
-passed p x ys true = refl
-passed p x ys false = refl
-
-joined : {A : Type 0} (a b : Bool) (u v : A) → cond b (cond a u v) v ≡ cond (a && b) u v
-joined true true u v = refl
-joined true false u v = refl
-joined false true u v = refl
-joined false false u v = refl
-
-passed_twice : {X : Type 0} (p q : X → Bool) (xs : List X) → filter p (filter q xs) ≡ filter (λ x. p x && q x) xs
-passed_twice p q [] = refl
-passed_twice p q (x ∷ xs) =
-    passed p x (filter q xs) (q x)
-    ∙ joined (p x) (q x) (x ∷ filter p (filter q xs)) (filter p (filter q xs))
-    ∙ ap (λ ys. cond (p x && q x) (x ∷ ys) ys) (passed_twice p q xs)
+use Rattle.est_checks.proofs.Unbinding.{none_at_fault}
 
 -- ---- a name that is renamed
 
@@ -59,67 +41,57 @@ renamed_found em test rs n (Some r) e so h =
     (other_fails (λ (r : RenamingTree). bytes_eq r.inner n)
     (λ (r : RenamingTree). test r.outer && em r.inner) rs r h e))
 
-both_same : {A : Type 0} (b : Bool) (u : A) → cond b u u ≡ u
-both_same true u = refl
-both_same false u = refl
+-- ---- any name
 
-in_order : (e l i : Bool) → (e && (not l && i)) ≡ (not l && (i && e))
-in_order true true i = refl
-in_order true false true = refl
-in_order true false false = refl
-in_order false true i = refl
-in_order false false true = refl
-in_order false false false = refl
+-- an emission of a name that is local, or that may be emitted
+free : (sent local input declared : Bool) → ((local || false) || (not input && declared)) ≡ true
+    → (sent && (not local && input)) ≡ false
+free sent true input declared h = and_false sent
+free sent false true declared h = absurd (false≢true h)
+free sent false false declared h = and_false sent
 
-name_of : {A B : Type 0} (f : A → B) (b : Bool) (x : A) (o : Option A)
-    → option_map f (cond b (Some x) o) ≡ cond b (Some (f x)) (option_map f o)
-name_of f true x o = refl
-name_of f false x o = refl
-
--- one name more, where the run doesn't rename it, or does
-one_barred : (em : List ℕ → Bool) (p : Program) (bs : List Binder) (rs : List RenamingTree) (n : List ℕ)
-    (w : Option (List ℕ)) (b : Bool) → is_renamed rs n ≡ b
-    → list_any (λ (r : RenamingTree). is_refused p bs r.outer && em r.inner) rs ≡ false
-    → cond (em n && is_refused p bs (renamed rs n)) (Some (renamed rs n)) w
-    ≡ cond (not (is_local bs n) && ((is_input p.interface n || is_tick n) && em n)) (cond (not b) (Some n) w) w
+allowed_by : (em : List ℕ → Bool) (p : Program) (bs : List Binder) (rs : List RenamingTree) (s : List ℕ) (b : Bool)
+    → is_renamed rs s ≡ b → list_any (λ (r : RenamingTree). is_refused p bs r.outer && em r.inner) rs ≡ false
+    → ((is_local bs s || is_renamed rs s)
+    || (not (is_input p.interface s || is_tick s) && is_declared p.interface s)) ≡ true
+    → (em s && is_refused p bs (renamed rs s)) ≡ false
 unfolding is_refused
-one_barred em p bs rs n w true so h =
-    ap (λ b. cond b (Some (renamed rs n)) w)
-    (renamed_found em (is_refused p bs) rs n (find (λ (r : RenamingTree). bytes_eq r.inner n) rs) refl so h)
-    ∙ sym (both_same (not (is_local bs n) && ((is_input p.interface n || is_tick n) && em n)) w)
-one_barred em p bs rs n w false so h =
-    ap (λ k. cond (em n && is_refused p bs k) (Some k) w) (keeps_name rs n so)
-    ∙ ap (λ b. cond b (Some n) w) (in_order (em n) (is_local bs n) (is_input p.interface n || is_tick n))
+allowed_by em p bs rs s true so none h =
+    renamed_found em (is_refused p bs) rs s (find (λ (r : RenamingTree). bytes_eq r.inner s) rs) refl so none
+allowed_by em p bs rs s false so none h =
+    ap (λ k. em s && is_refused p bs k) (keeps_name rs s so)
+    ∙ free (em s) (is_local bs s) (is_input p.interface s || is_tick s) (is_declared p.interface s)
+    (ap (λ b. (is_local bs s || b) || (not (is_input p.interface s || is_tick s) && is_declared p.interface s)) (sym so)
+    ∙ h)
 
-first_open : (em : List ℕ → List ℕ → Bool) (p : Program) (bs : List Binder) (rs : List RenamingTree) (m : List ℕ)
-    (ds : List Declared) → list_any (λ (r : RenamingTree). is_refused p bs r.outer && em m r.inner) rs ≡ false
-    → option_map (λ (d : Declared). renamed rs d.name)
-    (find (λ (d : Declared). is_refused_in_run em p bs rs m d.name) ds)
-    ≡ find (λ n. not (is_renamed rs n))
-    (filter (λ n. not (is_local bs n) && ((is_input p.interface n || is_tick n) && em m n))
-    (map (λ (d : Declared). d.name) ds))
+-- where no renaming is at fault, the run is not refused for a name that is local, renamed, or may be emitted
+pub allowed : (em : List ℕ → List ℕ → Bool) (p : Program) (bs : List Binder) (rs : List Renaming) (m s : List ℕ)
+    → list_any (λ (r : Renaming). is_refused p bs r.outer && em m r.inner) rs ≡ false
+    → ((is_local bs s || is_renamed (map renaming_view rs) s)
+    || (not (is_input p.interface s || is_tick s) && is_declared p.interface s)) ≡ true
+    → is_refused_in_run em p bs (map renaming_view rs) m s ≡ false
 unfolding is_refused_in_run
-first_open em p bs rs m [] h = refl
-first_open em p bs rs m (d ∷ ds) h =
-    let test : List ℕ → Bool = λ n. not (is_local bs n) && ((is_input p.interface n || is_tick n) && em m n) in
-    let left = filter test (map (λ (d : Declared). d.name) ds) in
-    name_of (λ (d : Declared). renamed rs d.name) (em m d.name && is_refused p bs (renamed rs d.name)) d
-    (find (λ (d : Declared). is_refused_in_run em p bs rs m d.name) ds)
-    ∙ ap (λ o. cond (em m d.name && is_refused p bs (renamed rs d.name)) (Some (renamed rs d.name)) o)
-    (first_open em p bs rs m ds h)
-    ∙ one_barred (em m) p bs rs d.name (find (λ n. not (is_renamed rs n)) left) (is_renamed rs d.name) refl h
-    ∙ sym (found_among (λ n. not (is_renamed rs n)) d.name left (test d.name))
+allowed em p bs rs m s none h =
+    allowed_by (em m) p bs (map renaming_view rs) s (is_renamed (map renaming_view rs) s) refl
+    (any_map (λ (r : RenamingTree). is_refused p bs r.outer && em m r.inner) renaming_view rs ∙ none) h
 
--- the first name for which a run is refused, where no renaming is at fault
-pub first_barred : (em : List ℕ → List ℕ → Bool) (p : Program) (bs : List Binder) (rs : List Renaming) (m : List ℕ)
-    (ds : List Declared) → list_any (λ (r : Renaming). is_refused p bs r.outer && em m r.inner) rs ≡ false
-    → option_map (λ (d : Declared). renamed (map renaming_view rs) d.name)
-    (find (λ (d : Declared). is_refused_in_run em p bs (map renaming_view rs) m d.name) ds)
-    ≡ find (λ n. not (is_renamed (map renaming_view rs) n))
-    (open_at bs (filter (λ n. (is_input p.interface n || is_tick n) && em m n) (map (λ (d : Declared). d.name) ds)))
-first_barred em p bs rs m ds h =
-    first_open em p bs (map renaming_view rs) m ds
-    (any_map (λ (r : RenamingTree). is_refused p bs r.outer && em m r.inner) renaming_view rs ∙ h)
-    ∙ sym (ap (find (λ n. not (is_renamed (map renaming_view rs) n)))
-    (passed_twice (λ n. not (is_local bs n)) (λ n. (is_input p.interface n || is_tick n) && em m n)
-    (map (λ (d : Declared). d.name) ds)))
+-- a name that the module doesn't emit, and one that it does
+one_allowed : (em : List ℕ → List ℕ → Bool) (p : Program) (bs : List Binder) (rs : List RenamingTree) (m : List ℕ)
+    (q : Program) (s : List ℕ) (b : Bool) → em m s ≡ b
+    → (stands_in (sent_in (em m) (Some q)) s ≡ true → is_refused_in_run em p bs rs m s ≡ false)
+    → stands_in (map (λ (d : Declared). d.name) q.interface) s ≡ true → is_refused_in_run em p bs rs m s ≡ false
+unfolding is_refused_in_run
+one_allowed em p bs rs m q s true so all here =
+    let names = map (λ (d : Declared). d.name) q.interface in
+    all (stands_left (em m) names s ∙ and_both (em m s) (stands_in names s) so here)
+one_allowed em p bs rs m q s false so all here = ap (λ b. b && is_refused p bs (renamed rs s)) so
+
+-- where the run is refused for none of the names that the module emits, it is not refused
+pub run_allowed : (em : List ℕ → List ℕ → Bool) (p : Program) (bs : List Binder) (rs : List RenamingTree) (m : List ℕ)
+    (q : Program)
+    → ((s : List ℕ) → stands_in (sent_in (em m) (Some q)) s ≡ true → is_refused_in_run em p bs rs m s ≡ false)
+    → None ≡ refused_in_run em p bs rs m (Some q)
+run_allowed em p bs rs m q all =
+    sym (ap (option_map (λ (d : Declared). renamed rs d.name))
+    (none_at_fault (is_refused_in_run em p bs rs m) q.interface
+    (λ s here. one_allowed em p bs rs m q s (em m s) refl (all s) here)))

@@ -1,14 +1,13 @@
--- What a run without renamings emits, among names of its module.
+-- Names that are left of a list, and what a run without renamings emits.
 use Rattle.std.proofs.Common.{◌≡◌, ◌||◌, ◌&&◌, ℕ, List, [], ◌∷◌, Some, Bool, true, false, cond, map, filter, refl, ap}
 use Rattle.std.proofs.Common.{sym, ◌∙◌}
 use Rattle.std.specs.List.{list_any}
 use Rattle.std.specs.Str.{bytes_eq}
 use Rattle.est_modules.specs.Visible.{stands_in}
 use Rattle.est_checks.specs.Emissions.{emits_in_run}
-use Rattle.est_checks.specs.Inner.Emitted.{sent_in}
-use Rattle.est_modules.specs.Modules.{Program, program_named}
+use Rattle.est_modules.specs.Modules.{Program, is_declared}
 use Rattle.est_modules.specs.declared.head.Declared.{Declared}
-use Rattle.est_modules.proofs.Testing.{same_bytes, found_passes}
+use Rattle.est_modules.proofs.Testing.{same_bytes}
 
 pub and_false : (b : Bool) → (b && false) ≡ false
 and_false true = refl
@@ -45,24 +44,15 @@ stands_left p (n ∷ ns) s =
 
 -- the name of an interface signal that passes
 named_so : (p : List ℕ → Bool) (ds : List Declared) (s : List ℕ)
-    → list_any (λ (d : Declared). p d.name && bytes_eq d.name s) ds
-    ≡ (p s && stands_in (map (λ (d : Declared). d.name) ds) s)
+    → list_any (λ (d : Declared). p d.name && bytes_eq d.name s) ds ≡ (p s && is_declared ds s)
 named_so p [] s = sym (and_false (p s))
 named_so p (d ∷ ds) s =
     ap (λ b. (p d.name && bytes_eq d.name s) || b) (named_so p ds s)
-    ∙ one_left p d.name s (stands_in (map (λ (d : Declared). d.name) ds) s) (bytes_eq d.name s) refl
+    ∙ one_left p d.name s (is_declared ds s) (bytes_eq d.name s) refl
 
--- the names that a module emits are those that a run of it emits without renamings
-names_sent : (em : List ℕ → List ℕ → Bool) (m : List ℕ) (q : Program) (s : List ℕ) → q.name ≡ m
-    → stands_in (sent_in (em m) (Some q)) s ≡ emits_in_run em s [] (Some q)
+-- the interface names that a module emits are those that a run of it emits without renamings
+pub names_sent : (em : List ℕ → List ℕ → Bool) (m : List ℕ) (q : Program) (s : List ℕ) → q.name ≡ m
+    → (em m s && is_declared q.interface s) ≡ emits_in_run em s [] (Some q)
 names_sent em m q s named =
-    stands_left (em m) (map (λ (d : Declared). d.name) q.interface) s
-    ∙ sym (named_so (em m) q.interface s)
+    sym (named_so (em m) q.interface s)
     ∙ ap (λ k. list_any (λ (d : Declared). em k d.name && bytes_eq d.name s) q.interface) (sym named)
-
--- the same of a module that was asked for
-pub sent_is : (ps : List Program) (em : List ℕ → List ℕ → Bool) (m : List ℕ) (q : Program) (s : List ℕ)
-    → program_named ps m ≡ Some q → stands_in (sent_in (em m) (program_named ps m)) s ≡ emits_in_run em s [] (Some q)
-sent_is ps em m q s found =
-    ap (λ o. stands_in (sent_in (em m) o) s) found
-    ∙ names_sent em m q s (same_bytes q.name m (found_passes (λ (p : Program). bytes_eq p.name m) ps q found))

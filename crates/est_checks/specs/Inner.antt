@@ -1,5 +1,6 @@
 pub mod Barring
 pub mod Emitted
+pub mod InterfaceNames
 pub mod Keeping
 pub mod Looking
 pub mod Noted
@@ -7,4 +8,5 @@ pub mod Numbers
 pub mod Offers
 pub mod Recursion
 pub mod Sent
+pub mod SentNumbers
 pub mod Stages

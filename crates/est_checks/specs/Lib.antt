@@ -1,5 +1,4 @@
 pub mod BadRenamings
-pub mod Barred
 pub mod Counting
 pub mod Duplicates
 pub mod Emissions
@@ -10,4 +9,3 @@ pub mod LinkFaults
 pub mod MissingModules
 pub mod RecursiveRuns
 pub mod UnknownNames
-pub mod Unseen

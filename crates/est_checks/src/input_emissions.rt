@@ -1,23 +1,29 @@
 //! Emissions of inputs.
-ghost use Rattle.std.specs.Prelude.{◌≡◌, ◌&&◌, [], Some, IfOk, map, option_map};
+ghost use Rattle.std.specs.Prelude.{◌≡◌, ℕ, List, ◌&&◌, [], Some, true, false, IfOk, IsTrue, map};
+ghost use Rattle.std.specs.Prelude.{option_map};
 ghost use Rattle.std.specs.List.{find, list_any};
 ghost use Rattle.est_syntax.specs.Views.{renaming_view};
 ghost use Rattle.est_modules.specs.Scopes.{binders_of};
 ghost use Rattle.est_modules.specs.Modules.{program_of, program_named, first_in_bodies};
 ghost use Rattle.est_modules.specs.NameTables.{IsTable};
-ghost use Rattle.est_modules.specs.OpenNames.{IsOpen};
+ghost use Rattle.est_modules.specs.OpenNames.{AreKept, IsOpen};
 ghost use Rattle.est_modules.specs.Occurrences.{first_of, occurrences};
 ghost use Rattle.est_checks.specs.Emissions.{is_refused, is_refused_in_run, refused_in_run};
 ghost use Rattle.est_checks.specs.Emissions.{refused_at, emitted_of};
+ghost use Rattle.est_modules.specs.Visible.{stands_in};
 ghost use Rattle.est_checks.specs.Inner.Barring.{Bars};
+ghost use Rattle.est_checks.specs.Inner.Emitted.{sent_by};
 
-use crate::barred_names::{barred_of, inputs_of};
+use crate::allowed_names::{allowed_names, inputs_of};
 use crate::emission::Emissions;
 use crate::place_check::{Check, first_in_body};
+use crate::run_emissions::sent_of;
 use est_modules::head::{Declared, Head};
 use est_modules::head_tree::Heads;
+use est_modules::kept_names::KeptNames;
 use est_modules::name_set::NameSet;
 use est_modules::name_table::NameTable;
+use est_modules::number_set::NumberSet;
 use est_modules::open_names::OpenNames;
 use est_modules::renamings::RunRenamings;
 use est_modules::scope::{Act, Scope};
@@ -120,8 +126,31 @@ fn binds_input(
         && check.table.emits(name, &renaming.inner))
 }
 
-/// As `refused_name`, by the kept names: if no renaming binds what is emitted to an input, it is
-/// the first kept name that is neither hidden nor renamed.
+/// Whether no interface name of the module of a name is emitted by it and bound to an input of the
+/// caller, or to `tick`, as whole sets of names show. One that has no number is not looked for.
+fn are_allowed(
+    check: &EmitInput<'_, '_, '_, '_>,
+    kept: &OpenNames<'_, '_, '_>,
+    scope: &Scope<'_>,
+    renamings: &[Renaming],
+    name: &Identifier,
+) -> Result<bool, AllocError>
+    requires { IsOpen (Bars check.now) (binders_of scope.now) kept.now }
+    ensures { IfOk result (λ allowed. IsTrue allowed → (s : List ℕ) → stands_in (sent_by (map
+        program_of check.now.heads.now) (emitted_of check.now.table.now) name.now) s ≡ true
+        → is_refused_in_run (emitted_of check.now.table.now) (program_of check.now.home.now)
+        (binders_of scope.now) (map renaming_view renamings.now) name.now s ≡ false) }
+{
+    if binds_input(check, kept, scope, renamings, name) {
+        return Ok(false);
+    }
+    match kept.named(name) {
+        Some(sent) => kept.are_bound(sent, renamings, check.allowed),
+        None => Ok(false),
+    }
+}
+
+/// As `refused_name`.
 fn refused_of(
     check: &EmitInput<'_, '_, '_, '_>,
     kept: &OpenNames<'_, '_, '_>,
@@ -137,14 +166,12 @@ fn refused_of(
         (program_of check.now.home.now) (binders_of scope.now) (map renaming_view renamings.now)
         name.now (Some (program_of run.now))) }
 {
+    let allowed = are_allowed(check, kept, scope, renamings, name)?;
+    if allowed {
+        return Ok(None);
+    }
     let renamed = RunRenamings::of(check.alloc, renamings)?;
-    if binds_input(check, kept, scope, renamings, name) {
-        return Ok(refused_name(check, kept, scope, &renamed, name, run));
-    }
-    match kept.named(name) {
-        Some(left) => Ok(kept.first_left(left, &renamed)),
-        None => Ok(refused_name(check, kept, scope, &renamed, name, run)),
-    }
+    Ok(refused_name(check, kept, scope, &renamed, name, run))
 }
 
 fn refused_in_run(
@@ -179,6 +206,8 @@ pub struct EmitInput<'a, 'b, 'c, 'd> {
     pub inputs: &'a NameSet<'c>,
     /// What each module emits.
     pub table: &'a Emissions<'d>,
+    /// The names that the module declares and may emit.
+    pub allowed: &'a NumberSet,
 }
 
 impl Check for EmitInput<'_, '_, '_, '_> {
@@ -217,24 +246,28 @@ impl Check for EmitInput<'_, '_, '_, '_> {
 fn refused_in<'a, 'b>(
     alloc: Global,
     names: &NameTable<'_>,
+    kept: &KeptNames<'_>,
     heads: &'a Heads<'b>,
     home: &'a Head<'b>,
     table: &'a Emissions<'_>,
 ) -> Result<Option<Identifier>, AllocError>
-    requires { IsTable names.now }
+    requires names { IsTable names.now }
+    requires kept { AreKept names.now (sent_by (map program_of heads.now) (emitted_of table.now))
+        kept.now }
     ensures { IfOk result (λ name. name ≡ first_of (refused_at (map program_of heads.now)
         (emitted_of table.now) (program_of home.now)) (occurrences [] (program_of home.now).body)) }
 {
     let inputs = inputs_of(alloc, home.interface.signals())?;
-    let kept = barred_of(alloc, names, &*heads, &*home, &inputs, &*table)?;
+    let allowed = allowed_names(alloc, names, &inputs, &*home)?;
     let check = EmitInput {
         alloc,
         heads: &*heads,
         home: &*home,
         inputs: &inputs,
         table: &*table,
+        allowed: &allowed,
     };
-    first_in_body(&check, alloc, names, &kept, &*home)
+    first_in_body(&check, alloc, names, kept, &*home)
 }
 
 /// The first input, or `tick`, that a module of a library emits. The table says what each module
@@ -253,8 +286,9 @@ pub fn first_refused<'a>(
     ensures { IfOk result (λ name. name ≡ first_in_bodies (refused_at (map program_of heads.now)
         (emitted_of table.now)) (map program_of heads.now)) }
 {
+    let kept = sent_of(alloc, names, &*heads, &*table)?;
     for home in heads.modules() {
-        if let Some(name) = refused_in(alloc, names, &*heads, &*home, &*table)? {
+        if let Some(name) = refused_in(alloc, names, &kept, &*heads, &*home, &*table)? {
             return Ok(Some(name));
         }
     }

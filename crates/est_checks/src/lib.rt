@@ -8,13 +8,14 @@
 //! `specs/FirstFaults` says which fault is the first; `laws`, that there is only one.
 #![tactic(auto)]
 
+mod allowed_names;
 pub mod around_order;
 pub mod bad_renamings;
-mod barred_names;
 pub mod duplicates;
 pub mod emission;
 pub mod fault;
 pub mod input_emissions;
+pub mod interface_names;
 pub mod lawless_relations;
 pub mod laws;
 pub mod library_check;
@@ -24,7 +25,7 @@ pub mod module_emissions;
 pub mod place_check;
 pub mod run_emissions;
 mod run_names;
+mod sent_numbers;
 pub mod statement_count;
 pub mod unknown_names;
-pub mod unseen_names;
 mod word_count;

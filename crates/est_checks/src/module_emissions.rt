@@ -8,25 +8,30 @@ ghost use Rattle.est_modules.specs.Scopes.{binders_of};
 ghost use Rattle.est_modules.specs.Modules.{Program, program_of, program_named, is_declared};
 ghost use Rattle.est_modules.specs.Modules.{first_in_bodies};
 ghost use Rattle.est_modules.specs.ModuleOrders.{IsOrderOf};
+ghost use Rattle.est_modules.specs.NamedNumbers.{Adds, Tells};
 ghost use Rattle.est_modules.specs.NameSets.{has};
 ghost use Rattle.est_modules.specs.NameTables.{AreNumbered, IsTable, is_numbered, number_in};
 ghost use Rattle.est_modules.specs.Occurrences.{Binder, occurrences, first_of};
-ghost use Rattle.est_modules.specs.OpenNames.{IsOpen, Tells, is_left};
+ghost use Rattle.est_modules.specs.OpenNames.{IsOpen};
+ghost use Rattle.est_modules.specs.Renamings.{is_renamed};
 ghost use Rattle.est_modules.specs.Visible.{is_local, is_tick};
 ghost use Rattle.est_checks.specs.Duplicates.{first_duplicate};
-ghost use Rattle.est_checks.specs.Emissions.{emitted_of, emits_here, AreEmissions};
-ghost use Rattle.est_checks.specs.Inner.Emitted.{sent_by};
+ghost use Rattle.est_checks.specs.Emissions.{emitted_of, emits_here, emits_in_run, AreEmissions};
 ghost use Rattle.est_checks.specs.Inner.Keeping.{Keeps};
-ghost use Rattle.est_checks.specs.Inner.Noted.{in_row, row_at, row_with, row_by_names};
-ghost use Rattle.est_checks.specs.Inner.Noted.{row_by_numbers, row_by_renamings, row_by_run};
+ghost use Rattle.est_checks.specs.Inner.Noted.{is_noted, sends_renamed};
+ghost use Rattle.est_checks.specs.Inner.SentNumbers.{AreSentNumbers};
 ghost use Rattle.est_checks.specs.UnknownNames.{unknown_at};
 
 use crate::emission::Emissions;
-use crate::run_emissions::{emitted_run, sent_of};
+use crate::run_emissions::names_in;
+use crate::sent_numbers::SentNumbers;
 use est_modules::head::{Declared, Head};
 use est_modules::head_tree::Heads;
+use est_modules::kept_names::KeptNames;
 use est_modules::name_set::NameSet;
 use est_modules::name_table::NameTable;
+use est_modules::named_numbers::numbers_among;
+use est_modules::number_set::NumberSet;
 use est_modules::open_names::OpenNames;
 use est_modules::renamings::RunRenamings;
 use est_modules::scope::{Act, Scope};
@@ -37,91 +42,42 @@ use est_syntax::tree::Renaming;
 use est_text::identifier::Identifier;
 use std::alloc::{AllocError, Global};
 
-/// Notes a name that a module which is run emits, unless the run renames it or a `signal` around
-/// the run hides it.
-fn note_number(
-    noted: &mut Vec<bool>,
-    kept: &OpenNames<'_, '_, '_>,
-    renamings: &RunRenamings<'_>,
-    number: usize,
-)
-    ensures { noted.new.items ≡ row_with noted.old.items number
-        (is_left (map renaming_view renamings.now) kept.now number) }
-{
-    if number < noted.len() && !noted[number] && kept.is_left(renamings, number) {
-        noted[number] = true;
-    }
-}
-
-/// The same of each kept name of the module.
-fn note_numbers(
-    noted: &mut Vec<bool>,
-    kept: &OpenNames<'_, '_, '_>,
-    renamings: &RunRenamings<'_>,
-    numbers: &[usize],
-)
-    ensures { noted.new.items ≡ row_by_numbers (map renaming_view renamings.now) kept.now
-        noted.old.items numbers.now }
-{
-    for number in numbers {
-        note_number(noted, kept, renamings, *number);
-    }
-}
-
 /// Notes a name, unless a `signal` around the place declares it.
-fn note_name(noted: &mut Vec<bool>, kept: &OpenNames<'_, '_, '_>, name: &Identifier)
-    ensures { (bs : List Binder) → IsTable kept.now.table.now
-        → Tells kept.now.table.now (is_local bs) kept.now.hidden.items
-        → noted.new.items ≡ row_at noted.old.items (number_in kept.now.table.now name.now)
-        (not (is_local bs name.now)) }
+fn note_name(
+    noted: &mut NumberSet,
+    kept: &OpenNames<'_, '_, '_>,
+    name: &Identifier,
+) -> Result<(), AllocError>
+    ensures { OnOk result ((bs : List Binder) → IsTable kept.now.table.now
+        → Tells kept.now.table.now (is_local bs) kept.now.hidden → Adds kept.now.table.now
+        (λ s. not (is_local bs s) && bytes_eq name.now s) noted.old noted.new) }
 {
     if let Some(number) = kept.number(name) {
-        if number < noted.len() && !noted[number] && kept.is_open(number) {
-            noted[number] = true;
+        if !kept.is_hidden(number) {
+            noted.insert(number)?;
         }
     }
+    Ok(())
 }
 
-/// Notes the names that a run emits by itself.
-fn note_open(
-    noted: &mut Vec<bool>,
-    kept: &OpenNames<'_, '_, '_>,
-    renamings: &RunRenamings<'_>,
-    names: &[Identifier],
-)
-    ensures { (bs : List Binder) → IsTable kept.now.table.now
-        → Tells kept.now.table.now (is_local bs) kept.now.hidden.items
-        → noted.new.items ≡ row_by_names kept.now.table.now bs (map renaming_view renamings.now)
-        noted.old.items names.now }
-{
-    for name in names {
-        if !renamings.is_renamed(name) {
-            note_name(noted, kept, name);
-        }
-    }
-}
-
-/// Notes what a run of a module emits by itself. Where the module has kept names, which are those
-/// that it emits, that takes one look-up in a row for each.
-fn note_names(
-    noted: &mut Vec<bool>,
-    sent: &Sent<'_, '_, '_, '_, '_>,
+/// Notes the names that a run of a module emits by itself: the run doesn't rename them, and no
+/// `signal` around it declares them.
+fn note_own(
+    noted: &mut NumberSet,
+    sent: &Sent<'_, '_, '_, '_, '_, '_>,
     kept: &OpenNames<'_, '_, '_>,
     scope: &Scope<'_>,
-    renamings: &RunRenamings<'_>,
-    run: &Head<'_>,
+    renamings: &[Renaming],
+    name: &Identifier,
 ) -> Result<(), AllocError>
     requires { IsOpen (Keeps sent.now) (binders_of scope.now) kept.now }
-    ensures { OnOk result (noted.new.items ≡ row_by_names kept.now.table.now (binders_of scope.now)
-        (map renaming_view renamings.now) noted.old.items (sent_by
-        (map program_of sent.now.heads.now) (emitted_of sent.now.table.now) run.now.name)) }
+    ensures { OnOk result ((q : Program) → program_named (map program_of sent.now.heads.now)
+        name.now ≡ Some q → Adds kept.now.table.now (λ s. (emitted_of sent.now.table.now name.now s
+        && is_declared q.interface s) && not (is_local (binders_of scope.now) s
+        || is_renamed (map renaming_view renamings.now) s)) noted.old noted.new) }
 {
-    match kept.named(&run.name) {
-        Some(emitted) => note_numbers(noted, kept, renamings, &emitted.numbers),
-        None => {
-            let names = emitted_run(sent.alloc, sent.heads, sent.table, &run.name)?;
-            note_open(noted, kept, renamings, &names);
-        }
+    if let Some(emitted) = sent.numbers.of_module(name) {
+        noted.add_difference(emitted, &kept.passed_over(renamings)?)?;
     }
     Ok(())
 }
@@ -129,89 +85,88 @@ fn note_names(
 /// Notes the caller's names for those signals of a module that a run of it renames and that it
 /// emits.
 fn note_renamed(
-    noted: &mut Vec<bool>,
+    noted: &mut NumberSet,
     table: &Emissions<'_>,
     kept: &OpenNames<'_, '_, '_>,
     renamings: &[Renaming],
     renamed: &RunRenamings<'_>,
     run: &Head<'_>,
-)
+) -> Result<(), AllocError>
     requires { renamed.now ≡ renamings.now }
-    ensures { (bs : List Binder) → IsTable kept.now.table.now
-        → Tells kept.now.table.now (is_local bs) kept.now.hidden.items
-        → noted.new.items ≡ row_by_renamings kept.now.table.now (emitted_of table.now) bs
-        (program_of run.now) (map renaming_view renamings.now) noted.old.items
-        (map renaming_view renamings.now) }
+    ensures { OnOk result ((bs : List Binder) → IsTable kept.now.table.now
+        → Tells kept.now.table.now (is_local bs) kept.now.hidden → Adds kept.now.table.now
+        (λ s. not (is_local bs s) && sends_renamed (emitted_of table.now) (program_of run.now)
+        (map renaming_view renamings.now) (map renaming_view renamings.now) s) noted.old
+        noted.new) }
 {
     for renaming in renamings {
         if run.interface.declares(&renaming.inner) && table.emits(&run.name, &renaming.inner) {
-            note_name(noted, kept, &renamed.callers_name(&renaming.inner));
+            note_name(noted, kept, &renamed.callers_name(&renaming.inner))?;
         }
     }
+    Ok(())
 }
 
 /// Notes what a run emits, if its module is there.
 fn note_run(
-    noted: &mut Vec<bool>,
-    sent: &Sent<'_, '_, '_, '_, '_>,
+    noted: &mut NumberSet,
+    sent: &Sent<'_, '_, '_, '_, '_, '_>,
     kept: &OpenNames<'_, '_, '_>,
     scope: &Scope<'_>,
     name: &Identifier,
     renamings: &[Renaming],
 ) -> Result<(), AllocError>
     requires { IsOpen (Keeps sent.now) (binders_of scope.now) kept.now }
-    ensures { OnOk result (noted.new.items ≡ row_by_run (map program_of sent.now.heads.now)
-        (emitted_of sent.now.table.now) kept.now.table.now (binders_of scope.now)
-        (map renaming_view renamings.now) noted.old.items
-        (program_named (map program_of sent.now.heads.now) name.now)) }
+    ensures { OnOk result (Adds kept.now.table.now (λ s. not (is_local (binders_of scope.now) s)
+        && emits_in_run (emitted_of sent.now.table.now) s (map renaming_view renamings.now)
+        (program_named (map program_of sent.now.heads.now) name.now)) noted.old noted.new) }
 {
     if let Some(run) = sent.heads.named(name) {
         let renamed = RunRenamings::of(sent.alloc, renamings)?;
-        note_names(noted, sent, kept, scope, &renamed, run)?;
-        note_renamed(noted, sent.table, kept, renamings, &renamed, run);
+        note_own(noted, sent, kept, scope, renamings, name)?;
+        note_renamed(noted, sent.table, kept, renamings, &renamed, run)?;
     }
     Ok(())
 }
 
 /// Notes what a module emits.
 #[derive(Clone, Copy)]
-struct Sent<'a, 'b, 'c, 'd, 'e> {
+struct Sent<'a, 'b, 'c, 'd, 'e, 'f> {
     alloc: Global,
     heads: &'a Heads<'b>,
     table: &'a Emissions<'c>,
+    numbers: &'a SentNumbers<'f>,
     names: &'d NameTable<'e>,
 }
 
-impl Visitor for Sent<'_, '_, '_, '_, '_> {
-    ghost use Rattle.std.specs.Prelude.{List, Bool, map};
+impl Visitor for Sent<'_, '_, '_, '_, '_, '_> {
+    ghost use Rattle.std.specs.Prelude.{ℕ, Bool, map};
     ghost use Rattle.est_modules.specs.Modules.{program_of};
+    ghost use Rattle.est_modules.specs.NumberSets.{numbers_of};
     ghost use Rattle.est_checks.specs.Emissions.{emitted_of};
     ghost use Rattle.est_checks.specs.Inner.Keeping.{Keeps};
-    ghost use Rattle.est_checks.specs.Inner.Noted.{row_after};
+    ghost use Rattle.est_checks.specs.Inner.Noted.{noted_after};
 
-    type Seen = Vec<bool>;
+    type Seen = NumberSet;
 
-    ghost State = { List Bool };
+    ghost State = { ℕ → Bool };
 
-    ghost state = { λ seen. seen.items };
+    ghost state = { λ seen. numbers_of seen };
 
     ghost fits = { λ v. Keeps v };
 
-    ghost after = { λ v. row_after (map program_of v.heads.now) (emitted_of v.table.now)
+    ghost after = { λ v. noted_after (map program_of v.heads.now) (emitted_of v.table.now)
         v.names.now };
 
     fn visit(
         &self,
-        seen: &mut Vec<bool>,
+        seen: &mut NumberSet,
         kept: &OpenNames<'_, '_, '_>,
         act: &Act<'_>,
         scope: &Scope<'_>,
     ) -> Result<(), AllocError> {
         match act {
-            Act::Emits(signal) => {
-                note_name(seen, kept, signal);
-                Ok(())
-            }
+            Act::Emits(signal) => note_name(seen, kept, signal),
             Act::Tests(_) | Act::Exits(_) | Act::Binds(_) => Ok(()),
             Act::Runs(name, renamings) => note_run(seen, self, kept, scope, name, renamings),
         }
@@ -222,15 +177,15 @@ impl Visitor for Sent<'_, '_, '_, '_, '_> {
 fn add_noted<'a>(
     set: &mut NameSet<'a>,
     names: &'a NameTable<'_>,
-    noted: &[bool],
+    noted: &NumberSet,
     name: &Identifier,
 ) -> Result<(), AllocError>
     requires { IsTable names.now }
     ensures { OnOk result ((s : List ℕ) → has set.new s ≡ (has set.old s ||
-        (in_row noted.now (number_in names.now name.now) && bytes_eq name.now s))) }
+        (is_noted noted.now (number_in names.now name.now) && bytes_eq name.now s))) }
 {
     if let Some(number) = names.number(name) {
-        if number < noted.len() && noted[number] {
+        if noted.has(number) {
             if let Some(name) = names.name(number) {
                 set.insert(name)?;
             }
@@ -243,12 +198,12 @@ fn add_noted<'a>(
 fn add_signals<'a>(
     set: &mut NameSet<'a>,
     names: &'a NameTable<'_>,
-    noted: &[bool],
+    noted: &NumberSet,
     interface: &[Declared],
 ) -> Result<(), AllocError>
     requires { IsTable names.now }
     ensures { OnOk result ((s : List ℕ) → has set.new s ≡ (has set.old s ||
-        (in_row noted.now (number_in names.now s) && is_declared interface.now s))) }
+        (is_noted noted.now (number_in names.now s) && is_declared interface.now s))) }
 {
     for declared in interface {
         add_noted(set, names, noted, &declared.name)?;
@@ -268,6 +223,7 @@ fn emissions_of<'a, 'b>(
     names: &'a NameTable<'_>,
     heads: &'b Heads<'_>,
     table: &'b Emissions<'_>,
+    numbers: &'b SentNumbers<'_>,
     home: &Head<'_>,
 ) -> Result<NameSet<'a>, AllocError>
     requires table { IsTable names.now }
@@ -275,19 +231,22 @@ fn emissions_of<'a, 'b>(
         ≡ true → is_numbered names.now s ≡ true }
     requires known { first_of (unknown_at (map program_of heads.now) (program_of home.now))
         (occurrences [] (program_of home.now).body) ≡ None }
+    requires numbers { AreSentNumbers names.now (map program_of heads.now) (emitted_of table.now)
+        numbers.now }
     ensures { IfOk result (λ set. (s : List ℕ)
         → has set s ≡ list_any (emits_here (map program_of heads.now)
         (emitted_of table.now) s) (occurrences [] (program_of home.now).body)) }
 {
-    let kept = sent_of(alloc, names, &*heads, home, &*table)?;
-    let mut noted = vec![in alloc; false; names.len()]?;
+    let none = KeptNames::none(alloc);
+    let mut noted = NumberSet::new(alloc);
     let sent = Sent {
         alloc,
         heads: &*heads,
         table: &*table,
+        numbers: &*numbers,
         names: &*names,
     };
-    walk_body(&sent, &mut noted, alloc, names, &kept, home.body)?;
+    walk_body(&sent, &mut noted, alloc, names, &none, home.body)?;
     let mut set = NameSet::new(alloc);
     add_noted(&mut set, names, &noted, &tick())?;
     add_signals(&mut set, names, &noted, home.interface.signals())?;
@@ -300,6 +259,7 @@ fn add_module<'a>(
     names: &'a NameTable<'_>,
     heads: &'a Heads<'_>,
     table: &mut Emissions<'a>,
+    numbers: &mut SentNumbers<'a>,
     place: usize,
 ) -> Result<(), AllocError>
     requires place { place < length heads.now }
@@ -307,13 +267,22 @@ fn add_module<'a>(
     requires numbered { AreNumbered names.now (map program_of heads.now) }
     requires known { first_in_bodies (unknown_at (map program_of heads.now))
         (map program_of heads.now) ≡ None }
-    ensures { OnOk result ((p : Program) → slice_get (map program_of heads.now) place ≡ Some p
+    requires distinct { first_duplicate (map program_of heads.now) ≡ None }
+    requires numbers { AreSentNumbers names.now (map program_of heads.now) (emitted_of table.old)
+        numbers.old }
+    ensures numbers { OnOk result (AreSentNumbers names.now (map program_of heads.now) (emitted_of
+        table.new) numbers.new) }
+    ensures emitted { OnOk result ((p : Program)
+        → slice_get (map program_of heads.now) place ≡ Some p
         → (m s : List ℕ) → emitted_of table.new m s ≡ (if bytes_eq p.name m then list_any
         (emits_here (map program_of heads.now) (emitted_of table.old) s) (occurrences [] p.body)
         else emitted_of table.old m s)) }
 {
     let home = &heads.modules()[place];
-    let signals = emissions_of(alloc, names, &*heads, &*table, home)?;
+    let signals = emissions_of(alloc, names, &*heads, &*table, &*numbers, home)?;
+    let own = names_in(alloc, &signals, home.interface.signals())?;
+    let sent = numbers_among(alloc, names, &own)?;
+    numbers.add(&home.name, sent)?;
     table.add(&home.name, signals)
 }
 
@@ -338,8 +307,9 @@ pub fn emissions_along<'a>(
     ensures { IfOk result (λ table. AreEmissions (map program_of heads.now) (emitted_of table)) }
 {
     let mut table = Emissions::new(alloc);
+    let mut numbers = SentNumbers::new(alloc);
     for place in order {
-        add_module(alloc, names, &*heads, &mut table, *place)?;
+        add_module(alloc, names, &*heads, &mut table, &mut numbers, *place)?;
     }
     Ok(table)
 }

@@ -1,14 +1,15 @@
-//! For each module that a module M runs: the interface names that it emits.
+//! For each module of a library: the interface names that it emits.
 ghost use Rattle.std.specs.Prelude.{◌≡◌, filter, map, IfOk};
 ghost use Rattle.est_checks.specs.Emissions.{emitted_of};
 ghost use Rattle.est_checks.specs.Inner.Emitted.{sent_by};
 ghost use Rattle.est_modules.specs.Modules.{program_of};
 ghost use Rattle.est_modules.specs.NameSets.{has};
+ghost use Rattle.est_modules.specs.NameTables.{IsTable};
 ghost use Rattle.est_modules.specs.OpenNames.{AreKept};
 
 use crate::emission::Emissions;
 use crate::run_names::{Choice, kept_of};
-use est_modules::head::{Declared, Head};
+use est_modules::head::Declared;
 use est_modules::head_tree::Heads;
 use est_modules::kept_names::KeptNames;
 use est_modules::name_set::NameSet;
@@ -17,7 +18,11 @@ use est_text::identifier::Identifier;
 use std::alloc::{AllocError, Global};
 
 /// The names of an interface that are in a set.
-fn names_in(
+///
+/// # Errors
+///
+/// `AllocError` where memory is refused for names.
+pub fn names_in(
     alloc: Global,
     set: &NameSet<'_>,
     interface: &[Declared],
@@ -50,27 +55,7 @@ fn emitted_in(
     }
 }
 
-/// The interface names that the module of a name emits, as the table says.
-///
-/// # Errors
-///
-/// `AllocError` where memory is refused for names.
-pub fn emitted_run(
-    alloc: Global,
-    heads: &Heads<'_>,
-    table: &Emissions<'_>,
-    name: &Identifier,
-) -> Result<Vec<Identifier>, AllocError>
-    ensures { IfOk result (λ names. names.items ≡ sent_by (map program_of heads.now) (emitted_of
-        table.now) name.now) }
-{
-    match heads.named(name) {
-        Some(run) => emitted_in(alloc, table, name, run.interface.signals()),
-        None => Ok(Vec::new(alloc)),
-    }
-}
-
-/// Of a module that is run, the interface names that it emits.
+/// The interface names of a module that it emits.
 #[derive(Clone, Copy)]
 struct Emitted<'a, 'b, 'c> {
     /// The modules of the library.
@@ -88,11 +73,14 @@ impl Choice for Emitted<'_, '_, '_> {
     ghost chosen = { λ c. sent_by (map program_of c.heads.now) (emitted_of c.table.now) };
 
     fn choose(&self, alloc: Global, name: &Identifier) -> Result<Vec<Identifier>, AllocError> {
-        emitted_run(alloc, self.heads, self.table, name)
+        match self.heads.named(name) {
+            Some(run) => emitted_in(alloc, self.table, name, run.interface.signals()),
+            None => Ok(Vec::new(alloc)),
+        }
     }
 }
 
-/// The modules that a module runs, each with its interface names that it emits.
+/// The modules of a library, each with its interface names that it emits.
 ///
 /// # Errors
 ///
@@ -101,9 +89,9 @@ pub fn sent_of<'a>(
     alloc: Global,
     names: &NameTable<'_>,
     heads: &'a Heads<'_>,
-    home: &Head<'_>,
     table: &'a Emissions<'_>,
 ) -> Result<KeptNames<'a>, AllocError>
+    requires { IsTable names.now }
     ensures { IfOk result (λ kept. AreKept names.now (sent_by (map program_of heads.now)
         (emitted_of table.now)) kept) }
 {
@@ -111,5 +99,5 @@ pub fn sent_of<'a>(
         heads: &*heads,
         table: &*table,
     };
-    kept_of(&choice, alloc, names, &*heads, home)
+    kept_of(&choice, alloc, names, &*heads)
 }

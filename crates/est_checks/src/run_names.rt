@@ -1,14 +1,12 @@
-//! For each module that a module M runs: its kept names, as a `Choice` picks them.
+//! For each module of a library: its kept names, as a `Choice` picks them.
 ghost use Rattle.std.specs.Prelude.{OnOk, IfOk, map};
 ghost use Rattle.est_modules.specs.FirstPlaces.{AreFirstPlaces};
+ghost use Rattle.est_modules.specs.NameTables.{IsTable};
 ghost use Rattle.est_modules.specs.OpenNames.{AreKept};
 
 use est_modules::first_places::FirstPlaces;
-use est_modules::head::Head;
 use est_modules::head_tree::Heads;
 use est_modules::kept_names::{Kept, KeptNames, keep};
-use est_modules::module_order::places_run;
-use est_modules::name_set::NameSet;
 use est_modules::name_table::NameTable;
 use est_text::identifier::Identifier;
 use std::alloc::{AllocError, Global};
@@ -40,6 +38,7 @@ fn keep_chosen<'a, C: Choice>(
 ) -> Result<(), AllocError>
     requires places { AreFirstPlaces kept_places.old (map (λ k. k.module_name) kept.old.items) }
     requires kept { AreKept table.now (C.chosen choice.now) kept.old.items }
+    requires table { IsTable table.now }
     ensures places { OnOk result (AreFirstPlaces kept_places.new (map (λ k. k.module_name)
         kept.new.items)) }
     ensures kept { OnOk result (AreKept table.now (C.chosen choice.now) kept.new.items) }
@@ -48,7 +47,7 @@ fn keep_chosen<'a, C: Choice>(
     keep(kept, kept_places, alloc, table, name, &names)
 }
 
-/// The modules that a module runs, each with the names that are chosen of it.
+/// The modules of a library, each with the names that are chosen of it.
 ///
 /// # Errors
 ///
@@ -58,20 +57,14 @@ pub fn kept_of<'a, C: Choice>(
     alloc: Global,
     table: &NameTable<'_>,
     heads: &'a Heads<'_>,
-    home: &Head<'_>,
 ) -> Result<KeptNames<'a>, AllocError>
+    requires { IsTable table.now }
     ensures { IfOk result (λ kept. AreKept table.now (C.chosen choice.now) kept) }
 {
-    let modules = heads.modules();
-    let mut met = NameSet::new(alloc);
     let mut kept = Vec::new(alloc);
     let mut kept_places = FirstPlaces::new(alloc);
-    for place in &places_run(alloc, &*heads, home)? {
-        if let Some(run) = modules.get(*place) {
-            if met.insert(&run.name)? {
-                keep_chosen(choice, alloc, table, &mut kept, &mut kept_places, &run.name)?;
-            }
-        }
+    for head in heads.modules() {
+        keep_chosen(choice, alloc, table, &mut kept, &mut kept_places, &head.name)?;
     }
     Ok(KeptNames::of(kept, kept_places))
 }

@@ -1,22 +1,25 @@
 //! Names that aren't visible where they are used.
-ghost use Rattle.std.specs.Prelude.{◌≡◌, [], Some, IfOk, map, option_map, not};
+ghost use Rattle.std.specs.Prelude.{◌≡◌, ℕ, List, [], true, false, IfOk, IsTrue, map, option_map, not};
 ghost use Rattle.std.specs.List.{find};
 ghost use Rattle.est_syntax.specs.Views.{renaming_view};
 ghost use Rattle.est_modules.specs.Scopes.{binders_of};
 ghost use Rattle.est_modules.specs.Modules.{program_of, program_named, first_in_bodies};
 ghost use Rattle.est_modules.specs.Occurrences.{first_of, occurrences};
 ghost use Rattle.est_modules.specs.NameTables.{IsTable};
-ghost use Rattle.est_modules.specs.OpenNames.{IsOpen};
+ghost use Rattle.est_modules.specs.OpenNames.{AreKept, IsOpen};
 ghost use Rattle.est_modules.specs.Renamings.{is_renamed};
-ghost use Rattle.est_modules.specs.Visible.{is_visible};
+ghost use Rattle.est_modules.specs.Visible.{is_visible, stands_in};
+ghost use Rattle.est_checks.specs.Inner.InterfaceNames.{names_of};
 ghost use Rattle.est_checks.specs.Inner.Looking.{LooksFor};
 ghost use Rattle.est_checks.specs.UnknownNames.{is_unbound, unknown_in_run, unknown_at};
 
+use crate::interface_names::{interfaces_of, own_names};
 use crate::place_check::{Check, first_in_body};
-use crate::unseen_names::unseen_of;
 use est_modules::head::{Declared, Head};
 use est_modules::head_tree::Heads;
+use est_modules::kept_names::KeptNames;
 use est_modules::name_table::NameTable;
+use est_modules::number_set::NumberSet;
 use est_modules::open_names::OpenNames;
 use est_modules::renamings::RunRenamings;
 use est_modules::scope::{Act, Scope};
@@ -81,27 +84,23 @@ fn unbound_name(
     }
 }
 
-/// The first interface name of a module that is run which is neither renamed nor visible. If the
-/// module has kept names, only these are looked at, without those that a `signal` around the run
-/// declares. Names that the caller declares are not among the kept ones.
-fn unbound_in(
+/// Whether each interface name of the module of a name is renamed or visible where it is run, as
+/// whole sets of names show. One that has no number is not looked for.
+fn are_bound(
     check: &UnknownName<'_, '_>,
     kept: &OpenNames<'_, '_, '_>,
     scope: &Scope<'_>,
-    renamings: &RunRenamings<'_>,
+    renamings: &[Renaming],
     name: &Identifier,
-    run: &Head<'_>,
-) -> Option<Identifier>
-    requires named { program_named (map program_of check.now.heads.now) name.now
-        ≡ Some (program_of run.now) }
-    requires outside { IsOpen (LooksFor check.now) (binders_of scope.now) kept.now }
-    ensures { result ≡ option_map (λ d. d.name)
-        (find (λ d. is_unbound (program_of check.now.home.now) (binders_of scope.now)
-        (map renaming_view renamings.now) d.name) (program_of run.now).interface) }
+) -> Result<bool, AllocError>
+    requires { IsOpen (LooksFor check.now) (binders_of scope.now) kept.now }
+    ensures { IfOk result (λ bound. IsTrue bound → (s : List ℕ) → stands_in (names_of (map
+        program_of check.now.heads.now) name.now) s ≡ true → is_unbound (program_of
+        check.now.home.now) (binders_of scope.now) (map renaming_view renamings.now) s ≡ false) }
 {
     match kept.named(name) {
-        Some(left) => kept.first_left(left, renamings),
-        None => unbound_name(check, kept, scope, renamings, run.interface.signals()),
+        Some(names) => kept.are_bound(names, renamings, check.own),
+        None => Ok(false),
     }
 }
 
@@ -123,8 +122,12 @@ fn unknown_in_run(
     let Some(run) = check.heads.named(name) else {
         return Ok(None);
     };
+    let bound = are_bound(check, kept, scope, renamings, name)?;
+    if bound {
+        return Ok(None);
+    }
     let renamings = RunRenamings::of(check.alloc, renamings)?;
-    Ok(unbound_in(check, kept, scope, &renamings, name, run))
+    Ok(unbound_name(check, kept, scope, &renamings, run.interface.signals()))
 }
 
 /// The check for names that aren't visible where they are used: a signal that is emitted, tested,
@@ -138,6 +141,8 @@ pub struct UnknownName<'a, 'b> {
     pub heads: &'a Heads<'b>,
     /// The module.
     pub home: &'a Head<'b>,
+    /// The names that it declares, and `tick`.
+    pub own: &'a NumberSet,
 }
 
 impl Check for UnknownName<'_, '_> {
@@ -181,16 +186,23 @@ impl Check for UnknownName<'_, '_> {
 fn unknown_in<'a, 'b>(
     alloc: Global,
     table: &NameTable<'_>,
+    kept: &KeptNames<'_>,
     heads: &'a Heads<'b>,
     home: &'a Head<'b>,
 ) -> Result<Option<Identifier>, AllocError>
-    requires { IsTable table.now }
+    requires table { IsTable table.now }
+    requires kept { AreKept table.now (names_of (map program_of heads.now)) kept.now }
     ensures { IfOk result (λ name. name ≡ first_of (unknown_at (map program_of heads.now)
         (program_of home.now)) (occurrences [] (program_of home.now).body)) }
 {
-    let kept = unseen_of(alloc, table, &*heads, &*home)?;
-    let check = UnknownName { alloc, heads, home };
-    first_in_body(&check, alloc, table, &kept, &*home)
+    let own = own_names(alloc, table, home)?;
+    let check = UnknownName {
+        alloc,
+        heads,
+        home,
+        own: &own,
+    };
+    first_in_body(&check, alloc, table, kept, &*home)
 }
 
 /// The first name of a library that isn't visible where it is used.
@@ -207,8 +219,9 @@ pub fn first_unknown(
     ensures { IfOk result (λ name. name ≡ first_in_bodies (unknown_at (map program_of heads.now))
         (map program_of heads.now)) }
 {
+    let kept = interfaces_of(alloc, table, &*heads)?;
     for home in heads.modules() {
-        if let Some(name) = unknown_in(alloc, table, &*heads, &*home)? {
+        if let Some(name) = unknown_in(alloc, table, &kept, &*heads, &*home)? {
             return Ok(Some(name));
         }
     }

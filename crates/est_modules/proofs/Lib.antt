@@ -8,6 +8,8 @@ pub mod Ordering
 pub mod Passing
 pub mod Placing
 pub mod Positions
+pub mod SetWords
 pub mod Standing
+pub mod TellingNumbers
 pub mod TestPassing
 pub mod Testing

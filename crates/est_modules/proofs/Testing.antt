@@ -12,6 +12,24 @@ use Rattle.est_modules.proofs.Positions.{position_cons}
 
 -- ---- tests
 
+pub same_or : (b : Bool) → b ≡ (b || false)
+same_or true = refl
+same_or false = refl
+
+pub or_true : (b : Bool) → (b || true) ≡ true
+or_true true = refl
+or_true false = refl
+
+pub or_turned : (a b : Bool) → (a || b) ≡ (b || a)
+or_turned true true = refl
+or_turned true false = refl
+or_turned false true = refl
+or_turned false false = refl
+
+pub or_assoc : (a b c : Bool) → ((a || b) || c) ≡ (a || (b || c))
+or_assoc true b c = refl
+or_assoc false b c = refl
+
 pub or_parts : (b c : Bool) → (b || c) ≡ false → (b ≡ false) × (c ≡ false)
 or_parts true c h = absurd (true≢false h)
 or_parts false c h = (refl, h)
@@ -49,6 +67,12 @@ not_false false h = absurd (true≢false h)
 pub not_true : (b : Bool) → b ≡ false → not b ≡ true
 not_true true h = absurd (true≢false h)
 not_true false h = refl
+
+-- each holds where the other does
+pub same_tests : (a b : Bool) → (a ≡ true → b ≡ true) → (b ≡ true → a ≡ true) → a ≡ b
+same_tests true b f g = sym (f refl)
+same_tests false true f g = g refl
+same_tests false false f g = refl
 
 pub same_bytes : (xs ys : List ℕ) → bytes_eq xs ys ≡ true → xs ≡ ys
 same_bytes xs ys h = (bytes_eq-Decides xs ys).0 h

@@ -5,6 +5,8 @@ pub mod ModuleOrders
 pub mod Modules
 pub mod NameSets
 pub mod NameTables
+pub mod NamedNumbers
+pub mod NumberSets
 pub mod Occurrences
 pub mod OpenNames
 pub mod Renamings

@@ -1,13 +1,16 @@
-//! Kept names: for each module that a module runs, the interface names that a check has to look at
-//! where it is run. A `Choice` of `est_checks` picks them once for each caller.
-ghost use Rattle.std.specs.Prelude.{◌≡◌, ℕ, List, [], IfOk, IfSome, OnOk, option_map, map};
+//! Kept names: for each module of a library, the interface names that a check has to look at where
+//! it is run. A `Choice` of `est_checks` picks them.
+ghost use Rattle.std.specs.Prelude.{◌≡◌, ℕ, List, [], OnOk, option_map, map};
 ghost use Rattle.std.specs.List.{find};
 ghost use Rattle.std.specs.Str.{bytes_eq};
 ghost use Rattle.est_modules.specs.FirstPlaces.{AreFirstPlaces};
-ghost use Rattle.est_modules.specs.OpenNames.{AreNumbers, AreKept};
+ghost use Rattle.est_modules.specs.NameTables.{IsTable};
+ghost use Rattle.est_modules.specs.OpenNames.{AreKept};
 
 use crate::first_places::FirstPlaces;
 use crate::name_table::NameTable;
+use crate::named_numbers::numbers_of_all;
+use crate::number_set::NumberSet;
 use est_text::identifier::Identifier;
 use std::alloc::{AllocError, Global};
 use std::marker::Model;
@@ -17,8 +20,8 @@ use std::marker::Model;
 pub struct Kept {
     /// The name of the module.
     pub module_name: Identifier,
-    /// The numbers of the names, in their order.
-    pub numbers: Vec<usize>,
+    /// The numbers of the names.
+    pub numbers: NumberSet,
 }
 
 /// The kept names of modules. A look-up of a module takes as many steps as their count has digits
@@ -72,25 +75,6 @@ impl<'a> KeptNames<'a> {
     }
 }
 
-/// The numbers of names, if each has one.
-fn numbers_of(
-    alloc: Global,
-    table: &NameTable<'_>,
-    names: &[Identifier],
-) -> Result<Option<Vec<usize>>, AllocError>
-    ensures { IfOk result (λ found. IfSome found (λ numbers. AreNumbers table.now names.now
-        numbers.items)) }
-{
-    let mut numbers = Vec::new(alloc);
-    for name in names {
-        match table.number(name) {
-            Some(number) => numbers.push(number)?,
-            None => return Ok(None),
-        }
-    }
-    Ok(Some(numbers))
-}
-
 /// Keeps names of a module: adds them to the kept names, if each of them has a number.
 ///
 /// # Errors
@@ -104,14 +88,15 @@ pub fn keep<'a>(
     module_name: &'a Identifier,
     names: &[Identifier],
 ) -> Result<(), AllocError>
-    requires { AreFirstPlaces places.old (map (λ k. k.module_name) modules.old.items) }
+    requires places { AreFirstPlaces places.old (map (λ k. k.module_name) modules.old.items) }
+    requires table { IsTable table.now }
     ensures places { OnOk result (AreFirstPlaces places.new (map (λ k. k.module_name)
         modules.new.items)) }
     ensures kept { OnOk result ((base : List ℕ → List (List ℕ))
         → AreKept table.now base modules.old.items → names.now ≡ base module_name.now
         → AreKept table.now base modules.new.items) }
 {
-    if let Some(numbers) = numbers_of(alloc, table, names)? {
+    if let Some(numbers) = numbers_of_all(alloc, table, names)? {
         places.add(module_name, modules.len())?;
         let module_name = *module_name;
         modules.push(Kept {

@@ -20,6 +20,8 @@ pub mod library_heads;
 pub mod module_order;
 pub mod name_set;
 pub mod name_table;
+pub mod named_numbers;
+pub mod number_set;
 pub mod open_names;
 pub mod relations;
 pub mod renamings;

@@ -3,7 +3,8 @@ ghost use Rattle.std.specs.Prelude.{◌≡◌, codes};
 ghost use Rattle.est_syntax.specs.Views.{names_view};
 ghost use Rattle.est_modules.specs.Scopes.{binders_of};
 ghost use Rattle.est_modules.specs.Modules.{program_of};
-ghost use Rattle.est_modules.specs.OpenNames.{Tells};
+ghost use Rattle.est_modules.specs.NamedNumbers.{Tells};
+ghost use Rattle.est_modules.specs.NameTables.{IsTable};
 ghost use Rattle.est_modules.specs.Visible.{stands_in};
 ghost use Rattle.est_modules.specs.Visible.{has_signals};
 ghost use Rattle.est_modules.specs.Visible.{is_tick, is_among, is_local, is_trap, is_visible};
@@ -90,7 +91,8 @@ pub fn is_visible(
     scope: &Scope<'_>,
     signal: &Identifier,
 ) -> bool
-    requires { Tells kept.now.table.now (is_local (binders_of scope.now)) kept.now.hidden.items }
+    requires table { IsTable kept.now.table.now }
+    requires hidden { Tells kept.now.table.now (is_local (binders_of scope.now)) kept.now.hidden }
     ensures { result ≡ is_visible (program_of home.now) (binders_of scope.now) signal.now }
 {
     kept.is_local(scope, signal) || home.interface.declares(signal) || is_tick(signal)

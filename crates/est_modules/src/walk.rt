@@ -199,6 +199,6 @@ pub fn walk_body<V: Visitor>(
     ensures { OnOk result (V.state seen.new ≡ fold (V.after visitor.now) (V.state seen.old)
         (occurrences [] (statement_derived (statement_view body.now)))) }
 {
-    let open = OpenNames::outermost(alloc, table, kept)?;
+    let open = OpenNames::outermost(alloc, table, kept);
     walk_statement(visitor, seen, &open, &Scope::Module, body)
 }

@@ -4,8 +4,10 @@ ghost use Rattle.est_checks.specs.Duplicates.{first_duplicate};
 ghost use Rattle.est_checks.specs.Emissions.{emitted_of, refused_at};
 ghost use Rattle.est_checks.specs.LinkFaults.{lawless_number, fault_before_order};
 ghost use Rattle.est_checks.specs.LinkFaults.{fault_after_order};
+ghost use Rattle.est_checks.specs.Inner.InterfaceNames.{names_of};
 ghost use Rattle.est_modules.specs.Modules.{program_of, first_in_bodies};
 ghost use Rattle.est_modules.specs.NameTables.{IsTable};
+ghost use Rattle.est_modules.specs.OpenNames.{AreKept};
 ghost use Rattle.est_modules.specs.Occurrences.{first_of, occurrences};
 ghost use Rattle.est_checks.specs.BadRenamings.{bad_renaming_at};
 ghost use Rattle.est_checks.specs.UnknownNames.{unknown_at};
@@ -13,17 +15,18 @@ ghost use Rattle.est_checks.specs.UnknownNames.{unknown_at};
 use est_checks::bad_renamings::BadRename;
 use est_checks::emission::Emissions;
 use est_checks::fault::LinkFault;
+use est_checks::interface_names::{interfaces_of, own_names};
 use est_checks::lawless_relations::first_lawless;
 use est_checks::missing_modules::first_missing;
 use est_checks::place_check::{Check, first_in_bodies, first_in_body};
 use est_checks::unknown_names::UnknownName;
-use est_checks::unseen_names::unseen_of;
 use est_checks::{duplicates, input_emissions};
 use est_modules::bound_names::further_names;
 use est_modules::head::Head;
 use est_modules::head_tree::Heads;
 use est_modules::kept_names::KeptNames;
 use est_modules::name_table::{NameTable, numbered};
+use est_modules::number_set::NumberSet;
 use est_modules::open_names::OpenNames;
 use est_modules::scope::{Act, Scope};
 use est_text::identifier::Identifier;
@@ -72,17 +75,18 @@ pub struct Unknown<'a, 'b> {
     pub heads: &'a Heads<'b>,
     /// The module.
     pub home: &'a Head<'b>,
+    /// The names that it declares, and `tick`.
+    pub own: &'a NumberSet,
 }
 
 impl Check for Unknown<'_, '_> {
     ghost use Rattle.std.specs.Prelude.{map};
-    ghost use Rattle.est_modules.specs.Modules.{program_of, is_declared};
-    ghost use Rattle.est_modules.specs.OpenNames.{AreKept};
-    ghost use Rattle.est_checks.specs.Unseen.{unseen_by};
+    ghost use Rattle.est_modules.specs.Modules.{program_of};
+    ghost use Rattle.est_checks.specs.Inner.Looking.{LooksFor};
     ghost use Rattle.est_checks.specs.UnknownNames.{unknown_at};
 
-    ghost fits = { λ c t. AreKept t (unseen_by (map program_of c.heads.now)
-        (is_declared (program_of c.home.now).interface)) };
+    ghost fits = { λ c. LooksFor (record { alloc = c.alloc; heads = c.heads; home = c.home;
+        own = c.own }) };
 
     ghost fault = { λ c p. unknown_at (map program_of c.heads.now)
         (program_of c.home.now) };
@@ -98,6 +102,7 @@ impl Check for Unknown<'_, '_> {
             alloc: self.alloc,
             heads: self.heads,
             home: self.home,
+            own: self.own,
         };
         names.fault(home, kept, act, scope)
     }
@@ -107,16 +112,23 @@ impl Check for Unknown<'_, '_> {
 fn unknown_in<'a, 'b>(
     alloc: Global,
     table: &NameTable<'_>,
+    kept: &KeptNames<'_>,
     heads: &'a Heads<'b>,
     home: &'a Head<'b>,
 ) -> Result<Option<Identifier>, AllocError>
-    requires { IsTable table.now }
+    requires table { IsTable table.now }
+    requires kept { AreKept table.now (names_of (map program_of heads.now)) kept.now }
     ensures { IfOk result (λ name. name ≡ first_of (unknown_at (map program_of heads.now)
         (program_of home.now)) (occurrences [] (program_of home.now).body)) }
 {
-    let kept = unseen_of(alloc, table, &*heads, &*home)?;
-    let check = Unknown { alloc, heads, home };
-    first_in_body(&check, alloc, table, &kept, &*home)
+    let own = own_names(alloc, table, home)?;
+    let check = Unknown {
+        alloc,
+        heads,
+        home,
+        own: &own,
+    };
+    first_in_body(&check, alloc, table, kept, &*home)
 }
 
 /// The first name of a library that isn't visible where it is used.
@@ -130,8 +142,9 @@ pub fn first_unknown(alloc: Global, heads: &Heads<'_>) -> Result<Option<Identifi
 {
     let further = further_names(alloc, heads)?;
     let table = numbered(alloc, &*heads, &further)?;
+    let kept = interfaces_of(alloc, &table, &*heads)?;
     for home in heads.modules() {
-        if let Some(name) = unknown_in(alloc, &table, &*heads, &*home)? {
+        if let Some(name) = unknown_in(alloc, &table, &kept, &*heads, &*home)? {
             return Ok(Some(name));
         }
     }

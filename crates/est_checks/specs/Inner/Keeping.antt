@@ -1,13 +1,12 @@
--- The kept names of the modules that a module runs are those that they emit (this project's own form).
+-- What is known of the tables for what a module emits (this project's own form).
 use Rattle.std.specs.Prelude.{◌≡◌, List, map}
 use Rattle.est_modules.specs.Modules.{program_of}
-use Rattle.est_modules.specs.OpenNames.{AreKept}
 use Rattle.est_modules.specs.declared.name_table.NameTable.{NameTable}
 use Rattle.est_modules.specs.declared.kept_names.Kept.{Kept}
 use Rattle.est_checks.specs.Emissions.{emitted_of}
-use Rattle.est_checks.specs.Inner.Emitted.{sent_by}
+use Rattle.est_checks.specs.Inner.SentNumbers.{AreSentNumbers}
 use Rattle.est_checks.specs.declared.module_emissions.Sent.{Sent}
 
--- the names are those of the table, and the kept names of each module are those that it emits
+-- the names are those of the table, and the numbers of each module are those of what it emits
 abbrev pub Keeps : Sent → NameTable → List Kept → Type 0
-Keeps v t ks = (t ≡ v.names.now) × AreKept t (sent_by (map program_of v.heads.now) (emitted_of v.table.now)) ks
+Keeps v t ks = (t ≡ v.names.now) × AreSentNumbers t (map program_of v.heads.now) (emitted_of v.table.now) v.numbers.now

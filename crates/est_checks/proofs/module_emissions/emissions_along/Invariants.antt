@@ -1,8 +1,13 @@
 use Rattle.std.proofs.Common.{map}
 use Rattle.est_checks.specs.Emissions.{emitted_of}
 use Rattle.est_checks.specs.Inner.Sent.{AreSent}
+use Rattle.est_checks.specs.Inner.SentNumbers.{AreSentNumbers}
 use Rattle.est_modules.specs.Modules.{program_of}
 use Rattle.est_checks.proofs.module_emissions.emissions_along.Given as goal
 
 abbrev pub invariant-loop-place : goal.invariant-loop-place
-invariant-loop-place l = AreSent (map program_of l.heads) l.order l.place-index (emitted_of l.table)
+invariant-loop-place l =
+    record {
+      sent : AreSent (map program_of l.heads) l.order l.place-index (emitted_of l.table);
+      numbers : AreSentNumbers l.names (map program_of l.heads) (emitted_of l.table) l.numbers;
+    }

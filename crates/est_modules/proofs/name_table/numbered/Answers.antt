@@ -5,14 +5,14 @@ use Rattle.est_modules.specs.Modules.{Program, is_declared, program_of}
 use Rattle.est_modules.specs.NameTables.{is_numbered}
 use Rattle.est_modules.specs.Visible.{is_tick, stands_in}
 use Rattle.est_modules.specs.declared.head.Head.{Head}
-use Rattle.est_modules.proofs.Numbering.{told_other, numbered_by}
-use Rattle.est_modules.proofs.Testing.{same_bytes}
+use Rattle.est_modules.proofs.Numbering.{numbered_by}
+use Rattle.est_modules.proofs.Testing.{same_bytes, same_or}
 use Rattle.est_modules.proofs.name_table.numbered.Goals as goal
 
 pub loop-head-init : goal.loop-head-init
 loop-head-init c = record {
   table = c.in_ok-add_names.ensures.table;
-  has = λ s. told_other (is_numbered c.add_names.new.table s);
+  has = λ s. same_or (is_numbered c.add_names.new.table s);
 }
 
 pub returns-clause-numbered : goal.returns-clause-numbered

@@ -1,8 +1,7 @@
-use Rattle.std.proofs.Common.{false, replicate, ap, ◌∙◌}
-use Rattle.est_modules.proofs.Numbering.{tells_one}
+use Rattle.std.proofs.Common.{◌∙◌}
+use Rattle.std.specs.List.{slice_get}
+use Rattle.est_modules.proofs.TellingNumbers.{passes_none}
 use Rattle.est_modules.proofs.open_names.OpenNames.outermost.Goals as goal
 
 pub returns-clause-hidden : goal.returns-clause-hidden
-returns-clause-hidden c =
-    tells_one c.args.table.now false _ c.requires
-    (c.in_ok-vec.ensures.items_if_clones_equal (λ y e. e) ∙ ap (λ n. replicate n false) c.len.ensures)
+returns-clause-hidden c i = c.new.ensures i ∙ passes_none (slice_get c.args.table.now.names.items i)

@@ -1,9 +1,0 @@
-use Rattle.std.proofs.Common.{◌≡◌, ◌||◌, not, map, take, filter}
-use Rattle.est_modules.specs.Modules.{is_declared}
-use Rattle.est_modules.specs.Visible.{is_tick}
-use Rattle.est_modules.specs.declared.head.Declared.{Declared}
-use Rattle.est_checks.proofs.unseen_names.unseen_names.Given as goal
-
-abbrev pub invariant-loop-declared : goal.invariant-loop-declared
-invariant-loop-declared l = l.left.items ≡ filter (λ n. not (is_declared l.seen n || is_tick n))
-    (map (λ (d : Declared). d.name) (take l.declared-index l.interface))

@@ -1,0 +1,48 @@
+//! What modules emit of the signals of their interfaces, as sets of numbers.
+ghost use Rattle.std.specs.Prelude.{◌≡◌, ℕ, List, OnOk, false, option_map, if◌then◌else◌};
+ghost use Rattle.std.specs.Str.{bytes_eq};
+ghost use Rattle.est_modules.specs.NumberSets.{numbers_of};
+ghost use Rattle.est_checks.specs.Inner.SentNumbers.{has_number, sends_number};
+
+use est_modules::number_set::NumberSet;
+use est_text::identifier::Identifier;
+use std::alloc::{AllocError, Global};
+use std::collections::BTreeMap;
+
+/// Sets of numbers, by the names of modules.
+#[derive(Drop)]
+pub struct SentNumbers<'a> {
+    modules: BTreeMap<&'a [u8], NumberSet>,
+}
+
+impl<'a> SentNumbers<'a> {
+    /// No module has a number.
+    pub fn new(alloc: Global) -> SentNumbers<'a>
+        ensures { (m : List ℕ) (i : ℕ) → sends_number result m i ≡ false }
+    {
+        SentNumbers {
+            modules: BTreeMap::new(alloc),
+        }
+    }
+
+    /// The numbers of the module of a name, if it has any.
+    pub fn of_module(&self, name: &Identifier) -> Option<&NumberSet>
+        ensures { (i : ℕ) → has_number (option_map (λ n. n.now) result) i
+            ≡ sends_number self.now name.now i }
+    {
+        self.modules.get(name.as_bytes())
+    }
+
+    /// Gives a module these numbers.
+    ///
+    /// # Errors
+    ///
+    /// `AllocError` where memory is refused.
+    pub fn add(&mut self, name: &'a Identifier, numbers: NumberSet) -> Result<(), AllocError>
+        ensures { OnOk result ((m : List ℕ) (i : ℕ) → sends_number self.new m i
+            ≡ (if bytes_eq name.now m then numbers_of numbers i else sends_number self.old m i)) }
+    {
+        self.modules.insert(name.as_bytes(), numbers)?;
+        Ok(())
+    }
+}
