@@ -1,7 +1,6 @@
 -- Where no name is at fault, each name of a module's flat body is bound.
 use Rattle.std.proofs.Common.{◌≡◌, ℕ, ◌+◌, List, [], ◌∷◌, ◌++◌, length, Bool, true, false, not, ◌||◌, ◌&&◌}
-use Rattle.std.proofs.Common.{if◌then◌else◌, Option, Some, None, refl, ap, sym, ◌∙◌, subst, ⊎_elim, arith}
-use Rattle.std.proofs.lemmas.Bool.{false≢true}
+use Rattle.std.proofs.Common.{if◌then◌else◌, Option, Some, None, refl, sym, ◌∙◌, subst, arith}
 use Rattle.std.specs.List.{list_any, AllByRecursion}
 use Rattle.est_modules.specs.Derived as derived
 use Rattle.est_modules.specs.Derived.{Derived}
@@ -9,7 +8,6 @@ use Rattle.est_checks.specs.RecursiveRuns.{HasRun}
 use Rattle.est_link.specs.Bodies.{MayEmit, IsBody, IsSent, HasSoundNames}
 use Rattle.est_link.specs.Inner.AllRuns.{AllRuns}
 use Rattle.est_checks.specs.Emissions.{refused_at, is_refused, emits_by}
-use Rattle.est_link.specs.Inner.Tables.{AreMade, none, next, IsMade, has_body, bodies_of, body_linked}
 use Rattle.est_link.specs.Linking.{linked, body_in_run, interface_bound, interface_run, locals_around, signal_at}
 use Rattle.est_link.specs.Linking.{emitted}
 use Rattle.est_modules.specs.Modules.{Program, program_named}
@@ -17,13 +15,10 @@ use Rattle.est_modules.specs.Occurrences.{Binder, signals, a_trap, emits, runs, 
 use Rattle.est_modules.specs.Occurrences.{first_of}
 use Rattle.est_checks.specs.UnknownNames.{unknown_at, unless}
 use Rattle.est_modules.specs.Visible.{is_local, is_trap, is_visible}
-use Rattle.est_link.specs.declared.flatten.Linked.{Linked}
-use Rattle.std.specs.Str.{bytes_eq}
 use Rattle.est_syntax.specs.Tree.{RenamingTree}
 use Rattle.est_link.proofs.Binding.{bound_body}
-use Rattle.est_link.proofs.Made.{kept, new_last, last_body, old_or_last}
 use Rattle.est_link.proofs.Naming.{IsFine, test_at, traps_around, trap_within, sent_at, run_bindings}
-use Rattle.est_modules.proofs.Testing.{or_left, or_right, and_both, not_true, same_bytes, equal_bytes, or_none_parts}
+use Rattle.est_modules.proofs.Testing.{or_left, or_right, and_both, not_true, equal_bytes, or_none_parts}
 use Rattle.est_modules.proofs.Testing.{all_parts}
 use Rattle.est_link.proofs.RunModules.{from_runs}
 use Rattle.est_reduce.specs.Bodies.{Body, nothing, pause, halt, emit, sustain, exit, await, present, suspend, abort}
@@ -171,45 +166,15 @@ linked_bound ps em p b bs (derived.par q e) h r =
     let parts = all_parts (IsFine ps em p) (occurrences bs q) (occurrences bs e) h in
     (linked_bound ps em p b bs q parts.0 r.0, linked_bound ps em p b bs e parts.1 r.1)
 
--- ---- a table
+-- ---- a module
 
-sound_linked : (ps : List Program) (em : List ℕ → List ℕ → Bool) (b : List ℕ → Body) (m : List ℕ) (o : Option Program)
-    → program_named ps m ≡ o → HasSoundNames ps em
-    → ((p : Program) → o ≡ Some p → AllRuns (λ n. IsSound em (program_named ps n) (b n)) p.body)
-    → IsSound em o (body_linked ps b o)
-sound_linked ps em b m None found names runs_sound = refl
-sound_linked ps em b m (Some p) found names runs_sound =
+-- each name of a module's body is bound, where those of the modules that it runs are
+pub body_bound : (ps : List Program) (em : List ℕ → List ℕ → Bool) (m : List ℕ) (p : Program) (b : List ℕ → Body)
+    → program_named ps m ≡ Some p → HasSoundNames ps em
+    → ((n : List ℕ) → HasRun ps m n → IsSound em (program_named ps n) (b n))
+    → IsBody (length p.interface) (IsSent em p) 0 0 (linked ps b p [] p.body)
+body_bound ps em m p b found names sound =
     linked_bound ps em p b [] p.body
     (all_fine ps em p (occurrences [] p.body) (names.known m p found) (names.accepted m p found)
     (λ s h. names.emissions m p found s ∙ h))
-    (runs_sound p refl)
-
-old_sound : (ps : List Program) (em : List ℕ → List ℕ → Bool) (es : List Linked) (e : Linked) (m : List ℕ)
-    → has_body es m ≡ true → IsSound em (program_named ps m) (bodies_of es m)
-    → IsSound em (program_named ps m) (bodies_of (es ++ e ∷ []) m)
-old_sound ps em es e m here sound = subst (IsSound em (program_named ps m)) (sym (kept es e m here)) sound
-
-last_sound : (ps : List Program) (em : List ℕ → List ℕ → Bool) (es : List Linked) (e : Linked) (m : List ℕ)
-    → HasSoundNames ps em → ((n : List ℕ) → has_body es n ≡ true → IsSound em (program_named ps n) (bodies_of es n))
-    → has_body es m ≡ false → bytes_eq e.name m ≡ true → IsMade ps es e
-    → IsSound em (program_named ps m) (bodies_of (es ++ e ∷ []) m)
-last_sound ps em es e m names before absent is made =
-    let same : e.name ≡ m = same_bytes e.name m is in
-    let body : bodies_of (es ++ e ∷ []) m ≡ body_linked ps (bodies_of es) (program_named ps m) =
-    new_last es e m absent ∙ last_body e m is ∙ made.made
-    ∙ ap (λ n. body_linked ps (bodies_of es) (program_named ps n)) same in
-    subst (IsSound em (program_named ps m)) (sym body)
-    (sound_linked ps em (bodies_of es) m (program_named ps m) refl names
-    (λ p found. from_runs ps (λ n. IsSound em (program_named ps n) (bodies_of es n)) m p found
-    (λ n run. before n (made.ready n (subst (λ k. HasRun ps k n) (sym same) run)))))
-
--- each name of each body of a table is bound
-pub made_sound : (ps : List Program) (em : List ℕ → List ℕ → Bool) (es : List Linked) → AreMade ps es
-    → HasSoundNames ps em → (m : List ℕ) → has_body es m ≡ true → IsSound em (program_named ps m) (bodies_of es m)
-made_sound ps em es none names m h = absurd (false≢true h)
-made_sound ps em es (next before e is made this) names m h =
-    let here : has_body (before ++ e ∷ []) m ≡ true = sym (ap (λ xs. has_body xs m) is) ∙ h in
-    subst (λ xs. IsSound em (program_named ps m) (bodies_of xs m)) (sym is) (⊎_elim
-    (λ old. old_sound ps em before e m old (made_sound ps em before made names m old))
-    (λ new. last_sound ps em before e m names (λ n there. made_sound ps em before made names n there) new.0 new.1 this)
-    (old_or_last before e m here))
+    (from_runs ps (λ n. IsSound em (program_named ps n) (b n)) m p found sound)

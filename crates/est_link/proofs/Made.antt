@@ -1,112 +1,116 @@
 -- Tables of bodies that are made one after another.
-use Rattle.std.proofs.Common.{◌≡◌, ℕ, ◌+◌, ◌<◌, List, [], ◌∷◌, ◌++◌, length, map, take, get_or, Bool, true, false, ◌||◌}
-use Rattle.std.proofs.Common.{Some, None, cond, refl, ap, sym, subst, ◌∙◌, ◌⊎◌, inl, inr, ⊎_elim}
-use Rattle.std.proofs.lemmas.Bool.{false≢true}
-use Rattle.std.proofs.lemmas.Slice.Eq.{bytes_eq-Decides}
-use Rattle.std.proofs.lemmas.List.Folds.{list_any-append}
-use Rattle.std.proofs.lemmas.List.{map-append, take_more}
-use Rattle.std.specs.List.{find}
+use Rattle.std.proofs.Common.{◌≡◌, ℕ, ◌+◌, ◌<◌, ◌≤◌, inl, inr, List, [], length, slice_index, slice_index_or, Bool, true, false}
+use Rattle.std.proofs.Common.{◌||◌, if◌then◌else◌, Option, Some, None, refl, ap, sym, subst, ◌∙◌, arith}
+use Rattle.std.proofs.lemmas.Bool.{cases_lt, false≢true}
+use Rattle.std.proofs.lemmas.List.{length-map}
+use Rattle.std.proofs.lemmas.Option.{slice_get_within}
+use Rattle.std.specs.List.{slice_get}
+use Rattle.std.specs.Prelude.{is_some}
 use Rattle.std.specs.Str.{bytes_eq}
 use Rattle.est_modules.specs.Modules.{Program, program_named, first_in_bodies}
+use Rattle.est_modules.specs.ModuleOrders.{IsOrderOf, run_rows, places_run}
+use Rattle.est_modules.proofs.Testing.{or_left, or_right, equal_bytes, same_bytes, some_same}
 use Rattle.est_checks.specs.MissingModules.{missing_at}
 use Rattle.est_checks.specs.RecursiveRuns.{HasRun}
-use Rattle.est_link.specs.Inner.Needs.{is_listed, AreBottomUp}
-use Rattle.est_link.specs.Linking.{IsLinked, links, linked}
-use Rattle.est_link.specs.Inner.Tables.{has_body, bodies_of, body_found, IsMade, AreMade, none, next, body_linked}
-use Rattle.est_link.specs.declared.flatten.Linked.{Linked}
+use Rattle.est_order.proofs.OrderPlaces.{each_stands}
+use Rattle.est_link.specs.Inner.Needs.{IsIn}
+use Rattle.est_link.specs.Inner.Tables.{body_named, has_body, body_found, bodies_of, IsBodyOf, AreBodiesOf, IsGrown}
+use Rattle.est_link.specs.Inner.Tables.{HasFront, HasBodies}
+use Rattle.est_link.specs.Linking.{links, linked}
+use Rattle.est_link.specs.declared.linked_bodies.LinkedBodies.{LinkedBodies}
+use Rattle.est_link.proofs.Bounding.{IsSound, body_bound}
 use Rattle.est_link.proofs.RunModules.{run_there}
+use Rattle.est_reduce.specs.Bodies.{Body}
 use Rattle.est_reduce.specs.Views.{body_of}
+use Rattle.est_reduce.specs.declared.body.Body.{Body as BodyValue}
 
--- a name has an entry where it stands among the names of the entries
-pub has_named : (es : List Linked) (n : List ℕ) → has_body es n ≡ is_listed (map (λ (e : Linked). e.name) es) n
-has_named [] n = refl
-has_named (e ∷ es) n = ap (λ b. bytes_eq e.name n || b) (has_named es n)
+-- ---- one body more
 
--- what is needed of the next entry
-pub next_made : (ps : List Program) (names : List (List ℕ)) (i : ℕ) (es : List Linked) (e : Linked)
-    → AreBottomUp ps names → i < length names → e.name ≡ get_or names i []
-    → map (λ (e : Linked). e.name) es ≡ take i names → body_of e.body
-    ≡ body_linked ps (bodies_of es) (program_named ps e.name) → IsMade ps es e
-next_made ps names i es e order lt at_i named made =
+has_either : (b : Bool) (f : BodyValue) (o : Option BodyValue) → is_some (if b then Some f else o) ≡ (b || is_some o)
+has_either true f o = refl
+has_either false f o = refl
+
+found_either : (b : Bool) (f : BodyValue) (o : Option BodyValue)
+    → body_found (if b then Some f else o) ≡ (if b then body_of f else body_found o)
+found_either true f o = refl
+found_either false f o = refl
+
+-- a table to which a module's body is added
+pub grown : (ps : List Program) (old : LinkedBodies) (p : Program) (f : BodyValue) (new : LinkedBodies)
+    → body_of f ≡ linked ps (bodies_of old) p [] p.body
+    → ((m : List ℕ) → body_named new m ≡ (if bytes_eq p.name m then Some f else body_named old m))
+    → IsGrown ps old p new
+grown ps old p f new is said = record {
+  has = λ m. ap is_some (said m) ∙ has_either (bytes_eq p.name m) f (body_named old m);
+  bodies = λ m. ap body_found (said m) ∙ found_either (bytes_eq p.name m) f (body_named old m)
+      ∙ ap (λ (x : Body). if bytes_eq p.name m then x else bodies_of old m) is;
+}
+
+-- ---- each body is that of its module
+
+-- the body that a module's text gives by a table which has those of the modules that it runs
+made : (ps : List Program) → first_in_bodies (missing_at ps) ps ≡ None → (t : LinkedBodies) (m : List ℕ) (p : Program)
+    → AreBodiesOf ps t → program_named ps m ≡ Some p → ((n : List ℕ) → HasRun ps m n → has_body t n ≡ true)
+    → IsBodyOf ps m p (linked ps (bodies_of t) p [] p.body)
+made ps there t m p are found ready =
+    let below : (n : List ℕ) → HasRun ps m n
+        → (q : Program) × (program_named ps n ≡ Some q) × IsBodyOf ps n q (bodies_of t n) =
+    λ n run. let its = run_there ps there m n run in (its.0, its.1, are n its.0 its.1 (ready n run)) in
     record {
-      ready = λ n run. has_named es n ∙ ap (λ ns. is_listed ns n) named
-          ∙ order i lt n (subst (λ m. HasRun ps m n) at_i run);
-      made = made;
+      flat = links p (bodies_of t) found (λ n run. let its = below n run in its.2.flat) refl;
+      bound = λ em names. body_bound ps em m p (bodies_of t) found names
+          (λ n run. let its = below n run in subst (λ o. IsSound em o (bodies_of t n)) (sym its.1)
+          (its.2.bound em names));
     }
 
--- the names of the entries, with the next
-pub named_more : (names : List (List ℕ)) (i : ℕ) (es : List Linked) (e : Linked) → i < length names
-    → e.name ≡ get_or names i e.name → map (λ (e : Linked). e.name) es ≡ take i names
-    → map (λ (e : Linked). e.name) (es ++ e ∷ []) ≡ take (i + 1) names
-named_more names i es e lt at_i named =
-    map-append (λ (e : Linked). e.name) es (e ∷ [])
-    ∙ ap (λ ns. ns ++ e.name ∷ []) named
-    ∙ ap (λ n. take i names ++ n ∷ []) at_i
-    ∙ sym (take_more names i e.name lt)
+one_of : (ps : List Program) (m : List ℕ) (p q : Program) (f g : Body) (b c : Bool) → bytes_eq p.name m ≡ b
+    → program_named ps p.name ≡ Some p → program_named ps m ≡ Some q → IsBodyOf ps p.name p f
+    → (c ≡ true → IsBodyOf ps m q g) → (b || c) ≡ true → IsBodyOf ps m q (if b then f else g)
+one_of ps m p q f g true c e named found new old has =
+    let same : p.name ≡ m = same_bytes p.name m e in
+    let module_of : p ≡ q = some_same p q (sym named ∙ ap (program_named ps) same ∙ found) in
+    subst (λ r. IsBodyOf ps m r f) module_of (subst (λ n. IsBodyOf ps n p f) same new)
+one_of ps m p q f g false c e named found new old has = old has
 
--- ---- the table as it grows
+pub bodies_more : (ps : List Program) → first_in_bodies (missing_at ps) ps ≡ None → (old : LinkedBodies) (p : Program)
+    (new : LinkedBodies) → IsGrown ps old p new → program_named ps p.name ≡ Some p
+    → ((n : List ℕ) → HasRun ps p.name n → has_body old n ≡ true) → AreBodiesOf ps old → AreBodiesOf ps new
+bodies_more ps there old p new more named ready are m q found has =
+    subst (IsBodyOf ps m q) (sym (more.bodies m))
+    (one_of ps m p q (linked ps (bodies_of old) p [] p.body) (bodies_of old m) (bytes_eq p.name m) (has_body old m) refl
+    named found (made ps there old p.name p are named ready) (are m q found) (sym (more.has m) ∙ has))
 
--- an entry that is there stays
-found_more : (x : Linked) (es : List Linked) (e : Linked) (m : List ℕ) (b : Bool)
-    → ((has_body es m ≡ true) → bodies_of (es ++ e ∷ []) m ≡ bodies_of es m) → (b || has_body es m) ≡ true
-    → body_found (cond b (Some x) (find (λ (e : Linked). bytes_eq e.name m) (es ++ e ∷ [])))
-    ≡ body_found (cond b (Some x) (find (λ (e : Linked). bytes_eq e.name m) es))
-found_more x es e m true rest h = refl
-found_more x es e m false rest h = rest h
+-- ---- along an order
 
-pub kept : (es : List Linked) (e : Linked) (m : List ℕ) → has_body es m ≡ true
-    → bodies_of (es ++ e ∷ []) m ≡ bodies_of es m
-kept [] e m h = absurd (false≢true h)
-kept (x ∷ es) e m h = found_more x es e m (bytes_eq x.name m) (kept es e m) h
+pub front_more : (ps : List Program) (order : List ℕ) (set : List Bool) (old : LinkedBodies) (p : Program)
+    (new : LinkedBodies) (k : ℕ) → IsGrown ps old p new → slice_get ps (slice_index order k) ≡ Some p
+    → HasFront ps set order k old → HasFront ps set order (k + 1) new
+front_more ps order set old p new k more at front i lt has q here = elim (cases_lt i k) [
+  | inl before ↦ more.has q.name
+      ∙ or_right (bytes_eq p.name q.name) (has_body old q.name) (front i before has q here)
+  | inr past ↦
+      let last : k ≡ i = omega (arith, past, lt) in
+      let same : p ≡ q = some_same p q (sym at ∙ ap (λ j. slice_get ps (slice_index order j)) last ∙ here) in
+      more.has q.name
+      ∙ or_left (bytes_eq p.name q.name) (has_body old q.name)
+      (ap (λ (r : Program). bytes_eq r.name q.name) same ∙ equal_bytes q.name)
+]
 
--- the last entry is that of its name, where none before it is
-new_found : (x : Linked) (es : List Linked) (e : Linked) (m : List ℕ) (b : Bool)
-    → (has_body es m ≡ false → bodies_of (es ++ e ∷ []) m ≡ bodies_of (e ∷ []) m) → (b || has_body es m) ≡ false
-    → body_found (cond b (Some x) (find (λ (e : Linked). bytes_eq e.name m) (es ++ e ∷ []))) ≡ bodies_of (e ∷ []) m
-new_found x es e m true rest h = absurd (false≢true (sym h))
-new_found x es e m false rest h = rest h
+pub front_past : (ps : List Program) (order : List ℕ) (set : List Bool) (t : LinkedBodies) (k : ℕ)
+    → slice_index_or set (slice_index order k) false ≡ false → HasFront ps set order k t
+    → HasFront ps set order (k + 1) t
+front_past ps order set t k absent front i lt has q here = elim (cases_lt i k) [
+  | inl before ↦ front i before has q here
+  | inr past ↦
+      let last : i ≡ k = omega (arith, past, lt) in
+      absurd (false≢true (sym absent ∙ subst (λ j. IsIn set (slice_index order j)) last has))
+]
 
-pub new_last : (es : List Linked) (e : Linked) (m : List ℕ) → has_body es m ≡ false
-    → bodies_of (es ++ e ∷ []) m ≡ bodies_of (e ∷ []) m
-new_last [] e m h = refl
-new_last (x ∷ es) e m h = new_found x es e m (bytes_eq x.name m) (new_last es e m) h
-
-split_or : (b c : Bool) → (b || (c || false)) ≡ true → (b ≡ true) ⊎ ((b ≡ false) × (c ≡ true))
-split_or true c h = inl refl
-split_or false true h = inr (refl, refl)
-split_or false false h = absurd (false≢true h)
-
--- an entry of a table with one more is of the table, or the last
-pub old_or_last : (es : List Linked) (e : Linked) (m : List ℕ) → has_body (es ++ e ∷ []) m ≡ true
-    → (has_body es m ≡ true) ⊎ ((has_body es m ≡ false) × (bytes_eq e.name m ≡ true))
-old_or_last es e m h = split_or (has_body es m) (bytes_eq e.name m)
-    (sym (list_any-append (λ (e : Linked). bytes_eq e.name m) es (e ∷ [])) ∙ h)
-
--- ---- each body is made from those of the table
-
-pub last_body : (e : Linked) (m : List ℕ) → bytes_eq e.name m ≡ true → bodies_of (e ∷ []) m ≡ body_of e.body
-last_body e m h = ap (λ b. body_found (cond b (Some e) None)) h
-
--- the last entry has its module's flat body, where those that it has runs of have theirs
-last_linked : (ps : List Program) (es : List Linked) (e : Linked) (m : List ℕ) (p : Program)
-    → program_named ps m ≡ Some p → has_body es m ≡ false → bytes_eq e.name m ≡ true → IsMade ps es e
-    → ((n : List ℕ) → HasRun ps e.name n → IsLinked ps n (bodies_of es n))
-    → IsLinked ps m (bodies_of (es ++ e ∷ []) m)
-last_linked ps es e m p found absent is made below =
-    let same : e.name ≡ m = (bytes_eq-Decides e.name m).0 is in
-    let body : bodies_of (es ++ e ∷ []) m ≡ linked ps (bodies_of es) p [] p.body =
-    new_last es e m absent ∙ last_body e m is ∙ made.made
-    ∙ ap (body_linked ps (bodies_of es)) (ap (program_named ps) same ∙ found) in
-    links p (bodies_of es) found (λ n run. below n (subst (λ k. HasRun ps k n) (sym same) run)) body
-
--- the table has the flat body of each of its modules, where each module that is run is there
-pub made_linked : (ps : List Program) → first_in_bodies (missing_at ps) ps ≡ None → (es : List Linked) → AreMade ps es
-    → (m : List ℕ) (p : Program) → program_named ps m ≡ Some p → has_body es m ≡ true → IsLinked ps m (bodies_of es m)
-made_linked ps there es none m p found h = absurd (false≢true h)
-made_linked ps there es (next before e is made this) m p found h =
-    let here : has_body (before ++ e ∷ []) m ≡ true = sym (ap (λ xs. has_body xs m) is) ∙ h in
-    subst (λ xs. IsLinked ps m (bodies_of xs m)) (sym is) (⊎_elim
-    (λ old. subst (IsLinked ps m) (sym (kept before e m old)) (made_linked ps there before made m p found old))
-    (λ new. last_linked ps before e m p found new.0 new.1 this (λ n run. let its = run_there ps there e.name n run in
-    made_linked ps there before made n its.0 its.1 (this.ready n run)))
-    (old_or_last before e m here))
+pub front_whole : (ps : List Program) (order : List ℕ) (set : List Bool) (t : LinkedBodies) (n : ℕ)
+    → IsOrderOf ps order → length order ≤ n → HasFront ps set order n t → HasBodies ps set t
+front_whole ps order set t n up whole front place has p at =
+    let there : place < length (run_rows ps) =
+    omega (arith, slice_get_within ps place p at, length-map ps (places_run ps)) in
+    let stood = each_stands (run_rows ps) order up place there in
+    front stood.0 (omega (arith, stood.1, whole)) (subst (IsIn set) (sym stood.2) has) p
+    (ap (slice_get ps) stood.2 ∙ at)

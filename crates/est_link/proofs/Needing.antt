@@ -1,30 +1,109 @@
 -- The modules that main runs, in an order.
-use Rattle.std.proofs.Common.{◌≡◌, ℕ, ◌+◌, ◌<◌, inl, inr, List, [], ◌∷◌, ◌++◌, length, take, get_or, slice_index}
-use Rattle.std.proofs.Common.{slice_index_or, true, false, Some, None, Contains, refl, ap, sym, ◌∙◌}
-use Rattle.std.proofs.Common.{subst, arith}
-use Rattle.std.proofs.lemmas.Bool.{cases_lt}
+use Rattle.std.proofs.Common.{◌≡◌, ℕ, ◌+◌, ◌<◌, ◌≤◌, ◌⊎◌, inl, inr, List, [], ◌∷◌, length, nat_lt, replicate, slice_index}
+use Rattle.std.proofs.Common.{slice_index_or, slice_set, Bool, true, false, if◌then◌else◌, Some, None, Contains, refl, ap}
+use Rattle.std.proofs.Common.{sym, ◌∙◌, subst, arith, rules}
+use Rattle.std.proofs.lemmas.Bool.{cases_eq, cases_lt, false≢true}
 use Rattle.std.proofs.lemmas.Option.{slice_get_within, slice_get-get_or, get_or_from_slice_get}
-use Rattle.std.proofs.lemmas.List.{get_or-map, length-append, get_or_append_left, take-append-le}
+use Rattle.std.proofs.lemmas.List.{get_or-map, get_or-set_same, get_or-set_other, length-map, length-set}
+use Rattle.std.proofs.lemmas.List.{length-replicate}
 use Rattle.std.proofs.Math.ListN.{get_or-eq_default}
-use Rattle.std.proofs.Math.Seq.{get_or-append_seam, take-append_seam}
 use Rattle.std.proofs.lemmas.List.Elements.{Contains-append_left, Contains-append_right, Contains-append_cases}
-use Rattle.std.proofs.lemmas.List.Folds.{list_any-append}
+use Rattle.std.proofs.lemmas.List.Elements.{Contains-push, Contains-push_cases}
 use Rattle.std.specs.List.{slice_get}
 use Rattle.std.specs.Str.{bytes_eq}
-use Rattle.est_checks.specs.Duplicates.{first_duplicate}
 use Rattle.est_checks.specs.RecursiveRuns.{HasRun}
-use Rattle.est_link.specs.Inner.Needs.{AreBottomUp, IsClosed, IsClosedFrom, HasFront, is_listed}
+use Rattle.est_checks.specs.MissingModules.{missing_at}
+use Rattle.est_link.specs.Inner.Needs.{IsIn, with_place, with_places, IsClosed, IsClosedFrom}
+use Rattle.est_link.specs.Inner.Tables.{has_body, HasFront}
+use Rattle.est_link.specs.declared.linked_bodies.LinkedBodies.{LinkedBodies}
 use Rattle.est_modules.specs.Modules.{Program, program_named, first_in_bodies}
 use Rattle.est_modules.specs.Occurrences.{runs, Occurrence, occurrences, first_of}
 use Rattle.est_modules.specs.ModuleOrders.{IsOrderOf, run_rows, places_run}
-use Rattle.est_checks.specs.MissingModules.{missing_at}
 use Rattle.est_modules.proofs.Ordering.{IsRunOf, run_is_run}
-use Rattle.est_modules.proofs.Testing.{or_left, or_right, some_same, equal_bytes, same_bytes, found_passes}
+use Rattle.est_modules.proofs.Testing.{some_same, same_bytes, found_passes}
 use Rattle.est_order.specs.RunRows.{IsRun}
 use Rattle.est_order.proofs.OrderPlaces.{each_stands, places_are_there}
 use Rattle.est_modules.proofs.Standing.{first_none, found_place}
-use Rattle.est_checks.proofs.OneName.{first_of_name}
 use Rattle.est_checks.proofs.RunsThere.{run_is_there}
+
+-- ---- sets
+
+-- what one place more adds to a set
+record IsAdded (set : List Bool) (place : ℕ) (new : List Bool) : Type 0 where
+  size : length new ≡ length set
+  kept : (i : ℕ) → IsIn set i → IsIn new i
+  added : place < length set → IsIn new place
+  only : (i : ℕ) → IsIn new i → IsIn set i ⊎ (place ≡ i)
+
+added_by : (set : List Bool) (place : ℕ) (b : Bool) → nat_lt place (length set) ≡ b
+    → IsAdded set place (if b then slice_set set place true else set)
+added_by set place true h =
+    let within : place < length set = search (rules, h) in
+    record {
+      size = length-set set place true;
+      kept = λ i is. elim (cases_eq i place) [
+        | inl e ↦ subst (IsIn (slice_set set place true)) (sym e) (get_or-set_same set place true false within)
+        | inr d ↦ get_or-set_other set place i true false d ∙ is
+      ];
+      added = λ lt. get_or-set_same set place true false lt;
+      only = λ i is. elim (cases_eq i place)
+          [ inl e ↦ inr (sym e) | inr d ↦ inl (sym (get_or-set_other set place i true false d) ∙ is) ];
+    }
+added_by set place false h =
+    record {
+      size = refl;
+      kept = λ i is. is;
+      added = λ lt. absurd (search (rules, h, lt));
+      only = λ i is. inl is;
+    }
+
+added_one : (set : List Bool) (place : ℕ) → IsAdded set place (with_place set place)
+added_one set place = added_by set place (nat_lt place (length set)) refl
+
+-- what places add to a set
+pub record AreAdded (set : List Bool) (places : List ℕ) : Type 0 where
+  pub size : length (with_places set places) ≡ length set
+  pub kept : (i : ℕ) → IsIn set i → IsIn (with_places set places) i
+  pub added : (i : ℕ) → i < length set → Contains places i → IsIn (with_places set places) i
+  pub only : (i : ℕ) → IsIn (with_places set places) i → IsIn set i ⊎ Contains places i
+
+pub are_added : (set : List Bool) (places : List ℕ) → AreAdded set places
+are_added set [] = record {
+  size = refl;
+  kept = λ i is. is;
+  added = λ i lt has. absurd (omega (arith, has.1));
+  only = λ i is. inl is;
+}
+are_added set (p ∷ ps) =
+    let one = added_one set p in
+    let rest = are_added (with_place set p) ps in
+    record {
+      size = rest.size ∙ one.size;
+      kept = λ i is. rest.kept i (one.kept i is);
+      added = λ i lt has. elim (Contains-append_cases (p ∷ []) ps i has) [
+        | inl here ↦ (elim (Contains-push_cases [] p i here) [
+          | inl none ↦ absurd (omega (arith, none.1))
+          | inr e ↦ rest.kept i (subst (IsIn (with_place set p)) e (one.added (omega (arith, e, lt))))
+        ])
+        | inr later ↦ rest.added i (omega (arith, lt, one.size)) later
+      ];
+      only = λ i is. elim (rest.only i is) [
+        | inl before ↦ (elim (one.only i before) [
+          | inl old ↦ inl old
+          | inr e ↦ inr (Contains-append_left (p ∷ []) ps i (subst (Contains (p ∷ [])) e (Contains-push [] p)))
+        ])
+        | inr later ↦ inr (Contains-append_right (p ∷ []) ps i later)
+      ];
+    }
+
+-- the set of one place, in a row of n places
+pub one_place : (n place : ℕ) → place < n → (length (slice_set (replicate n false) place true) ≡ n)
+    × IsIn (slice_set (replicate n false) place true) place
+one_place n place lt =
+    let all : length (replicate n false) ≡ n = length-replicate n false in (
+      length-set (replicate n false) place true ∙ all,
+      get_or-set_same (replicate n false) place true false (omega (arith, lt, all)),
+    )
 
 -- ---- the set of what main runs
 
@@ -34,57 +113,60 @@ row_is ps i p at = get_or-map (places_run ps) ps i p [] (slice_get_within ps i p
     ∙ ap (places_run ps) (get_or_from_slice_get ps i p p at)
 
 -- a module's runs are added
-pub closed_more : (ps : List Program) (order set : List ℕ) (k : ℕ) (p : Program) → IsOrderOf ps order → k < length order
-    → slice_get ps (slice_index order k) ≡ Some p → IsClosedFrom ps order (k + 1) set
-    → IsClosedFrom ps order k (set ++ places_run ps p)
-closed_more ps order set k p up lt at closed i from within has to is = elim (cases_lt k i) [
-  | inl later ↦ elim (Contains-append_cases set (places_run ps p) (slice_index order i) has) [
-    | inl old ↦ Contains-append_left set (places_run ps p) to (closed i (omega (arith, later)) within old to is)
-    | inr new ↦
-        let there : slice_index order i < length (run_rows ps) = places_are_there (run_rows ps) order up i within in
-        let named : Contains (slice_index_or (run_rows ps) (slice_index order k) []) (slice_index order i) =
-        subst (λ r. Contains r (slice_index order i)) (sym (row_is ps (slice_index order k) p at)) new in
-        absurd (omega (arith, later, up.after_runs k i lt within (record { there = there; named = named })))
-  ]
-  | inr here ↦
-      let same : i ≡ k = omega (arith, from, here) in
-      let named : Contains (places_run ps p) to = subst (λ r. Contains r to)
-      (ap (λ j. slice_index_or (run_rows ps) (slice_index order j) []) same ∙ row_is ps (slice_index order k) p at)
-      is.named in
-      Contains-append_right set (places_run ps p) to named
-]
+pub closed_more : (ps : List Program) (order : List ℕ) (set : List Bool) (k : ℕ) (p : Program) → IsOrderOf ps order
+    → length set ≡ length ps → k < length order → slice_get ps (slice_index order k) ≡ Some p
+    → IsClosedFrom ps order (k + 1) set → IsClosedFrom ps order k (with_places set (places_run ps p))
+closed_more ps order set k p up size lt at closed i from within has to is =
+    let now = are_added set (places_run ps p) in
+    elim (cases_lt k i) [
+      | inl later ↦ (elim (now.only (slice_index order i) has) [
+        | inl old ↦ now.kept to (closed i (omega (arith, later)) within old to is)
+        | inr new ↦
+            let there : slice_index order i < length (run_rows ps) = places_are_there (run_rows ps) order up i within in
+            let named : Contains (slice_index_or (run_rows ps) (slice_index order k) []) (slice_index order i) =
+            subst (λ r. Contains r (slice_index order i)) (sym (row_is ps (slice_index order k) p at)) new in
+            absurd (omega (arith, later, up.after_runs k i lt within (record { there = there; named = named })))
+      ])
+      | inr here ↦
+          let same : i ≡ k = omega (arith, from, here) in
+          let named : Contains (places_run ps p) to = subst (λ r. Contains r to)
+          (ap (λ j. slice_index_or (run_rows ps) (slice_index order j) []) same ∙ row_is ps (slice_index order k) p at)
+          is.named in
+          now.added to (omega (arith, is.there, size, length-map ps (places_run ps))) named
+    ]
 
 -- a module that isn't needed adds nothing
-pub closed_past : (ps : List Program) (order set : List ℕ) (k : ℕ) → (Contains set (slice_index order k) → ⊥)
-    → IsClosedFrom ps order (k + 1) set → IsClosedFrom ps order k set
+pub closed_past : (ps : List Program) (order : List ℕ) (set : List Bool) (k : ℕ)
+    → slice_index_or set (slice_index order k) false ≡ false → IsClosedFrom ps order (k + 1) set
+    → IsClosedFrom ps order k set
 closed_past ps order set k absent closed i from within has to is = elim (cases_lt k i) [
   | inl later ↦ closed i (omega (arith, later)) within has to is
   | inr here ↦
       let same : i ≡ k = omega (arith, from, here) in
-      absurd (absent (subst (λ j. Contains set (slice_index order j)) same has))
+      absurd (false≢true (sym absent ∙ subst (λ j. IsIn set (slice_index order j)) same has))
 ]
 
 -- the whole order closes the set
-pub closed_whole : (ps : List Program) (order set : List ℕ) → IsOrderOf ps order → IsClosedFrom ps order 0 set
-    → IsClosed ps set
+pub closed_whole : (ps : List Program) (order : List ℕ) (set : List Bool) → IsOrderOf ps order
+    → IsClosedFrom ps order 0 set → IsClosed ps set
 closed_whole ps order set up closed runner to has is = elim (cases_lt runner (length (run_rows ps))) [
   | inl there ↦
       let at = each_stands (run_rows ps) order up runner there in
-      closed at.0 (omega arith) at.1 (subst (Contains set) (sym at.2) has) to
+      closed at.0 (omega arith) at.1 (subst (IsIn set) (sym at.2) has) to
       (subst (λ r. IsRun (run_rows ps) r to) (sym at.2) is)
   | inr past ↦
       let none : Contains [] to = subst (λ r. Contains r to) (get_or-eq_default (run_rows ps) [] past) is.named in
       absurd (omega (arith, none.1))
 ]
 
--- ---- names in the order
+-- ---- what is made before a module
 
--- the names of the modules that the next one runs are there
-run_listed : (ps : List Program) (order set : List ℕ) (names : List (List ℕ)) (k : ℕ) (p : Program) → IsOrderOf ps order
-    → IsClosed ps set → first_in_bodies (missing_at ps) ps ≡ None → HasFront ps set order k names → k < length order
-    → Contains set (slice_index order k) → slice_get ps (slice_index order k) ≡ Some p → (o : Occurrence)
-    → Contains (occurrences [] p.body) o → (m : List ℕ) → IsRunOf o.act m → is_listed names m ≡ true
-run_listed ps order set names k p up closed there front lt has at o stands m is_run =
+-- the bodies of the modules that the next one runs are there
+run_made : (ps : List Program) (order : List ℕ) (set : List Bool) (t : LinkedBodies) (k : ℕ) (p : Program)
+    → IsOrderOf ps order → IsClosed ps set → first_in_bodies (missing_at ps) ps ≡ None → HasFront ps set order k t
+    → k < length order → IsIn set (slice_index order k) → slice_get ps (slice_index order k) ≡ Some p
+    → (o : Occurrence) → Contains (occurrences [] p.body) o → (m : List ℕ) → IsRunOf o.act m → has_body t m ≡ true
+run_made ps order set t k p up closed there front lt has at o stands m is_run =
     let body = first_none (λ (p : Program). first_of (missing_at ps p) (occurrences [] p.body)) ps
     (slice_index order k) p there at in
     let here : slice_get (occurrences [] p.body) stands.0 ≡ Some o =
@@ -96,68 +178,19 @@ run_listed ps order set names k p up closed there front lt has at o stands m is_
     let stood = each_stands (run_rows ps) order up place.0 leads.there in
     let before : stood.0 < k = up.after_runs k stood.0 lt stood.1
     (subst (λ r. IsRun (run_rows ps) (slice_index order k) r) (sym stood.2) leads) in
-    let listed =
-    front stood.0 before (subst (Contains set) (sym stood.2) (closed (slice_index order k) place.0 has leads))
+    let made =
+    front stood.0 before (subst (IsIn set) (sym stood.2) (closed (slice_index order k) place.0 has leads))
     found.0 (ap (slice_get ps) stood.2 ∙ place.2) in
-    ap (is_listed names)
+    ap (has_body t)
     (sym (same_bytes found.0.name m (found_passes (λ (p : Program). bytes_eq p.name m) ps found.0 found.1)))
-    ∙ listed
+    ∙ made
 
-next_ready : (ps : List Program) (order set : List ℕ) (names : List (List ℕ)) (k : ℕ) (p : Program) → IsOrderOf ps order
-    → IsClosed ps set → first_in_bodies (missing_at ps) ps ≡ None → HasFront ps set order k names → k < length order
-    → Contains set (slice_index order k) → slice_get ps (slice_index order k) ≡ Some p
-    → program_named ps p.name ≡ Some p → (n : List ℕ) → HasRun ps p.name n → is_listed names n ≡ true
-next_ready ps order set names k p up closed there front lt has at named n run =
+pub next_ready : (ps : List Program) (order : List ℕ) (set : List Bool) (t : LinkedBodies) (k : ℕ) (p : Program)
+    → IsOrderOf ps order → IsClosed ps set → first_in_bodies (missing_at ps) ps ≡ None → HasFront ps set order k t
+    → k < length order → IsIn set (slice_index order k) → slice_get ps (slice_index order k) ≡ Some p
+    → program_named ps p.name ≡ Some p → (n : List ℕ) → HasRun ps p.name n → has_body t n ≡ true
+next_ready ps order set t k p up closed there front lt has at named n run =
     let home : run.home ≡ p = some_same run.home p (sym run.there ∙ named) in
     let place : Occurrence = record { act = runs n run.renamings; around = run.around } in
-    run_listed ps order set names k p up closed there front lt has at place
+    run_made ps order set t k p up closed there front lt has at place
     (subst (λ (q : Program). Contains (occurrences [] q.body) place) home run.stands) n refl
-
-bottom_up_more : (ps : List Program) (names : List (List ℕ)) (m : List ℕ) → AreBottomUp ps names
-    → ((n : List ℕ) → HasRun ps m n → is_listed names n ≡ true) → AreBottomUp ps (names ++ m ∷ [])
-bottom_up_more ps names m up ready i lt n run = elim (cases_lt i (length names)) [
-  | inl before ↦
-      ap (λ ns. is_listed ns n) (take-append-le i names (m ∷ []) (omega (arith, before)))
-      ∙ up i before n (subst (λ k. HasRun ps k n) (get_or_append_left names (m ∷ []) [] i before) run)
-  | inr past ↦
-      let last : i ≡ length names = omega (arith, past, lt, length-append names (m ∷ [])) in
-      let name : get_or (names ++ m ∷ []) i [] ≡ m = ap (λ j. get_or (names ++ m ∷ []) j []) last
-      ∙ get_or-append_seam names m [] [] in
-      let front : take i (names ++ m ∷ []) ≡ names = ap (λ j. take j (names ++ m ∷ [])) last
-      ∙ take-append_seam names (m ∷ []) in
-      ap (λ ns. is_listed ns n) front ∙ ready n (subst (λ k. HasRun ps k n) name run)
-]
-
--- the names with one more
-pub next_name : (ps : List Program) (order set : List ℕ) (names : List (List ℕ)) (k : ℕ) (p : Program)
-    → IsOrderOf ps order → IsClosed ps set → first_duplicate ps ≡ None → first_in_bodies (missing_at ps) ps ≡ None
-    → AreBottomUp ps names → HasFront ps set order k names → k < length order → Contains set (slice_index order k)
-    → slice_get ps (slice_index order k) ≡ Some p → AreBottomUp ps (names ++ p.name ∷ [])
-next_name ps order set names k p up closed distinct there names_up front lt has at =
-    let named = first_of_name [] ps distinct (slice_index order k) p at in
-    bottom_up_more ps names p.name names_up
-    (λ n run. next_ready ps order set names k p up closed there front lt has at named n run)
-
-pub next_front : (ps : List Program) (order set : List ℕ) (names : List (List ℕ)) (k : ℕ) (p : Program)
-    → HasFront ps set order k names → slice_get ps (slice_index order k) ≡ Some p
-    → HasFront ps set order (k + 1) (names ++ p.name ∷ [])
-next_front ps order set names k p front at i lt has q here = elim (cases_lt i k) [
-  | inl before ↦ list_any-append (λ n. bytes_eq n q.name) names (p.name ∷ [])
-      ∙ or_left (is_listed names q.name) _ (front i before has q here)
-  | inr past ↦
-      let last : k ≡ i = omega (arith, past, lt) in
-      let same : p ≡ q = some_same p q (sym at ∙ ap (λ j. slice_get ps (slice_index order j)) last ∙ here) in
-      list_any-append (λ n. bytes_eq n q.name) names (p.name ∷ [])
-      ∙ or_right (is_listed names q.name) _
-      (or_left (bytes_eq p.name q.name) false
-      (ap (λ (r : Program). bytes_eq r.name q.name) same ∙ equal_bytes q.name))
-]
-
-pub front_past : (ps : List Program) (order set : List ℕ) (names : List (List ℕ)) (k : ℕ)
-    → HasFront ps set order k names → (Contains set (slice_index order k) → ⊥) → HasFront ps set order (k + 1) names
-front_past ps order set names k front absent i lt has q here = elim (cases_lt i k) [
-  | inl before ↦ front i before has q here
-  | inr past ↦
-      let last : i ≡ k = omega (arith, past, lt) in
-      absurd (absent (subst (λ j. Contains set (slice_index order j)) last has))
-]

@@ -1,21 +1,29 @@
 //! The flat bodies of the modules that main runs, worked out bottom-up.
-ghost use Rattle.std.specs.Prelude.{◌≡◌, Some, IfOk, map};
-ghost use Rattle.est_link.specs.Inner.Needs.{AreBottomUp};
-ghost use Rattle.est_link.specs.Inner.Tables.{AreMade, bodies_of, body_linked};
-ghost use Rattle.est_modules.specs.Modules.{program_of, program_named};
+ghost use Rattle.std.specs.Prelude.{◌≡◌, ◌<◌, [], Some, None, IfOk, OnOk, length, map};
+ghost use Rattle.std.specs.List.{slice_get};
+ghost use Rattle.est_checks.specs.Duplicates.{first_duplicate};
+ghost use Rattle.est_checks.specs.MissingModules.{missing_at};
+ghost use Rattle.est_link.specs.Linking.{linked};
+ghost use Rattle.est_link.specs.Inner.Needs.{IsClosed};
+ghost use Rattle.est_link.specs.Inner.Tables.{AreBodiesOf, HasBodies, IsGrown, bodies_of};
+ghost use Rattle.est_modules.specs.Modules.{Program, program_of, first_in_bodies};
+ghost use Rattle.est_modules.specs.ModuleOrders.{IsOrderOf};
 ghost use Rattle.est_reduce.specs.Views.{body_of};
 
-use crate::flatten::{Linked, Linker, Place, flat_statement};
+use crate::flatten::{Linker, Place, flat_statement};
+use crate::linked_bodies::LinkedBodies;
+use crate::needed::is_in;
+use est_modules::head::Head;
 use est_modules::head_tree::Heads;
 use est_modules::scope::Scope;
 use est_reduce::body::Body;
-use est_text::identifier::Identifier;
 use std::alloc::{AllocError, Global};
 
 /// The flat body of the module of a linker.
-fn whole_body(linker: &Linker<'_, '_>) -> Result<Body, AllocError>
-    ensures { IfOk result (λ b. body_of b ≡ body_linked (map program_of linker.now.heads.now)
-        (bodies_of linker.now.bodies.now) (Some (program_of linker.now.home.now))) }
+fn whole_body(linker: &Linker<'_, '_, '_>) -> Result<Body, AllocError>
+    ensures { IfOk result (λ b. body_of b ≡ linked (map program_of linker.now.heads.now)
+        (bodies_of linker.now.bodies.now) (program_of linker.now.home.now) []
+        (program_of linker.now.home.now).body) }
 {
     let whole = Place {
         linker: &*linker,
@@ -24,41 +32,61 @@ fn whole_body(linker: &Linker<'_, '_>) -> Result<Body, AllocError>
     flat_statement(&whole, linker.home.body)
 }
 
-/// The flat body of the module of a name, by those of the modules that it runs.
-fn body_at<'a>(
+/// The flat body of a module, by those of the modules that it runs.
+fn body_by<'a, 'b>(
     alloc: Global,
-    heads: &'a Heads<'_>,
-    bodies: &'a [Linked],
-    name: &Identifier,
+    heads: &'a Heads<'b>,
+    bodies: &'a LinkedBodies<'_>,
+    home: &'a Head<'b>,
 ) -> Result<Body, AllocError>
-    ensures { IfOk result (λ b. body_of b ≡ body_linked (map program_of heads.now) (bodies_of
-        bodies.now) (program_named (map program_of heads.now) name.now)) }
+    ensures { IfOk result (λ b. body_of b ≡ linked (map program_of heads.now)
+        (bodies_of bodies.now) (program_of home.now) [] (program_of home.now).body) }
 {
-    match heads.named(name) {
-        Some(home) => whole_body(&Linker {
-            alloc,
-            heads,
-            bodies,
-            home,
-        }),
-        None => Ok(Body::Nothing),
-    }
+    whole_body(&Linker {
+        alloc,
+        heads,
+        bodies,
+        home,
+    })
 }
 
-/// The flat bodies of modules, of which each stands after those that it runs.
-pub fn bodies_along(
+/// Adds the flat body of the module at a place.
+fn add_body<'a>(
     alloc: Global,
-    heads: &Heads<'_>,
-    names: &[Identifier],
-) -> Result<Vec<Linked>, AllocError>
-    requires { AreBottomUp (map program_of heads.now) names.now }
-    ensures made { IfOk result (λ v. AreMade (map program_of heads.now) v.items) }
-    ensures names { IfOk result (λ v. map (λ e. e.name) v.items ≡ names.now) }
+    heads: &'a Heads<'_>,
+    bodies: &mut LinkedBodies<'a>,
+    place: usize,
+) -> Result<(), AllocError>
+    requires { place < length heads.now }
+    ensures { OnOk result ((p : Program) → slice_get (map program_of heads.now) place ≡ Some p
+        → IsGrown (map program_of heads.now) bodies.old p bodies.new) }
 {
-    let mut bodies = Vec::new(alloc);
-    for name in names {
-        let body = body_at(alloc, &*heads, &bodies, name)?;
-        bodies.push(Linked { name: *name, body })?;
+    let home = &heads.modules()[place];
+    let body = body_by(alloc, &*heads, &*bodies, &*home)?;
+    bodies.add(&home.name, body)
+}
+
+/// The flat bodies of the modules of a set, each made after those of the modules that it runs.
+pub fn bodies_along<'a>(
+    alloc: Global,
+    heads: &'a Heads<'_>,
+    order: &[usize],
+    needed: &[bool],
+) -> Result<LinkedBodies<'a>, AllocError>
+    requires order { IsOrderOf (map program_of heads.now) order.now }
+    requires size { length needed.now ≡ length heads.now }
+    requires closed { IsClosed (map program_of heads.now) needed.now }
+    requires distinct { first_duplicate (map program_of heads.now) ≡ None }
+    requires there { first_in_bodies (missing_at (map program_of heads.now))
+        (map program_of heads.now) ≡ None }
+    ensures right { IfOk result (λ t. AreBodiesOf (map program_of heads.now) t) }
+    ensures each { IfOk result (λ t. HasBodies (map program_of heads.now) needed.now t) }
+{
+    let mut bodies = LinkedBodies::new(alloc);
+    for place in order {
+        if is_in(needed, *place) {
+            add_body(alloc, &*heads, &mut bodies, *place)?;
+        }
     }
     Ok(bodies)
 }

@@ -3,8 +3,6 @@
 //! The functions call each other at most five times for each unit that is open around a place, and
 //! at most 128 units are open. A `run` is no call: its module was made flat before.
 ghost use Rattle.std.specs.Prelude.{◌≡◌, IfOk, map, option_map};
-ghost use Rattle.std.specs.List.{find};
-ghost use Rattle.std.specs.Str.{bytes_eq};
 ghost use Rattle.est_syntax.specs.Views.{test_view, unit_view, branches_view, sequence_view};
 ghost use Rattle.est_syntax.specs.Views.{statement_view, renaming_view};
 ghost use Rattle.est_modules.specs.Derived.{unit_derived, branches_derived, sequence_derived};
@@ -24,6 +22,7 @@ ghost use Rattle.est_reduce.specs.Views.{bound_query as query_view};
 use crate::bindings::{Binding, count, locals_around, signal_at, trap_at};
 use crate::bound_bodies::{bind_body, emitted};
 use crate::found_tests::find_test;
+use crate::linked_bodies::LinkedBodies;
 use crate::watch::Watch;
 use est_modules::head::{Declared, Head};
 use est_modules::head_tree::Heads;
@@ -34,33 +33,17 @@ use est_syntax::tree::{Branches, Delay, Renaming, Sequence, Statement, Test, Uni
 use est_text::identifier::Identifier;
 use std::alloc::{AllocError, Global};
 
-/// A module's name, with its flat body.
-#[derive(Drop)]
-pub struct Linked {
-    /// The name.
-    pub name: Identifier,
-    /// The body.
-    pub body: Body,
-}
-
 /// The modules, the flat bodies of those that are run, and the module whose body is made flat.
 #[derive(Clone, Copy)]
-pub struct Linker<'a, 'b> {
+pub struct Linker<'a, 'b, 'c> {
     /// Where memory for the body is taken.
     pub alloc: Global,
     /// The modules.
     pub heads: &'a Heads<'b>,
     /// The flat bodies.
-    pub bodies: &'a [Linked],
+    pub bodies: &'a LinkedBodies<'c>,
     /// The module.
     pub home: &'a Head<'b>,
-}
-
-/// The entry of a name.
-pub fn linked_named<'a>(bodies: &'a [Linked], name: &Identifier) -> Option<&'a Linked>
-    ensures { option_map (λ e. e.now) result ≡ find (λ e. bytes_eq e.name name.now) bodies.now }
-{
-    bodies.iter().find(|entry| entry.name.is(name))
 }
 
 /// The interface of the module that is run.
@@ -75,7 +58,7 @@ fn interface_run<'a>(heads: &'a Heads<'_>, name: &Identifier) -> &'a [Declared]
 
 /// The flat statement of a `run`: the body of its module, its interface names bound.
 fn run(
-    linker: &Linker<'_, '_>,
+    linker: &Linker<'_, '_, '_>,
     scope: &Scope<'_>,
     name: &Identifier,
     renamings: &[Renaming],
@@ -96,23 +79,23 @@ fn run(
         renamings: &renamings,
         interface,
     };
-    match linked_named(linker.bodies, name) {
-        Some(entry) => bind_body(&binding, &entry.body),
+    match linker.bodies.named(name) {
+        Some(body) => bind_body(&binding, body),
         None => Ok(Body::Nothing),
     }
 }
 
 /// A place in the module whose body is made flat.
 #[derive(Clone, Copy)]
-pub struct Place<'a, 'b> {
+pub struct Place<'a, 'b, 'c> {
     /// The modules, and the module.
-    pub linker: &'a Linker<'a, 'b>,
+    pub linker: &'a Linker<'a, 'b, 'c>,
     /// The binders around the place.
     pub scope: &'a Scope<'a>,
 }
 
 /// The signal that a name means.
-pub fn find_signal(place: &Place<'_, '_>, name: &Identifier) -> Result<BoundTest, AllocError>
+pub fn find_signal(place: &Place<'_, '_, '_>, name: &Identifier) -> Result<BoundTest, AllocError>
     ensures { IfOk result (λ t. query_view t ≡ signal_at (program_of place.now.linker.now.home.now)
         (binders_of place.now.scope.now) name.now) }
 {
@@ -120,7 +103,7 @@ pub fn find_signal(place: &Place<'_, '_>, name: &Identifier) -> Result<BoundTest
 }
 
 /// The signal that the emission of a name means.
-fn find_sent(place: &Place<'_, '_>, name: &Identifier) -> Result<BoundSignal, AllocError>
+fn find_sent(place: &Place<'_, '_, '_>, name: &Identifier) -> Result<BoundSignal, AllocError>
     ensures { IfOk result (λ n. name_view n ≡ emitted (signal_at
         (program_of place.now.linker.now.home.now) (binders_of place.now.scope.now) name.now)) }
 {
@@ -128,7 +111,7 @@ fn find_sent(place: &Place<'_, '_>, name: &Identifier) -> Result<BoundSignal, Al
 }
 
 /// What is waited for.
-fn find_wait(place: &Place<'_, '_>, delay: &Delay) -> Result<Wait, AllocError>
+fn find_wait(place: &Place<'_, '_, '_>, delay: &Delay) -> Result<Wait, AllocError>
     ensures immediate { IfOk result (λ w. w.immediate ≡ delay.now.immediate) }
     ensures test { IfOk result (λ w. query_view w.test
         ≡ asked_at (program_of place.now.linker.now.home.now) (binders_of place.now.scope.now)
@@ -149,7 +132,7 @@ fn box_nothing(alloc: Global) -> Result<Box<Body>, AllocError>
 
 /// The flat statement of a `present`, its branches being flat.
 fn present(
-    at: &Place<'_, '_>,
+    at: &Place<'_, '_, '_>,
     test: &Test,
     first: Box<Body>,
     second: Box<Body>,
@@ -163,7 +146,7 @@ fn present(
 
 /// The flat statement of a unit.
 #[cycle(flat)]
-fn flat_unit(at: &Place<'_, '_>, unit: &Unit) -> Result<Body, AllocError>
+fn flat_unit(at: &Place<'_, '_, '_>, unit: &Unit) -> Result<Body, AllocError>
     ensures { IfOk result (λ f. body_of f ≡ linked (map program_of at.now.linker.now.heads.now)
         (bodies_of at.now.linker.now.bodies.now) (program_of at.now.linker.now.home.now)
         (binders_of at.now.scope.now) (unit_derived (unit_view unit.now))) }
@@ -202,7 +185,7 @@ fn flat_unit(at: &Place<'_, '_>, unit: &Unit) -> Result<Body, AllocError>
 /// The flat statement of a statement that waits for something while another runs.
 #[cycle(flat)]
 fn flat_watched(
-    at: &Place<'_, '_>,
+    at: &Place<'_, '_, '_>,
     watch: Watch,
     statement: &Statement,
     delay: &Delay,
@@ -219,7 +202,7 @@ fn flat_watched(
 
 /// The flat statement of a `present`, with its branches.
 #[cycle(flat)]
-fn flat_test(at: &Place<'_, '_>, test: &Test, branches: &Branches) -> Result<Body, AllocError>
+fn flat_test(at: &Place<'_, '_, '_>, test: &Test, branches: &Branches) -> Result<Body, AllocError>
     ensures { IfOk result (λ f. body_of f ≡ linked (map program_of at.now.linker.now.heads.now)
         (bodies_of at.now.linker.now.bodies.now) (program_of at.now.linker.now.home.now)
         (binders_of at.now.scope.now) (branches_derived (test_view test.now)
@@ -265,7 +248,7 @@ fn beside(alloc: Global, p: Body, rest: Option<Box<Body>>) -> Result<Body, Alloc
 
 /// The flat statement of a sequence.
 #[cycle(flat)]
-fn flat_sequence(at: &Place<'_, '_>, sequence: &Sequence) -> Result<Body, AllocError>
+fn flat_sequence(at: &Place<'_, '_, '_>, sequence: &Sequence) -> Result<Body, AllocError>
     ensures { IfOk result (λ f. body_of f ≡ linked (map program_of at.now.linker.now.heads.now)
         (bodies_of at.now.linker.now.bodies.now) (program_of at.now.linker.now.home.now)
         (binders_of at.now.scope.now) (sequence_derived (sequence_view sequence.now))) }
@@ -284,7 +267,7 @@ fn flat_sequence(at: &Place<'_, '_>, sequence: &Sequence) -> Result<Body, AllocE
 
 /// The flat statement of sequences side by side.
 #[cycle(flat)]
-pub fn flat_statement(at: &Place<'_, '_>, statement: &Statement) -> Result<Body, AllocError>
+pub fn flat_statement(at: &Place<'_, '_, '_>, statement: &Statement) -> Result<Body, AllocError>
     ensures { IfOk result (λ f. body_of f ≡ linked (map program_of at.now.linker.now.heads.now)
         (bodies_of at.now.linker.now.bodies.now) (program_of at.now.linker.now.home.now)
         (binders_of at.now.scope.now) (statement_derived (statement_view statement.now))) }
@@ -303,7 +286,7 @@ pub fn flat_statement(at: &Place<'_, '_>, statement: &Statement) -> Result<Body,
 
 /// The flat statement of sequences side by side, in a box.
 #[cycle(flat)]
-fn box_body(at: &Place<'_, '_>, statement: &Statement) -> Result<Box<Body>, AllocError>
+fn box_body(at: &Place<'_, '_, '_>, statement: &Statement) -> Result<Box<Body>, AllocError>
     ensures { IfOk result (λ b. body_of b.value ≡ linked (map program_of
         at.now.linker.now.heads.now) (bodies_of at.now.linker.now.bodies.now)
         (program_of at.now.linker.now.home.now) (binders_of at.now.scope.now)
@@ -315,7 +298,7 @@ fn box_body(at: &Place<'_, '_>, statement: &Statement) -> Result<Box<Body>, Allo
 /// The flat statement of sequences side by side inside one binder more, in a box.
 #[cycle(flat)]
 fn box_inside(
-    at: &Place<'_, '_>,
+    at: &Place<'_, '_, '_>,
     scope: &Scope<'_>,
     statement: &Statement,
 ) -> Result<Box<Body>, AllocError>

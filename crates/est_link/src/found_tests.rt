@@ -19,7 +19,7 @@ use std::alloc::AllocError;
 
 /// What a literal asks.
 #[cycle(tests)]
-fn find_literal(place: &Place<'_, '_>, literal: &Literal) -> Result<BoundTest, AllocError>
+fn find_literal(place: &Place<'_, '_, '_>, literal: &Literal) -> Result<BoundTest, AllocError>
     ensures { IfOk result (λ t. query_view t ≡ literal_asked
         (signal_at (program_of place.now.linker.now.home.now) (binders_of place.now.scope.now))
         (literal_view literal.now)) }
@@ -36,7 +36,7 @@ fn find_literal(place: &Place<'_, '_>, literal: &Literal) -> Result<BoundTest, A
 /// What literals with `and` between them ask.
 #[cycle(tests)]
 fn find_conjunction(
-    place: &Place<'_, '_>,
+    place: &Place<'_, '_, '_>,
     conjunction: &Conjunction,
 ) -> Result<BoundTest, AllocError>
     ensures { IfOk result (λ t. query_view t ≡ conjunction_asked
@@ -57,7 +57,7 @@ fn find_conjunction(
 
 /// What an expression asks.
 #[cycle(tests)]
-fn find_expression(place: &Place<'_, '_>, expression: &Expression) -> Result<BoundTest, AllocError>
+fn find_expression(place: &Place<'_, '_, '_>, expression: &Expression) -> Result<BoundTest, AllocError>
     ensures { IfOk result (λ t. query_view t ≡ expression_asked
         (signal_at (program_of place.now.linker.now.home.now) (binders_of place.now.scope.now))
         (expression_view expression.now)) }
@@ -75,7 +75,7 @@ fn find_expression(place: &Place<'_, '_>, expression: &Expression) -> Result<Bou
 }
 
 /// What a test asks.
-pub fn find_test(place: &Place<'_, '_>, test: &Test) -> Result<BoundTest, AllocError>
+pub fn find_test(place: &Place<'_, '_, '_>, test: &Test) -> Result<BoundTest, AllocError>
     ensures { IfOk result (λ t. query_view t ≡ asked_at
         (program_of place.now.linker.now.home.now) (binders_of place.now.scope.now)
         (test_view test.now)) }

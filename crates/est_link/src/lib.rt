@@ -13,6 +13,7 @@ mod flatten;
 mod found_tests;
 pub mod laws;
 pub mod link;
+mod linked_bodies;
 pub mod linked_module;
 mod main_module;
 mod needed;

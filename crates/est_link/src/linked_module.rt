@@ -1,11 +1,8 @@
 //! The flat body of the main module, its runs replaced.
 ghost use Rattle.std.specs.Prelude.{◌≡◌, ℕ, Bool, List, None, Some, IfOk, map};
-ghost use Rattle.std.specs.List.{find, position};
-ghost use Rattle.std.specs.Str.{bytes_eq};
 ghost use Rattle.est_link.specs.Bodies.{HasSoundNames};
 ghost use Rattle.est_link.specs.Linking.{IsLinked};
 ghost use Rattle.est_checks.specs.Duplicates.{first_duplicate};
-ghost use Rattle.est_link.specs.Inner.Tables.{bodies_of};
 ghost use Rattle.est_link.specs.MainModule.{declarations_of};
 ghost use Rattle.est_modules.specs.Modules.{Program, program_of, program_named};
 ghost use Rattle.est_modules.specs.ModuleOrders.{IsOrderOf};
@@ -14,30 +11,12 @@ ghost use Rattle.est_reduce.specs.Bound.{IsBound};
 ghost use Rattle.est_reduce.specs.Views.{body_of};
 
 use crate::body_table::bodies_along;
-use crate::flatten::Linked;
-use crate::needed::{names_along, needed_places};
+use crate::needed::needed_places;
 use est_modules::head_tree::Heads;
 use est_order::place_order::Order;
 use est_reduce::body::Body;
 use est_text::identifier::Identifier;
 use std::alloc::{AllocError, Global};
-
-/// The place of the entry of a name.
-fn entry_named(bodies: &[Linked], name: &Identifier) -> Option<usize>
-    ensures { result ≡ position (λ e. bytes_eq e.name name.now) bodies.now }
-{
-    bodies.iter().position(|entry| entry.name.is(name))
-}
-
-/// The body that a table has for a name.
-fn take_body(mut bodies: Vec<Linked>, name: &Identifier) -> Body
-    ensures { body_of result ≡ bodies_of bodies.items name.now }
-{
-    match entry_named(&bodies, name) {
-        Some(place) => bodies.swap_remove(place).body,
-        None => Body::Nothing,
-    }
-}
 
 /// The flat body of main, from those of the modules that it runs; no other module is made flat.
 ///
@@ -62,9 +41,8 @@ pub fn linked_body(
     match heads.place(main) {
         Some(place) => {
             let needed = needed_places(alloc, &*heads, order.places(), place)?;
-            let names = names_along(alloc, heads, order.places(), &needed)?;
-            let bodies = bodies_along(alloc, heads, &names)?;
-            Ok(take_body(bodies, main))
+            let bodies = bodies_along(alloc, heads, order.places(), &needed)?;
+            Ok(bodies.take(main))
         }
         None => Ok(Body::Nothing),
     }

@@ -1,39 +1,61 @@
 -- The flat bodies that a table of the code has (this project's own form).
-use Rattle.std.specs.Prelude.{◌≡◌, ℕ, List, [], ◌∷◌, ◌++◌, Option, Some, None, Bool, true}
-use Rattle.std.specs.List.{find, list_any}
+use Rattle.std.specs.Prelude.{◌≡◌, ℕ, ◌<◌, List, [], length, slice_index, Bool, true, ◌||◌, if◌then◌else◌}
+use Rattle.std.specs.Prelude.{Option, Some, None, is_some}
+use Rattle.std.specs.Borrow.{Bor}
+use Rattle.std.specs.BTreeMap.{get_by}
+use Rattle.std.specs.Cmp.Lexicographic.{slice_cmp}
+use Rattle.std.specs.List.{slice_get}
+use Rattle.std.specs.Ordering.{nat_cmp}
 use Rattle.std.specs.Str.{bytes_eq}
 use Rattle.est_reduce.specs.Bodies.{Body, nothing}
 use Rattle.est_reduce.specs.Views.{body_of}
-use Rattle.est_checks.specs.RecursiveRuns.{HasRun}
-use Rattle.est_link.specs.Linking.{linked}
+use Rattle.est_reduce.specs.declared.body.Body.{Body as BodyValue}
+use Rattle.est_link.specs.Bodies.{HasSoundNames, IsBody, IsSent}
+use Rattle.est_link.specs.Inner.Needs.{IsIn}
+use Rattle.est_link.specs.Linking.{IsLinked, linked}
+use Rattle.est_link.specs.declared.linked_bodies.LinkedBodies.{LinkedBodies}
 use Rattle.est_modules.specs.Modules.{Program, program_named}
-use Rattle.est_link.specs.declared.flatten.Linked.{Linked}
 
--- the body of an entry that was looked for
-abbrev pub body_found : Option Linked → Body
+-- the value that the table has for a name
+abbrev pub body_named : LinkedBodies → List ℕ → Option BodyValue
+body_named t m = get_by (λ (k : Bor (List ℕ)). slice_cmp nat_cmp m k.now) t.bodies
+
+-- whether the table has a body for a name
+abbrev pub has_body : LinkedBodies → List ℕ → Bool
+has_body t m = is_some (body_named t m)
+
+-- the body of a value that was looked for
+abbrev pub body_found : Option BodyValue → Body
 body_found None = nothing
-body_found (Some e) = body_of e.body
+body_found (Some b) = body_of b
 
--- the body that the table has for a name; without an entry, `nothing`
-abbrev pub bodies_of : List Linked → List ℕ → Body
-bodies_of es m = body_found (find (λ (e : Linked). bytes_eq e.name m) es)
+-- the body that the table has for a name; without one, `nothing`
+abbrev pub bodies_of : LinkedBodies → List ℕ → Body
+bodies_of t m = body_found (body_named t m)
 
--- whether the table has an entry of this name
-abbrev pub has_body : List Linked → List ℕ → Bool
-has_body es m = list_any (λ (e : Linked). bytes_eq e.name m) es
+-- the body is that of the module p of the name m; where the names of the library have no fault, each name of it is bound
+pub record IsBodyOf (ps : List Program) (m : List ℕ) (p : Program) (f : Body) : Type 0 where
+  pub flat : IsLinked ps m f
+  pub bound : (emitted : List ℕ → List ℕ → Bool) → HasSoundNames ps emitted
+      → IsBody (length p.interface) (IsSent emitted p) 0 0 f
 
--- the flat body of a module that was looked for
-abbrev pub body_linked : List Program → (List ℕ → Body) → Option Program → Body
-body_linked ps bodies None = nothing
-body_linked ps bodies (Some p) = linked ps bodies p [] p.body
+-- each body of the table is that of its module
+abbrev pub AreBodiesOf : List Program → LinkedBodies → Type 0
+AreBodiesOf ps t = (m : List ℕ) (p : Program) → program_named ps m ≡ Some p → has_body t m ≡ true
+    → IsBodyOf ps m p (bodies_of t m)
 
--- the body of an entry is made from those of the entries before, among which are those of all modules that it runs
-pub record IsMade (ps : List Program) (es : List Linked) (e : Linked) : Type 0 where
-  pub ready : (n : List ℕ) → HasRun ps e.name n → has_body es n ≡ true
-  pub made : body_of e.body ≡ body_linked ps (bodies_of es) (program_named ps e.name)
+-- the new table has also the body that the text of the module p gives by the bodies of the old one
+pub record IsGrown (ps : List Program) (old : LinkedBodies) (p : Program) (new : LinkedBodies) : Type 0 where
+  pub has : (m : List ℕ) → has_body new m ≡ (bytes_eq p.name m || has_body old m)
+  pub bodies : (m : List ℕ) → bodies_of new m
+      ≡ (if bytes_eq p.name m then linked ps (bodies_of old) p [] p.body else bodies_of old m)
 
--- a table whose bodies were made one after another
-pub data AreMade (ps : List Program) : List Linked → Type 0 where
-  none : AreMade ps []
-  next : {all : List Linked} (es : List Linked) (e : Linked) → all ≡ es ++ e ∷ [] → AreMade ps es → IsMade ps es e
-      → AreMade ps all
+-- the table has the bodies of those modules of the set that stand among the first n of an order
+abbrev pub HasFront : List Program → List Bool → (order : List ℕ) → ℕ → LinkedBodies → Type 0
+HasFront ps set order n t = (i : ℕ) → i < n → IsIn set (slice_index order i) → (p : Program)
+    → slice_get ps (slice_index order i) ≡ Some p → has_body t p.name ≡ true
+
+-- the table has the bodies of the modules of the set
+abbrev pub HasBodies : List Program → List Bool → LinkedBodies → Type 0
+HasBodies ps set t = (place : ℕ) → IsIn set place → (p : Program) → slice_get ps place ≡ Some p
+    → has_body t p.name ≡ true

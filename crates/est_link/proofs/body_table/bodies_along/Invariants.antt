@@ -1,12 +1,11 @@
-use Rattle.std.proofs.Common.{◌≡◌, map, take}
+use Rattle.std.proofs.Common.{map}
 use Rattle.est_modules.specs.Modules.{program_of}
-use Rattle.est_link.specs.Inner.Tables.{AreMade}
-use Rattle.est_link.specs.declared.flatten.Linked.{Linked}
+use Rattle.est_link.specs.Inner.Tables.{AreBodiesOf, HasFront}
 use Rattle.est_link.proofs.body_table.bodies_along.Given as goal
 
-abbrev pub invariant-loop-name : goal.invariant-loop-name
-invariant-loop-name l =
+abbrev pub invariant-loop-place : goal.invariant-loop-place
+invariant-loop-place l =
     record {
-      made : AreMade (map program_of l.heads) l.bodies.items;
-      named : map (λ (e : Linked). e.name) l.bodies.items ≡ take l.name-index l.names;
+      right : AreBodiesOf (map program_of l.heads) l.bodies;
+      front : HasFront (map program_of l.heads) l.needed l.order l.place-index l.bodies;
     }

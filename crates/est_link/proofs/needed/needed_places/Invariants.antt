@@ -1,14 +1,15 @@
-use Rattle.std.proofs.Common.{◌≤◌, length, map, Contains}
+use Rattle.std.proofs.Common.{◌≡◌, ◌≤◌, length, map}
 use Rattle.est_modules.specs.Modules.{program_of}
-use Rattle.est_link.specs.Inner.Needs.{IsClosedFrom}
+use Rattle.est_link.specs.Inner.Needs.{IsIn, IsClosedFrom}
 use Rattle.est_link.proofs.needed.needed_places.Given as goal
 
 abbrev pub invariant-loop-left : goal.invariant-loop-left
 invariant-loop-left l =
     record {
       within : l.left ≤ length l.order;
+      size : length l.needed.items ≡ length l.heads;
       closed : IsClosedFrom (map program_of l.heads) l.order l.left l.needed.items;
-      main : Contains l.needed.items l.main;
+      main : IsIn l.needed.items l.main;
     }
 
 abbrev pub decreases-loop-left : goal.decreases-loop-left
