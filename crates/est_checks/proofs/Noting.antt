@@ -1,7 +1,8 @@
 -- What is noted of what a module emits is all of it.
 use mathlib.Core.Path.{fun_ext}
 use Rattle.std.proofs.Common.{◌≡◌, ◌<◌, ◌⊎◌, inl, inr, ◌||◌, ◌&&◌, not, ℕ, zero, suc, ◌+◌, take, List, [], ◌∷◌, map}
-use Rattle.std.proofs.Common.{length, nat_eq, Option, Some, None, Bool, true, get_or, false, cond, refl, ap, sym, ◌∙◌, subst}
+use Rattle.std.proofs.Common.{length, nat_eq, Option, Some, None, Bool, true, get_or, false, cond, refl, ap, sym, ◌∙◌}
+use Rattle.std.proofs.Common.{subst}
 use Rattle.std.proofs.lemmas.Bool.{false≢true}
 use Rattle.std.specs.List.{list_any, find, fold, slice_get}
 use Rattle.std.specs.Prelude.{codes, is_some}

@@ -64,7 +64,14 @@ pub fn kept_of<'a, C: Choice>(
     let mut kept = Vec::new(alloc);
     let mut kept_places = FirstPlaces::new(alloc);
     for head in heads.modules() {
-        keep_chosen(choice, alloc, table, &mut kept, &mut kept_places, &head.name)?;
+        keep_chosen(
+            choice,
+            alloc,
+            table,
+            &mut kept,
+            &mut kept_places,
+            &head.name,
+        )?;
     }
     Ok(KeptNames::of(kept, kept_places))
 }

@@ -1,5 +1,6 @@
 //! Names that aren't visible where they are used.
-ghost use Rattle.std.specs.Prelude.{◌≡◌, ℕ, List, [], true, false, IfOk, IsTrue, map, option_map, not};
+ghost use Rattle.std.specs.Prelude.{◌≡◌, ℕ, List, [], true, false, IfOk, IsTrue, map, option_map};
+ghost use Rattle.std.specs.Prelude.{not};
 ghost use Rattle.std.specs.List.{find};
 ghost use Rattle.est_syntax.specs.Views.{renaming_view};
 ghost use Rattle.est_modules.specs.Scopes.{binders_of};

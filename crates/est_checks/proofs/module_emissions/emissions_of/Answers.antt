@@ -27,5 +27,6 @@ returns c s =
     ∙ ap (λ (ds : List Declared). with_tick c.tick.result || with_own ds) c.signals.ensures
     ∙ ap (λ (n : List ℕ). with_tick n || with_own p.interface) c.tick.ensures
     ∙ noted_set t noted (λ u. list_any (emits_here ps em u) os) (is_declared p.interface) s
-    (λ u. noted_all ps em t c.new-noted.result noted os u c.requires.table c.new-noted.ensures c.in_ok-walk_body.ensures)
+    (λ u. noted_all ps em t c.new-noted.result noted os u c.requires.table c.new-noted.ensures
+    c.in_ok-walk_body.ensures)
     (seen_along ps em p os s c.requires.known) (c.requires.numbered s)

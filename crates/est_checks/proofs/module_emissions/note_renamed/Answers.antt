@@ -15,7 +15,8 @@ use Rattle.est_checks.specs.Inner.Noted.{sends, sends_renamed}
 use Rattle.est_checks.proofs.Leaving.{and_false}
 use Rattle.est_checks.proofs.Noting.{renamed_next, sent_is, unsent_is}
 use Rattle.est_checks.proofs.module_emissions.note_renamed.Goals as goal
-use Rattle.est_checks.proofs.module_emissions.note_renamed.Goals.{then-declares+then-emits+in_ok-note_name, else-declares}
+use Rattle.est_checks.proofs.module_emissions.note_renamed.Goals.{then-declares+then-emits+in_ok-note_name}
+use Rattle.est_checks.proofs.module_emissions.note_renamed.Goals.{else-declares}
 use Rattle.est_checks.proofs.module_emissions.note_renamed.Goals.{else-declares-via-then-declares+else-emits}
 use Rattle.est_checks.proofs.module_emissions.note_renamed.Goals.{else-declares-via-else-declares}
 
