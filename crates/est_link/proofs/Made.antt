@@ -1,6 +1,6 @@
 -- Tables of bodies that are made one after another.
-use Rattle.std.proofs.Common.{◌≡◌, ℕ, ◌+◌, ◌<◌, ◌≤◌, inl, inr, List, [], length, slice_index, slice_index_or, Bool, true, false}
-use Rattle.std.proofs.Common.{◌||◌, if◌then◌else◌, Option, Some, None, refl, ap, sym, subst, ◌∙◌, arith}
+use Rattle.std.proofs.Common.{◌≡◌, ℕ, ◌+◌, ◌<◌, ◌≤◌, ◌||◌, inl, inr, List, [], length, slice_index, slice_index_or}
+use Rattle.std.proofs.Common.{Bool, true, false, if◌then◌else◌, Option, Some, None, refl, ap, sym, subst, ◌∙◌, arith}
 use Rattle.std.proofs.lemmas.Bool.{cases_lt, false≢true}
 use Rattle.std.proofs.lemmas.List.{length-map}
 use Rattle.std.proofs.lemmas.Option.{slice_get_within}
@@ -54,7 +54,7 @@ made : (ps : List Program) → first_in_bodies (missing_at ps) ps ≡ None → (
     → IsBodyOf ps m p (linked ps (bodies_of t) p [] p.body)
 made ps there t m p are found ready =
     let below : (n : List ℕ) → HasRun ps m n
-        → (q : Program) × (program_named ps n ≡ Some q) × IsBodyOf ps n q (bodies_of t n) =
+    → (q : Program) × (program_named ps n ≡ Some q) × IsBodyOf ps n q (bodies_of t n) =
     λ n run. let its = run_there ps there m n run in (its.0, its.1, are n its.0 its.1 (ready n run)) in
     record {
       flat = links p (bodies_of t) found (λ n run. let its = below n run in its.2.flat) refl;

@@ -57,7 +57,10 @@ fn find_conjunction(
 
 /// What an expression asks.
 #[cycle(tests)]
-fn find_expression(place: &Place<'_, '_, '_>, expression: &Expression) -> Result<BoundTest, AllocError>
+fn find_expression(
+    place: &Place<'_, '_, '_>,
+    expression: &Expression,
+) -> Result<BoundTest, AllocError>
     ensures { IfOk result (λ t. query_view t ≡ expression_asked
         (signal_at (program_of place.now.linker.now.home.now) (binders_of place.now.scope.now))
         (expression_view expression.now)) }
