@@ -1,9 +1,7 @@
 -- The modules that main runs, in an order.
-use Rattle.std.proofs.Common.{◌≡◌, ℕ, ◌+◌, ◌<◌, ◌≤◌, ◌⊎◌, inl, inr, List, [], ◌∷◌, length, nat_lt, replicate}
-use Rattle.std.proofs.Common.{slice_index}
-use Rattle.std.proofs.Common.{slice_index_or, slice_set, Bool, true, false, if◌then◌else◌, Some, None}
-use Rattle.std.proofs.Common.{Contains, refl, ap}
-use Rattle.std.proofs.Common.{sym, ◌∙◌, subst, arith, rules}
+use Rattle.std.proofs.Common.{◌≡◌, ℕ, ◌+◌, ◌<◌, ◌⊎◌, inl, inr, List, [], ◌∷◌, length, nat_lt, replicate, refl, ap}
+use Rattle.std.proofs.Common.{slice_index, slice_index_or, slice_set, Bool, true, false, if◌then◌else◌, Some, Contains}
+use Rattle.std.proofs.Common.{None, sym, ◌∙◌, subst, arith, rules}
 use Rattle.std.proofs.lemmas.Bool.{cases_eq, cases_lt, false≢true}
 use Rattle.std.proofs.lemmas.Option.{slice_get_within, slice_get-get_or, get_or_from_slice_get}
 use Rattle.std.proofs.lemmas.List.{get_or-map, get_or-set_same, get_or-set_other, length-map, length-set}

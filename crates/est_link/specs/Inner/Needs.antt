@@ -1,6 +1,6 @@
 -- Sets of places of modules, as rows that have for each place whether it is in the set (this project's own form).
 use Rattle.std.specs.Prelude.{◌≡◌, ℕ, ◌<◌, ◌≤◌, Bool, true, false, List, length, slice_index, slice_index_or}
-use Rattle.std.specs.Prelude.{slice_set, nat_lt, if◌then◌else◌, fold, Contains}
+use Rattle.std.specs.Prelude.{slice_set, nat_lt, if◌then◌else◌, fold}
 use Rattle.est_modules.specs.Modules.{Program}
 use Rattle.est_modules.specs.ModuleOrders.{run_rows}
 use Rattle.est_order.specs.RunRows.{IsRun}

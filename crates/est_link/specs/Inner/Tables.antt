@@ -33,7 +33,7 @@ body_found (Some b) = body_of b
 abbrev pub bodies_of : LinkedBodies → List ℕ → Body
 bodies_of t m = body_found (body_named t m)
 
--- the body is that of the module p of the name m; if the names of the library have no fault, each of its names is bound
+-- the body is that of the module p of the name m; where no name of the library is at fault, each name in it is bound
 pub record IsBodyOf (ps : List Program) (m : List ℕ) (p : Program) (f : Body) : Type 0 where
   pub flat : IsLinked ps m f
   pub bound : (emitted : List ℕ → List ℕ → Bool) → HasSoundNames ps emitted

@@ -1,6 +1,6 @@
 use Rattle.std.proofs.Common.{◌∙◌, map, sym, subst}
 use Rattle.std.proofs.lemmas.Result.{on_ok_weaker}
-use Rattle.est_modules.specs.Modules.{Program, program_of}
+use Rattle.est_modules.specs.Modules.{program_of}
 use Rattle.est_modules.proofs.Testing.{some_same}
 use Rattle.est_checks.proofs.Seeing.{head_at}
 use Rattle.est_link.specs.Inner.Tables.{IsGrown}

@@ -1,4 +1,4 @@
-use Rattle.std.proofs.Common.{◌≡◌, ◌∙◌, sym, ap, subst, List, Bool, map, length, true, arith}
+use Rattle.std.proofs.Common.{◌∙◌, sym, ap, subst, List, Bool, map, length, arith}
 use Rattle.std.proofs.lemmas.List.{length-map}
 use Rattle.std.proofs.lemmas.Option.{slice_get_within}
 use Rattle.est_link.specs.Linking.{IsLinked}
