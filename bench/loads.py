@@ -86,6 +86,13 @@ def chain(count, before, after, last):
     return "".join(parts)
 
 
+def passing_on(levels, statements):
+    """A chain of modules of short names, each of which only runs the next; the last is a sequence of as many statements."""
+    names = ["M", *(name for name in LETTERS if name != "M"), *short_names(levels, MOST_BYTES)][: levels + 1]
+    parts = [f"module {runner}:run {run} end module " for runner, run in zip(names, names[1:])]
+    return "".join(parts) + f"module {names[-1]}:{';'.join(['halt'] * statements)} end module"
+
+
 def doubling(count):
     parts = [f"module {name(n)}:run {name(n + 1)};run {name(n + 1)} end module " for n in range(count - 1)]
     return "".join(parts) + f"module {name(count - 1)}:pause end module"
@@ -215,6 +222,7 @@ def texts(line):
     return (
         ("228 modules of 128 nested brackets that run one another", chain(line.of(228), "[" * 128, "]" * 128, "pause"), "a kernel of 0 signals"),
         ("1,600 modules in a chain", chain(line.of(1600), "", "", "pause"), "a kernel of 0 signals"),
+        ("2,100 modules in a chain, the last of 650 statements", passing_on(line.of(2100), line.of(650)), "a kernel of 0 signals"),
         ("modules that each run the next twice, a thousand deep", doubling(line.of(1000)), "TooLarge(Statements)"),
         ("2,047 statements as deep as modules nest them", deepest(line.of(2047)), "a kernel of 1 signals"),
         ("a module of 65 inputs, run with 64 renamings each time", renamings(line), "a kernel of 64 signals"),
