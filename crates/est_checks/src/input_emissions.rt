@@ -126,8 +126,9 @@ fn binds_input(
         && check.table.emits(name, &renaming.inner))
 }
 
-/// Whether no interface name of the module of a name is emitted by it and bound to an input of the
-/// caller, or to `tick`, as whole sets of names show. One that has no number is not looked for.
+/// Yes if whole sets of names show that the module of a name emits no interface name that is bound
+/// to an input of the caller, or to `tick`. No says nothing: the names are then looked at one by
+/// one.
 fn are_allowed(
     check: &EmitInput<'_, '_, '_, '_>,
     kept: &OpenNames<'_, '_, '_>,

@@ -287,7 +287,8 @@ fn add_module<'a>(
 }
 
 /// What each module emits, worked out along an order in which each stands after those that it runs.
-/// No module uses a name that isn't visible, so it emits no more signals than it declares.
+/// No module uses a name that isn't visible, so each emits only signals that it declares, and maybe
+/// `tick`.
 ///
 /// # Errors
 ///

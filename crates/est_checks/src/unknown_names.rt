@@ -85,8 +85,8 @@ fn unbound_name(
     }
 }
 
-/// Whether each interface name of the module of a name is renamed or visible where it is run, as
-/// whole sets of names show. One that has no number is not looked for.
+/// Yes if whole sets of names show that each interface name of the module of a name is renamed or
+/// visible where it is run. No says nothing: the names are then looked at one by one.
 fn are_bound(
     check: &UnknownName<'_, '_>,
     kept: &OpenNames<'_, '_, '_>,

@@ -26,7 +26,7 @@ pub struct Binding<'a, 'b, 'c> {
     pub home: &'a Head<'b>,
     /// The binders around it.
     pub scope: &'a Scope<'a>,
-    /// How many local signals they are.
+    /// How many local signals these binders declare.
     pub locals: u32,
     /// Its renamings.
     pub renamings: &'a RunRenamings<'c>,
@@ -34,8 +34,8 @@ pub struct Binding<'a, 'b, 'c> {
     pub interface: &'a [Declared],
 }
 
-/// A number in 32 bits. Lists of 2^32 names would have to be in memory for a larger one, which is
-/// answered as its want.
+/// A number in 32 bits. A larger one would need a list of 2^32 names in memory. It is answered as
+/// want of memory.
 fn small(number: usize) -> Result<u32, AllocError>
     ensures { IfOk result (λ n. n ≡ number) }
 {

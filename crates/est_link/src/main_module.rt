@@ -164,7 +164,8 @@ pub fn main_module(alloc: Global, home: &Head<'_>, body: Body) -> Result<Flat, A
             body,
         }),
         Err(error) => {
-            // By a call: left to the end of the scope, each case of a body is dropped here.
+            // Dropped by a call: at the end of the scope the prover would write out here what is
+            // dropped in each case of a body (docs/GATE.md, "What costs").
             drop(body);
             Err(error)
         }

@@ -1,5 +1,6 @@
-//! Which modules are linked: main and all that it runs, directly or through others. In their order
-//! a module comes after those that it runs.
+//! Which modules are linked: main and all that it runs, directly or through others. The order is
+//! gone through from its end. So all that run a module are met before it, and it is known by then
+//! whether it is needed.
 //!
 //! A set of modules is a row that has for each place whether the module there is in the set.
 ghost use Rattle.std.specs.Prelude.{◌≡◌, ◌<◌, Some, IfOk, false, length, map, slice_index_or};

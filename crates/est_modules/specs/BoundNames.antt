@@ -1,4 +1,4 @@
--- The names that an act binds (this project's own form).
+-- The names that an act binds; for private clauses (this project's own form).
 use Rattle.std.specs.Prelude.{ℕ, List, [], ◌∷◌}
 use Rattle.est_modules.specs.Occurrences.{Act, emits, tests, exits, binds, runs}
 

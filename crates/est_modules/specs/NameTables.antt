@@ -17,7 +17,7 @@ number_in t s = get_by (λ (k : Bor (List ℕ)). slice_cmp nat_cmp s k.now) t.nu
 abbrev pub is_numbered : NameTable → List ℕ → Bool
 is_numbered t s = is_some (number_in t s)
 
--- a name has a number exactly when it stands at that place
+-- the number of a name is the place at which the name stands in the list
 pub record IsTable (t : NameTable) : Type 0 where
   pub named : (s : List ℕ) (i : ℕ) → number_in t s ≡ Some i → slice_get t.names.items i ≡ Some s
   pub numbered : (s : List ℕ) (i : ℕ) → slice_get t.names.items i ≡ Some s → number_in t s ≡ Some i

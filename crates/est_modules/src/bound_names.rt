@@ -1,4 +1,4 @@
-//! Names that are in no interface: `tick`, and those of `signal`s.
+//! Names beside those of interfaces: `tick`, and those that `signal`s declare.
 ghost use Rattle.std.specs.Prelude.{◌≡◌, true, ◌∷◌, ◌++◌, IfOk, OnOk, codes};
 ghost use Rattle.est_modules.specs.Visible.{stands_in};
 

@@ -9,6 +9,10 @@
 //! `module_order` puts the modules into an order in which each stands after all that it runs, or
 //! answers the first from which a chain of runs leads back to it. It reads off which modules each
 //! runs, and asks `est_order`, which knows places alone.
+//!
+//! For the checks of `est_checks` the names of a library are numbered once (`name_table`). A set of
+//! names is then a row of words (`number_set`). `kept_names` has, for each module, the names that a
+//! check looks at where the module is run; `open_names` tells which names are hidden at a place.
 #![tactic(auto)]
 
 pub mod bound_names;

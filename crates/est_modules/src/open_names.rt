@@ -1,4 +1,4 @@
-//! Names of the modules that are run, as far as no `signal` around a place declares them.
+//! The kept names of modules at a place, and which names the `signal`s around the place hide.
 ghost use Rattle.std.specs.Prelude.{◌≡◌, ℕ, Bool, List, [], ◌∷◌, ◌||◌, true, IfOk, IsTrue, OnOk};
 ghost use Rattle.std.specs.Prelude.{option_map, map};
 ghost use Rattle.std.specs.List.{find};
@@ -23,8 +23,9 @@ use est_syntax::tree::{Names, Renaming};
 use est_text::identifier::Identifier;
 use std::alloc::{AllocError, Global};
 
-/// The kept names at a place: those that a `signal` around it declares are hidden. That is worked
-/// out once for each `signal`, by one look-up for each name that it declares.
+/// The kept names at a place, and the numbers of the names that are hidden there: those that a
+/// `signal` around it declares. For each `signal` the set is copied once, and each name that the
+/// `signal` declares is looked up once.
 #[derive(Drop)]
 pub struct OpenNames<'a, 'b, 'c> {
     alloc: Global,

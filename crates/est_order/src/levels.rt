@@ -74,8 +74,9 @@ fn first_not_falling(runs: &[Vec<usize>], levels: &[usize]) -> Option<usize>
 
 /// A level for each module, such that each runs those of lower levels alone.
 ///
-/// The levels of the search serve, and show the first recursive module: the first that runs one
-/// whose level isn't lower. Were they wrong, ranks would be taken; no list is known where they are.
+/// The levels of the search are taken if they pass the checks. If they show a recursive module, the
+/// first one is the first that runs one whose level isn't lower. Were the levels wrong, `ranks`
+/// would give others; no list of runs is known for which they are wrong.
 ///
 /// # Errors
 ///

@@ -85,8 +85,12 @@ impl Check for Unknown<'_, '_> {
     ghost use Rattle.est_checks.specs.Inner.Looking.{LooksFor};
     ghost use Rattle.est_checks.specs.UnknownNames.{unknown_at};
 
-    ghost fits = { λ c. LooksFor (record { alloc = c.alloc; heads = c.heads; home = c.home;
-        own = c.own }) };
+    ghost fits = { λ c. LooksFor (record {
+      alloc = c.alloc;
+      heads = c.heads;
+      home = c.home;
+      own = c.own;
+    }) };
 
     ghost fault = { λ c p. unknown_at (map program_of c.heads.now)
         (program_of c.home.now) };

@@ -1,4 +1,5 @@
-//! What the public calls of `est_checks` and `est_link` answer, by their contracts.
+//! What the public calls of `est_checks` and `est_link` answer, by their contracts; and one call of
+//! `est_modules`, `callers_name`.
 //!
 //! Each function makes a public call of these crates and has the contract of that call, or it makes
 //! a few calls in turn and says what they answer together. A wrong body of must-fail/ makes a

@@ -14,7 +14,8 @@ pub record SeatState : Type 0 where
   pub kept : List Kept
   pub room : ℕ
 
--- a new seat: it and its reader have seen the opening entries alone; it has no receipt, and no memory for one
+-- a new seat: it and its reader know the opening entries alone, and its seen number is 0; it has no receipt, and no
+-- memory for one
 abbrev pub new_seat : SeatState
 new_seat = record { known = opening_entries; read = opening_entries; seen = 0; kept = []; room = 0 }
 

@@ -3,8 +3,8 @@
 //! What runs is one atomic word, the length of the list (`Head`), and a count in each `Front`.
 //! `Seen`, `Offer` and `pen` are tokens of the kit's `logbook` without any content: by them the
 //! proofs know the entries. `Seen` stands for what was seen of the list, `Offer` for the update
-//! that a step is to make, and a pen for the right to write a word that is not one of the book's.
-//! `Head` is one of them, so its step passes an empty pen (`no_pen`).
+//! that a step is to make, and a pen for the right to write a word that lies outside the book.
+//! `Head` is a word of the book, so its step passes an empty pen (`no_pen`).
 ghost use Rattle.std.specs.Prelude.{◌≡◌, [], ◌<◌, ◌≤◌, ◌==◌, ◌^◌, ◌++◌, ◌∷◌, length, MatchBool};
 ghost use Rattle.std.specs.Prelude.{IfSome, IsTrue};
 ghost use Rattle.rbac_policy.specs.Opening.{opening_entries};

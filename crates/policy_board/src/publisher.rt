@@ -105,8 +105,8 @@ fn show<B: BoardName, R: Wait>(
 }
 
 impl<B: BoardName> Publisher<B> {
-    /// A publisher of this writer, which shows the opening policy. It makes the room for what will
-    /// wait to be published: one operation, since each is published before the next comes.
+    /// A publisher of this writer, which shows the opening policy. An operation that does nothing
+    /// (`Operation::Room`) makes the room in the writer's log for those that come later.
     ///
     /// # Errors
     ///

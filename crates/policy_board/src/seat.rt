@@ -120,7 +120,7 @@ fn read_newer<B: BoardName>(
 }
 
 impl<B: BoardName> Seat<B> {
-    /// A seat that has seen nothing but the opening entries.
+    /// A seat that knows the opening entries alone. Its seen number is 0.
     pub(crate) fn new(alloc: Global, reader: SlotReader<B>) -> Seat<B>
         requires { reader ≡ opening_entries }
         ensures { result ≡ new_seat }
@@ -133,7 +133,7 @@ impl<B: BoardName> Seat<B> {
         }
     }
 
-    /// The greatest version that it has seen.
+    /// Its seen number: the greatest version that it has seen, and 0 for a new seat.
     pub fn seen(&self) -> u64
         ensures { result ≡ self.now.seen }
     {

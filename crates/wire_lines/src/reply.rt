@@ -208,8 +208,8 @@ fn look_line(
     line.end()
 }
 
-/// The line of a reply, with its LF. A reply that has only numbers and a command's word is joined
-/// from constant texts; others are written token by token.
+/// The line of a reply, with its LF. Refusals and looks are written token by token. Any other line
+/// is joined from constant texts and numbers.
 pub fn reply_line(alloc: Global, reply: &Reply) -> Result<Vec<u8>, AllocError>
     ensures { IfOk result (λ line. line.items ≡ line_of reply.now) }
 {
