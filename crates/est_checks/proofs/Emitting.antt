@@ -1,5 +1,5 @@
 -- Emissions by runs.
-use Rattle.std.proofs.Common.{◌≡◌, ◌⊎◌, inl, inr, ◌&&◌, ℕ, List, [], Bool, true, false, cond, map, filter, Option, Some}
+use Rattle.std.proofs.Common.{◌≡◌, inl, inr, ◌&&◌, ℕ, List, [], Bool, true, false, cond, map, filter, Option, Some}
 use Rattle.std.proofs.Common.{None, option_map, refl, ap, sym, ◌∙◌}
 use Rattle.std.proofs.lemmas.Bool.{cases_Bool}
 use Rattle.std.specs.List.{find, slice_get}

@@ -24,8 +24,8 @@ use Rattle.est_modules.specs.declared.name_table.NameTable.{NameTable}
 use Rattle.est_modules.specs.declared.number_set.NumberSet.{NumberSet}
 use Rattle.est_modules.proofs.Lists.{any_map}
 use Rattle.est_modules.proofs.Numbering.{any_next}
-use Rattle.est_modules.proofs.TellingNumbers.{adds_none, adds_same, adds_both, adds_number, passes_none, passes_or}
-use Rattle.est_modules.proofs.TellingNumbers.{passes_and, passes_same, passes_without, unnamed}
+use Rattle.est_modules.proofs.TellingNumbers.{adds_none, adds_same, adds_number, passes_none, passes_or}
+use Rattle.est_modules.proofs.TellingNumbers.{passes_and, unnamed}
 use Rattle.est_modules.proofs.Testing.{or_left, or_right, or_other, and_both, not_true, same_bytes, same_or, or_assoc}
 use Rattle.est_modules.proofs.Testing.{or_turned, or_parts, equal_bytes, found_passes, any_at, same_tests}
 use Rattle.est_checks.specs.Emissions.{emits_by, emits_in_run, emits_here}

@@ -34,7 +34,7 @@ emits_by ps emitted s _ = false
 abbrev pub emits_here : List Program → (List ℕ → List ℕ → Bool) → List ℕ → Occurrence → Bool
 emits_here ps emitted s o = not (is_local o.around s) && emits_by ps emitted s o.act
 
--- what a module emits of the signals that its callers see: what an act of its body emits so
+-- what a module emits of the signals that its callers see: what some act of it emits where no local signal hides it
 abbrev pub IsEmitted : List Program → (List ℕ → List ℕ → Bool) → Program → Type 0
 IsEmitted ps emitted p = (s : List ℕ) → emitted p.name s ≡ list_any (emits_here ps emitted s) (occurrences [] p.body)
 

@@ -9,14 +9,14 @@ use est_text::identifier::Identifier;
 use std::alloc::{AllocError, Global};
 use std::collections::BTreeMap;
 
-/// Sets of numbers, by the names of modules.
+/// For each module, by its name: the numbers of the interface names that it emits.
 #[derive(Drop)]
 pub struct SentNumbers<'a> {
     modules: BTreeMap<&'a [u8], NumberSet>,
 }
 
 impl<'a> SentNumbers<'a> {
-    /// No module has a number.
+    /// No module emits a name.
     pub fn new(alloc: Global) -> SentNumbers<'a>
         ensures { (m : List ℕ) (i : ℕ) → sends_number result m i ≡ false }
     {
@@ -25,7 +25,7 @@ impl<'a> SentNumbers<'a> {
         }
     }
 
-    /// The numbers of the module of a name, if it has any.
+    /// The numbers of what the module of this name emits, if it was added.
     pub fn of_module(&self, name: &Identifier) -> Option<&NumberSet>
         ensures { (i : ℕ) → has_number (option_map (λ n. n.now) result) i
             ≡ sends_number self.now name.now i }
@@ -33,7 +33,7 @@ impl<'a> SentNumbers<'a> {
         self.modules.get(name.as_bytes())
     }
 
-    /// Gives a module these numbers.
+    /// Says that a module emits the names of these numbers, and no other.
     ///
     /// # Errors
     ///

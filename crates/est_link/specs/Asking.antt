@@ -7,7 +7,7 @@ use Rattle.est_syntax.specs.Tree.{literals, ExpressionTree, expression, Conjunct
 use Rattle.est_syntax.specs.Tree.{TestTree, bare, bracketed, negated as not_so}
 
 abbrev mutual
-  -- a literal, where a name asks so
+  -- what a literal asks, where f says what each of its names asks
   pub literal_asked : (List ℕ → Query) → LiteralTree → Query
   literal_asked f (named n) = f n
   literal_asked f (not_so l) = negated (literal_asked f l)

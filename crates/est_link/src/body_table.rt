@@ -1,4 +1,4 @@
-//! The flat bodies of the modules that main runs, worked out bottom-up.
+//! The flat bodies of main and of the modules that it runs, worked out bottom-up.
 ghost use Rattle.std.specs.Prelude.{◌≡◌, ◌<◌, [], Some, None, IfOk, OnOk, length, map};
 ghost use Rattle.std.specs.List.{slice_get};
 ghost use Rattle.est_checks.specs.Duplicates.{first_duplicate};

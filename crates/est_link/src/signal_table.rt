@@ -46,7 +46,7 @@ impl<'a> SignalTable<'a> {
         Ok(SignalTable { signals })
     }
 
-    /// The signal of a name, which is the first where the name isn't there.
+    /// The signal of this name, or the first of the table if none has it.
     pub fn find(&self, name: &Identifier) -> InterfaceSignal
         ensures { result.index ≡ member_place self.now name.now }
     {

@@ -13,7 +13,7 @@ pub enum Watch {
     Suspend,
     /// It is ended at once.
     Abort,
-    /// It is ended after that instant.
+    /// It does what it does in that instant, and is then left.
     WeakAbort,
     /// It is begun, and begun anew each time.
     Every,

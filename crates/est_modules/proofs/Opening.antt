@@ -1,5 +1,5 @@
 -- Names of modules that are run, as far as no `signal` around a place declares them.
-use Rattle.std.proofs.Common.{◌≡◌, ℕ, List, [], ◌∷◌, ◌++◌, Option, Some, Bool, true, false, cond, refl, sym, subst}
+use Rattle.std.proofs.Common.{◌≡◌, ℕ, List, [], ◌∷◌, Option, Some, Bool, true, false, cond, refl, sym, subst}
 use Rattle.std.proofs.lemmas.Option.{none-some}
 use Rattle.std.specs.List.{find}
 use Rattle.std.specs.Str.{bytes_eq}
@@ -14,12 +14,6 @@ use Rattle.est_modules.specs.declared.kept_names.Kept.{Kept}
 use Rattle.est_modules.proofs.Testing.{same_bytes, some_same}
 
 -- ---- what is kept of modules
-
--- one module more
-pub keep_more : (t : NameTable) (base : List ℕ → List (List ℕ)) (ks : List Kept) (k : Kept) → AreKept t base ks
-    → AreNumbers t (base k.module_name) k.numbers → AreKept t base (ks ++ k ∷ [])
-keep_more t base [] k h is = (is, tt)
-keep_more t base (j ∷ ks) k h is = (h.0, keep_more t base ks k h.1 is)
 
 kept_here : (t : NameTable) (base : List ℕ → List (List ℕ)) (m : List ℕ) (j k : Kept) (o : Option Kept) (b : Bool)
     → bytes_eq j.module_name m ≡ b → AreNumbers t (base j.module_name) j.numbers

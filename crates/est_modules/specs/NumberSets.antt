@@ -1,4 +1,4 @@
--- Sets of numbers as the sets of their bits (this project's own form).
+-- Sets of numbers, by the bits of their words (this project's own form).
 use Rattle.std.specs.Prelude.{ℕ, Bool, ◌/◌, ◌%◌, slice_index}
 use Rattle.est_kernel.specs.Bits.{bits}
 use Rattle.est_modules.specs.declared.number_set.NumberSet.{NumberSet}

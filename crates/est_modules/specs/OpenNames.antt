@@ -1,5 +1,5 @@
 -- Names of modules that are run, as far as no `signal` around a place declares them (this project's own form).
-use Rattle.std.specs.Prelude.{◌≡◌, ℕ, Bool, List}
+use Rattle.std.specs.Prelude.{◌≡◌, ℕ, List}
 use Rattle.std.specs.List.{AllByRecursion}
 use Rattle.est_modules.specs.NamedNumbers.{AreNumbers, Tells}
 use Rattle.est_modules.specs.NameTables.{IsTable}

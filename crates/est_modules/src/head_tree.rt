@@ -1,4 +1,4 @@
-//! The modules of a library, in which names are found.
+//! The modules of a library, to be found by their names.
 ghost use Rattle.std.specs.Prelude.{◌≡◌, ◌<◌, Some, length, map, option_map};
 ghost use Rattle.std.specs.List.{position, slice_get};
 ghost use Rattle.std.specs.Str.{bytes_eq};

@@ -19,8 +19,8 @@ struct Visit {
 // The search so far.
 #[derive(Drop)]
 struct Walk {
-    // What is known of each place. Before it is met: 0. While it is open: the least number of an
-    // open place that it leads to, itself counted. Then: its level, which is above all numbers.
+    // What is known of each place. Before it is met: 0. While it is open: the least number found so
+    // far of an open place that it leads to, itself counted. Then: its level, above all numbers.
     marks: Vec<usize>,
     // The modules from the first of this search to the one that it is at. Each runs the next.
     path: Vec<Visit>,

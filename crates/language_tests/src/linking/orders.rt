@@ -47,7 +47,7 @@ fn few_modules_in_order(rt: HostRuntime) {
     }
 }
 
-/// The most modules that one line holds.
+/// As many modules as one line holds, if their names aren't the shortest.
 const MANY: usize = 1600;
 
 /// So many that a search for each of them would not end in a test's time.

@@ -1,6 +1,5 @@
 use Rattle.std.proofs.Common.{◌∙◌, ◌||◌, ◌&&◌, not, map, sym}
 use Rattle.std.proofs.lemmas.Result.{IfOk-weaker}
-use Rattle.est_syntax.specs.Views.{renaming_view}
 use Rattle.est_modules.proofs.Opening.{kept_found}
 use Rattle.est_modules.specs.Modules.{is_declared, is_input, program_of}
 use Rattle.est_modules.specs.Scopes.{binders_of}

@@ -1,4 +1,4 @@
-use Rattle.std.proofs.Common.{◌∙◌, ◌||◌, ◌&&◌, ℕ, List, false, take, ap, refl}
+use Rattle.std.proofs.Common.{◌∙◌, ◌||◌, ◌&&◌, ℕ, List, take, ap, refl}
 use Rattle.std.specs.Str.{bytes_eq}
 use Rattle.est_modules.specs.Modules.{is_declared}
 use Rattle.est_modules.specs.NameSets.{has}

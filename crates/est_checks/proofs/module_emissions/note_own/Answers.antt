@@ -1,7 +1,7 @@
-use Rattle.std.proofs.Common.{◌∙◌, ◌||◌, ◌&&◌, ℕ, List, not, map, ap, sym}
+use Rattle.std.proofs.Common.{◌∙◌, ◌||◌, ◌&&◌, ℕ, List, not, map, ap}
 use Rattle.std.specs.List.{slice_get}
 use Rattle.est_syntax.specs.Views.{renaming_view}
-use Rattle.est_modules.specs.Modules.{is_declared, program_of}
+use Rattle.est_modules.specs.Modules.{is_declared}
 use Rattle.est_modules.specs.NamedNumbers.{is_number_of}
 use Rattle.est_modules.specs.NumberSets.{numbers_of}
 use Rattle.est_modules.specs.Renamings.{is_renamed}

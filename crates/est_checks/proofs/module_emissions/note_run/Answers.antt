@@ -1,4 +1,4 @@
-use Rattle.std.proofs.Common.{◌∙◌, ◌&&◌, List, map, not, ap, sym}
+use Rattle.std.proofs.Common.{◌∙◌, ◌&&◌, map, not, ap, sym}
 use Rattle.est_syntax.specs.Views.{renaming_view}
 use Rattle.est_modules.specs.Modules.{program_of}
 use Rattle.est_modules.specs.Scopes.{binders_of}

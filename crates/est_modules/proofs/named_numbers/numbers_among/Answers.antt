@@ -1,4 +1,3 @@
-use Rattle.std.proofs.Common.{subst}
 use Rattle.est_modules.specs.Visible.{stands_in}
 use Rattle.est_modules.proofs.TellingNumbers.{tells_first}
 use Rattle.est_modules.proofs.named_numbers.numbers_among.Goals as goal

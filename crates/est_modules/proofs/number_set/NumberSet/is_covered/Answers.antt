@@ -1,4 +1,4 @@
-use Rattle.std.proofs.Common.{◌≡◌, ◌∙◌, ◌&&◌, ◌<◌, not, refl, ap, arith}
+use Rattle.std.proofs.Common.{◌∙◌, ◌&&◌, ◌<◌, not, refl, ap, arith}
 use Rattle.std.proofs.lemmas.Bool.{false≢true}
 use Rattle.est_kernel.specs.Bits.{bits}
 use Rattle.est_modules.specs.NumberSets.{numbers_of}
