@@ -271,12 +271,12 @@ def kept_texts():
 
 
 def told(answer):
-    """The answer, with the name that is told in it."""
-    match = re.match(r"(\w+)\((?:Some\()?Identifier \{ bytes: \[([0-9, ]+)\], count: (\d+) \}\)+$", answer)
+    """The answer, with the name that is told in it: a name's bytes come before zeros, which are cut off where the answer is long."""
+    match = re.match(r"(\w+)\((?:Some\()?Identifier \{ bytes: \[([0-9, ]+)", answer)
     if not match:
         return answer
-    letters = [chr(int(byte)) for byte in match.group(2).split(",")]
-    return match.group(1) + " " + "".join(letters[: int(match.group(3))])
+    letters = [chr(int(byte)) for byte in match.group(2).strip(", ").split(", ") if int(byte)]
+    return match.group(1) + " " + "".join(letters)
 
 
 def some_of(chance, names, share):
