@@ -127,8 +127,9 @@ fn binds_input(
 }
 
 /// Yes if whole sets of names show that the module of a name emits no interface name that is bound
-/// to an input of the caller, or to `tick`. No says nothing: the names are then looked at one by
-/// one.
+/// to an input of the caller, or to `tick`. At a no one of them is at fault, since the checks of
+/// renamings and of names that aren't visible came before; they are looked at one by one to find
+/// the first. No proof needs that, so the contract says nothing of a no.
 fn are_allowed(
     check: &EmitInput<'_, '_, '_, '_>,
     kept: &OpenNames<'_, '_, '_>,

@@ -86,7 +86,8 @@ fn unbound_name(
 }
 
 /// Yes if whole sets of names show that each interface name of the module of a name is renamed or
-/// visible where it is run. No says nothing: the names are then looked at one by one.
+/// visible where it is run. At a no one of them is at fault, and they are looked at one by one to
+/// find the first. No proof needs that, so the contract says nothing of a no.
 fn are_bound(
     check: &UnknownName<'_, '_>,
     kept: &OpenNames<'_, '_, '_>,

@@ -97,8 +97,9 @@ fn goes_on(now: usize, before: usize, cells: usize) -> bool
     now != before && now != cells
 }
 
-/// Which way to sweep next: a sweep that decided less than half of the open cells is followed
-/// by one the other way.
+/// Which way to sweep next: a sweep that decided less than half, rounded down, of the open cells is
+/// followed by one the other way. The first sweep of an instant has 0 `before` it: what was decided
+/// at the beginning counts with it.
 fn next_direction(direction: Direction, now: usize, before: usize, cells: usize) -> Direction {
     if now.saturating_sub(before) < cells.saturating_sub(before) / 2 {
         direction.turned()

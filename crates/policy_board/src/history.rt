@@ -60,8 +60,8 @@ impl Gain<Entry, u64> for Nothing {
 }
 
 /// A step on the list that adds an entry. To `logbook`, `Play` says what a step tells its caller
-/// (`then`), and `Plain` says of a step that trades nothing what it asks for (`ask`: this entry),
-/// and whether that was done before (`state`: it wasn't).
+/// (`then`). `Plain` says, of a step that trades nothing, what its update asks for (`ask`: this
+/// entry), and the answer of that update if it has run already (`state`: None, it has yet to run).
 pub struct Adding;
 
 impl Play<Entry, u64> for Adding {

@@ -41,9 +41,9 @@ impl SessionId {
     }
 }
 
-/// What a policy command asks for. The sixteen are those of ANSI INCITS 359-2004 that change users,
-/// roles, assignments, permissions, the order of roles, sets of dynamic separation of duty, and
-/// sessions.
+/// What a policy command asks for. The sixteen are commands of ANSI INCITS 359-2004. They change
+/// users, roles, assignments, permissions, the order of roles, sets of dynamic separation of duty,
+/// and sessions; which ones are left out stands in docs/ACCESS.md.
 #[derive(Clone, PartialEq, Eq, Drop)]
 pub enum AdminCommand {
     /// Adds a user of this name, to whom nothing is assigned.
