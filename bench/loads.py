@@ -16,7 +16,7 @@ over logarithms). A time is that of one load among as many in one process as tak
 not count. More than 1.15 is said. Texts made at random have no shorter ones.
 
 With --search, COUNT texts are made at random, from SEED on (0 if it is left out), which mix long interfaces, many runs, renamings, `signal`s,
-relations and depth. The ten that took longest are run twice more and printed, each with its seed: --text prints the text of a seed.
+relations and depth; those of seeds from 100000 to 199999 have up to thousands of small modules that run one another. The ten that took longest are run twice more and printed, each with its seed: --text prints the text of a seed.
 """
 import math
 import random
@@ -32,6 +32,8 @@ MOST_EXPONENT = 1.15
 SHARES = (1, 0.5, 0.25, 0.125)
 TIMED_SECONDS = 0.1
 SLOWEST = 10
+# the first seed of libraries of many small modules
+CHAINS = 100000
 
 # of the search from seed 0, what took longest on 25 November
 KEPT = (
@@ -91,6 +93,13 @@ def passing_on(levels, statements):
     names = ["M", *(name for name in LETTERS if name != "M"), *short_names(levels, MOST_BYTES)][: levels + 1]
     parts = [f"module {runner}:run {run} end module " for runner, run in zip(names, names[1:])]
     return "".join(parts) + f"module {names[-1]}:{';'.join(['halt'] * statements)} end module"
+
+
+def suspending(levels):
+    """A chain of modules of short names, each of which runs the next inside a `suspend`."""
+    names = ["M", *(name for name in LETTERS if name != "M"), *short_names(levels, MOST_BYTES)][: levels + 1]
+    parts = [f"module {runner}:input i;suspend run {run} when i end module " for runner, run in zip(names, names[1:])]
+    return "".join(parts) + f"module {names[-1]}:pause end module"
 
 
 def doubling(count):
@@ -220,6 +229,8 @@ def texts(line):
     some = ",".join(names[2000])
     few = ",".join(names[500])
     return (
+        ("1,500 modules in a chain, run 1,000 times", passing_on(line.of(1500), 1).replace("module M:run", f"module M:{'run a;' * line.of(1000)}run", 1), "a kernel of 0 signals"),
+        ("1,280 modules in a chain, each of which suspends the next", suspending(line.of(1280)), "a kernel of 1 signals"),
         ("228 modules of 128 nested brackets that run one another", chain(line.of(228), "[" * 128, "]" * 128, "pause"), "a kernel of 0 signals"),
         ("1,600 modules in a chain", chain(line.of(1600), "", "", "pause"), "a kernel of 0 signals"),
         ("2,100 modules in a chain, the last of 650 statements", passing_on(line.of(2100), line.of(650)), "a kernel of 0 signals"),
@@ -351,8 +362,49 @@ def random_module(chance, called, names, modules, room):
     return interface, f"{head}{body} end module "
 
 
+def random_runs(chance, names, called, wrapping):
+    """The runs of a module of many: one of the module before it, and in some libraries acts beside it, or one run more."""
+    run = f"run {called[-1]}"
+    kind = chance.random() if chance.random() < wrapping else 1
+    if kind < 0.4:
+        return f"emit {chance.choice(names)};{run}"
+    if kind < 0.6:
+        return f"suspend {run} when {chance.choice(names)}"
+    if kind < 0.8:
+        return f"{run}[signal {chance.choice(names)}/{chance.choice(names)}]"
+    if kind < 0.9:
+        return f"run {chance.choice(called[-20:])};{run}"
+    return run
+
+
+def random_chain(seed):
+    """A library of many small modules, each of which runs one before it, from one of many statements to the main module, the last."""
+    chance = random.Random(seed)
+    names = short_names(int(2 ** chance.uniform(0, 6)), MOST_BYTES)
+    interface = f"output {','.join(names)};" if chance.random() < 0.7 else f"inputoutput {','.join(names)};"
+    act = chance.choice(("halt", "pause", f"emit {names[-1]}", ";".join(f"emit {name}" for name in names)))
+    body = ";".join([act] * int(2 ** chance.uniform(0, 10)))
+    called = ["ZA"]
+    parts = [f"module ZA:{interface}{body} end module "]
+    wrapping = chance.choice((0, 0, 0.1, 1))
+    most = MOST_BYTES * chance.choice((1, 1, 0.5))
+    for number in range(int(2 ** chance.uniform(4, 12))):
+        parts.append(f"module Z{number}:{interface}{random_runs(chance, names, called, wrapping)} end module ")
+        called.append(f"Z{number}")
+        if sum(map(len, parts)) > most - 200 - len(interface):
+            parts.pop()
+            called.pop()
+            break
+    head = f"module M:{interface}"
+    left = MOST_BYTES - sum(map(len, parts)) - len(head) - 12
+    runs = f"run {called[-1]};" * (chance.choice((1, 1, 2, 50, MOST_BYTES)))
+    return "".join(parts) + head + runs[: left // 10 * (len(called[-1]) + 5)] + "halt end module"
+
+
 def random_text(seed):
     """A library of up to 64 KiB, the main module last. A module for which there is no room any more is left out."""
+    if CHAINS <= seed < 2 * CHAINS:
+        return random_chain(seed)
     chance = random.Random(seed)
     names = short_names(int(2 ** chance.uniform(2, 12)), MOST_BYTES)
     count = int(2 ** chance.uniform(0, 7))

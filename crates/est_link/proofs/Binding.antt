@@ -1,8 +1,5 @@
 -- A body whose names are bound stays so where it is run.
-use Rattle.std.proofs.Common.{◌≡◌, ℕ, ◌+◌, List, [], ◌∷◌, map, get_or, refl, ap, subst, arith}
-use Rattle.est_kernel.specs.View.{queries_of}
-use Rattle.est_reduce.specs.Views.{bound_query as query_view}
-use Rattle.est_reduce.specs.declared.body.BoundTest.{BoundTest}
+use Rattle.std.proofs.Common.{◌≡◌, ℕ, ◌+◌, List, get_or, subst, arith}
 use Rattle.est_kernel.specs.Scope.{EachSignalOfAll}
 use Rattle.est_kernel.specs.Term.{Name, outer, inner, Query, tick, of, negated, joined, Queries, last, more}
 use Rattle.est_kernel.proofs.Tests.{each_implies}
@@ -85,15 +82,3 @@ bound_body n may m callers k qs b t l (seq p q) h =
     (bound_body n may m callers k qs b t l p h.0, bound_body n may m callers k qs b t l q h.1)
 bound_body n may m callers k qs b t l (par p q) h =
     (bound_body n may m callers k qs b t l p h.0, bound_body n may m callers k qs b t l q h.1)
-
--- ---- tests of the code
-
--- a test of the code, so bound
-abbrev pub test_bound : List Query → ℕ → BoundTest → Query
-test_bound qs k t = query_in_run qs k (query_view t)
-
-pub listed_bound : (qs : List Query) (k : ℕ) (q : Query) (ts : List BoundTest)
-    → queries_in_run qs k (queries_of q (map query_view ts))
-    ≡ queries_of (query_in_run qs k q) (map (test_bound qs k) ts)
-listed_bound qs k q [] = refl
-listed_bound qs k q (t ∷ ts) = ap (more (query_in_run qs k q)) (listed_bound qs k (query_view t) ts)

@@ -14,30 +14,29 @@ use Rattle.est_checks.specs.MissingModules.{missing_at}
 use Rattle.est_checks.specs.RecursiveRuns.{HasRun}
 use Rattle.est_order.proofs.OrderPlaces.{each_stands}
 use Rattle.est_link.specs.Inner.Needs.{IsIn}
-use Rattle.est_link.specs.Inner.Tables.{body_named, has_body, body_found, bodies_of, IsBodyOf, AreBodiesOf, IsGrown}
-use Rattle.est_link.specs.Inner.Tables.{HasFront, HasBodies}
+use Rattle.est_link.specs.Inner.Tables.{body_named, has_body, body_found, run_of, bodies_of, IsBodyOf, AreBodiesOf}
+use Rattle.est_link.specs.Inner.Tables.{IsGrown, HasFront, HasBodies}
 use Rattle.est_link.specs.Linking.{links, linked}
 use Rattle.est_link.specs.declared.linked_bodies.LinkedBodies.{LinkedBodies}
+use Rattle.est_link.specs.declared.linked_bodies.LinkedBody.{LinkedBody}
 use Rattle.est_link.proofs.Bounding.{IsSound, body_bound}
 use Rattle.est_link.proofs.RunModules.{run_there}
 use Rattle.est_reduce.specs.Bodies.{Body}
-use Rattle.est_reduce.specs.Views.{body_of}
-use Rattle.est_reduce.specs.declared.body.Body.{Body as BodyValue}
 
 -- ---- one body more
 
-has_either : (b : Bool) (f : BodyValue) (o : Option BodyValue) → is_some (if b then Some f else o) ≡ (b || is_some o)
+has_either : (b : Bool) (f : LinkedBody) (o : Option LinkedBody) → is_some (if b then Some f else o) ≡ (b || is_some o)
 has_either true f o = refl
 has_either false f o = refl
 
-found_either : (b : Bool) (f : BodyValue) (o : Option BodyValue)
-    → body_found (if b then Some f else o) ≡ (if b then body_of f else body_found o)
+found_either : (b : Bool) (f : LinkedBody) (o : Option LinkedBody)
+    → body_found (if b then Some f else o) ≡ (if b then run_of f else body_found o)
 found_either true f o = refl
 found_either false f o = refl
 
 -- a table to which a module's body is added
-pub grown : (ps : List Program) (old : LinkedBodies) (p : Program) (f : BodyValue) (new : LinkedBodies)
-    → body_of f ≡ linked ps (bodies_of old) p [] p.body
+pub grown : (ps : List Program) (old : LinkedBodies) (p : Program) (f : LinkedBody) (new : LinkedBodies)
+    → run_of f ≡ linked ps (bodies_of old) p [] p.body
     → ((m : List ℕ) → body_named new m ≡ (if bytes_eq p.name m then Some f else body_named old m))
     → IsGrown ps old p new
 grown ps old p f new is said = record {

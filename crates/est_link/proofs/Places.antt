@@ -14,16 +14,16 @@ use Rattle.est_modules.specs.Derived.{beside_sequences}
 use Rattle.est_modules.specs.Occurrences.{Binder}
 use Rattle.est_modules.specs.Modules.{Program}
 use Rattle.est_reduce.specs.Bodies.{Body, seq, par}
-use Rattle.est_reduce.specs.Views.{body_of}
-use Rattle.est_reduce.specs.declared.body.Body.{Body as BodyValue}
 use Rattle.est_link.specs.Inner.Joins.{joined_by, chained}
+use Rattle.est_link.specs.Inner.OpenBodies.{closed_of}
+use Rattle.est_link.specs.declared.open_body.OpenBody.{OpenBody}
 use Rattle.est_link.specs.Linking.{linked}
 
 -- ---- statements one after another, and side by side
 
 -- the statement of a body in a box
-abbrev pub boxed_body : Box BodyValue Global → Body
-boxed_body b = body_of b.value
+abbrev pub boxed_body : Box OpenBody Global → Body
+boxed_body b = closed_of b.value
 
 abbrev pub unit_linked : List Program → (List ℕ → Body) → Program → List Binder → Unit → Body
 unit_linked ps bodies p bs u = linked ps bodies p bs (unit_derived (unit_view u))

@@ -2,7 +2,9 @@ pub mod AllRuns
 pub mod Binds
 pub mod Checked
 pub mod Joins
+pub mod Meant
 pub mod Needs
+pub mod OpenBodies
 pub mod SignalTables
 pub mod Tables
 pub mod Watches

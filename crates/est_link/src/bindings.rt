@@ -3,16 +3,19 @@ ghost use Rattle.std.specs.Prelude.{◌≡◌, ◌+◌, ◌∷◌, IfOk, length,
 ghost use Rattle.std.specs.List.{position};
 ghost use Rattle.std.specs.Str.{bytes_eq};
 ghost use Rattle.est_kernel.specs.Term.{tick};
+ghost use Rattle.est_link.specs.Inner.Meant.{in_run, meant};
+ghost use Rattle.est_link.specs.Inner.OpenBodies.{meaning_of};
 ghost use Rattle.est_modules.specs.Scopes.{binders_of};
 ghost use Rattle.est_modules.specs.Modules.{program_of};
-ghost use Rattle.est_reduce.specs.Views.{bound_query as query_view};
+ghost use Rattle.est_reduce.specs.Views.{bound_name as name_view};
 ghost use Rattle.est_link.specs.Linking.{locals_around, signal_at, trap_at, of_interface};
 ghost use Rattle.est_link.specs.Inner.Binds.{binding_of};
 
+use crate::meaning::Meaning;
 use est_modules::head::{Declared, Head, Interface};
 use est_modules::renamings::RunRenamings;
 use est_modules::scope::Scope;
-use est_reduce::body::{BoundSignal, BoundTest};
+use est_reduce::body::BoundSignal;
 use est_syntax::tree::Names;
 use est_text::identifier::Identifier;
 use std::alloc::{AllocError, Global};
@@ -36,7 +39,7 @@ pub struct Binding<'a, 'b, 'c> {
 
 /// A number in 32 bits. A larger one would need a list of 2^32 names in memory. It is answered as
 /// want of memory.
-fn small(number: usize) -> Result<u32, AllocError>
+pub fn small(number: usize) -> Result<u32, AllocError>
     ensures { IfOk result (λ n. n ≡ number) }
 {
     match u32::try_from(number) {
@@ -85,13 +88,13 @@ fn place_of(names: &Names, name: &Identifier) -> Result<Option<u32>, AllocError>
 }
 
 /// The interface signal of a name.
-fn interface_signal(interface: &Interface<'_>, name: &Identifier) -> Result<BoundTest, AllocError>
-    ensures { IfOk result (λ t. query_view t ≡ of_interface (position
-        (λ d. bytes_eq d.name name.now) interface.now)) }
+fn interface_signal(interface: &Interface<'_>, name: &Identifier) -> Result<Meaning, AllocError>
+    ensures { IfOk result (λ m. meaning_of m ≡ meant (of_interface (position
+        (λ d. bytes_eq d.name name.now) interface.now))) }
 {
     match interface.place(name) {
-        Some(place) => Ok(BoundTest::Of(BoundSignal::Outer(small(place)?))),
-        None => Ok(BoundTest::Tick),
+        Some(place) => Ok(Meaning::of(BoundSignal::Outer(small(place)?))),
+        None => Ok(Meaning::TICK),
     }
 }
 
@@ -113,16 +116,16 @@ pub fn signal_at(
     home: &Head<'_>,
     scope: &Scope<'_>,
     name: &Identifier,
-) -> Result<BoundTest, AllocError>
-    ensures { IfOk result (λ t. query_view t ≡ signal_at (program_of home.now) (binders_of
-        scope.now) name.now) }
+) -> Result<Meaning, AllocError>
+    ensures { IfOk result (λ m. meaning_of m ≡ meant (signal_at (program_of home.now) (binders_of
+        scope.now) name.now)) }
 {
     match scope {
         Scope::Module => interface_signal(&home.interface, name),
         Scope::Signals(names, outer) => match place_of(names, name)? {
             Some(place) => {
                 let level = sum(locals_around(outer)?, place)?;
-                Ok(BoundTest::Of(BoundSignal::Inner(level)))
+                Ok(Meaning::of(BoundSignal::Inner(level)))
             }
             None => signal_at(home, outer, name),
         },
@@ -150,14 +153,31 @@ pub fn trap_at(scope: &Scope<'_>, name: &Identifier) -> Result<u32, AllocError>
 
 /// The signal that an interface signal of the module that is run stands for. Only names that are
 /// met are looked up.
-pub fn interface_bound(binding: &Binding<'_, '_, '_>, index: u32) -> Result<BoundTest, AllocError>
-    ensures { IfOk result (λ t. query_view t ≡ get_or (binding_of binding.now) index tick) }
+fn interface_bound(binding: &Binding<'_, '_, '_>, index: u32) -> Result<Meaning, AllocError>
+    ensures { IfOk result (λ m. meaning_of m ≡ meant (get_or (binding_of binding.now) index
+        tick)) }
 {
     match binding.interface.get(index as usize) {
         Some(declared) => {
             let name = binding.renamings.callers_name(&declared.name);
             signal_at(binding.home, binding.scope, &name)
         }
-        None => Ok(BoundTest::Tick),
+        None => Ok(Meaning::TICK),
+    }
+}
+
+/// What a signal of the body means where its module is run.
+pub fn bind_signal(
+    binding: &Binding<'_, '_, '_>,
+    signal: BoundSignal,
+) -> Result<Meaning, AllocError>
+    ensures { IfOk result (λ m. meaning_of m ≡ in_run (binding_of binding.now) binding.now.locals
+        (name_view signal)) }
+{
+    match signal {
+        BoundSignal::Outer(index) => interface_bound(binding, index),
+        BoundSignal::Inner(index) => {
+            Ok(Meaning::of(BoundSignal::Inner(sum(binding.locals, index)?)))
+        }
     }
 }

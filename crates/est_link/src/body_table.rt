@@ -5,23 +5,23 @@ ghost use Rattle.est_checks.specs.Duplicates.{first_duplicate};
 ghost use Rattle.est_checks.specs.MissingModules.{missing_at};
 ghost use Rattle.est_link.specs.Linking.{linked};
 ghost use Rattle.est_link.specs.Inner.Needs.{IsClosed};
-ghost use Rattle.est_link.specs.Inner.Tables.{AreBodiesOf, HasBodies, IsGrown, bodies_of};
+ghost use Rattle.est_link.specs.Inner.OpenBodies.{closed_of};
+ghost use Rattle.est_link.specs.Inner.Tables.{AreBodiesOf, HasBodies, IsGrown, bodies_of, run_of};
 ghost use Rattle.est_modules.specs.Modules.{Program, program_of, first_in_bodies};
 ghost use Rattle.est_modules.specs.ModuleOrders.{IsOrderOf};
-ghost use Rattle.est_reduce.specs.Views.{body_of};
 
 use crate::flatten::{Linker, Place, flat_statement};
-use crate::linked_bodies::LinkedBodies;
+use crate::linked_bodies::{LinkedBodies, LinkedBody};
 use crate::needed::is_in;
+use crate::open_body::OpenBody;
 use est_modules::head::Head;
 use est_modules::head_tree::Heads;
 use est_modules::scope::Scope;
-use est_reduce::body::Body;
 use std::alloc::{AllocError, Global};
 
 /// The flat body of the module of a linker.
-fn whole_body(linker: &Linker<'_, '_, '_>) -> Result<Body, AllocError>
-    ensures { IfOk result (λ b. body_of b ≡ linked (map program_of linker.now.heads.now)
+fn whole_body(linker: &Linker<'_, '_, '_>) -> Result<OpenBody, AllocError>
+    ensures { IfOk result (λ b. closed_of b ≡ linked (map program_of linker.now.heads.now)
         (bodies_of linker.now.bodies.now) (program_of linker.now.home.now) []
         (program_of linker.now.home.now).body) }
 {
@@ -38,16 +38,17 @@ fn body_by<'a, 'b>(
     heads: &'a Heads<'b>,
     bodies: &'a LinkedBodies<'_>,
     home: &'a Head<'b>,
-) -> Result<Body, AllocError>
-    ensures { IfOk result (λ b. body_of b ≡ linked (map program_of heads.now)
+) -> Result<LinkedBody, AllocError>
+    ensures { IfOk result (λ b. run_of b ≡ linked (map program_of heads.now)
         (bodies_of bodies.now) (program_of home.now) [] (program_of home.now).body) }
 {
-    whole_body(&Linker {
+    let body = whole_body(&Linker {
         alloc,
         heads,
         bodies,
         home,
-    })
+    })?;
+    LinkedBody::of(alloc, body)
 }
 
 /// Adds the flat body of the module at a place.

@@ -14,21 +14,25 @@ ghost use Rattle.est_link.specs.Linking.{body_in_run};
 ghost use Rattle.est_link.specs.Linking.{emitted, locals_around, signal_at};
 ghost use Rattle.est_link.specs.Inner.Tables.{bodies_of};
 ghost use Rattle.est_link.specs.Inner.Joins.{joined_by};
+ghost use Rattle.est_link.specs.Inner.Meant.{meant};
+ghost use Rattle.est_link.specs.Inner.OpenBodies.{closed_of, meaning_of};
 ghost use Rattle.est_link.specs.Inner.Watches.{watched};
 ghost use Rattle.est_reduce.specs.Bodies.{nothing, present, seq, par};
-ghost use Rattle.est_reduce.specs.Views.{body_of, bound_name as name_view};
+ghost use Rattle.est_reduce.specs.Views.{bound_name as name_view};
 ghost use Rattle.est_reduce.specs.Views.{bound_query as query_view};
 
 use crate::bindings::{Binding, count, locals_around, signal_at, trap_at};
-use crate::bound_bodies::{bind_body, emitted};
+use crate::bound_runs::bind_body;
 use crate::found_tests::find_test;
 use crate::linked_bodies::LinkedBodies;
+use crate::meaning::Meaning;
+use crate::open_body::OpenBody;
 use crate::watch::Watch;
 use est_modules::head::{Declared, Head};
 use est_modules::head_tree::Heads;
 use est_modules::renamings::RunRenamings;
 use est_modules::scope::Scope;
-use est_reduce::body::{Body, BoundSignal, BoundTest, Wait};
+use est_reduce::body::{BoundSignal, Wait};
 use est_syntax::tree::{Branches, Delay, Renaming, Sequence, Statement, Test, Unit};
 use est_text::identifier::Identifier;
 use std::alloc::{AllocError, Global};
@@ -62,8 +66,8 @@ fn run(
     scope: &Scope<'_>,
     name: &Identifier,
     renamings: &[Renaming],
-) -> Result<Body, AllocError>
-    ensures { IfOk result (λ f. body_of f ≡ body_in_run
+) -> Result<OpenBody, AllocError>
+    ensures { IfOk result (λ f. closed_of f ≡ body_in_run
         (interface_bound (program_of linker.now.home.now) (binders_of scope.now)
         (map renaming_view renamings.now)
         (interface_run (program_named (map program_of linker.now.heads.now) name.now)))
@@ -81,7 +85,7 @@ fn run(
     };
     match linker.bodies.named(name) {
         Some(body) => bind_body(&binding, body),
-        None => Ok(Body::Nothing),
+        None => Ok(OpenBody::Nothing),
     }
 }
 
@@ -95,9 +99,9 @@ pub struct Place<'a, 'b, 'c> {
 }
 
 /// The signal that a name means.
-pub fn find_signal(place: &Place<'_, '_, '_>, name: &Identifier) -> Result<BoundTest, AllocError>
-    ensures { IfOk result (λ t. query_view t ≡ signal_at (program_of place.now.linker.now.home.now)
-        (binders_of place.now.scope.now) name.now) }
+pub fn find_signal(place: &Place<'_, '_, '_>, name: &Identifier) -> Result<Meaning, AllocError>
+    ensures { IfOk result (λ m. meaning_of m ≡ meant (signal_at
+        (program_of place.now.linker.now.home.now) (binders_of place.now.scope.now) name.now)) }
 {
     signal_at(place.linker.home, place.scope, name)
 }
@@ -107,7 +111,7 @@ fn find_sent(place: &Place<'_, '_, '_>, name: &Identifier) -> Result<BoundSignal
     ensures { IfOk result (λ n. name_view n ≡ emitted (signal_at
         (program_of place.now.linker.now.home.now) (binders_of place.now.scope.now) name.now)) }
 {
-    Ok(emitted(find_signal(place, name)?))
+    Ok(find_signal(place, name)?.signal)
 }
 
 /// What is waited for.
@@ -124,58 +128,58 @@ fn find_wait(place: &Place<'_, '_, '_>, delay: &Delay) -> Result<Wait, AllocErro
 }
 
 /// `nothing`, in a box.
-fn box_nothing(alloc: Global) -> Result<Box<Body>, AllocError>
-    ensures { IfOk result (λ b. body_of b.value ≡ nothing) }
+fn box_nothing(alloc: Global) -> Result<Box<OpenBody>, AllocError>
+    ensures { IfOk result (λ b. closed_of b.value ≡ nothing) }
 {
-    Ok(Box::new(alloc, Body::Nothing)?)
+    Ok(Box::new(alloc, OpenBody::Nothing)?)
 }
 
 /// The flat statement of a `present`, its branches being flat.
 fn present(
     at: &Place<'_, '_, '_>,
     test: &Test,
-    first: Box<Body>,
-    second: Box<Body>,
-) -> Result<Body, AllocError>
-    ensures { IfOk result (λ f. body_of f ≡ present
+    first: Box<OpenBody>,
+    second: Box<OpenBody>,
+) -> Result<OpenBody, AllocError>
+    ensures { IfOk result (λ f. closed_of f ≡ present
         (asked_at (program_of at.now.linker.now.home.now) (binders_of at.now.scope.now)
-        (test_view test.now)) (body_of first.value) (body_of second.value)) }
+        (test_view test.now)) (closed_of first.value) (closed_of second.value)) }
 {
-    Ok(Body::Present(find_test(at, test)?, first, second))
+    Ok(OpenBody::Present(find_test(at, test)?, first, second))
 }
 
 /// The flat statement of a unit.
 #[cycle(flat)]
-fn flat_unit(at: &Place<'_, '_, '_>, unit: &Unit) -> Result<Body, AllocError>
-    ensures { IfOk result (λ f. body_of f ≡ linked (map program_of at.now.linker.now.heads.now)
+fn flat_unit(at: &Place<'_, '_, '_>, unit: &Unit) -> Result<OpenBody, AllocError>
+    ensures { IfOk result (λ f. closed_of f ≡ linked (map program_of at.now.linker.now.heads.now)
         (bodies_of at.now.linker.now.bodies.now) (program_of at.now.linker.now.home.now)
         (binders_of at.now.scope.now) (unit_derived (unit_view unit.now))) }
 {
     match unit {
-        Unit::Nothing => Ok(Body::Nothing),
-        Unit::Pause => Ok(Body::Pause),
-        Unit::Halt => Ok(Body::Halt),
-        Unit::Emit(name) => Ok(Body::Emit(find_sent(at, name)?)),
-        Unit::Sustain(name) => Ok(Body::Sustain(find_sent(at, name)?)),
-        Unit::Exit(name) => Ok(Body::Exit(trap_at(at.scope, name)?)),
-        Unit::Await(delay) => Ok(Body::Await(find_wait(at, delay)?)),
+        Unit::Nothing => Ok(OpenBody::Nothing),
+        Unit::Pause => Ok(OpenBody::Pause),
+        Unit::Halt => Ok(OpenBody::Halt),
+        Unit::Emit(name) => Ok(OpenBody::Emit(find_sent(at, name)?)),
+        Unit::Sustain(name) => Ok(OpenBody::Sustain(find_sent(at, name)?)),
+        Unit::Exit(name) => Ok(OpenBody::Exit(trap_at(at.scope, name)?)),
+        Unit::Await(delay) => Ok(OpenBody::Await(find_wait(at, delay)?)),
         Unit::Present(test, branches) => flat_test(at, test, branches),
         Unit::Suspend(p, delay, _) => flat_watched(at, Watch::Suspend, p, delay),
         Unit::Abort(p, delay, _) => flat_watched(at, Watch::Abort, p, delay),
         Unit::WeakAbort(p, delay, _) => flat_watched(at, Watch::WeakAbort, p, delay),
-        Unit::Loop(p, _) => Ok(Body::Loop(box_body(at, p)?)),
+        Unit::Loop(p, _) => Ok(OpenBody::Loop(box_body(at, p)?)),
         Unit::LoopEach(p, test) => {
             let p = box_body(at, p)?;
-            Ok(Body::LoopEach(find_test(at, test)?, p))
+            Ok(OpenBody::LoopEach(find_test(at, test)?, p))
         }
         Unit::Every(delay, p, _) => flat_watched(at, Watch::Every, p, delay),
         Unit::Trap(name, p, _) => {
             let scope = Scope::Trap(*name, &*at.scope);
-            Ok(Body::Trap(box_inside(at, &scope, p)?))
+            Ok(OpenBody::Trap(box_inside(at, &scope, p)?))
         }
         Unit::Signal(names, p, _) => {
             let scope = Scope::Signals(&*names, &*at.scope);
-            Ok(Body::Signal(count(names)?, box_inside(at, &scope, p)?))
+            Ok(OpenBody::Signal(count(names)?, box_inside(at, &scope, p)?))
         }
         Unit::Run(name, renamings) => run(at.linker, at.scope, name, renamings),
         Unit::Group(p) => flat_statement(at, p),
@@ -189,21 +193,25 @@ fn flat_watched(
     watch: Watch,
     statement: &Statement,
     delay: &Delay,
-) -> Result<Body, AllocError>
-    ensures { IfOk result (λ f. body_of f ≡ watched watch delay.now.immediate
+) -> Result<OpenBody, AllocError>
+    ensures { IfOk result (λ f. closed_of f ≡ watched watch delay.now.immediate
         (asked_at (program_of at.now.linker.now.home.now) (binders_of at.now.scope.now)
         (test_view delay.now.test)) (linked (map program_of at.now.linker.now.heads.now)
         (bodies_of at.now.linker.now.bodies.now) (program_of at.now.linker.now.home.now)
         (binders_of at.now.scope.now) (statement_derived (statement_view statement.now)))) }
 {
     let body = box_body(at, statement)?;
-    Ok(watch.over(find_wait(at, delay)?, body))
+    Ok(OpenBody::Watched(watch, find_wait(at, delay)?, body))
 }
 
 /// The flat statement of a `present`, with its branches.
 #[cycle(flat)]
-fn flat_test(at: &Place<'_, '_, '_>, test: &Test, branches: &Branches) -> Result<Body, AllocError>
-    ensures { IfOk result (λ f. body_of f ≡ linked (map program_of at.now.linker.now.heads.now)
+fn flat_test(
+    at: &Place<'_, '_, '_>,
+    test: &Test,
+    branches: &Branches,
+) -> Result<OpenBody, AllocError>
+    ensures { IfOk result (λ f. closed_of f ≡ linked (map program_of at.now.linker.now.heads.now)
         (bodies_of at.now.linker.now.bodies.now) (program_of at.now.linker.now.home.now)
         (binders_of at.now.scope.now) (branches_derived (test_view test.now)
         (branches_view branches.now))) }
@@ -225,31 +233,31 @@ fn flat_test(at: &Place<'_, '_, '_>, test: &Test, branches: &Branches) -> Result
 }
 
 /// `p ; q`, or p where nothing follows.
-fn then(alloc: Global, p: Body, rest: Option<Box<Body>>) -> Result<Body, AllocError>
-    ensures { IfOk result (λ f. body_of f ≡ joined_by seq (body_of p)
-        (option_map (λ b. body_of b.value) rest)) }
+fn then(alloc: Global, p: OpenBody, rest: Option<Box<OpenBody>>) -> Result<OpenBody, AllocError>
+    ensures { IfOk result (λ f. closed_of f ≡ joined_by seq (closed_of p)
+        (option_map (λ b. closed_of b.value) rest)) }
 {
     match rest {
         None => Ok(p),
-        Some(q) => Ok(Body::Seq(Box::new(alloc, p)?, q)),
+        Some(q) => Ok(OpenBody::Seq(Box::new(alloc, p)?, q)),
     }
 }
 
 /// `p || q`, or p where nothing stands beside it.
-fn beside(alloc: Global, p: Body, rest: Option<Box<Body>>) -> Result<Body, AllocError>
-    ensures { IfOk result (λ f. body_of f ≡ joined_by par (body_of p)
-        (option_map (λ b. body_of b.value) rest)) }
+fn beside(alloc: Global, p: OpenBody, rest: Option<Box<OpenBody>>) -> Result<OpenBody, AllocError>
+    ensures { IfOk result (λ f. closed_of f ≡ joined_by par (closed_of p)
+        (option_map (λ b. closed_of b.value) rest)) }
 {
     match rest {
         None => Ok(p),
-        Some(q) => Ok(Body::Par(Box::new(alloc, p)?, q)),
+        Some(q) => Ok(OpenBody::Par(Box::new(alloc, p)?, q)),
     }
 }
 
 /// The flat statement of a sequence.
 #[cycle(flat)]
-fn flat_sequence(at: &Place<'_, '_, '_>, sequence: &Sequence) -> Result<Body, AllocError>
-    ensures { IfOk result (λ f. body_of f ≡ linked (map program_of at.now.linker.now.heads.now)
+fn flat_sequence(at: &Place<'_, '_, '_>, sequence: &Sequence) -> Result<OpenBody, AllocError>
+    ensures { IfOk result (λ f. closed_of f ≡ linked (map program_of at.now.linker.now.heads.now)
         (bodies_of at.now.linker.now.bodies.now) (program_of at.now.linker.now.home.now)
         (binders_of at.now.scope.now) (sequence_derived (sequence_view sequence.now))) }
 {
@@ -267,8 +275,8 @@ fn flat_sequence(at: &Place<'_, '_, '_>, sequence: &Sequence) -> Result<Body, Al
 
 /// The flat statement of sequences side by side.
 #[cycle(flat)]
-pub fn flat_statement(at: &Place<'_, '_, '_>, statement: &Statement) -> Result<Body, AllocError>
-    ensures { IfOk result (λ f. body_of f ≡ linked (map program_of at.now.linker.now.heads.now)
+pub fn flat_statement(at: &Place<'_, '_, '_>, statement: &Statement) -> Result<OpenBody, AllocError>
+    ensures { IfOk result (λ f. closed_of f ≡ linked (map program_of at.now.linker.now.heads.now)
         (bodies_of at.now.linker.now.bodies.now) (program_of at.now.linker.now.home.now)
         (binders_of at.now.scope.now) (statement_derived (statement_view statement.now))) }
 {
@@ -286,8 +294,8 @@ pub fn flat_statement(at: &Place<'_, '_, '_>, statement: &Statement) -> Result<B
 
 /// The flat statement of sequences side by side, in a box.
 #[cycle(flat)]
-fn box_body(at: &Place<'_, '_, '_>, statement: &Statement) -> Result<Box<Body>, AllocError>
-    ensures { IfOk result (λ b. body_of b.value ≡ linked (map program_of
+fn box_body(at: &Place<'_, '_, '_>, statement: &Statement) -> Result<Box<OpenBody>, AllocError>
+    ensures { IfOk result (λ b. closed_of b.value ≡ linked (map program_of
         at.now.linker.now.heads.now) (bodies_of at.now.linker.now.bodies.now)
         (program_of at.now.linker.now.home.now) (binders_of at.now.scope.now)
         (statement_derived (statement_view statement.now))) }
@@ -301,8 +309,8 @@ fn box_inside(
     at: &Place<'_, '_, '_>,
     scope: &Scope<'_>,
     statement: &Statement,
-) -> Result<Box<Body>, AllocError>
-    ensures { IfOk result (λ b. body_of b.value ≡ linked (map program_of
+) -> Result<Box<OpenBody>, AllocError>
+    ensures { IfOk result (λ b. closed_of b.value ≡ linked (map program_of
         at.now.linker.now.heads.now) (bodies_of at.now.linker.now.bodies.now)
         (program_of at.now.linker.now.home.now) (binders_of scope.now)
         (statement_derived (statement_view statement.now))) }

@@ -25,7 +25,7 @@ fn find_literal(place: &Place<'_, '_, '_>, literal: &Literal) -> Result<BoundTes
         (literal_view literal.now)) }
 {
     match literal {
-        Literal::Signal(name) => find_signal(place, name),
+        Literal::Signal(name) => Ok(find_signal(place, name)?.test()),
         Literal::Not(inner) => {
             BoundTest::negated(place.linker.alloc, find_literal(place, inner)?)
         }

@@ -8,7 +8,8 @@
 
 mod bindings;
 mod body_table;
-mod bound_bodies;
+mod bound_runs;
+mod closing;
 mod flatten;
 mod found_tests;
 pub mod laws;
@@ -16,6 +17,10 @@ pub mod link;
 mod linked_bodies;
 pub mod linked_module;
 mod main_module;
+mod meaning;
 mod needed;
+mod open_body;
+mod own_signals;
+mod run_meanings;
 mod signal_table;
 mod watch;

@@ -1,19 +1,75 @@
 //! The flat bodies of modules, by the names of the modules.
-ghost use Rattle.std.specs.Prelude.{◌≡◌, ℕ, List, Some, None, OnOk, option_map, if◌then◌else◌};
+ghost use Rattle.std.specs.Prelude.{◌≡◌, ℕ, List, Some, None, IfOk, OnOk, option_map, if◌then◌else◌};
 ghost use Rattle.std.specs.Str.{bytes_eq};
-ghost use Rattle.est_link.specs.Inner.Tables.{bodies_of, body_named};
+ghost use Rattle.est_link.specs.Inner.OpenBodies.{closed_of};
+ghost use Rattle.est_link.specs.Inner.Tables.{bodies_of, body_named, run_of};
 ghost use Rattle.est_reduce.specs.Views.{body_of};
 
+use crate::closing::{Closing, close};
+use crate::open_body::OpenBody;
+use crate::own_signals::own_meanings;
+use crate::run_meanings::RunMeanings;
 use est_reduce::body::Body;
 use est_text::identifier::Identifier;
 use std::alloc::{AllocError, Global};
 use std::collections::BTreeMap;
+use std::rc::Rc;
+
+/// The flat body of a module: an open body, and what its signals mean in the module.
+#[derive(Drop)]
+pub struct LinkedBody {
+    /// The open body.
+    pub body: Rc<OpenBody>,
+    /// What its signals mean.
+    pub meanings: RunMeanings,
+}
+
+impl LinkedBody {
+    /// The flat body that an open one is. Where that is one run, it is the body that is run. So
+    /// where each module only runs the next, what each is run as takes one step, and not one for
+    /// each of those.
+    ///
+    /// # Errors
+    ///
+    /// `AllocError` where memory is refused.
+    pub fn of(alloc: Global, body: OpenBody) -> Result<LinkedBody, AllocError>
+        ensures { IfOk result (λ b. run_of b ≡ closed_of body) }
+    {
+        match body {
+            OpenBody::Run(body, meanings) => Ok(LinkedBody { body, meanings }),
+            body => {
+                let meanings = own_meanings(alloc, &body)?;
+                Ok(LinkedBody {
+                    body: Rc::new(alloc, body)?,
+                    meanings,
+                })
+            }
+        }
+    }
+
+    /// The body, its runs replaced.
+    ///
+    /// # Errors
+    ///
+    /// `AllocError` where memory is refused.
+    fn close(&self, alloc: Global) -> Result<Body, AllocError>
+        ensures { IfOk result (λ b. body_of b ≡ run_of self.now) }
+    {
+        close(
+            &Closing {
+                alloc,
+                meanings: &self.meanings,
+            },
+            &self.body,
+        )
+    }
+}
 
 /// The flat bodies of modules, by the names of the modules. A look-up takes as many steps as their
 /// count has digits in binary.
 #[derive(Drop)]
 pub struct LinkedBodies<'a> {
-    bodies: BTreeMap<&'a [u8], Body>,
+    bodies: BTreeMap<&'a [u8], LinkedBody>,
 }
 
 impl<'a> LinkedBodies<'a> {
@@ -27,7 +83,7 @@ impl<'a> LinkedBodies<'a> {
     }
 
     /// The body of the module of a name, if it has one.
-    pub fn named(&self, name: &Identifier) -> Option<&Body>
+    pub fn named(&self, name: &Identifier) -> Option<&LinkedBody>
         ensures { option_map (λ b. b.now) result ≡ body_named self.now name.now }
     {
         self.bodies.get(name.as_bytes())
@@ -38,7 +94,7 @@ impl<'a> LinkedBodies<'a> {
     /// # Errors
     ///
     /// `AllocError` where memory is refused.
-    pub fn add(&mut self, name: &'a Identifier, body: Body) -> Result<(), AllocError>
+    pub fn add(&mut self, name: &'a Identifier, body: LinkedBody) -> Result<(), AllocError>
         ensures { OnOk result ((m : List ℕ) → body_named self.new m
             ≡ (if bytes_eq name.now m then Some body else body_named self.old m)) }
     {
@@ -46,13 +102,17 @@ impl<'a> LinkedBodies<'a> {
         Ok(())
     }
 
-    /// The body of the module of a name, or `nothing` where it has none.
-    pub fn take(mut self, name: &Identifier) -> Body
-        ensures { body_of result ≡ bodies_of self.entry name.now }
+    /// The body of the module of a name, its runs replaced, or `nothing` where it has none.
+    ///
+    /// # Errors
+    ///
+    /// `AllocError` where memory is refused.
+    pub fn close(&self, alloc: Global, name: &Identifier) -> Result<Body, AllocError>
+        ensures { IfOk result (λ b. body_of b ≡ bodies_of self.now name.now) }
     {
-        match self.bodies.remove(name.as_bytes()) {
-            Some(body) => body,
-            None => Body::Nothing,
+        match self.named(name) {
+            Some(body) => body.close(alloc),
+            None => Ok(Body::Nothing),
         }
     }
 }

@@ -42,7 +42,7 @@ pub fn linked_body(
         Some(place) => {
             let needed = needed_places(alloc, &*heads, order.places(), place)?;
             let bodies = bodies_along(alloc, heads, order.places(), &needed)?;
-            Ok(bodies.take(main))
+            bodies.close(alloc, main)
         }
         None => Ok(Body::Nothing),
     }

@@ -8,26 +8,31 @@ use Rattle.std.specs.List.{slice_get}
 use Rattle.std.specs.Ordering.{nat_cmp}
 use Rattle.std.specs.Str.{bytes_eq}
 use Rattle.est_reduce.specs.Bodies.{Body, nothing}
-use Rattle.est_reduce.specs.Views.{body_of}
-use Rattle.est_reduce.specs.declared.body.Body.{Body as BodyValue}
 use Rattle.est_link.specs.Bodies.{HasSoundNames, IsBody, IsSent}
+use Rattle.est_link.specs.Inner.Meant.{body_meant}
 use Rattle.est_link.specs.Inner.Needs.{IsIn}
+use Rattle.est_link.specs.Inner.OpenBodies.{closed_of, meant_by}
 use Rattle.est_link.specs.Linking.{IsLinked, linked}
 use Rattle.est_link.specs.declared.linked_bodies.LinkedBodies.{LinkedBodies}
+use Rattle.est_link.specs.declared.linked_bodies.LinkedBody.{LinkedBody}
 use Rattle.est_modules.specs.Modules.{Program, program_named}
 
 -- the value that the table has for a name
-abbrev pub body_named : LinkedBodies → List ℕ → Option BodyValue
+abbrev pub body_named : LinkedBodies → List ℕ → Option LinkedBody
 body_named t m = get_by (λ (k : Bor (List ℕ)). slice_cmp nat_cmp m k.now) t.bodies
 
 -- whether the table has a body for a name
 abbrev pub has_body : LinkedBodies → List ℕ → Bool
 has_body t m = is_some (body_named t m)
 
+-- the flat body that a value is
+abbrev pub run_of : LinkedBody → Body
+run_of b = body_meant (meant_by b.meanings) (closed_of b.body.value)
+
 -- the body of a value that was looked for
-abbrev pub body_found : Option BodyValue → Body
+abbrev pub body_found : Option LinkedBody → Body
 body_found None = nothing
-body_found (Some b) = body_of b
+body_found (Some b) = run_of b
 
 -- the body that the table has for a name; without one, `nothing`
 abbrev pub bodies_of : LinkedBodies → List ℕ → Body

@@ -1,15 +1,18 @@
-use Rattle.std.proofs.Common.{◌∙◌, sym, ap, subst, List, Bool, map, length, arith}
+use Rattle.std.proofs.Common.{◌≡◌, ◌∙◌, sym, ap, subst, List, ℕ, Bool, Some, map, length, arith}
 use Rattle.std.proofs.lemmas.List.{length-map}
 use Rattle.std.proofs.lemmas.Option.{slice_get_within}
+use Rattle.std.proofs.lemmas.Result.{IfOk-weaker}
+use Rattle.est_link.specs.Bodies.{HasSoundNames}
 use Rattle.est_link.specs.Linking.{IsLinked}
 use Rattle.est_link.specs.Inner.Needs.{IsIn, IsClosed}
 use Rattle.est_link.specs.Inner.Tables.{bodies_of}
 use Rattle.est_link.specs.MainModule.{declarations_of}
-use Rattle.est_modules.specs.Modules.{program_of}
+use Rattle.est_modules.specs.Modules.{Program, program_of, program_named}
 use Rattle.est_link.proofs.MainBody.{main_bound}
 use Rattle.est_modules.proofs.Ordering.{place_found}
 use Rattle.est_link.proofs.Taking.{main_body, main_there, placed}
 use Rattle.est_reduce.specs.Bound.{IsBound}
+use Rattle.est_reduce.specs.Views.{body_of}
 use Rattle.est_link.proofs.linked_module.linked_body.Goals as goal
 
 pub needed_places-requires-clause-main : goal.needed_places-requires-clause-main
@@ -34,10 +37,12 @@ returns-in_ok-bodies-in-Some-clause-linked c =
     let at = c.in-Some.ensures ∙ sym (place_found c.args.heads.now main) in
     let here = placed ps main c.in-Some.place at in
     let table = c.in_ok-bodies-in-Some.ensures in
-    subst (IsLinked ps main) (sym c.take.ensures)
+    IfOk-weaker c.close.result (λ b. body_of b ≡ bodies_of c.in_ok-bodies-in-Some.bodies main)
+    (λ b. IsLinked ps main (body_of b))
+    (λ b is. subst (IsLinked ps main) (sym is)
     (main_body ps c.deref.result.now c.in_ok-bodies-in-Some.bodies main c.in-Some.place table.right table.each
     (subst (λ xs. IsIn xs c.in-Some.place) (sym c.deref.ensures.value) c.in_ok-needed-in-Some.ensures.main) at here.home
-    here.found).flat
+    here.found).flat) c.close.ensures
 
 pub returns-in_ok-bodies-in-Some-clause-bound : goal.returns-in_ok-bodies-in-Some-clause-bound
 returns-in_ok-bodies-in-Some-clause-bound c =
@@ -45,11 +50,14 @@ returns-in_ok-bodies-in-Some-clause-bound c =
     let main = c.args.main.now in
     let at = c.in-Some.ensures ∙ sym (place_found c.args.heads.now main) in
     let table = c.in_ok-bodies-in-Some.ensures in
-    λ em p names found. subst (IsBound (declarations_of p) 0 0) (sym c.take.ensures)
+    IfOk-weaker c.close.result (λ b. body_of b ≡ bodies_of c.in_ok-bodies-in-Some.bodies main)
+    (λ b. (em : List ℕ → List ℕ → Bool) (p : Program) → HasSoundNames ps em → program_named ps main ≡ Some p
+    → IsBound (declarations_of p) 0 0 (body_of b))
+    (λ b is em p names found. subst (IsBound (declarations_of p) 0 0) (sym is)
     (main_bound em p 0 0 (bodies_of c.in_ok-bodies-in-Some.bodies main)
     ((main_body ps c.deref.result.now c.in_ok-bodies-in-Some.bodies main c.in-Some.place table.right table.each
     (subst (λ xs. IsIn xs c.in-Some.place) (sym c.deref.ensures.value) c.in_ok-needed-in-Some.ensures.main) at p
-    found).bound em names))
+    found).bound em names))) c.close.ensures
 
 pub returns-in-None-clause-linked : goal.returns-in-None-clause-linked
 returns-in-None-clause-linked c =

@@ -1,0 +1,59 @@
+//! What a signal means at another place.
+ghost use Rattle.std.specs.Prelude.{◌≡◌};
+ghost use Rattle.est_kernel.specs.Term.{Name};
+ghost use Rattle.est_link.specs.Inner.Meant.{Meant, again, itself};
+ghost use Rattle.est_link.specs.Inner.OpenBodies.{meaning_of};
+ghost use Rattle.est_reduce.specs.Views.{bound_name as name_view, bound_query as query_view};
+
+use est_reduce::body::{BoundSignal, BoundTest};
+
+/// What a signal means: a signal, or `tick`.
+#[derive(Clone, Copy)]
+pub struct Meaning {
+    /// What is emitted in its place, and what a test of it asks if it is no `tick`. What means
+    /// `tick` is never emitted.
+    pub signal: BoundSignal,
+    /// Whether a test of it asks `tick`.
+    pub is_tick: bool,
+}
+
+impl Meaning {
+    /// The meaning of `tick`.
+    pub const TICK: Meaning = Meaning {
+        signal: BoundSignal::Outer(0),
+        is_tick: true,
+    };
+
+    /// The meaning of what means this signal.
+    pub fn of(signal: BoundSignal) -> Meaning
+        ensures { meaning_of result ≡ itself (name_view signal) }
+    {
+        Meaning {
+            signal,
+            is_tick: false,
+        }
+    }
+
+    /// What a test asks.
+    pub fn test(self) -> BoundTest
+        ensures { query_view result ≡ (meaning_of self).asked }
+    {
+        if self.is_tick {
+            BoundTest::Tick
+        } else {
+            BoundTest::Of(self.signal)
+        }
+    }
+
+    /// What is meant where its signal has this meaning.
+    #[tactic(auto, using(crate::proofs::Meanings::meant_further))]
+    pub fn further(self, of_signal: Meaning) -> Meaning
+        ensures { (g : Name → Meant) → meaning_of of_signal ≡ g (name_view self.signal)
+            → meaning_of result ≡ again g (meaning_of self) }
+    {
+        Meaning {
+            signal: of_signal.signal,
+            is_tick: self.is_tick || of_signal.is_tick,
+        }
+    }
+}
