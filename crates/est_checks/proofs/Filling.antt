@@ -1,12 +1,12 @@
 -- The numbers of statements along an order of the modules: the table that is filled has the cut of whole numbers that
 -- meet the equation of each module.
 use Rattle.std.proofs.Common.{◌≡◌, ℕ, zero, suc, ◌+◌, ◌<◌, ◌≤◌, inl, inr, min, Bool, cond, nat_lt, List, [], ◌∷◌, ◌++◌}
-use Rattle.std.proofs.Common.{length, map, take, replicate, slice_get, slice_index, slice_set, Option, Some, None}
+use Rattle.std.proofs.Common.{length, map, take, slice_get, slice_index, slice_set, Option, Some, None}
 use Rattle.std.proofs.Common.{unwrap_or, Contains, refl, ap, sym, ◌∙◌, subst, arith, rules}
 use Rattle.std.specs.List.{find, position, position_or_len}
 use Rattle.std.specs.Str.{bytes_eq}
 use Rattle.std.proofs.lemmas.Bool.{cases_lt, cases_eq, lt-ltb}
-use Rattle.std.proofs.lemmas.List.{length-set, length-map, length-replicate, map-set, get_or-set_same, get_or-set_other}
+use Rattle.std.proofs.lemmas.List.{length-set, length-map, map-set, get_or-set_same, get_or-set_other}
 use Rattle.std.proofs.lemmas.List.Elements.{Contains-append_left, Contains-append_right}
 use Rattle.std.proofs.lemmas.List.Folds.{find_at}
 use Rattle.std.proofs.lemmas.Option.{slice_get_within, slice_get-get_or, get_or_from_slice_get}
@@ -156,22 +156,8 @@ pub number_cut : (c : ℕ) (ps : List Program) (table whole : List ℕ) → tabl
     → min c (number_of ps table m) ≡ min c (number_of ps whole m)
 number_cut c ps table whole e m = ap (λ t. min c (number_of ps t m)) e ∙ cut_found c whole (place_named ps m)
 
-zeros_cut : (c n : ℕ) → replicate n 0 ≡ map (min c) (replicate n 0)
-zeros_cut c zero = refl
-zeros_cut c (suc n) = ap (λ x. x ∷ replicate n 0) (sym (cut_zero c)) ∙ ap (λ xs. min c 0 ∷ xs) (zeros_cut c n)
-
 nowhere : (i : ℕ) (x : ℕ) → slice_get {X = ℕ} [] i ≡ Some x → ⊥
 nowhere i x e = search (rules, e)
-
--- before the first module, each number is 0
-pub filling_begins : (ps : List Program) (order : List ℕ) (n : ℕ) → n ≡ length ps
-    → IsFilled ps (take 0 order) (replicate n 0)
-filling_begins ps order n e = record {
-  whole = replicate n 0;
-  each = length-replicate n 0 ∙ e;
-  cut = zeros_cut TOO_MANY n;
-  right = λ i place p at there. absurd (nowhere i place at);
-}
 
 of_front : (xs : List ℕ) (n i x : ℕ) → slice_get (take n xs) i ≡ Some x → (i < n) × (slice_get xs i ≡ Some x)
 of_front [] zero i x e = absurd (nowhere i x e)

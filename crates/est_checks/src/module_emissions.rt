@@ -77,7 +77,7 @@ fn note_own(
         || is_renamed (map renaming_view renamings.now) s)) noted.old noted.new) }
 {
     if let Some(emitted) = sent.numbers.of_module(name) {
-        noted.add_difference(emitted, &kept.passed_over(renamings)?)?;
+        noted.add_difference(emitted, &kept.hidden_or_renamed(renamings)?)?;
     }
     Ok(())
 }

@@ -13,7 +13,7 @@ use Rattle.est_modules.proofs.Testing.{or_left, or_right, equal_bytes, same_byte
 use Rattle.est_checks.specs.MissingModules.{missing_at}
 use Rattle.est_checks.specs.RecursiveRuns.{HasRun}
 use Rattle.est_order.proofs.OrderPlaces.{each_stands}
-use Rattle.est_link.specs.Inner.Needs.{IsIn}
+use Rattle.est_order.specs.PlaceSets.{IsIn}
 use Rattle.est_link.specs.Inner.Tables.{body_named, has_body, body_found, run_of, bodies_of, IsBodyOf, AreBodiesOf}
 use Rattle.est_link.specs.Inner.Tables.{IsGrown, HasFront, HasBodies}
 use Rattle.est_link.specs.Linking.{links, linked}

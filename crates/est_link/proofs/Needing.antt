@@ -13,7 +13,8 @@ use Rattle.std.specs.List.{slice_get}
 use Rattle.std.specs.Str.{bytes_eq}
 use Rattle.est_checks.specs.RecursiveRuns.{HasRun}
 use Rattle.est_checks.specs.MissingModules.{missing_at}
-use Rattle.est_link.specs.Inner.Needs.{IsIn, with_place, with_places, IsClosed, IsClosedFrom}
+use Rattle.est_order.specs.PlaceSets.{IsIn}
+use Rattle.est_link.specs.Inner.Needs.{with_place, with_places, IsClosed, IsClosedFrom}
 use Rattle.est_link.specs.Inner.Tables.{has_body, HasFront}
 use Rattle.est_link.specs.declared.linked_bodies.LinkedBodies.{LinkedBodies}
 use Rattle.est_modules.specs.Modules.{Program, program_named, first_in_bodies}

@@ -4,7 +4,7 @@ use Rattle.std.proofs.lemmas.Option.{none-some}
 use Rattle.std.proofs.lemmas.List.Quantifiers.{position-Some}
 use Rattle.std.specs.List.{slice_get}
 use Rattle.std.specs.Str.{bytes_eq}
-use Rattle.est_link.specs.Inner.Needs.{IsIn}
+use Rattle.est_order.specs.PlaceSets.{IsIn}
 use Rattle.est_link.specs.Inner.Tables.{has_body, bodies_of, IsBodyOf, AreBodiesOf, HasBodies}
 use Rattle.est_link.specs.declared.linked_bodies.LinkedBodies.{LinkedBodies}
 use Rattle.est_modules.specs.Modules.{Program, program_named}

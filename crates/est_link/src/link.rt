@@ -1,6 +1,6 @@
 //! Linking: a library of modules and the name of its main module give one flat module, or their
 //! first fault.
-ghost use Rattle.std.specs.Prelude.{◌≡◌, None, IfOk, map};
+ghost use Rattle.std.specs.Prelude.{None, IfOk, map};
 ghost use Rattle.est_checks.specs.FirstFaults.{Finds, IsFirstFault};
 ghost use Rattle.est_link.specs.FlatModules.{IsFlatOf, IsLinkOf, flat_of};
 ghost use Rattle.est_modules.specs.Modules.{program_of};

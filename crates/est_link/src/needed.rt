@@ -5,7 +5,8 @@
 //! A set of modules is a row that has for each place whether the module there is in the set.
 ghost use Rattle.std.specs.Prelude.{◌≡◌, ◌<◌, Some, IfOk, false, length, map, slice_index_or};
 ghost use Rattle.std.specs.List.{slice_get};
-ghost use Rattle.est_link.specs.Inner.Needs.{IsIn, IsClosed, with_places};
+ghost use Rattle.est_order.specs.PlaceSets.{IsIn};
+ghost use Rattle.est_link.specs.Inner.Needs.{IsClosed, with_places};
 ghost use Rattle.est_modules.specs.Modules.{Program, program_of};
 ghost use Rattle.est_modules.specs.ModuleOrders.{IsOrderOf, places_run};
 

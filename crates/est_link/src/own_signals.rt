@@ -4,7 +4,6 @@
 //! each run in it comes with a statement more, so at most 4,096 levels are open: the statements of
 //! the main module, with all that it runs, are at most 2,048.
 ghost use Rattle.std.specs.Prelude.{◌≡◌, ◌<◌, ℕ, None, true, false, IfOk, OnOk, get_or, length};
-ghost use Rattle.est_kernel.specs.Term.{Name};
 ghost use Rattle.est_link.specs.Inner.Meant.{body_meant};
 ghost use Rattle.est_link.specs.Inner.OpenBodies.{AreMeaningsKept, AreOwn, AreTestsKept};
 ghost use Rattle.est_link.specs.Inner.OpenBodies.{HaveGrown, IsBodyKept, IsJointKept, IsKept};

@@ -1,8 +1,8 @@
 //! What the signals of a body mean where its module is run.
 ghost use Rattle.std.specs.Prelude.{◌≡◌, IfOk, map};
-ghost use Rattle.est_kernel.specs.Term.{Name};
+ghost use Rattle.est_kernel.specs.Term.{Name, outer};
 ghost use Rattle.est_link.specs.Inner.Meant.{again};
-ghost use Rattle.est_link.specs.Inner.OpenBodies.{meaning_of, meant_by, numbered};
+ghost use Rattle.est_link.specs.Inner.OpenBodies.{meaning_of, meant_by};
 ghost use Rattle.est_reduce.specs.Views.{bound_name as name_view};
 
 use crate::bindings::sum;
@@ -29,7 +29,7 @@ pub struct RunMeanings {
 impl RunMeanings {
     /// What the interface signal at a place means.
     fn outer_meaning(&self, place: u32) -> Meaning
-        ensures { meaning_of result ≡ meant_by self.now (Rattle.est_kernel.specs.Term.outer place) }
+        ensures { meaning_of result ≡ meant_by self.now (outer place) }
     {
         match self.numbers.get(place as usize) {
             Some(Some(number)) => match self.meanings.get(*number as usize) {

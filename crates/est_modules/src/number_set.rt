@@ -37,7 +37,7 @@ impl NumberSet {
         })
     }
 
-    /// The numbers of a word. Behind the last word there are none.
+    /// The numbers of a word. After the last word there are none.
     fn word(&self, place: usize) -> u64
         ensures { result ≡ slice_index self.now.words.items place }
     {

@@ -129,7 +129,7 @@ impl<'a, 'b, 'c> OpenNames<'a, 'b, 'c> {
     /// # Errors
     ///
     /// `AllocError` where memory is refused.
-    pub fn passed_over(&self, renamings: &[Renaming]) -> Result<NumberSet, AllocError>
+    pub fn hidden_or_renamed(&self, renamings: &[Renaming]) -> Result<NumberSet, AllocError>
         requires { IsTable self.now.table.now }
         ensures { IfOk result (λ numbers. (f : List ℕ → Bool) → Tells self.now.table.now f
             self.now.hidden → Tells self.now.table.now (λ s. f s || is_renamed
@@ -158,7 +158,7 @@ impl<'a, 'b, 'c> OpenNames<'a, 'b, 'c> {
             → (s : List ℕ) → stands_in names s ≡ true
             → ((f s || is_renamed (map renaming_view renamings.now) s) || g s) ≡ true) }
     {
-        let passed = self.passed_over(renamings)?;
+        let passed = self.hidden_or_renamed(renamings)?;
         Ok(kept.numbers.is_covered(&passed, others))
     }
 }

@@ -7,7 +7,8 @@ use Rattle.std.proofs.lemmas.List.Sums.{sum_by-cons}
 use Rattle.est_order.specs.RunRows.{IsRun, Leads, once, through, IsRecursive}
 use Rattle.est_order.specs.PlaceOrders.{NoneIsRecursive}
 use Rattle.est_order.specs.Inner.Levels.{AllFall}
-use Rattle.est_order.specs.Inner.Reached.{IsIn, IsReach, IsRankOf, AreRanks, size}
+use Rattle.est_order.specs.PlaceSets.{IsIn}
+use Rattle.est_order.specs.Inner.Reached.{IsReach, IsRankOf, AreRanks, size}
 use Rattle.est_order.proofs.LevelLemmas.{runs_lower_from}
 
 -- what a chain leads to is there

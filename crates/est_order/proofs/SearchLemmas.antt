@@ -10,7 +10,8 @@ use Rattle.std.proofs.lemmas.List.Elements.{Contains-append_left, Contains-appen
 use Rattle.std.proofs.lemmas.List.Elements.{Contains-push, Contains-push_cases}
 use Rattle.std.proofs.lemmas.List.Sums.{sum_by-set}
 use Rattle.est_order.specs.RunRows.{IsRun, Leads, once, through, rows_of}
-use Rattle.est_order.specs.Inner.Reached.{IsIn, IsReach, Search, is_new, visited, followed, left_to_do, IsMet}
+use Rattle.est_order.specs.PlaceSets.{IsIn}
+use Rattle.est_order.specs.Inner.Reached.{IsReach, Search, is_new, visited, followed, left_to_do, IsMet}
 use Rattle.est_order.specs.Inner.Reached.{IsSearching}
 
 -- what following runs leaves and adds

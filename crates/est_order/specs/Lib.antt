@@ -1,3 +1,4 @@
 pub mod Inner
 pub mod PlaceOrders
+pub mod PlaceSets
 pub mod RunRows

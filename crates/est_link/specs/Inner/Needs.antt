@@ -1,13 +1,10 @@
 -- Sets of places of modules, as rows that have for each place whether it is in the set (this project's own form).
-use Rattle.std.specs.Prelude.{◌≡◌, ℕ, ◌<◌, ◌≤◌, Bool, true, false, List, length, slice_index, slice_index_or}
+use Rattle.std.specs.Prelude.{ℕ, ◌<◌, ◌≤◌, Bool, true, List, length, slice_index}
 use Rattle.std.specs.Prelude.{slice_set, nat_lt, if◌then◌else◌, fold}
 use Rattle.est_modules.specs.Modules.{Program}
 use Rattle.est_modules.specs.ModuleOrders.{run_rows}
+use Rattle.est_order.specs.PlaceSets.{IsIn}
 use Rattle.est_order.specs.RunRows.{IsRun}
-
--- the place is in the set
-abbrev pub IsIn : List Bool → ℕ → Type 0
-IsIn set place = slice_index_or set place false ≡ true
 
 -- the set with one place more, if it is a place of the row
 abbrev pub with_place : List Bool → ℕ → List Bool

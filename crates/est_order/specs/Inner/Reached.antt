@@ -1,12 +1,8 @@
--- Sets of places, as a list that has for each place whether it is in the set, and the search for what a module leads
--- to.
+-- The search for what a module leads to.
 use Rattle.std.specs.Prelude.{◌≡◌, ℕ, ◌<◌, ◌⊎◌, ◌↔◌, ◌&&◌, Bool, true, false, not, List, [], ◌∷◌, ◌++◌, if◌then◌else◌}
 use Rattle.std.specs.Prelude.{length, slice_index, slice_index_or, slice_set, nat_lt, ◌+◌, fold, count_by, Contains}
+use Rattle.est_order.specs.PlaceSets.{IsIn}
 use Rattle.est_order.specs.RunRows.{IsRun, Leads}
-
--- the place is in the set
-abbrev pub IsIn : List Bool → ℕ → Type 0
-IsIn set place = slice_index_or set place false ≡ true
 
 -- how many places are in the set
 abbrev pub size : List Bool → ℕ
@@ -40,7 +36,7 @@ followed s row = fold visited s row
 abbrev pub left_to_do : Search → ℕ
 left_to_do s = count_by (λ seen. not seen) s.seen + length s.waiting
 
--- the module leads to so many places
+-- how many places the module leads to
 pub record IsRankOf (rows : List (List ℕ)) (place rank : ℕ) : Type 0 where
   pub set : List Bool
   pub reach : IsReach rows place set

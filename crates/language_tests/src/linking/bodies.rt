@@ -5,7 +5,7 @@ use est_checks::missing_modules::first_missing;
 use est_modules::head_tree::Heads;
 use est_modules::library_heads::heads_of;
 use est_modules::module_order::order_heads;
-use est_reduce::body::{Body, BoundSignal};
+use est_reduce::body::{Body, BoundSignal, BoundTest};
 use link_mistakes::bodies::linked_body;
 use std::alloc::Global;
 use std::process::Abort;
@@ -15,11 +15,13 @@ use std::process::Abort;
 enum Act {
     Emits(BoundSignal),
     Leaves(u32),
+    WaitsFor(BoundSignal),
+    WaitsForTick,
     Another,
 }
 
 /// Libraries whose main module is M, and what the last statement of its body does.
-const LAST_ACTS: [(&str, Act); 7] = [
+const LAST_ACTS: [(&str, Act); 10] = [
     // a local signal that is nearer than the interface
     (
         "module M: output S; signal S in run P end end module module P: output S; \
@@ -48,6 +50,21 @@ const LAST_ACTS: [(&str, Act); 7] = [
          module Q: output S; run R [signal S/T] end module module R: output T; emit T end module",
         Act::Emits(BoundSignal::Outer(1)),
     ),
+    (
+        "module M: signal A in run P end end module module P: signal B in run Q end end module \
+        module Q: signal T in emit T end end module",
+        Act::Emits(BoundSignal::Inner(2)),
+    ),
+    (
+        "module M: input A, B; run P [signal B/S] end module module P: input S; run Q end module \
+        module Q: input R, S; await S end module",
+        Act::WaitsFor(BoundSignal::Outer(1)),
+    ),
+    (
+        "module M: input A; run P end module module P: input A; run Q [signal tick/S] end module \
+        module Q: input S; await S end module",
+        Act::WaitsForTick,
+    ),
     // traps between an exit and its trap
     (
         "module M: trap T in trap U in signal A in exit T end end end end module",
@@ -61,6 +78,11 @@ fn last_act(body: &Body) -> Act {
     match body {
         Body::Emit(signal) => Act::Emits(*signal),
         Body::Exit(trap) => Act::Leaves(*trap),
+        Body::Await(wait) => match &wait.test {
+            BoundTest::Of(signal) => Act::WaitsFor(*signal),
+            BoundTest::Tick => Act::WaitsForTick,
+            _ => Act::Another,
+        },
         Body::Signal(_, inner) | Body::Trap(inner) | Body::Seq(_, inner) => last_act(inner),
         _ => Act::Another,
     }

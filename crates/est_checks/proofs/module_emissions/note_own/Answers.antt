@@ -22,9 +22,9 @@ returns-in_ok-add_difference c q found i =
     let passed = λ (s : List ℕ). is_local bs s || is_renamed rs s in
     let old = numbers_of c.args.noted.now i in
     c.in_ok-add_difference.ensures i
-    ∙ ap (λ b. old || (b && not (numbers_of c.in_ok-passed_over.field-0 i)))
+    ∙ ap (λ b. old || (b && not (numbers_of c.in_ok-hidden_or_renamed.field-0 i)))
     (c.in-Some.ensures i ∙ c.requires.0.1 c.args.name.now q found i)
-    ∙ ap (λ b. old || (is_number_of t own i && not b)) (c.in_ok-passed_over.ensures (is_local bs) c.requires.2 i)
+    ∙ ap (λ b. old || (is_number_of t own i && not b)) (c.in_ok-hidden_or_renamed.ensures (is_local bs) c.requires.2 i)
     ∙ ap (λ b. old || b) (passes_without own passed (slice_get t.names.items i))
 
 pub returns-in_default : goal.returns-in_default

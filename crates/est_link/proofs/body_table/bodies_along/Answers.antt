@@ -7,7 +7,7 @@ use Rattle.est_modules.specs.Modules.{program_of}
 use Rattle.est_modules.proofs.Standing.{order_within, program_at}
 use Rattle.est_link.proofs.Made.{bodies_more, front_more, front_past, front_whole}
 use Rattle.est_link.proofs.Needing.{next_ready}
-use Rattle.est_link.specs.Inner.Needs.{IsIn}
+use Rattle.est_order.specs.PlaceSets.{IsIn}
 use Rattle.est_link.specs.Inner.Tables.{AreBodiesOf, HasFront}
 use Rattle.est_link.proofs.body_table.bodies_along.Goals.{then-is_in+in_ok-add_body, else-is_in}
 use Rattle.est_link.proofs.body_table.bodies_along.Goals as goal

@@ -4,7 +4,8 @@ use Rattle.std.proofs.lemmas.Option.{slice_get_within}
 use Rattle.std.proofs.lemmas.Result.{IfOk-weaker}
 use Rattle.est_link.specs.Bodies.{HasSoundNames}
 use Rattle.est_link.specs.Linking.{IsLinked}
-use Rattle.est_link.specs.Inner.Needs.{IsIn, IsClosed}
+use Rattle.est_order.specs.PlaceSets.{IsIn}
+use Rattle.est_link.specs.Inner.Needs.{IsClosed}
 use Rattle.est_link.specs.Inner.Tables.{bodies_of}
 use Rattle.est_link.specs.MainModule.{declarations_of}
 use Rattle.est_modules.specs.Modules.{Program, program_of, program_named}

@@ -1,7 +1,8 @@
 use Rattle.std.proofs.Common.{◌≡◌, ◌∙◌, ◌<◌, ◌+◌, ◌-◌, List, Bool, false, true, sym, ap, subst, map, length, replicate}
 use Rattle.std.proofs.Common.{slice_index, slice_index_or, slice_set, arith}
 use Rattle.std.proofs.lemmas.List.{length-map, length-replicate}
-use Rattle.est_link.specs.Inner.Needs.{IsIn, IsClosedFrom, with_places}
+use Rattle.est_order.specs.PlaceSets.{IsIn}
+use Rattle.est_link.specs.Inner.Needs.{IsClosedFrom, with_places}
 use Rattle.est_modules.specs.Modules.{program_of}
 use Rattle.est_modules.specs.ModuleOrders.{places_run}
 use Rattle.est_modules.specs.declared.head.Head.{Head}

@@ -1,6 +1,7 @@
 use Rattle.std.proofs.Common.{◌≡◌, ◌≤◌, length, map}
 use Rattle.est_modules.specs.Modules.{program_of}
-use Rattle.est_link.specs.Inner.Needs.{IsIn, IsClosedFrom}
+use Rattle.est_order.specs.PlaceSets.{IsIn}
+use Rattle.est_link.specs.Inner.Needs.{IsClosedFrom}
 use Rattle.est_link.proofs.needed.needed_places.Given as goal
 
 abbrev pub invariant-loop-left : goal.invariant-loop-left

@@ -2,7 +2,7 @@ use Rattle.std.proofs.Common.{map}
 use Rattle.est_syntax.specs.Views.{renaming_view}
 use Rattle.est_modules.specs.Renamings.{is_renamed}
 use Rattle.est_modules.proofs.TellingNumbers.{tells_put}
-use Rattle.est_modules.proofs.open_names.OpenNames.passed_over.Goals as goal
+use Rattle.est_modules.proofs.open_names.OpenNames.hidden_or_renamed.Goals as goal
 
 pub returns : goal.returns
 returns c f tells =
