@@ -54,8 +54,8 @@ pub run_again : (g : Name → Meant) (l : ℕ) → ((k : ℕ) → g (inner k) �
     → meaning_of new.other ≡ again g (meaning_of old.other) → new.locals ≡ l + old.locals
     → (n : Name) → meant_by new n ≡ again g (meant_by old n)
 run_again g l locals old new numbers meanings other around (outer i) =
-    ap (λ (ns : List (Option ℕ)). numbered (get_or ns i None) (map meaning_of new.meanings.items) (meaning_of new.other))
-    numbers
+    ap (λ (ns : List (Option ℕ)).
+    numbered (get_or ns i None) (map meaning_of new.meanings.items) (meaning_of new.other)) numbers
     ∙ numbered_again g (get_or old.numbers.value.items i None) old.meanings.items (map meaning_of new.meanings.items)
     (meaning_of old.other) (meaning_of new.other) meanings other
 run_again g l locals old new numbers meanings other around (inner k) =

@@ -1,7 +1,7 @@
 -- The interface signals that a body has.
-use Rattle.std.proofs.Common.{◌≡◌, ◌≢◌, ◌<◌, inl, inr, ℕ, zero, suc, ◌+◌, Bool, true, false, List, [], ◌∷◌, ◌++◌, length, map}
-use Rattle.std.proofs.Common.{get_or, get_or-set_same, get_or-set_other, replicate, slice_set, Option, Some, None}
-use Rattle.std.proofs.Common.{if◌then◌else◌, refl, ap, sym, ◌∙◌, subst, arith}
+use Rattle.std.proofs.Common.{◌≡◌, ◌≢◌, ◌<◌, inl, inr, ℕ, zero, suc, ◌+◌, Bool, true, false, List, [], ◌∷◌, ◌++◌}
+use Rattle.std.proofs.Common.{length, map, get_or, get_or-set_same, get_or-set_other, replicate, slice_set, Option, Some}
+use Rattle.std.proofs.Common.{None, if◌then◌else◌, refl, ap, sym, ◌∙◌, subst, arith}
 use Rattle.std.proofs.lemmas.Bool.{cases_eq, false≢true}
 use Rattle.std.proofs.lemmas.List.{get_or_append_left, get_or_push, length-map, length_push, map_push}
 use Rattle.std.specs.Prelude.{is_some}
@@ -50,12 +50,14 @@ more_numbers rooms place n = slice_set rooms place (Some n)
 
 -- each still means itself
 pub own_more : (old : OwnSignals) (rooms : List (Option ℕ)) (place n : ℕ) (m : Meaning) (new : OwnSignals)
-    → n ≡ length old.meanings.items → place < length rooms → ((k : ℕ) → get_or rooms k None ≡ get_or old.numbers.items k None)
+    → n ≡ length old.meanings.items → place < length rooms
+    → ((k : ℕ) → get_or rooms k None ≡ get_or old.numbers.items k None)
     → new.numbers.items ≡ more_numbers rooms place n → new.meanings.items ≡ old.meanings.items ++ m ∷ []
     → meaning_of m ≡ itself (outer place) → AreOwn old → AreOwn new
 own_more old rooms place n m new next room same numbers meanings means are =
     let ms = old.meanings.items in
-    let longer : length new.meanings.items ≡ length ms + 1 = ap (λ (xs : List Meaning). length xs) meanings ∙ length_push ms m in
+    let longer : length new.meanings.items ≡ length ms + 1 =
+    ap (λ (xs : List Meaning). length xs) meanings ∙ length_push ms m in
     let listed : map meaning_of new.meanings.items ≡ map meaning_of ms ++ meaning_of m ∷ [] =
     ap (map meaning_of) meanings ∙ map_push meaning_of ms m in
     let now : (i k : ℕ) → get_or new.numbers.items i None ≡ Some k

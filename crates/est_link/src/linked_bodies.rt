@@ -1,5 +1,6 @@
 //! The flat bodies of modules, by the names of the modules.
-ghost use Rattle.std.specs.Prelude.{◌≡◌, ℕ, List, Some, None, IfOk, OnOk, option_map, if◌then◌else◌};
+ghost use Rattle.std.specs.Prelude.{◌≡◌, ℕ, List, Some, None, IfOk, OnOk, option_map};
+ghost use Rattle.std.specs.Prelude.{if◌then◌else◌};
 ghost use Rattle.std.specs.Str.{bytes_eq};
 ghost use Rattle.est_link.specs.Inner.OpenBodies.{closed_of};
 ghost use Rattle.est_link.specs.Inner.Tables.{bodies_of, body_named, run_of};

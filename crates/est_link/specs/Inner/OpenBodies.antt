@@ -1,5 +1,6 @@
 -- The flat bodies that open bodies of the code are (this project's own form).
-use Rattle.std.specs.Prelude.{◌≡◌, ◌<◌, ℕ, ◌+◌, Bool, true, List, length, map, get_or, Option, Some, None, is_some, if◌then◌else◌}
+use Rattle.std.specs.Prelude.{◌≡◌, ◌<◌, ℕ, ◌+◌, Bool, true, List, length, map, get_or, Option, Some, None, is_some}
+use Rattle.std.specs.Prelude.{if◌then◌else◌}
 use Rattle.est_kernel.specs.Term.{Name, outer, inner, Query, tick, of, Joint}
 use Rattle.est_link.specs.Inner.Meant.{Meant, itself, query_meant, queries_meant, body_meant, again}
 use Rattle.est_link.specs.Inner.Watches.{watched}
@@ -10,8 +11,8 @@ use Rattle.est_link.specs.declared.open_body.OpenBody.TheVariants.{Present', Wat
 use Rattle.est_link.specs.declared.open_body.OpenBody.TheVariants.{Seq', Par', Run'}
 use Rattle.est_link.specs.declared.own_signals.OwnSignals.{OwnSignals}
 use Rattle.est_link.specs.declared.run_meanings.RunMeanings.{RunMeanings}
-use Rattle.est_reduce.specs.Bodies.{Body, nothing, pause, halt, emit, sustain, exit, await, present, repeat, repeat_each}
-use Rattle.est_reduce.specs.Bodies.{trap, signal, seq, par}
+use Rattle.est_reduce.specs.Bodies.{Body, nothing, pause, halt, emit, sustain, exit, await, present, repeat}
+use Rattle.est_reduce.specs.Bodies.{repeat_each, trap, signal, seq, par}
 use Rattle.est_reduce.specs.Views.{bound_name, bound_query}
 use Rattle.est_reduce.specs.declared.body.BoundTest.{BoundTest}
 
@@ -26,7 +27,8 @@ numbered (Some k) ms other = get_or ms k other
 
 -- what the signals of a body mean
 abbrev pub meant_by : RunMeanings → Name → Meant
-meant_by r (outer i) = numbered (get_or r.numbers.value.items i None) (map meaning_of r.meanings.items) (meaning_of r.other)
+meant_by r (outer i) =
+    numbered (get_or r.numbers.value.items i None) (map meaning_of r.meanings.items) (meaning_of r.other)
 meant_by r (inner k) = itself (inner (r.locals + k))
 
 -- the body, its runs replaced

@@ -11,7 +11,7 @@ close-returns-in-Run t c =
     let run = c.in-Run.run' in
     let g = meant_by c.args.at.now.meanings.now in
     let is : body_meant (meant_by run) (closed_of c.deref-in-Run.result.now) ≡ closed_of c.args.body.now =
-    ap (λ (p : OpenBody). body_meant (meant_by run) (closed_of p)) c.deref-in-Run.ensures ∙ ap closed_of (sym c.in-Run.is)
-    in
+    ap (λ (p : OpenBody). body_meant (meant_by run) (closed_of p)) c.deref-in-Run.ensures
+    ∙ ap closed_of (sym c.in-Run.is) in
     let P : FlatTerm → Type 0 = λ x. IfOk c.close_run.result (λ b. body_of b ≡ body_meant g x) in
     subst P is c.close_run.ensures
