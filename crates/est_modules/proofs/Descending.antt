@@ -14,8 +14,8 @@ use Rattle.est_modules.specs.Occurrences.{Occurrence, occurrences}
 use Rattle.est_modules.specs.ModuleOrders.{run_rows, places_run}
 use Rattle.est_modules.proofs.Standing.{found_place}
 use Rattle.est_modules.proofs.Ordering.{IsRunOf, run_is_run}
-use Rattle.est_order.specs.Inner.Reached.{IsIn}
 use Rattle.est_order.specs.PlaceOrders.{NoneIsRecursive}
+use Rattle.est_order.specs.PlaceSets.{IsIn}
 use Rattle.est_order.specs.RunRows.{IsRun, Leads, once}
 use Rattle.est_order.proofs.SearchLemmas.{extended, in_bounds}
 
