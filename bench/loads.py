@@ -204,6 +204,20 @@ def signals_before_a_run(line, names):
     return line.filled("module M:", f"signal {names[0]} in nothing end;", end)
 
 
+def test_inside_signal(line, words):
+    """A test of as many names, which all are one input, inside a `signal` of as many names as the line has room for."""
+    test = " or ".join(["z"] * words)
+    head, end = "module M:input z;signal ", f" in await {test} end end module"
+    return head + ",".join(short_names(MOST_BYTES, line.room - len(head) - len(end))) + end
+
+
+def runs_inside_signal(line, runs):
+    """Runs of a module of two inputs, inside a `signal` of as many names as the line has room for."""
+    head = "module N:input a,b;await b end module module M:input a,b;signal "
+    end = " in " + ";".join(["run N"] * runs) + " end end module"
+    return head + ",".join(short_names(MOST_BYTES, line.room - len(head) - len(end))) + end
+
+
 def inside_signal(line, names):
     """A module that runs another inside a `signal` that declares all its outputs."""
     listed = ",".join(names)
@@ -229,6 +243,8 @@ def texts(line):
     some = ",".join(names[2000])
     few = ",".join(names[500])
     return (
+        ("a test of 2,047 names inside a `signal` of 14,600", test_inside_signal(line, line.of(2047)), "TooLarge(Locals)"),
+        ("1,023 runs inside a `signal` of 15,000 names", runs_inside_signal(line, line.of(1023)), "TooLarge(Locals)"),
         ("1,500 modules in a chain, run 1,000 times", passing_on(line.of(1500), 1).replace("module M:run", f"module M:{'run a;' * line.of(1000)}run", 1), "a kernel of 0 signals"),
         ("1,280 modules in a chain, each of which suspends the next", suspending(line.of(1280)), "a kernel of 1 signals"),
         ("228 modules of 128 nested brackets that run one another", chain(line.of(228), "[" * 128, "]" * 128, "pause"), "a kernel of 0 signals"),

@@ -57,7 +57,7 @@ KEYWORDS = frozenset(
 PIECES = re.compile(r"(%\{.*?\}%|%[^\n]*|[ \t\r\n\f]+)|\|\||=>|[:;,/\[\]()#]|\w+", re.DOTALL)
 TOKENS = [piece for piece in PIECES.finditer(WHOLE) if piece[1] is None]
 
-STATEMENTS, SIGNALS, RELATIONS = (refused(79, limit=limit) for limit in ("statements", "signals", "relations"))
+STATEMENTS, SIGNALS, RELATIONS, LOOPS = (refused(79, limit=limit) for limit in ("statements", "signals", "relations", "loops"))
 
 
 def load(text, main="M"):
@@ -225,10 +225,11 @@ class Texts(unittest.TestCase):
         self.refuse(chain(16, "input I;" + "suspend " * 128, " when I" * 128, "pause"), STATEMENTS)
 
     def test_long_chains(self):
-        """As many modules as a line can hold that run one another: a chain, a ring, and a chain whose end runs itself."""
+        """As many modules as a line can hold that run one another: chains, with a loop around each run too, a ring, and a chain whose end runs itself."""
         self.accept(chain(1600, "", "", "pause"))
         self.refuse(chain(1600, "", "", "run M"), refused(73, name="M"))
         self.refuse(chain(1600, "", "", "run M1599"), refused(73, name="M1599"))
+        self.refuse(chain(1450, "loop ", " end", "pause"), LOOPS)
 
     def test_many_names(self):
         """As many names, renamings and runs of one module as a line can hold."""

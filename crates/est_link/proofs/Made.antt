@@ -14,29 +14,29 @@ use Rattle.est_checks.specs.MissingModules.{missing_at}
 use Rattle.est_checks.specs.RecursiveRuns.{HasRun}
 use Rattle.est_order.proofs.OrderPlaces.{each_stands}
 use Rattle.est_order.specs.PlaceSets.{IsIn}
-use Rattle.est_link.specs.Inner.Tables.{body_named, has_body, body_found, run_of, bodies_of, IsBodyOf, AreBodiesOf}
-use Rattle.est_link.specs.Inner.Tables.{IsGrown, HasFront, HasBodies}
+use Rattle.est_link.specs.Inner.Tables.{body_named, has_body, body_found, module_body_of, bodies_of, IsBodyOf}
+use Rattle.est_link.specs.Inner.Tables.{AreBodiesOf, IsGrown, HasFront, HasBodies}
 use Rattle.est_link.specs.Linking.{links, linked}
-use Rattle.est_link.specs.declared.linked_bodies.LinkedBodies.{LinkedBodies}
-use Rattle.est_link.specs.declared.linked_bodies.LinkedBody.{LinkedBody}
+use Rattle.est_link.specs.declared.module_bodies.ModuleBodies.{ModuleBodies}
+use Rattle.est_link.specs.declared.module_bodies.ModuleBody.{ModuleBody}
 use Rattle.est_link.proofs.Bounding.{IsSound, body_bound}
 use Rattle.est_link.proofs.RunModules.{run_there}
 use Rattle.est_reduce.specs.Bodies.{Body}
 
 -- ---- one body more
 
-has_either : (b : Bool) (f : LinkedBody) (o : Option LinkedBody) → is_some (if b then Some f else o) ≡ (b || is_some o)
+has_either : (b : Bool) (f : ModuleBody) (o : Option ModuleBody) → is_some (if b then Some f else o) ≡ (b || is_some o)
 has_either true f o = refl
 has_either false f o = refl
 
-found_either : (b : Bool) (f : LinkedBody) (o : Option LinkedBody)
-    → body_found (if b then Some f else o) ≡ (if b then run_of f else body_found o)
+found_either : (b : Bool) (f : ModuleBody) (o : Option ModuleBody)
+    → body_found (if b then Some f else o) ≡ (if b then module_body_of f else body_found o)
 found_either true f o = refl
 found_either false f o = refl
 
 -- a table to which a module's body is added
-pub grown : (ps : List Program) (old : LinkedBodies) (p : Program) (f : LinkedBody) (new : LinkedBodies)
-    → run_of f ≡ linked ps (bodies_of old) p [] p.body
+pub grown : (ps : List Program) (old : ModuleBodies) (p : Program) (f : ModuleBody) (new : ModuleBodies)
+    → module_body_of f ≡ linked ps (bodies_of old) p [] p.body
     → ((m : List ℕ) → body_named new m ≡ (if bytes_eq p.name m then Some f else body_named old m))
     → IsGrown ps old p new
 grown ps old p f new is said = record {
@@ -48,7 +48,7 @@ grown ps old p f new is said = record {
 -- ---- each body is that of its module
 
 -- the body that a module's text gives by a table which has those of the modules that it runs
-made : (ps : List Program) → first_in_bodies (missing_at ps) ps ≡ None → (t : LinkedBodies) (m : List ℕ) (p : Program)
+made : (ps : List Program) → first_in_bodies (missing_at ps) ps ≡ None → (t : ModuleBodies) (m : List ℕ) (p : Program)
     → AreBodiesOf ps t → program_named ps m ≡ Some p → ((n : List ℕ) → HasRun ps m n → has_body t n ≡ true)
     → IsBodyOf ps m p (linked ps (bodies_of t) p [] p.body)
 made ps there t m p are found ready =
@@ -71,8 +71,8 @@ one_of ps m p q f g true c e named found new old has =
     subst (λ r. IsBodyOf ps m r f) module_of (subst (λ n. IsBodyOf ps n p f) same new)
 one_of ps m p q f g false c e named found new old has = old has
 
-pub bodies_more : (ps : List Program) → first_in_bodies (missing_at ps) ps ≡ None → (old : LinkedBodies) (p : Program)
-    (new : LinkedBodies) → IsGrown ps old p new → program_named ps p.name ≡ Some p
+pub bodies_more : (ps : List Program) → first_in_bodies (missing_at ps) ps ≡ None → (old : ModuleBodies) (p : Program)
+    (new : ModuleBodies) → IsGrown ps old p new → program_named ps p.name ≡ Some p
     → ((n : List ℕ) → HasRun ps p.name n → has_body old n ≡ true) → AreBodiesOf ps old → AreBodiesOf ps new
 bodies_more ps there old p new more named ready are m q found has =
     subst (IsBodyOf ps m q) (sym (more.bodies m))
@@ -81,8 +81,8 @@ bodies_more ps there old p new more named ready are m q found has =
 
 -- ---- along an order
 
-pub front_more : (ps : List Program) (order : List ℕ) (set : List Bool) (old : LinkedBodies) (p : Program)
-    (new : LinkedBodies) (k : ℕ) → IsGrown ps old p new → slice_get ps (slice_index order k) ≡ Some p
+pub front_more : (ps : List Program) (order : List ℕ) (set : List Bool) (old : ModuleBodies) (p : Program)
+    (new : ModuleBodies) (k : ℕ) → IsGrown ps old p new → slice_get ps (slice_index order k) ≡ Some p
     → HasFront ps set order k old → HasFront ps set order (k + 1) new
 front_more ps order set old p new k more at front i lt has q here = elim (cases_lt i k) [
   | inl before ↦ more.has q.name
@@ -95,7 +95,7 @@ front_more ps order set old p new k more at front i lt has q here = elim (cases_
       (ap (λ (r : Program). bytes_eq r.name q.name) same ∙ equal_bytes q.name)
 ]
 
-pub front_past : (ps : List Program) (order : List ℕ) (set : List Bool) (t : LinkedBodies) (k : ℕ)
+pub front_past : (ps : List Program) (order : List ℕ) (set : List Bool) (t : ModuleBodies) (k : ℕ)
     → slice_index_or set (slice_index order k) false ≡ false → HasFront ps set order k t
     → HasFront ps set order (k + 1) t
 front_past ps order set t k absent front i lt has q here = elim (cases_lt i k) [
@@ -105,7 +105,7 @@ front_past ps order set t k absent front i lt has q here = elim (cases_lt i k) [
       absurd (false≢true (sym absent ∙ subst (λ j. IsIn set (slice_index order j)) last has))
 ]
 
-pub front_whole : (ps : List Program) (order : List ℕ) (set : List Bool) (t : LinkedBodies) (n : ℕ)
+pub front_whole : (ps : List Program) (order : List ℕ) (set : List Bool) (t : ModuleBodies) (n : ℕ)
     → IsOrderOf ps order → length order ≤ n → HasFront ps set order n t → HasBodies ps set t
 front_whole ps order set t n up whole front place has p at =
     let there : place < length (run_rows ps) =

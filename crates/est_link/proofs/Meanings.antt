@@ -7,7 +7,7 @@ use Rattle.est_link.specs.Inner.Meant.{Meant, itself, query_meant, queries_meant
 use Rattle.est_link.specs.Inner.OpenBodies.{meaning_of, numbered, meant_by}
 use Rattle.est_link.specs.Linking.{body_in_run, query_in_run, queries_in_run}
 use Rattle.est_link.specs.declared.meaning.Meaning.{Meaning}
-use Rattle.est_link.specs.declared.run_meanings.RunMeanings.{RunMeanings}
+use Rattle.est_link.specs.declared.signal_meanings.SignalMeanings.{SignalMeanings}
 use Rattle.est_reduce.specs.Bodies.{Body, nothing, pause, halt, emit, sustain, exit, await, present, suspend, abort}
 use Rattle.est_reduce.specs.Bodies.{weak_abort, repeat, repeat_each, every, trap, signal, seq, par}
 use Rattle.est_reduce.specs.Views.{bound_name, bound_query}
@@ -49,7 +49,7 @@ numbered_again g (Some k) xs ys x y h e =
 
 -- the meanings of a run where signals mean what g says, inside l local signals
 pub run_again : (g : Name → Meant) (l : ℕ) → ((k : ℕ) → g (inner k) ≡ itself (inner (l + k)))
-    → (old new : RunMeanings) → new.numbers.value.items ≡ old.numbers.value.items
+    → (old new : SignalMeanings) → new.numbers.value.items ≡ old.numbers.value.items
     → map meaning_of new.meanings.items ≡ map (λ (m : Meaning). again g (meaning_of m)) old.meanings.items
     → meaning_of new.other ≡ again g (meaning_of old.other) → new.locals ≡ l + old.locals
     → (n : Name) → meant_by new n ≡ again g (meant_by old n)

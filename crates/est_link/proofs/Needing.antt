@@ -16,7 +16,7 @@ use Rattle.est_checks.specs.MissingModules.{missing_at}
 use Rattle.est_order.specs.PlaceSets.{IsIn}
 use Rattle.est_link.specs.Inner.Needs.{with_place, with_places, IsClosed, IsClosedFrom}
 use Rattle.est_link.specs.Inner.Tables.{has_body, HasFront}
-use Rattle.est_link.specs.declared.linked_bodies.LinkedBodies.{LinkedBodies}
+use Rattle.est_link.specs.declared.module_bodies.ModuleBodies.{ModuleBodies}
 use Rattle.est_modules.specs.Modules.{Program, program_named, first_in_bodies}
 use Rattle.est_modules.specs.Occurrences.{runs, Occurrence, occurrences, first_of}
 use Rattle.est_modules.specs.ModuleOrders.{IsOrderOf, run_rows, places_run}
@@ -163,7 +163,7 @@ closed_whole ps order set up closed runner to has is = elim (cases_lt runner (le
 -- ---- what is made before a module
 
 -- the bodies of the modules that the next one runs are there
-run_made : (ps : List Program) (order : List ℕ) (set : List Bool) (t : LinkedBodies) (k : ℕ) (p : Program)
+run_made : (ps : List Program) (order : List ℕ) (set : List Bool) (t : ModuleBodies) (k : ℕ) (p : Program)
     → IsOrderOf ps order → IsClosed ps set → first_in_bodies (missing_at ps) ps ≡ None → HasFront ps set order k t
     → k < length order → IsIn set (slice_index order k) → slice_get ps (slice_index order k) ≡ Some p
     → (o : Occurrence) → Contains (occurrences [] p.body) o → (m : List ℕ) → IsRunOf o.act m → has_body t m ≡ true
@@ -186,7 +186,7 @@ run_made ps order set t k p up closed there front lt has at o stands m is_run =
     (sym (same_bytes found.0.name m (found_passes (λ (p : Program). bytes_eq p.name m) ps found.0 found.1)))
     ∙ made
 
-pub next_ready : (ps : List Program) (order : List ℕ) (set : List Bool) (t : LinkedBodies) (k : ℕ) (p : Program)
+pub next_ready : (ps : List Program) (order : List ℕ) (set : List Bool) (t : ModuleBodies) (k : ℕ) (p : Program)
     → IsOrderOf ps order → IsClosed ps set → first_in_bodies (missing_at ps) ps ≡ None → HasFront ps set order k t
     → k < length order → IsIn set (slice_index order k) → slice_get ps (slice_index order k) ≡ Some p
     → program_named ps p.name ≡ Some p → (n : List ℕ) → HasRun ps p.name n → has_body t n ≡ true

@@ -6,7 +6,7 @@ use Rattle.std.specs.List.{slice_get}
 use Rattle.std.specs.Str.{bytes_eq}
 use Rattle.est_order.specs.PlaceSets.{IsIn}
 use Rattle.est_link.specs.Inner.Tables.{has_body, bodies_of, IsBodyOf, AreBodiesOf, HasBodies}
-use Rattle.est_link.specs.declared.linked_bodies.LinkedBodies.{LinkedBodies}
+use Rattle.est_link.specs.declared.module_bodies.ModuleBodies.{ModuleBodies}
 use Rattle.est_modules.specs.Modules.{Program, program_named}
 use Rattle.est_modules.specs.ModuleOrders.{place_named}
 use Rattle.est_checks.specs.MissingModules.{first_missing, missing_from}
@@ -29,7 +29,7 @@ placed (q ∷ qs) main place at =
     record { home = here.0; at = here.1; found = sym (got_found is (q ∷ qs) place (sym at)) ∙ here.1 }
 
 -- the table has main's body
-pub main_body : (ps : List Program) (set : List Bool) (t : LinkedBodies) (main : List ℕ) (place : ℕ)
+pub main_body : (ps : List Program) (set : List Bool) (t : ModuleBodies) (main : List ℕ) (place : ℕ)
     → AreBodiesOf ps t → HasBodies ps set t → IsIn set place → Some place ≡ place_named ps main → (p : Program)
     → program_named ps main ≡ Some p → IsBodyOf ps main p (bodies_of t main)
 main_body ps set t main place right each has at p found =

@@ -1,5 +1,5 @@
 //! What names mean at a place in a module: the number of a binder, or a place in the interface.
-ghost use Rattle.std.specs.Prelude.{◌≡◌, ◌+◌, ◌∷◌, IfOk, length, get_or};
+ghost use Rattle.std.specs.Prelude.{◌≡◌, ◌∷◌, IfOk, get_or, length};
 ghost use Rattle.std.specs.List.{position};
 ghost use Rattle.std.specs.Str.{bytes_eq};
 ghost use Rattle.est_kernel.specs.Term.{tick};
@@ -12,6 +12,7 @@ ghost use Rattle.est_link.specs.Linking.{locals_around, signal_at, trap_at, of_i
 ghost use Rattle.est_link.specs.Inner.Binds.{binding_of};
 
 use crate::meaning::Meaning;
+use crate::numbers::{small, sum};
 use est_modules::head::{Declared, Head, Interface};
 use est_modules::renamings::RunRenamings;
 use est_modules::scope::Scope;
@@ -23,7 +24,7 @@ use std::alloc::{AllocError, Global};
 /// A `run`: the place where it stands, its renamings, and the interface of the module that is run.
 #[derive(Clone, Copy)]
 pub struct Binding<'a, 'b, 'c> {
-    /// Where memory for what it is replaced by is taken.
+    /// Where memory for its meanings is taken.
     pub alloc: Global,
     /// The module in whose body the `run` stands.
     pub home: &'a Head<'b>,
@@ -35,27 +36,6 @@ pub struct Binding<'a, 'b, 'c> {
     pub renamings: &'a RunRenamings<'c>,
     /// The interface of the module that is run.
     pub interface: &'a [Declared],
-}
-
-/// A number in 32 bits. A larger one would need a list of 2^32 names in memory. It is answered as
-/// want of memory.
-pub fn small(number: usize) -> Result<u32, AllocError>
-    ensures { IfOk result (λ n. n ≡ number) }
-{
-    match u32::try_from(number) {
-        Ok(small) => Ok(small),
-        Err(_) => Err(AllocError),
-    }
-}
-
-/// A sum in 32 bits, answered as `small` answers.
-pub fn sum(first: u32, second: u32) -> Result<u32, AllocError>
-    ensures { IfOk result (λ n. n ≡ first + second) }
-{
-    match first.checked_add(second) {
-        Some(sum) => Ok(sum),
-        None => Err(AllocError),
-    }
 }
 
 /// How many names there are.
@@ -72,7 +52,7 @@ fn place_among(names: &[Identifier], name: &Identifier) -> Option<usize>
     names.iter().position(|other| other.is(name))
 }
 
-/// The place of a name among those of a `signal`.
+/// The place of a name among those of a `signal`. It goes through them all.
 #[tactic(auto, using(est_modules::proofs::Positions::position_cons))]
 fn place_of(names: &Names, name: &Identifier) -> Result<Option<u32>, AllocError>
     ensures { IfOk result (λ p. p ≡ position (λ n. bytes_eq n name.now) (names.now.first ∷
@@ -87,7 +67,7 @@ fn place_of(names: &Names, name: &Identifier) -> Result<Option<u32>, AllocError>
     }
 }
 
-/// The interface signal of a name.
+/// The interface signal of a name, or `tick` if it has none.
 fn interface_signal(interface: &Interface<'_>, name: &Identifier) -> Result<Meaning, AllocError>
     ensures { IfOk result (λ m. meaning_of m ≡ meant (of_interface (position
         (λ d. bytes_eq d.name name.now) interface.now))) }
@@ -151,8 +131,8 @@ pub fn trap_at(scope: &Scope<'_>, name: &Identifier) -> Result<u32, AllocError>
     }
 }
 
-/// The signal that an interface signal of the module that is run stands for. Only names that are
-/// met are looked up.
+/// The signal that an interface signal of the module that is run stands for. It is asked once for
+/// each listed signal of a run.
 fn interface_bound(binding: &Binding<'_, '_, '_>, index: u32) -> Result<Meaning, AllocError>
     ensures { IfOk result (λ m. meaning_of m ≡ meant (get_or (binding_of binding.now) index
         tick)) }

@@ -1,4 +1,4 @@
-//! The flat bodies of main and of the modules that it runs, worked out bottom-up.
+//! The bodies of main and of the modules that it runs, worked out bottom-up.
 ghost use Rattle.std.specs.Prelude.{◌≡◌, ◌<◌, [], Some, None, IfOk, OnOk, length, map};
 ghost use Rattle.std.specs.List.{slice_get};
 ghost use Rattle.est_checks.specs.Duplicates.{first_duplicate};
@@ -6,12 +6,13 @@ ghost use Rattle.est_checks.specs.MissingModules.{missing_at};
 ghost use Rattle.est_link.specs.Linking.{linked};
 ghost use Rattle.est_link.specs.Inner.Needs.{IsClosed};
 ghost use Rattle.est_link.specs.Inner.OpenBodies.{closed_of};
-ghost use Rattle.est_link.specs.Inner.Tables.{AreBodiesOf, HasBodies, IsGrown, bodies_of, run_of};
+ghost use Rattle.est_link.specs.Inner.Tables.{AreBodiesOf, HasBodies, IsGrown, bodies_of};
+ghost use Rattle.est_link.specs.Inner.Tables.{module_body_of};
 ghost use Rattle.est_modules.specs.Modules.{Program, program_of, first_in_bodies};
 ghost use Rattle.est_modules.specs.ModuleOrders.{IsOrderOf};
 
 use crate::flatten::{Linker, Place, flat_statement};
-use crate::linked_bodies::{LinkedBodies, LinkedBody};
+use crate::module_bodies::{ModuleBodies, ModuleBody};
 use crate::needed::is_in;
 use crate::open_body::OpenBody;
 use est_modules::head::Head;
@@ -19,7 +20,7 @@ use est_modules::head_tree::Heads;
 use est_modules::scope::Scope;
 use std::alloc::{AllocError, Global};
 
-/// The flat body of the module of a linker.
+/// The open body of the module of a linker.
 fn whole_body(linker: &Linker<'_, '_, '_>) -> Result<OpenBody, AllocError>
     ensures { IfOk result (λ b. closed_of b ≡ linked (map program_of linker.now.heads.now)
         (bodies_of linker.now.bodies.now) (program_of linker.now.home.now) []
@@ -32,14 +33,14 @@ fn whole_body(linker: &Linker<'_, '_, '_>) -> Result<OpenBody, AllocError>
     flat_statement(&whole, linker.home.body)
 }
 
-/// The flat body of a module, by those of the modules that it runs.
+/// The body of a module, by those of the modules that it runs.
 fn body_by<'a, 'b>(
     alloc: Global,
     heads: &'a Heads<'b>,
-    bodies: &'a LinkedBodies<'_>,
+    bodies: &'a ModuleBodies<'_>,
     home: &'a Head<'b>,
-) -> Result<LinkedBody, AllocError>
-    ensures { IfOk result (λ b. run_of b ≡ linked (map program_of heads.now)
+) -> Result<ModuleBody, AllocError>
+    ensures { IfOk result (λ b. module_body_of b ≡ linked (map program_of heads.now)
         (bodies_of bodies.now) (program_of home.now) [] (program_of home.now).body) }
 {
     let body = whole_body(&Linker {
@@ -48,14 +49,14 @@ fn body_by<'a, 'b>(
         bodies,
         home,
     })?;
-    LinkedBody::of(alloc, body)
+    ModuleBody::of(alloc, body)
 }
 
-/// Adds the flat body of the module at a place.
+/// Adds the body of the module at a place.
 fn add_body<'a>(
     alloc: Global,
     heads: &'a Heads<'_>,
-    bodies: &mut LinkedBodies<'a>,
+    bodies: &mut ModuleBodies<'a>,
     place: usize,
 ) -> Result<(), AllocError>
     requires { place < length heads.now }
@@ -67,13 +68,13 @@ fn add_body<'a>(
     bodies.add(&home.name, body)
 }
 
-/// The flat bodies of the modules of a set, each made after those of the modules that it runs.
+/// The bodies of the modules of a set, each made after those of the modules that it runs.
 pub fn bodies_along<'a>(
     alloc: Global,
     heads: &'a Heads<'_>,
     order: &[usize],
     needed: &[bool],
-) -> Result<LinkedBodies<'a>, AllocError>
+) -> Result<ModuleBodies<'a>, AllocError>
     requires order { IsOrderOf (map program_of heads.now) order.now }
     requires size { length needed.now ≡ length heads.now }
     requires closed { IsClosed (map program_of heads.now) needed.now }
@@ -83,7 +84,7 @@ pub fn bodies_along<'a>(
     ensures right { IfOk result (λ t. AreBodiesOf (map program_of heads.now) t) }
     ensures each { IfOk result (λ t. HasBodies (map program_of heads.now) needed.now t) }
 {
-    let mut bodies = LinkedBodies::new(alloc);
+    let mut bodies = ModuleBodies::new(alloc);
     for place in order {
         if is_in(needed, *place) {
             add_body(alloc, &*heads, &mut bodies, *place)?;

@@ -4,14 +4,15 @@ ghost use Rattle.est_kernel.specs.Term.{Name};
 ghost use Rattle.est_link.specs.Inner.Binds.{binding_of};
 ghost use Rattle.est_link.specs.Inner.Meant.{again, in_run};
 ghost use Rattle.est_link.specs.Inner.OpenBodies.{closed_of, meaning_of, meant_by};
-ghost use Rattle.est_link.specs.Inner.Tables.{run_of};
+ghost use Rattle.est_link.specs.Inner.Tables.{module_body_of};
 ghost use Rattle.est_link.specs.Linking.{body_in_run};
 
-use crate::bindings::{Binding, bind_signal, sum};
-use crate::linked_bodies::LinkedBody;
+use crate::bindings::{Binding, bind_signal};
 use crate::meaning::Meaning;
+use crate::module_bodies::ModuleBody;
+use crate::numbers::sum;
 use crate::open_body::OpenBody;
-use crate::run_meanings::RunMeanings;
+use crate::signal_meanings::SignalMeanings;
 use std::alloc::AllocError;
 
 /// What a meaning in the body is where its module is run.
@@ -38,12 +39,12 @@ fn bind_all(binding: &Binding<'_, '_, '_>, list: &[Meaning]) -> Result<Vec<Meani
 /// What the signals of the body mean where its module is run.
 fn bind_meanings(
     binding: &Binding<'_, '_, '_>,
-    run: &RunMeanings,
-) -> Result<RunMeanings, AllocError>
+    run: &SignalMeanings,
+) -> Result<SignalMeanings, AllocError>
     ensures { IfOk result (λ r. (n : Name) → meant_by r n ≡ again (in_run (binding_of binding.now)
         binding.now.locals) (meant_by run.now n)) }
 {
-    Ok(RunMeanings {
+    Ok(SignalMeanings {
         numbers: run.numbers.clone()?,
         meanings: bind_all(binding, &run.meanings)?,
         other: bind_meaning(binding, run.other)?,
@@ -54,9 +55,9 @@ fn bind_meanings(
 /// The body of a module where it is run: its interface signals stand for those that the `run`
 /// binds, inside the local signals around the `run`.
 #[tactic(auto, using(crate::proofs::Meanings::run_bound))]
-pub fn bind_body(binding: &Binding<'_, '_, '_>, flat: &LinkedBody) -> Result<OpenBody, AllocError>
+pub fn bind_body(binding: &Binding<'_, '_, '_>, flat: &ModuleBody) -> Result<OpenBody, AllocError>
     ensures { IfOk result (λ b. closed_of b ≡ body_in_run (binding_of binding.now)
-        binding.now.locals (run_of flat.now)) }
+        binding.now.locals (module_body_of flat.now)) }
 {
     let meanings = bind_meanings(binding, &flat.meanings)?;
     Ok(OpenBody::Run(flat.body.clone()?, meanings))

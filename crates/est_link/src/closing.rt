@@ -1,6 +1,6 @@
 //! The flat body that an open one is, its runs replaced.
 //!
-//! What goes over an open body calls itself as deep as that is (`own_signals`).
+//! `open_body` says how deep the functions call themselves.
 ghost use Rattle.std.specs.Prelude.{◌≡◌, IfOk};
 ghost use Rattle.est_kernel.specs.Term.{joined};
 ghost use Rattle.est_link.specs.Inner.Meant.{body_meant, queries_meant, query_meant};
@@ -10,19 +10,19 @@ ghost use Rattle.est_reduce.specs.Views.{bound_joint as joint_view, bound_name a
 ghost use Rattle.est_reduce.specs.Views.{bound_query as query_view, body_of};
 
 use crate::open_body::OpenBody;
-use crate::run_meanings::RunMeanings;
+use crate::signal_meanings::SignalMeanings;
 use crate::watch::Watch;
 use est_kernel::statement::Connective;
 use est_reduce::body::{Body, BoundOperands, BoundSignal, BoundTest, Wait};
 use std::alloc::{AllocError, Global};
 
-/// What the signals around a place mean, and where memory for what is made there is taken.
+/// What the signals of a body mean where it is closed, and where memory is taken.
 #[derive(Clone, Copy)]
 pub struct Closing<'a> {
     /// Where memory is taken.
     pub alloc: Global,
     /// What the signals mean.
-    pub meanings: &'a RunMeanings,
+    pub meanings: &'a SignalMeanings,
 }
 
 /// What is emitted in place of a signal.
@@ -79,7 +79,7 @@ fn close_wait(at: &Closing<'_>, wait: &Wait) -> Result<Wait, AllocError>
     })
 }
 
-/// A body without runs.
+/// The body, its runs replaced and each signal as it is meant here.
 ///
 /// # Errors
 ///
@@ -135,7 +135,7 @@ fn close_watched(
 /// The body of a run, without runs.
 #[cycle(close)]
 #[tactic(auto, using(crate::proofs::Meanings::meant_in))]
-fn close_run(at: &Closing<'_>, body: &OpenBody, run: &RunMeanings) -> Result<Body, AllocError>
+fn close_run(at: &Closing<'_>, body: &OpenBody, run: &SignalMeanings) -> Result<Body, AllocError>
     ensures { IfOk result (λ b. body_of b ≡ body_meant (meant_by at.now.meanings.now)
         (body_meant (meant_by run.now) (closed_of body.now))) }
 {

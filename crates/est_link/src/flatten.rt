@@ -1,7 +1,7 @@
-//! The flat body of a module, from its text and the flat bodies of the modules that it runs.
+//! The open body of a module, from its text and the bodies of the modules that it runs.
 //!
 //! The functions call each other at most five times for each unit that is open around a place, and
-//! at most 128 units are open. A `run` is no call: its module was made flat before.
+//! at most 128 units are open. A `run` is no call: the body of its module was made before.
 ghost use Rattle.std.specs.Prelude.{◌≡◌, IfOk, map, option_map};
 ghost use Rattle.est_syntax.specs.Views.{test_view, unit_view, branches_view, sequence_view};
 ghost use Rattle.est_syntax.specs.Views.{statement_view, renaming_view};
@@ -24,8 +24,8 @@ ghost use Rattle.est_reduce.specs.Views.{bound_query as query_view};
 use crate::bindings::{Binding, count, locals_around, signal_at, trap_at};
 use crate::bound_runs::bind_body;
 use crate::found_tests::find_test;
-use crate::linked_bodies::LinkedBodies;
 use crate::meaning::Meaning;
+use crate::module_bodies::ModuleBodies;
 use crate::open_body::OpenBody;
 use crate::watch::Watch;
 use est_modules::head::{Declared, Head};
@@ -45,7 +45,7 @@ pub struct Linker<'a, 'b, 'c> {
     /// The modules.
     pub heads: &'a Heads<'b>,
     /// The flat bodies.
-    pub bodies: &'a LinkedBodies<'c>,
+    pub bodies: &'a ModuleBodies<'c>,
     /// The module.
     pub home: &'a Head<'b>,
 }

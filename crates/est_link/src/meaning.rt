@@ -45,7 +45,7 @@ impl Meaning {
         }
     }
 
-    /// What is meant where its signal has this meaning.
+    /// What this means where its signal means `of_signal`: that, or `tick` if either is `tick`.
     #[tactic(auto, using(crate::proofs::Meanings::meant_further))]
     pub fn further(self, of_signal: Meaning) -> Meaning
         ensures { (g : Name → Meant) → meaning_of of_signal ≡ g (name_view self.signal)

@@ -1,14 +1,21 @@
-//! Flat bodies whose runs are not yet replaced.
+//! Bodies in which names are bound, and runs are not yet replaced.
 //!
-//! A run shares the body of its module with all other runs of it, so what is made of a module is no
-//! larger than its text. `close` replaces the runs.
+//! A run shares the body of its module with all other runs of it, so the statements of a module are
+//! made once. Of its own it has a list: what each signal that the body has means there. `close`
+//! replaces the runs.
+//!
+//! What goes over an open body calls itself as deep as that is, its drop too. No run leads to a
+//! body that is itself a run (`ModuleBody::of`), so of two levels that follow each other one is a
+//! statement. Main has at most 2,048 statements with all that it runs: at most 4,096 levels are
+//! open.
 
-use crate::run_meanings::RunMeanings;
+use crate::signal_meanings::SignalMeanings;
 use crate::watch::Watch;
 use est_reduce::body::{BoundSignal, BoundTest, Wait};
 use std::rc::Rc;
 
-/// A flat body with runs. Without the last variant, it is as `est_reduce`'s `Body` has it.
+/// A body with open runs. It is `est_reduce`'s `Body`, with `Watched` for its `Suspend`, `Abort`,
+/// `WeakAbort` and `Every`, and with `Run`.
 #[derive(Drop)]
 pub enum OpenBody {
     /// `nothing`; also a branch of `present` that is left out.
@@ -21,7 +28,7 @@ pub enum OpenBody {
     Emit(BoundSignal),
     /// `sustain S`
     Sustain(BoundSignal),
-    /// `exit T`
+    /// `exit T`, by how many traps of the text lie between the two.
     Exit(u32),
     /// `await S`, `await immediate S`
     Await(Wait),
@@ -42,5 +49,5 @@ pub enum OpenBody {
     /// `p || q`
     Par(Box<OpenBody>, Box<OpenBody>),
     /// `run M`, by the body of a module and what its signals mean here.
-    Run(Rc<OpenBody>, RunMeanings),
+    Run(Rc<OpenBody>, SignalMeanings),
 }

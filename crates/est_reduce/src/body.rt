@@ -2,9 +2,8 @@
 //! groups.
 //!
 //! Signals, local signals and traps are numbers, and no name is left. The numbers are wider than
-//! those of the kernel, since every module has such a body: also one that declares more signals
-//! than a kernel's interface may have, and one past a limit of the kernel. Which limit that is,
-//! `reduce` says.
+//! those of the kernel: a module that main runs may declare more signals than a kernel's interface
+//! may have, and main's body may pass a limit of the kernel. Which limit that is, `reduce` says.
 //!
 //! A body is a tree. Whatever walks it, its drop included, recurses as deep as the tree. The maker
 //! of the tree bounds that depth: linking counts the statements of the linked module before it

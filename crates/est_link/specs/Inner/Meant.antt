@@ -10,7 +10,7 @@ pub record Meant : Type 0 where
   pub asked : Query
   pub sent : Name
 
--- what is asked, and emitted
+-- the meaning that a query gives
 abbrev pub meant : Query → Meant
 meant q = record { asked = q; sent = emitted q }
 
@@ -52,7 +52,7 @@ body_meant g (signal n p) = signal n (body_meant g p)
 body_meant g (seq p q) = seq (body_meant g p) (body_meant g q)
 body_meant g (par p q) = par (body_meant g p) (body_meant g q)
 
--- what means this, means that where each signal means what g says
+-- what a meaning becomes where each signal means what g says
 abbrev pub again : (Name → Meant) → Meant → Meant
 again g m = record { asked = query_meant g m.asked; sent = (g m.sent).sent }
 

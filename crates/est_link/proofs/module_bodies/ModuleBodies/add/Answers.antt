@@ -2,7 +2,7 @@ use Rattle.std.proofs.Common.{◌∙◌, Bor, List, ℕ, Some, ap, cond}
 use Rattle.std.proofs.lemmas.Map.Text.{is_eq-slice_cmp}
 use Rattle.std.specs.Str.{bytes_eq}
 use Rattle.est_link.specs.Inner.Tables.{body_named}
-use Rattle.est_link.proofs.linked_bodies.LinkedBodies.add.Goals as goal
+use Rattle.est_link.proofs.module_bodies.ModuleBodies.add.Goals as goal
 
 pub returns : goal.returns
 returns c m =

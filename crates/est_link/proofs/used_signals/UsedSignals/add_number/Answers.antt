@@ -1,7 +1,7 @@
 use Rattle.std.proofs.Common.{◌∙◌, ◌++◌, [], ◌∷◌, length, Some, refl, ap, arith}
 use Rattle.std.specs.Vec.{with_item}
-use Rattle.est_link.proofs.Owning.{own_more, number_kept}
-use Rattle.est_link.proofs.own_signals.OwnSignals.add_number.Goals as goal
+use Rattle.est_link.proofs.UsedSignals.{used_more, number_kept}
+use Rattle.est_link.proofs.used_signals.UsedSignals.add_number.Goals as goal
 
 pub returns-clause-grown : goal.returns-clause-grown
 returns-clause-grown c =
@@ -11,7 +11,7 @@ returns-clause-grown c =
     let n = c.in_ok-number.number in
     let room = c.in_ok-make_room.ensures.room in
     let same = c.in_ok-make_room.ensures.numbers in (
-      own_more old rooms place n c.of.result (record {
+      used_more old rooms place n c.of.result (record {
         numbers = with_item c.make_room.new.self.numbers place (Some n);
         meanings = c.push.new.self;
       }) (omega (

@@ -8,11 +8,11 @@ use Rattle.std.specs.Prelude.{is_some}
 use Rattle.est_kernel.specs.View.{queries_of}
 use Rattle.est_kernel.specs.Term.{Name, outer, inner, Query, tick, of, Joint}
 use Rattle.est_link.specs.Inner.Meant.{Meant, itself, query_meant, queries_meant, body_meant, again}
-use Rattle.est_link.specs.Inner.OpenBodies.{meaning_of, numbered, meant_by, has_number, AreOwn, MeanThemselves, IsKept}
+use Rattle.est_link.specs.Inner.OpenBodies.{meaning_of, numbered, meant_by, has_number, AreUsed, MeanThemselves, IsKept}
 use Rattle.est_link.specs.Inner.OpenBodies.{IsBodyKept, AreMeaningsKept}
 use Rattle.est_link.specs.declared.meaning.Meaning.{Meaning}
-use Rattle.est_link.specs.declared.own_signals.OwnSignals.{OwnSignals}
-use Rattle.est_link.specs.declared.run_meanings.RunMeanings.{RunMeanings}
+use Rattle.est_link.specs.declared.used_signals.UsedSignals.{UsedSignals}
+use Rattle.est_link.specs.declared.signal_meanings.SignalMeanings.{SignalMeanings}
 use Rattle.est_link.proofs.Meanings.{got_again, listed_meant, meant_in, test_meant}
 use Rattle.est_modules.proofs.Testing.{some_same}
 use Rattle.est_reduce.specs.Bodies.{Body}
@@ -49,12 +49,12 @@ abbrev pub more_numbers : List (Option ℕ) → (place n : ℕ) → List (Option
 more_numbers rooms place n = slice_set rooms place (Some n)
 
 -- each still means itself
-pub own_more : (old : OwnSignals) (rooms : List (Option ℕ)) (place n : ℕ) (m : Meaning) (new : OwnSignals)
+pub used_more : (old : UsedSignals) (rooms : List (Option ℕ)) (place n : ℕ) (m : Meaning) (new : UsedSignals)
     → n ≡ length old.meanings.items → place < length rooms
     → ((k : ℕ) → get_or rooms k None ≡ get_or old.numbers.items k None)
     → new.numbers.items ≡ more_numbers rooms place n → new.meanings.items ≡ old.meanings.items ++ m ∷ []
-    → meaning_of m ≡ itself (outer place) → AreOwn old → AreOwn new
-own_more old rooms place n m new next room same numbers meanings means are =
+    → meaning_of m ≡ itself (outer place) → AreUsed old → AreUsed new
+used_more old rooms place n m new next room same numbers meanings means are =
     let ms = old.meanings.items in
     let longer : length new.meanings.items ≡ length ms + 1 =
     ap (λ (xs : List Meaning). length xs) meanings ∙ length_push ms m in
@@ -66,9 +66,9 @@ own_more old rooms place n m new next room same numbers meanings means are =
     → get_or old.numbers.items i None ≡ Some k =
     λ i k differs e. sym (get_or-set_other rooms place i (Some n) None differs ∙ same i) ∙ now i k e in
     record {
-      told = λ i k e. elim (cases_eq i place) [
+      listed = λ i k e. elim (cases_eq i place) [
         | inl is ↦ omega (arith, number_told rooms place n i k room is (now i k e), longer, next)
-        | inr differs ↦ omega (arith, are.told i k (before i k differs e), longer)
+        | inr differs ↦ omega (arith, are.listed i k (before i k differs e), longer)
       ];
       means = λ i k e other. ap (λ xs. get_or xs k other) listed ∙ elim (cases_eq i place) [
         | inl is ↦
@@ -77,13 +77,13 @@ own_more old rooms place n m new next room same numbers meanings means are =
             ∙ means ∙ ap (λ j. itself (outer j)) (sym is)
         | inr differs ↦
             get_or_append_left (map meaning_of ms) (meaning_of m ∷ []) other k
-            (omega (arith, are.told i k (before i k differs e), length-map ms meaning_of))
+            (omega (arith, are.listed i k (before i k differs e), length-map ms meaning_of))
             ∙ are.means i k (before i k differs e) other
       ];
     }
 
 -- those that had a number have one
-pub number_kept : (old : OwnSignals) (rooms : List (Option ℕ)) (place n : ℕ) → place < length rooms
+pub number_kept : (old : UsedSignals) (rooms : List (Option ℕ)) (place n : ℕ) → place < length rooms
     → ((k : ℕ) → get_or rooms k None ≡ get_or old.numbers.items k None) → (i : ℕ) → has_number old i ≡ true
     → is_some (get_or (more_numbers rooms place n) i None) ≡ true
 number_kept old rooms place n room same i has = elim (cases_eq i place) [
@@ -118,7 +118,7 @@ numbered_kept g (Some k) ms x listed other =
     ∙ got_again g ms k x
 
 -- the meanings of a run, each of which means itself
-pub meanings_kept : (o : OwnSignals) (r : RunMeanings)
+pub meanings_kept : (o : UsedSignals) (r : SignalMeanings)
     → ((g : Name → Meant) → MeanThemselves o g
     → map (λ (m : Meaning). again g (meaning_of m)) r.meanings.items ≡ map meaning_of r.meanings.items)
     → IsKept o (bound_name r.other.signal) → AreMeaningsKept o r
@@ -127,7 +127,7 @@ meanings_kept o r listed other g means (outer i) = numbered_kept g (get_or r.num
 meanings_kept o r listed other g means (inner k) = sym (means.inners (r.locals + k))
 
 -- the body of a run whose meanings mean themselves
-pub run_kept : (o : OwnSignals) (r : RunMeanings) (b : Body) → AreMeaningsKept o r
+pub run_kept : (o : UsedSignals) (r : SignalMeanings) (b : Body) → AreMeaningsKept o r
     → IsBodyKept o (body_meant (meant_by r) b)
 run_kept o r b kept g means = meant_in g (meant_by r) (meant_by r) (kept g means) b
 
@@ -150,7 +150,7 @@ joint_kept g o first second later =
 
 -- ---- the meanings by which each signal means itself
 
-pub own_meant : (o : OwnSignals) (r : RunMeanings) → AreOwn o → r.numbers.value.items ≡ o.numbers.items
+pub own_meant : (o : UsedSignals) (r : SignalMeanings) → AreUsed o → r.numbers.value.items ≡ o.numbers.items
     → r.meanings.items ≡ o.meanings.items → r.locals ≡ 0 → MeanThemselves o (meant_by r)
 own_meant o r are numbers meanings locals = record {
   outers = λ i has.

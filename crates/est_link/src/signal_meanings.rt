@@ -1,32 +1,32 @@
-//! What the signals of a body mean where its module is run.
+//! What the signals of a body mean at another place.
 ghost use Rattle.std.specs.Prelude.{◌≡◌, IfOk, map};
 ghost use Rattle.est_kernel.specs.Term.{Name, outer};
 ghost use Rattle.est_link.specs.Inner.Meant.{again};
 ghost use Rattle.est_link.specs.Inner.OpenBodies.{meaning_of, meant_by};
 ghost use Rattle.est_reduce.specs.Views.{bound_name as name_view};
 
-use crate::bindings::sum;
 use crate::meaning::Meaning;
+use crate::numbers::sum;
 use est_reduce::body::BoundSignal;
 use std::alloc::{AllocError, Global};
 use std::rc::Rc;
 
-/// What the signals of a body mean where its module is run. Only the interface signals that the
-/// body has are listed: a module may declare thousands.
+/// What the signals of a body mean at another place. Listed are the interface signals that the body
+/// has (`UsedSignals`), since a module may declare thousands.
 #[derive(Drop)]
-pub struct RunMeanings {
-    /// For each place of the interface, the number in the list of the signal there. All runs of a
-    /// body share these.
+pub struct SignalMeanings {
+    /// For places of the interface, the number in the list of the signal there, if it has one.
+    /// Places after the last have none. All runs of a body share these.
     pub numbers: Rc<Vec<Option<u32>>>,
     /// What the listed signals mean.
     pub meanings: Vec<Meaning>,
-    /// What the others mean, which the body doesn't have.
+    /// What the others mean, which the body doesn't have: `tick`.
     pub other: Meaning,
-    /// How many local signals lie around the run.
+    /// How many local signals lie around the body.
     pub locals: u32,
 }
 
-impl RunMeanings {
+impl SignalMeanings {
     /// What the interface signal at a place means.
     fn outer_meaning(&self, place: u32) -> Meaning
         ensures { meaning_of result ≡ meant_by self.now (outer place) }
@@ -76,16 +76,16 @@ impl RunMeanings {
         Ok(meanings)
     }
 
-    /// The meanings of a run inside the body of this one.
+    /// The meanings of a run in a body whose signals mean what these say.
     ///
     /// # Errors
     ///
     /// `AllocError` where memory is refused.
-    pub fn inside(&self, alloc: Global, run: &RunMeanings) -> Result<RunMeanings, AllocError>
+    pub fn inside(&self, alloc: Global, run: &SignalMeanings) -> Result<SignalMeanings, AllocError>
         ensures { IfOk result (λ r. (n : Name) → meant_by r n ≡ again (meant_by self.now)
             (meant_by run.now n)) }
     {
-        Ok(RunMeanings {
+        Ok(SignalMeanings {
             numbers: run.numbers.clone()?,
             meanings: self.all_again(alloc, &run.meanings)?,
             other: self.again(run.other)?,

@@ -3,8 +3,8 @@ use Rattle.std.proofs.lemmas.List.{take_all}
 use Rattle.est_link.specs.Inner.Meant.{again}
 use Rattle.est_link.specs.Inner.OpenBodies.{meaning_of}
 use Rattle.est_link.specs.declared.meaning.Meaning.{Meaning}
-use Rattle.est_link.proofs.Owning.{meanings_kept}
-use Rattle.est_link.proofs.own_signals.OwnSignals.add_meanings.Goals as goal
+use Rattle.est_link.proofs.UsedSignals.{meanings_kept}
+use Rattle.est_link.proofs.used_signals.UsedSignals.add_meanings.Goals as goal
 
 pub returns-clause-has : goal.returns-clause-has
 returns-clause-has c =

@@ -2,7 +2,7 @@ use Rattle.std.proofs.Common.{◌≡◌, map, take}
 use Rattle.est_link.specs.Inner.Meant.{again}
 use Rattle.est_link.specs.Inner.OpenBodies.{meaning_of, meant_by}
 use Rattle.est_link.specs.declared.meaning.Meaning.{Meaning}
-use Rattle.est_link.proofs.run_meanings.RunMeanings.all_again.Given as goal
+use Rattle.est_link.proofs.signal_meanings.SignalMeanings.all_again.Given as goal
 
 abbrev pub invariant-loop-meaning : goal.invariant-loop-meaning
 invariant-loop-meaning l =

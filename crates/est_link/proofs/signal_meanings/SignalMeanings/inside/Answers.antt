@@ -3,7 +3,7 @@ use Rattle.est_link.specs.Inner.Meant.{again}
 use Rattle.est_link.specs.Inner.OpenBodies.{meaning_of, meant_by}
 use Rattle.est_link.specs.declared.meaning.Meaning.{Meaning}
 use Rattle.est_link.proofs.Meanings.{run_again}
-use Rattle.est_link.proofs.run_meanings.RunMeanings.inside.Goals as goal
+use Rattle.est_link.proofs.signal_meanings.SignalMeanings.inside.Goals as goal
 
 pub returns : goal.returns
 returns c =

@@ -1,8 +1,8 @@
 use Rattle.std.proofs.Common.{ap, sym, subst}
 use Rattle.std.proofs.lemmas.Result.{on_ok_weaker}
 use Rattle.est_link.specs.Inner.OpenBodies.{closed_of, IsBodyKept}
-use Rattle.est_link.proofs.Owning.{run_kept}
-use Rattle.est_link.proofs.own_signals.OwnSignals.+add_body.Goals as goal
+use Rattle.est_link.proofs.UsedSignals.{run_kept}
+use Rattle.est_link.proofs.used_signals.UsedSignals.+add_body.Goals as goal
 
 pub returns-in-Run-clause-has : goal.returns-in-Run-clause-has
 returns-in-Run-clause-has t c =

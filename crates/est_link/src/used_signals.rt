@@ -1,40 +1,38 @@
-//! The interface signals that a body has.
-//!
-//! What goes over an open body calls itself as deep as that is. Where a body is not a run alone,
-//! each run in it comes with a statement more, so at most 4,096 levels are open: the statements of
-//! the main module, with all that it runs, are at most 2,048.
+//! The interface signals that an open body has.
 ghost use Rattle.std.specs.Prelude.{◌≡◌, ◌<◌, ℕ, None, true, false, IfOk, OnOk, get_or, length};
 ghost use Rattle.est_link.specs.Inner.Meant.{body_meant};
-ghost use Rattle.est_link.specs.Inner.OpenBodies.{AreMeaningsKept, AreOwn, AreTestsKept};
+ghost use Rattle.est_link.specs.Inner.OpenBodies.{AreMeaningsKept, AreUsed, AreTestsKept};
 ghost use Rattle.est_link.specs.Inner.OpenBodies.{HaveGrown, IsBodyKept, IsJointKept, IsKept};
 ghost use Rattle.est_link.specs.Inner.OpenBodies.{IsTestKept};
 ghost use Rattle.est_link.specs.Inner.OpenBodies.{closed_of, has_number, meant_by};
 ghost use Rattle.est_reduce.specs.Views.{bound_joint as joint_view, bound_name as name_view};
 ghost use Rattle.est_reduce.specs.Views.{bound_query as query_view};
 
-use crate::bindings::small;
 use crate::meaning::Meaning;
+use crate::numbers::small;
 use crate::open_body::OpenBody;
-use crate::run_meanings::RunMeanings;
+use crate::signal_meanings::SignalMeanings;
 use est_reduce::body::{BoundOperands, BoundSignal, BoundTest};
 use std::alloc::{AllocError, Global};
 use std::rc::Rc;
 
 /// The interface signals that a body has, each with a number, in the order in which they are met.
+/// Those that only a meaning of its runs has, though that is `tick`, are among them.
 #[derive(Drop)]
-pub struct OwnSignals {
-    /// For each place of the interface, the number of the signal there.
+pub struct UsedSignals {
+    /// For places of the interface, the number of the signal there, if it has one. Places after the
+    /// last have none.
     numbers: Vec<Option<u32>>,
     /// Each signal that has a number means itself.
     meanings: Vec<Meaning>,
 }
 
-impl OwnSignals {
-    fn new(alloc: Global) -> OwnSignals
+impl UsedSignals {
+    fn new(alloc: Global) -> UsedSignals
         ensures none { (i : ℕ) → has_number result i ≡ false }
-        ensures own { AreOwn result }
+        ensures own { AreUsed result }
     {
-        OwnSignals {
+        UsedSignals {
             numbers: Vec::new(alloc),
             meanings: Vec::new(alloc),
         }
@@ -130,8 +128,8 @@ impl OwnSignals {
         Ok(())
     }
 
-    /// Adds the signals that meanings are.
-    fn add_meanings(&mut self, run: &RunMeanings) -> Result<(), AllocError>
+    /// Adds the signals of the meanings of a run.
+    fn add_meanings(&mut self, run: &SignalMeanings) -> Result<(), AllocError>
         ensures grown { OnOk result (HaveGrown self.old self.new) }
         ensures has { OnOk result (AreMeaningsKept self.new run.now) }
     {
@@ -183,12 +181,12 @@ impl OwnSignals {
 /// # Errors
 ///
 /// `AllocError` where memory is refused.
-pub fn own_meanings(alloc: Global, body: &OpenBody) -> Result<RunMeanings, AllocError>
+pub fn own_meanings(alloc: Global, body: &OpenBody) -> Result<SignalMeanings, AllocError>
     ensures { IfOk result (λ r. body_meant (meant_by r) (closed_of body.now) ≡ closed_of body.now) }
 {
-    let mut own = OwnSignals::new(alloc);
+    let mut own = UsedSignals::new(alloc);
     own.add_body(body)?;
-    Ok(RunMeanings {
+    Ok(SignalMeanings {
         numbers: Rc::new(alloc, own.numbers)?,
         meanings: own.meanings,
         other: Meaning::TICK,

@@ -1,7 +1,7 @@
 use Rattle.std.proofs.Common.{◌∙◌, map, ap, sym}
 use Rattle.est_link.proofs.Meanings.{test_meant}
-use Rattle.est_link.proofs.Owning.{joint_kept}
-use Rattle.est_link.proofs.own_signals.OwnSignals.+tests.Goals as goal
+use Rattle.est_link.proofs.UsedSignals.{joint_kept}
+use Rattle.est_link.proofs.used_signals.UsedSignals.+tests.Goals as goal
 use Rattle.est_reduce.specs.Views.{bound_query}
 
 pub add_operands-returns-clause-has : goal.add_operands-returns-clause-has
