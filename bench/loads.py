@@ -243,9 +243,9 @@ def texts(line):
     some = ",".join(names[2000])
     few = ",".join(names[500])
     return (
-        ("a test of 2,047 names inside a `signal` of 14,600", test_inside_signal(line, line.of(2047)), "TooLarge(Locals)"),
-        ("1,023 runs inside a `signal` of 15,000 names", runs_inside_signal(line, line.of(1023)), "TooLarge(Locals)"),
-        ("1,500 modules in a chain, run 1,000 times", passing_on(line.of(1500), 1).replace("module M:run", f"module M:{'run a;' * line.of(1000)}run", 1), "a kernel of 0 signals"),
+        ("a test of 2,047 names inside a `signal` of 14,600", test_inside_signal(line, line.of(2047)), "TooLarge(Statements)"),
+        ("1,023 runs inside a `signal` of 15,000 names", runs_inside_signal(line, line.of(1023)), "TooLarge(Statements)"),
+        ("2,000 modules in a chain, run 650 times", passing_on(line.of(2000), 1).replace("module M:run", f"module M:{'run a;' * line.of(649)}run", 1), "a kernel of 0 signals"),
         ("1,280 modules in a chain, each of which suspends the next", suspending(line.of(1280)), "a kernel of 1 signals"),
         ("228 modules of 128 nested brackets that run one another", chain(line.of(228), "[" * 128, "]" * 128, "pause"), "a kernel of 0 signals"),
         ("1,600 modules in a chain", chain(line.of(1600), "", "", "pause"), "a kernel of 0 signals"),
