@@ -399,7 +399,7 @@ def random_chain(seed):
     names = short_names(int(2 ** chance.uniform(0, 6)), MOST_BYTES)
     interface = f"output {','.join(names)};" if chance.random() < 0.7 else f"inputoutput {','.join(names)};"
     act = chance.choice(("halt", "pause", f"emit {names[-1]}", ";".join(f"emit {name}" for name in names)))
-    body = ";".join([act] * int(2 ** chance.uniform(0, 10)))
+    body = ";".join([act] * min(int(2 ** chance.uniform(0, 10)), MOST_BYTES // 2 // (len(act) + 1)))
     called = ["ZA"]
     parts = [f"module ZA:{interface}{body} end module "]
     wrapping = chance.choice((0, 0, 0.1, 1))
@@ -412,7 +412,7 @@ def random_chain(seed):
             called.pop()
             break
     head = f"module M:{interface}"
-    left = MOST_BYTES - sum(map(len, parts)) - len(head) - 12
+    left = MOST_BYTES - sum(map(len, parts)) - len(head) - 20
     runs = f"run {called[-1]};" * (chance.choice((1, 1, 2, 50, MOST_BYTES)))
     return "".join(parts) + head + runs[: left // 10 * (len(called[-1]) + 5)] + "halt end module"
 
