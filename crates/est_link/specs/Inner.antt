@@ -5,6 +5,7 @@ pub mod Joins
 pub mod Meant
 pub mod Needs
 pub mod OpenBodies
+pub mod Scopes
 pub mod SignalTables
 pub mod Tables
 pub mod Watches

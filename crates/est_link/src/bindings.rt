@@ -1,11 +1,11 @@
 //! What names mean at a place in a module: the number of a binder, or a place in the interface.
-ghost use Rattle.std.specs.Prelude.{◌≡◌, ◌∷◌, IfOk, get_or, length};
+ghost use Rattle.std.specs.Prelude.{◌≡◌, IfOk, get_or};
 ghost use Rattle.std.specs.List.{position};
 ghost use Rattle.std.specs.Str.{bytes_eq};
 ghost use Rattle.est_kernel.specs.Term.{tick};
 ghost use Rattle.est_link.specs.Inner.Meant.{in_run, meant};
 ghost use Rattle.est_link.specs.Inner.OpenBodies.{meaning_of};
-ghost use Rattle.est_modules.specs.Scopes.{binders_of};
+ghost use Rattle.est_link.specs.Inner.Scopes.{binders_of};
 ghost use Rattle.est_modules.specs.Modules.{program_of};
 ghost use Rattle.est_reduce.specs.Views.{bound_name as name_view};
 ghost use Rattle.est_link.specs.Linking.{locals_around, signal_at, trap_at, of_interface};
@@ -13,11 +13,10 @@ ghost use Rattle.est_link.specs.Inner.Binds.{binding_of};
 
 use crate::meaning::Meaning;
 use crate::numbers::{small, sum};
+use crate::scope::Scope;
 use est_modules::head::{Declared, Head, Interface};
 use est_modules::renamings::RunRenamings;
-use est_modules::scope::Scope;
 use est_reduce::body::BoundSignal;
-use est_syntax::tree::Names;
 use est_text::identifier::Identifier;
 use std::alloc::{AllocError, Global};
 
@@ -29,42 +28,13 @@ pub struct Binding<'a, 'b, 'c> {
     /// The module in whose body the `run` stands.
     pub home: &'a Head<'b>,
     /// The binders around it.
-    pub scope: &'a Scope<'a>,
+    pub scope: &'a Scope<'a, 'b>,
     /// How many local signals these binders declare.
     pub locals: u32,
     /// Its renamings.
     pub renamings: &'a RunRenamings<'c>,
     /// The interface of the module that is run.
     pub interface: &'a [Declared],
-}
-
-/// How many names there are.
-pub fn count(names: &Names) -> Result<u32, AllocError>
-    ensures { IfOk result (λ n. n ≡ length (names.now.first ∷ names.now.later.items)) }
-{
-    sum(small(names.later.len())?, 1)
-}
-
-/// The place of a name in a list.
-fn place_among(names: &[Identifier], name: &Identifier) -> Option<usize>
-    ensures { result ≡ position (λ n. bytes_eq n name.now) names.now }
-{
-    names.iter().position(|other| other.is(name))
-}
-
-/// The place of a name among those of a `signal`. It goes through them all.
-#[tactic(auto, using(est_modules::proofs::Positions::position_cons))]
-fn place_of(names: &Names, name: &Identifier) -> Result<Option<u32>, AllocError>
-    ensures { IfOk result (λ p. p ≡ position (λ n. bytes_eq n name.now) (names.now.first ∷
-        names.now.later.items)) }
-{
-    if names.first.is(name) {
-        return Ok(Some(0));
-    }
-    match place_among(&names.later, name) {
-        Some(place) => Ok(Some(sum(small(place)?, 1)?)),
-        None => Ok(None),
-    }
 }
 
 /// The interface signal of a name, or `tick` if it has none.
@@ -80,12 +50,12 @@ fn interface_signal(interface: &Interface<'_>, name: &Identifier) -> Result<Mean
 
 /// How many local signals lie around a place. It calls itself once for each binder around the
 /// place, of which there are at most 128.
-pub fn locals_around(scope: &Scope<'_>) -> Result<u32, AllocError>
+pub fn locals_around(scope: &Scope<'_, '_>) -> Result<u32, AllocError>
     ensures { IfOk result (λ n. n ≡ locals_around (binders_of scope.now)) }
 {
     match scope {
         Scope::Module => Ok(0),
-        Scope::Signals(names, outer) => sum(locals_around(outer)?, count(names)?),
+        Scope::Signals(names, outer) => sum(locals_around(outer)?, names.count()?),
         Scope::Trap(_, outer) => locals_around(outer),
     }
 }
@@ -94,7 +64,7 @@ pub fn locals_around(scope: &Scope<'_>) -> Result<u32, AllocError>
 /// there are at most 128.
 pub fn signal_at(
     home: &Head<'_>,
-    scope: &Scope<'_>,
+    scope: &Scope<'_, '_>,
     name: &Identifier,
 ) -> Result<Meaning, AllocError>
     ensures { IfOk result (λ m. meaning_of m ≡ meant (signal_at (program_of home.now) (binders_of
@@ -102,9 +72,9 @@ pub fn signal_at(
 {
     match scope {
         Scope::Module => interface_signal(&home.interface, name),
-        Scope::Signals(names, outer) => match place_of(names, name)? {
+        Scope::Signals(names, outer) => match names.place(name) {
             Some(place) => {
-                let level = sum(locals_around(outer)?, place)?;
+                let level = sum(locals_around(outer)?, small(place)?)?;
                 Ok(Meaning::of(BoundSignal::Inner(level)))
             }
             None => signal_at(home, outer, name),
@@ -115,7 +85,7 @@ pub fn signal_at(
 
 /// How many traps lie between an exit and its trap. It calls itself once for each binder around
 /// the place, of which there are at most 128.
-pub fn trap_at(scope: &Scope<'_>, name: &Identifier) -> Result<u32, AllocError>
+pub fn trap_at(scope: &Scope<'_, '_>, name: &Identifier) -> Result<u32, AllocError>
     ensures { IfOk result (λ k. k ≡ trap_at (binders_of scope.now) name.now) }
 {
     match scope {

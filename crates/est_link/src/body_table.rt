@@ -15,9 +15,9 @@ use crate::flatten::{Linker, Place, flat_statement};
 use crate::module_bodies::{ModuleBodies, ModuleBody};
 use crate::needed::is_in;
 use crate::open_body::OpenBody;
+use crate::scope::Scope;
 use est_modules::head::Head;
 use est_modules::head_tree::Heads;
-use est_modules::scope::Scope;
 use std::alloc::{AllocError, Global};
 
 /// The open body of the module of a linker.

@@ -2,13 +2,14 @@
 //!
 //! The functions call each other at most five times for each unit that is open around a place, and
 //! at most 128 units are open. A `run` is no call: the body of its module was made before.
-ghost use Rattle.std.specs.Prelude.{◌≡◌, IfOk, map, option_map};
+ghost use Rattle.std.specs.Prelude.{◌≡◌, ◌∷◌, IfOk, length, map, option_map};
 ghost use Rattle.est_syntax.specs.Views.{test_view, unit_view, branches_view, sequence_view};
-ghost use Rattle.est_syntax.specs.Views.{statement_view, renaming_view};
+ghost use Rattle.est_syntax.specs.Views.{statement_view, names_view, renaming_view};
 ghost use Rattle.est_modules.specs.Derived.{unit_derived, branches_derived, sequence_derived};
 ghost use Rattle.est_modules.specs.Derived.{statement_derived};
-ghost use Rattle.est_modules.specs.Scopes.{binders_of};
+ghost use Rattle.est_link.specs.Inner.Scopes.{binders_of};
 ghost use Rattle.est_modules.specs.Modules.{program_of, program_named};
+ghost use Rattle.est_modules.specs.Occurrences.{signals};
 ghost use Rattle.est_link.specs.Linking.{linked, interface_bound, interface_run, asked_at};
 ghost use Rattle.est_link.specs.Linking.{body_in_run};
 ghost use Rattle.est_link.specs.Linking.{emitted, locals_around, signal_at};
@@ -17,23 +18,24 @@ ghost use Rattle.est_link.specs.Inner.Joins.{joined_by};
 ghost use Rattle.est_link.specs.Inner.Meant.{meant};
 ghost use Rattle.est_link.specs.Inner.OpenBodies.{closed_of, meaning_of};
 ghost use Rattle.est_link.specs.Inner.Watches.{watched};
-ghost use Rattle.est_reduce.specs.Bodies.{nothing, present, seq, par};
+ghost use Rattle.est_reduce.specs.Bodies.{nothing, present, signal, seq, par};
 ghost use Rattle.est_reduce.specs.Views.{bound_name as name_view};
 ghost use Rattle.est_reduce.specs.Views.{bound_query as query_view};
 
-use crate::bindings::{Binding, count, locals_around, signal_at, trap_at};
+use crate::bindings::{Binding, locals_around, signal_at, trap_at};
 use crate::bound_runs::bind_body;
 use crate::found_tests::find_test;
+use crate::local_names::{LocalNames, count};
 use crate::meaning::Meaning;
 use crate::module_bodies::ModuleBodies;
 use crate::open_body::OpenBody;
+use crate::scope::Scope;
 use crate::watch::Watch;
 use est_modules::head::{Declared, Head};
 use est_modules::head_tree::Heads;
 use est_modules::renamings::RunRenamings;
-use est_modules::scope::Scope;
 use est_reduce::body::{BoundSignal, Wait};
-use est_syntax::tree::{Branches, Delay, Renaming, Sequence, Statement, Test, Unit};
+use est_syntax::tree::{Branches, Delay, Names, Renaming, Sequence, Statement, Test, Unit};
 use est_text::identifier::Identifier;
 use std::alloc::{AllocError, Global};
 
@@ -61,9 +63,9 @@ fn interface_run<'a>(heads: &'a Heads<'_>, name: &Identifier) -> &'a [Declared]
 }
 
 /// The flat statement of a `run`: the body of its module, its interface names bound.
-fn run(
-    linker: &Linker<'_, '_, '_>,
-    scope: &Scope<'_>,
+fn run<'b>(
+    linker: &Linker<'_, 'b, '_>,
+    scope: &Scope<'_, 'b>,
     name: &Identifier,
     renamings: &[Renaming],
 ) -> Result<OpenBody, AllocError>
@@ -95,7 +97,7 @@ pub struct Place<'a, 'b, 'c> {
     /// The modules, and the module.
     pub linker: &'a Linker<'a, 'b, 'c>,
     /// The binders around the place.
-    pub scope: &'a Scope<'a>,
+    pub scope: &'a Scope<'a, 'b>,
 }
 
 /// The signal that a name means.
@@ -150,7 +152,7 @@ fn present(
 
 /// The flat statement of a unit.
 #[cycle(flat)]
-fn flat_unit(at: &Place<'_, '_, '_>, unit: &Unit) -> Result<OpenBody, AllocError>
+fn flat_unit<'b>(at: &Place<'_, 'b, '_>, unit: &'b Unit) -> Result<OpenBody, AllocError>
     ensures { IfOk result (λ f. closed_of f ≡ linked (map program_of at.now.linker.now.heads.now)
         (bodies_of at.now.linker.now.bodies.now) (program_of at.now.linker.now.home.now)
         (binders_of at.now.scope.now) (unit_derived (unit_view unit.now))) }
@@ -177,21 +179,36 @@ fn flat_unit(at: &Place<'_, '_, '_>, unit: &Unit) -> Result<OpenBody, AllocError
             let scope = Scope::Trap(*name, &*at.scope);
             Ok(OpenBody::Trap(box_inside(at, &scope, p)?))
         }
-        Unit::Signal(names, p, _) => {
-            let scope = Scope::Signals(&*names, &*at.scope);
-            Ok(OpenBody::Signal(count(names)?, box_inside(at, &scope, p)?))
-        }
+        Unit::Signal(names, p, _) => flat_signal(at, names, p),
         Unit::Run(name, renamings) => run(at.linker, at.scope, name, renamings),
         Unit::Group(p) => flat_statement(at, p),
     }
 }
 
+/// The flat statement of a `signal`.
+#[cycle(flat)]
+fn flat_signal<'b>(
+    at: &Place<'_, 'b, '_>,
+    names: &'b Names,
+    statement: &'b Statement,
+) -> Result<OpenBody, AllocError>
+    ensures { IfOk result (λ f. closed_of f ≡ signal (length (names.now.first ∷
+        names.now.later.items)) (linked (map program_of at.now.linker.now.heads.now)
+        (bodies_of at.now.linker.now.bodies.now) (program_of at.now.linker.now.home.now)
+        (signals (names_view names.now) ∷ binders_of at.now.scope.now)
+        (statement_derived (statement_view statement.now)))) }
+{
+    let count = count(names)?;
+    let scope = Scope::Signals(LocalNames::of(at.linker.alloc, names)?, &*at.scope);
+    Ok(OpenBody::Signal(count, box_inside(at, &scope, statement)?))
+}
+
 /// The flat statement of a statement that waits for something while another runs.
 #[cycle(flat)]
-fn flat_watched(
-    at: &Place<'_, '_, '_>,
+fn flat_watched<'b>(
+    at: &Place<'_, 'b, '_>,
     watch: Watch,
-    statement: &Statement,
+    statement: &'b Statement,
     delay: &Delay,
 ) -> Result<OpenBody, AllocError>
     ensures { IfOk result (λ f. closed_of f ≡ watched watch delay.now.immediate
@@ -206,10 +223,10 @@ fn flat_watched(
 
 /// The flat statement of a `present`, with its branches.
 #[cycle(flat)]
-fn flat_test(
-    at: &Place<'_, '_, '_>,
+fn flat_test<'b>(
+    at: &Place<'_, 'b, '_>,
     test: &Test,
-    branches: &Branches,
+    branches: &'b Branches,
 ) -> Result<OpenBody, AllocError>
     ensures { IfOk result (λ f. closed_of f ≡ linked (map program_of at.now.linker.now.heads.now)
         (bodies_of at.now.linker.now.bodies.now) (program_of at.now.linker.now.home.now)
@@ -256,7 +273,7 @@ fn beside(alloc: Global, p: OpenBody, rest: Option<Box<OpenBody>>) -> Result<Ope
 
 /// The flat statement of a sequence.
 #[cycle(flat)]
-fn flat_sequence(at: &Place<'_, '_, '_>, sequence: &Sequence) -> Result<OpenBody, AllocError>
+fn flat_sequence<'b>(at: &Place<'_, 'b, '_>, sequence: &'b Sequence) -> Result<OpenBody, AllocError>
     ensures { IfOk result (λ f. closed_of f ≡ linked (map program_of at.now.linker.now.heads.now)
         (bodies_of at.now.linker.now.bodies.now) (program_of at.now.linker.now.home.now)
         (binders_of at.now.scope.now) (sequence_derived (sequence_view sequence.now))) }
@@ -275,7 +292,10 @@ fn flat_sequence(at: &Place<'_, '_, '_>, sequence: &Sequence) -> Result<OpenBody
 
 /// The flat statement of sequences side by side.
 #[cycle(flat)]
-pub fn flat_statement(at: &Place<'_, '_, '_>, statement: &Statement) -> Result<OpenBody, AllocError>
+pub fn flat_statement<'b>(
+    at: &Place<'_, 'b, '_>,
+    statement: &'b Statement,
+) -> Result<OpenBody, AllocError>
     ensures { IfOk result (λ f. closed_of f ≡ linked (map program_of at.now.linker.now.heads.now)
         (bodies_of at.now.linker.now.bodies.now) (program_of at.now.linker.now.home.now)
         (binders_of at.now.scope.now) (statement_derived (statement_view statement.now))) }
@@ -294,7 +314,10 @@ pub fn flat_statement(at: &Place<'_, '_, '_>, statement: &Statement) -> Result<O
 
 /// The flat statement of sequences side by side, in a box.
 #[cycle(flat)]
-fn box_body(at: &Place<'_, '_, '_>, statement: &Statement) -> Result<Box<OpenBody>, AllocError>
+fn box_body<'b>(
+    at: &Place<'_, 'b, '_>,
+    statement: &'b Statement,
+) -> Result<Box<OpenBody>, AllocError>
     ensures { IfOk result (λ b. closed_of b.value ≡ linked (map program_of
         at.now.linker.now.heads.now) (bodies_of at.now.linker.now.bodies.now)
         (program_of at.now.linker.now.home.now) (binders_of at.now.scope.now)
@@ -305,10 +328,10 @@ fn box_body(at: &Place<'_, '_, '_>, statement: &Statement) -> Result<Box<OpenBod
 
 /// The flat statement of sequences side by side inside one binder more, in a box.
 #[cycle(flat)]
-fn box_inside(
-    at: &Place<'_, '_, '_>,
-    scope: &Scope<'_>,
-    statement: &Statement,
+fn box_inside<'b>(
+    at: &Place<'_, 'b, '_>,
+    scope: &Scope<'_, 'b>,
+    statement: &'b Statement,
 ) -> Result<Box<OpenBody>, AllocError>
     ensures { IfOk result (λ b. closed_of b.value ≡ linked (map program_of
         at.now.linker.now.heads.now) (bodies_of at.now.linker.now.bodies.now)

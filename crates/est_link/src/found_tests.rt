@@ -6,7 +6,7 @@ ghost use Rattle.std.specs.Prelude.{◌≡◌, IfOk};
 ghost use Rattle.est_syntax.specs.Views.{literal_view, conjunction_view, expression_view};
 ghost use Rattle.est_syntax.specs.Views.{test_view};
 ghost use Rattle.est_modules.specs.Modules.{program_of};
-ghost use Rattle.est_modules.specs.Scopes.{binders_of};
+ghost use Rattle.est_link.specs.Inner.Scopes.{binders_of};
 ghost use Rattle.est_reduce.specs.Views.{bound_query as query_view};
 ghost use Rattle.est_link.specs.Asking.{literal_asked, conjunction_asked, expression_asked};
 ghost use Rattle.est_link.specs.Linking.{asked_at, signal_at};

@@ -4,7 +4,7 @@ use Rattle.est_syntax.specs.Views.{renaming_view}
 use Rattle.est_kernel.specs.Term.{Query}
 use Rattle.est_link.specs.Linking.{interface_bound}
 use Rattle.est_modules.specs.Modules.{program_of}
-use Rattle.est_modules.specs.Scopes.{binders_of}
+use Rattle.est_link.specs.Inner.Scopes.{binders_of}
 use Rattle.est_link.specs.declared.bindings.Binding.{Binding}
 
 -- those of a value of the code

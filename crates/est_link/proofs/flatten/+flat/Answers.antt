@@ -1,6 +1,6 @@
 use Rattle.std.proofs.Common.{◌≡◌, ◌∙◌, sym, ap, map, drop, option_map, subst, IfOk, arith}
 use Rattle.est_syntax.specs.declared.tree.Branches.TheViews.{out-Sequence, out-Statement}
-use Rattle.est_modules.specs.Scopes.{binders_of}
+use Rattle.est_link.specs.Inner.Scopes.{binders_of}
 use Rattle.est_modules.specs.Modules.{program_of}
 use Rattle.est_reduce.specs.Bodies.{Body as FlatTerm, seq, par}
 use Rattle.est_link.specs.Inner.Tables.{bodies_of}

@@ -1,5 +1,5 @@
 use Rattle.std.proofs.Common.{◌≡◌, ◌≤◌, drop, length, map, option_map}
-use Rattle.est_modules.specs.Scopes.{binders_of}
+use Rattle.est_link.specs.Inner.Scopes.{binders_of}
 use Rattle.est_modules.specs.Modules.{program_of}
 use Rattle.est_reduce.specs.Bodies.{seq, par}
 use Rattle.est_link.specs.Inner.Tables.{bodies_of}

@@ -5,7 +5,7 @@ use Rattle.est_kernel.specs.View.{queries_of}
 use Rattle.est_kernel.specs.declared.statement.Connective.TheVariants.{And, Or}
 use Rattle.est_syntax.specs.declared.tree.Literal.TheViews.{out-Conjunction, out-Expression}
 use Rattle.est_modules.specs.Modules.{program_of}
-use Rattle.est_modules.specs.Scopes.{binders_of}
+use Rattle.est_link.specs.Inner.Scopes.{binders_of}
 use Rattle.est_reduce.specs.Views.{bound_query as query_view}
 use Rattle.est_link.specs.Linking.{signal_at}
 use Rattle.est_link.proofs.Asked.{literal_seen, conjunction_seen, more_seen, more_literals, more_conjunctions}

@@ -1,7 +1,7 @@
 use Rattle.std.proofs.Common.{◌≡◌, map, take}
 use Rattle.est_link.specs.Linking.{signal_at}
 use Rattle.est_modules.specs.Modules.{program_of}
-use Rattle.est_modules.specs.Scopes.{binders_of}
+use Rattle.est_link.specs.Inner.Scopes.{binders_of}
 use Rattle.est_reduce.specs.Views.{bound_query as query_view}
 use Rattle.est_link.proofs.Asked.{literal_seen, conjunction_seen}
 use Rattle.est_link.proofs.found_tests.+tests.Given as goal
