@@ -5,7 +5,7 @@ use Rattle.est_kernel.specs.Term.{Name, outer, inner, Query, tick, of, negated, 
 use Rattle.est_kernel.proofs.Tests.{each_implies}
 use Rattle.est_reduce.specs.Bodies.{Body, nothing, pause, halt, emit, sustain, exit, await, present, suspend, abort}
 use Rattle.est_reduce.specs.Bodies.{weak_abort, repeat, repeat_each, every, trap, signal, seq, par}
-use Rattle.est_link.specs.Linking.{body_in_run, signal_in_run, query_in_run, queries_in_run, emitted}
+use Rattle.est_link.specs.Linking.{body_in_run, in_run, signal_in_run, query_meant, queries_meant, emitted}
 use Rattle.est_link.specs.Bodies.{MayEmit, MayAsk, IsThere, IsBody, AreBindings}
 
 more_there : (m l k : ℕ) (s : Name) → IsThere m l s → IsThere m (l + k) s
@@ -26,7 +26,7 @@ name_bound n may m callers k qs b l (inner j) a = omega (arith, a)
 
 mutual
   asked_bound : (n : ℕ) (may : ℕ → Type 0) (m : ℕ) (callers : ℕ → Type 0) (k : ℕ) (qs : List Query)
-      → AreBindings n may m callers k qs → (l : ℕ) (q : Query) → MayAsk n l q → MayAsk m (k + l) (query_in_run qs k q)
+      → AreBindings n may m callers k qs → (l : ℕ) (q : Query) → MayAsk n l q → MayAsk m (k + l) (query_meant (in_run qs k) q)
   asked_bound n may m callers k qs b l tick a = tt
   asked_bound n may m callers k qs b l (of s) a = name_bound n may m callers k qs b l s a
   asked_bound n may m callers k qs b l (negated t) a = asked_bound n may m callers k qs b l t a
@@ -35,7 +35,7 @@ mutual
 
   all_asked_bound : (n : ℕ) (may : ℕ → Type 0) (m : ℕ) (callers : ℕ → Type 0) (k : ℕ) (qs : List Query)
       → AreBindings n may m callers k qs → (l : ℕ) (ts : Queries) → EachSignalOfAll (IsThere n l) ts
-      → EachSignalOfAll (IsThere m (k + l)) (queries_in_run qs k ts)
+      → EachSignalOfAll (IsThere m (k + l)) (queries_meant (in_run qs k) ts)
   all_asked_bound n may m callers k qs b l (last t) a = asked_bound n may m callers k qs b l t a
   all_asked_bound n may m callers k qs b l (more t ts) a =
       (asked_bound n may m callers k qs b l t a.0, all_asked_bound n may m callers k qs b l ts a.1)

@@ -3,9 +3,9 @@ use Rattle.std.proofs.Common.{◌≡◌, ℕ, zero, suc, ◌+◌, Bool, true, fa
 use Rattle.std.proofs.Common.{None, if◌then◌else◌, refl, ap, sym, ◌∙◌, arith}
 use Rattle.est_kernel.specs.Term.{Name, outer, inner, Query, tick, of, negated, joined, Queries, last, more}
 use Rattle.est_kernel.specs.View.{queries_of}
-use Rattle.est_link.specs.Inner.Meant.{Meant, itself, query_meant, queries_meant, body_meant, again, in_run}
+use Rattle.est_link.specs.Inner.Meant.{itself, again}
+use Rattle.est_link.specs.Linking.{Meant, query_meant, queries_meant, body_meant}
 use Rattle.est_link.specs.Inner.OpenBodies.{meaning_of, numbered, meant_by}
-use Rattle.est_link.specs.Linking.{body_in_run, query_in_run, queries_in_run}
 use Rattle.est_link.specs.declared.meaning.Meaning.{Meaning}
 use Rattle.est_link.specs.declared.signal_meanings.SignalMeanings.{SignalMeanings}
 use Rattle.est_reduce.specs.Bodies.{Body, nothing, pause, halt, emit, sustain, exit, await, present, suspend, abort}
@@ -119,67 +119,6 @@ meant_in g h k e (seq p q) =
 meant_in g h k e (par p q) =
     ap (λ x. par x (body_meant g (body_meant h q))) (meant_in g h k e p)
     ∙ ap (par (body_meant k p)) (meant_in g h k e q)
-
--- ---- bodies in a run
-
-mutual
-  asked_in_run : (qs : List Query) (l : ℕ) (q : Query) → query_in_run qs l q ≡ query_meant (in_run qs l) q
-  asked_in_run qs l tick = refl
-  asked_in_run qs l (of n) = refl
-  asked_in_run qs l (negated t) = ap negated (asked_in_run qs l t)
-  asked_in_run qs l (joined c t ts) =
-      ap (λ x. joined c x (queries_in_run qs l ts)) (asked_in_run qs l t)
-      ∙ ap (joined c (query_meant (in_run qs l) t)) (all_asked_in_run qs l ts)
-
-  all_asked_in_run : (qs : List Query) (l : ℕ) (ts : Queries)
-      → queries_in_run qs l ts ≡ queries_meant (in_run qs l) ts
-  all_asked_in_run qs l (last t) = ap last (asked_in_run qs l t)
-  all_asked_in_run qs l (more t ts) =
-      ap (λ x. more x (queries_in_run qs l ts)) (asked_in_run qs l t)
-      ∙ ap (more (query_meant (in_run qs l) t)) (all_asked_in_run qs l ts)
-
--- what a body becomes in a run, by what its signals mean there
-meant_in_run : (qs : List Query) (l : ℕ) (b : Body) → body_in_run qs l b ≡ body_meant (in_run qs l) b
-meant_in_run qs l nothing = refl
-meant_in_run qs l pause = refl
-meant_in_run qs l halt = refl
-meant_in_run qs l (emit n) = refl
-meant_in_run qs l (sustain n) = refl
-meant_in_run qs l (exit t) = refl
-meant_in_run qs l (await now s) = ap (await now) (asked_in_run qs l s)
-meant_in_run qs l (present s p q) =
-    ap (λ x. present x (body_in_run qs l p) (body_in_run qs l q)) (asked_in_run qs l s)
-    ∙ ap (λ x. present (query_meant (in_run qs l) s) x (body_in_run qs l q)) (meant_in_run qs l p)
-    ∙ ap (present (query_meant (in_run qs l) s) (body_meant (in_run qs l) p)) (meant_in_run qs l q)
-meant_in_run qs l (suspend now s p) =
-    ap (λ x. suspend now x (body_in_run qs l p)) (asked_in_run qs l s)
-    ∙ ap (suspend now (query_meant (in_run qs l) s)) (meant_in_run qs l p)
-meant_in_run qs l (abort now s p) =
-    ap (λ x. abort now x (body_in_run qs l p)) (asked_in_run qs l s)
-    ∙ ap (abort now (query_meant (in_run qs l) s)) (meant_in_run qs l p)
-meant_in_run qs l (weak_abort now s p) =
-    ap (λ x. weak_abort now x (body_in_run qs l p)) (asked_in_run qs l s)
-    ∙ ap (weak_abort now (query_meant (in_run qs l) s)) (meant_in_run qs l p)
-meant_in_run qs l (repeat p) = ap repeat (meant_in_run qs l p)
-meant_in_run qs l (repeat_each s p) =
-    ap (λ x. repeat_each x (body_in_run qs l p)) (asked_in_run qs l s)
-    ∙ ap (repeat_each (query_meant (in_run qs l) s)) (meant_in_run qs l p)
-meant_in_run qs l (every now s p) =
-    ap (λ x. every now x (body_in_run qs l p)) (asked_in_run qs l s)
-    ∙ ap (every now (query_meant (in_run qs l) s)) (meant_in_run qs l p)
-meant_in_run qs l (trap p) = ap trap (meant_in_run qs l p)
-meant_in_run qs l (signal n p) = ap (signal n) (meant_in_run qs l p)
-meant_in_run qs l (seq p q) =
-    ap (λ x. seq x (body_in_run qs l q)) (meant_in_run qs l p)
-    ∙ ap (seq (body_meant (in_run qs l) p)) (meant_in_run qs l q)
-meant_in_run qs l (par p q) =
-    ap (λ x. par x (body_in_run qs l q)) (meant_in_run qs l p)
-    ∙ ap (par (body_meant (in_run qs l) p)) (meant_in_run qs l q)
-
--- a body whose signals mean what h says, in a run
-pub run_bound : (qs : List Query) (l : ℕ) (h k : Name → Meant) → ((n : Name) → k n ≡ again (in_run qs l) (h n))
-    → (b : Body) → body_meant k b ≡ body_in_run qs l (body_meant h b)
-run_bound qs l h k e b = sym (meant_in (in_run qs l) h k e b) ∙ sym (meant_in_run qs l (body_meant h b))
 
 -- ---- tests of the code
 

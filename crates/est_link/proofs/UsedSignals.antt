@@ -7,7 +7,8 @@ use Rattle.std.proofs.lemmas.List.{get_or_append_left, get_or_push, length-map, 
 use Rattle.std.specs.Prelude.{is_some}
 use Rattle.est_kernel.specs.View.{queries_of}
 use Rattle.est_kernel.specs.Term.{Name, outer, inner, Query, tick, of, Joint}
-use Rattle.est_link.specs.Inner.Meant.{Meant, itself, query_meant, queries_meant, body_meant, again}
+use Rattle.est_link.specs.Inner.Meant.{itself, again}
+use Rattle.est_link.specs.Linking.{Meant, query_meant, queries_meant, body_meant}
 use Rattle.est_link.specs.Inner.OpenBodies.{meaning_of, numbered, meant_by, has_number, AreUsed, MeanThemselves, IsKept}
 use Rattle.est_link.specs.Inner.OpenBodies.{IsBodyKept, AreMeaningsKept}
 use Rattle.est_link.specs.declared.meaning.Meaning.{Meaning}

@@ -49,12 +49,57 @@ trap_at [] t = 0
 trap_at (signals ns ∷ bs) t = trap_at bs t
 trap_at (a_trap u ∷ bs) t = if bytes_eq u t then 0 else trap_at bs t + 1
 
--- ---- a module's body where it is run
+-- ---- a body whose signals mean something else
+
+-- what a test of a signal asks, and what its emission emits
+pub record Meant : Type 0 where
+  pub asked : Query
+  pub sent : Name
 
 -- the signal that an emission means: what a name means is one signal or `tick`, and `tick` is never emitted
 abbrev pub emitted : Query → Name
 emitted (of n) = n
 emitted _ = outer 0
+
+-- the meaning that a query gives
+abbrev pub meant : Query → Meant
+meant q = record { asked = q; sent = emitted q }
+
+abbrev mutual
+  -- a test, where each signal means what g says
+  pub query_meant : (Name → Meant) → Query → Query
+  query_meant g tick = tick
+  query_meant g (of n) = (g n).asked
+  query_meant g (negated t) = negated (query_meant g t)
+  query_meant g (joined c t ts) = joined c (query_meant g t) (queries_meant g ts)
+
+  -- the same of one test or more
+  pub queries_meant : (Name → Meant) → Queries → Queries
+  queries_meant g (last t) = last (query_meant g t)
+  queries_meant g (more t ts) = more (query_meant g t) (queries_meant g ts)
+
+-- a statement, where each signal means what g says
+abbrev pub body_meant : (Name → Meant) → Body → Body
+body_meant g nothing = nothing
+body_meant g pause = pause
+body_meant g halt = halt
+body_meant g (emit n) = emit (g n).sent
+body_meant g (sustain n) = sustain (g n).sent
+body_meant g (exit k) = exit k
+body_meant g (await now s) = await now (query_meant g s)
+body_meant g (present s p q) = present (query_meant g s) (body_meant g p) (body_meant g q)
+body_meant g (suspend now s p) = suspend now (query_meant g s) (body_meant g p)
+body_meant g (abort now s p) = abort now (query_meant g s) (body_meant g p)
+body_meant g (weak_abort now s p) = weak_abort now (query_meant g s) (body_meant g p)
+body_meant g (repeat p) = repeat (body_meant g p)
+body_meant g (repeat_each s p) = repeat_each (query_meant g s) (body_meant g p)
+body_meant g (every now s p) = every now (query_meant g s) (body_meant g p)
+body_meant g (trap p) = trap (body_meant g p)
+body_meant g (signal n p) = signal n (body_meant g p)
+body_meant g (seq p q) = seq (body_meant g p) (body_meant g q)
+body_meant g (par p q) = par (body_meant g p) (body_meant g q)
+
+-- ---- a module's body where it is run
 
 -- what a signal of a module becomes in a run of it, where its interface signals stand for those of a list, inside l
 -- local signals
@@ -62,39 +107,13 @@ abbrev pub signal_in_run : List Query → ℕ → Name → Query
 signal_in_run qs l (outer i) = get_or qs i tick
 signal_in_run qs l (inner k) = of (inner (l + k))
 
-abbrev mutual
-  -- what a test of it asks there: each name so
-  pub query_in_run : List Query → ℕ → Query → Query
-  query_in_run qs l tick = tick
-  query_in_run qs l (of n) = signal_in_run qs l n
-  query_in_run qs l (negated t) = negated (query_in_run qs l t)
-  query_in_run qs l (joined c t ts) = joined c (query_in_run qs l t) (queries_in_run qs l ts)
-
-  -- the same of one test or more
-  pub queries_in_run : List Query → ℕ → Queries → Queries
-  queries_in_run qs l (last t) = last (query_in_run qs l t)
-  queries_in_run qs l (more t ts) = more (query_in_run qs l t) (queries_in_run qs l ts)
+-- what it means there
+abbrev pub in_run : List Query → ℕ → Name → Meant
+in_run qs l n = meant (signal_in_run qs l n)
 
 -- what a statement of it becomes there
 abbrev pub body_in_run : List Query → ℕ → Body → Body
-body_in_run qs l nothing = nothing
-body_in_run qs l pause = pause
-body_in_run qs l halt = halt
-body_in_run qs l (emit n) = emit (emitted (signal_in_run qs l n))
-body_in_run qs l (sustain n) = sustain (emitted (signal_in_run qs l n))
-body_in_run qs l (exit k) = exit k
-body_in_run qs l (await now s) = await now (query_in_run qs l s)
-body_in_run qs l (present s p q) = present (query_in_run qs l s) (body_in_run qs l p) (body_in_run qs l q)
-body_in_run qs l (suspend now s p) = suspend now (query_in_run qs l s) (body_in_run qs l p)
-body_in_run qs l (abort now s p) = abort now (query_in_run qs l s) (body_in_run qs l p)
-body_in_run qs l (weak_abort now s p) = weak_abort now (query_in_run qs l s) (body_in_run qs l p)
-body_in_run qs l (repeat p) = repeat (body_in_run qs l p)
-body_in_run qs l (repeat_each s p) = repeat_each (query_in_run qs l s) (body_in_run qs l p)
-body_in_run qs l (every now s p) = every now (query_in_run qs l s) (body_in_run qs l p)
-body_in_run qs l (trap p) = trap (body_in_run qs l p)
-body_in_run qs l (signal n p) = signal n (body_in_run qs l p)
-body_in_run qs l (seq p q) = seq (body_in_run qs l p) (body_in_run qs l q)
-body_in_run qs l (par p q) = par (body_in_run qs l p) (body_in_run qs l q)
+body_in_run qs l b = body_meant (in_run qs l) b
 
 -- what the signals of an interface stand for where their module is run in p, inside binders
 abbrev pub interface_bound : Program → List Binder → List RenamingTree → List Declared → List Query

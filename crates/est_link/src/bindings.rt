@@ -3,16 +3,16 @@ ghost use Rattle.std.specs.Prelude.{◌≡◌, IfOk, get_or};
 ghost use Rattle.std.specs.List.{position};
 ghost use Rattle.std.specs.Str.{bytes_eq};
 ghost use Rattle.est_kernel.specs.Term.{tick};
-ghost use Rattle.est_link.specs.Inner.Meant.{in_run, meant};
+ghost use Rattle.est_link.specs.Linking.{meant};
 ghost use Rattle.est_link.specs.Inner.OpenBodies.{meaning_of};
 ghost use Rattle.est_link.specs.Inner.Scopes.{binders_of};
 ghost use Rattle.est_modules.specs.Modules.{program_of};
-ghost use Rattle.est_reduce.specs.Views.{bound_name as name_view};
 ghost use Rattle.est_link.specs.Linking.{locals_around, signal_at, trap_at, of_interface};
 ghost use Rattle.est_link.specs.Inner.Binds.{binding_of};
 
 use crate::meaning::Meaning;
 use crate::numbers::{small, sum};
+use crate::run_meanings::Meanings;
 use crate::scope::Scope;
 use est_modules::head::{Declared, Head, Interface};
 use est_modules::renamings::RunRenamings;
@@ -116,18 +116,22 @@ fn interface_bound(binding: &Binding<'_, '_, '_>, index: u32) -> Result<Meaning,
     }
 }
 
-/// What a signal of the body means where its module is run.
-pub fn bind_signal(
-    binding: &Binding<'_, '_, '_>,
-    signal: BoundSignal,
-) -> Result<Meaning, AllocError>
-    ensures { IfOk result (λ m. meaning_of m ≡ in_run (binding_of binding.now) binding.now.locals
-        (name_view signal)) }
-{
-    match signal {
-        BoundSignal::Outer(index) => interface_bound(binding, index),
-        BoundSignal::Inner(index) => {
-            Ok(Meaning::of(BoundSignal::Inner(sum(binding.locals, index)?)))
+impl Meanings for Binding<'_, '_, '_> {
+    ghost use Rattle.est_link.specs.Inner.Binds.{binding_of};
+    ghost use Rattle.est_link.specs.Linking.{in_run};
+
+    ghost means = { λ b. in_run (binding_of b) b.locals };
+
+    fn meaning(&self, signal: BoundSignal) -> Result<Meaning, AllocError> {
+        match signal {
+            BoundSignal::Outer(index) => interface_bound(self, index),
+            BoundSignal::Inner(index) => {
+                Ok(Meaning::of(BoundSignal::Inner(sum(self.locals, index)?)))
+            }
         }
+    }
+
+    fn locals(&self) -> u32 {
+        self.locals
     }
 }

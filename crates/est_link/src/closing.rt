@@ -3,13 +3,14 @@
 //! `open_body` says how deep the functions call themselves.
 ghost use Rattle.std.specs.Prelude.{◌≡◌, IfOk};
 ghost use Rattle.est_kernel.specs.Term.{joined};
-ghost use Rattle.est_link.specs.Inner.Meant.{body_meant, queries_meant, query_meant};
+ghost use Rattle.est_link.specs.Linking.{body_meant, queries_meant, query_meant};
 ghost use Rattle.est_link.specs.Inner.OpenBodies.{closed_of, meant_by};
 ghost use Rattle.est_link.specs.Inner.Watches.{watched};
 ghost use Rattle.est_reduce.specs.Views.{bound_joint as joint_view, bound_name as name_view};
 ghost use Rattle.est_reduce.specs.Views.{bound_query as query_view, body_of};
 
 use crate::open_body::OpenBody;
+use crate::run_meanings::{Meanings, inside};
 use crate::signal_meanings::SignalMeanings;
 use crate::watch::Watch;
 use est_kernel::statement::Connective;
@@ -139,7 +140,7 @@ fn close_run(at: &Closing<'_>, body: &OpenBody, run: &SignalMeanings) -> Result<
     ensures { IfOk result (λ b. body_of b ≡ body_meant (meant_by at.now.meanings.now)
         (body_meant (meant_by run.now) (closed_of body.now))) }
 {
-    let meanings = at.meanings.inside(at.alloc, run)?;
+    let meanings = inside(at.alloc, at.meanings, run)?;
     close(
         &Closing {
             alloc: at.alloc,

@@ -15,7 +15,7 @@ ghost use Rattle.est_link.specs.Linking.{body_in_run};
 ghost use Rattle.est_link.specs.Linking.{emitted, locals_around, signal_at};
 ghost use Rattle.est_link.specs.Inner.Tables.{bodies_of};
 ghost use Rattle.est_link.specs.Inner.Joins.{joined_by};
-ghost use Rattle.est_link.specs.Inner.Meant.{meant};
+ghost use Rattle.est_link.specs.Linking.{meant};
 ghost use Rattle.est_link.specs.Inner.OpenBodies.{closed_of, meaning_of};
 ghost use Rattle.est_link.specs.Inner.Watches.{watched};
 ghost use Rattle.est_reduce.specs.Bodies.{nothing, present, signal, seq, par};

@@ -23,6 +23,7 @@ mod module_bodies;
 mod needed;
 mod numbers;
 mod open_body;
+mod run_meanings;
 mod scope;
 mod signal_meanings;
 mod signal_table;

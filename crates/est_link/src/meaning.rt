@@ -1,7 +1,8 @@
 //! What a signal means at another place.
 ghost use Rattle.std.specs.Prelude.{◌≡◌};
 ghost use Rattle.est_kernel.specs.Term.{Name};
-ghost use Rattle.est_link.specs.Inner.Meant.{Meant, again, itself};
+ghost use Rattle.est_link.specs.Inner.Meant.{again, itself};
+ghost use Rattle.est_link.specs.Linking.{Meant};
 ghost use Rattle.est_link.specs.Inner.OpenBodies.{meaning_of};
 ghost use Rattle.est_reduce.specs.Views.{bound_name as name_view, bound_query as query_view};
 

@@ -1,14 +1,13 @@
 //! What the signals of a body mean at another place.
-ghost use Rattle.std.specs.Prelude.{◌≡◌, IfOk, map};
-ghost use Rattle.est_kernel.specs.Term.{Name, outer};
-ghost use Rattle.est_link.specs.Inner.Meant.{again};
+ghost use Rattle.std.specs.Prelude.{◌≡◌};
+ghost use Rattle.est_kernel.specs.Term.{outer};
 ghost use Rattle.est_link.specs.Inner.OpenBodies.{meaning_of, meant_by};
-ghost use Rattle.est_reduce.specs.Views.{bound_name as name_view};
 
 use crate::meaning::Meaning;
 use crate::numbers::sum;
+use crate::run_meanings::Meanings;
 use est_reduce::body::BoundSignal;
-use std::alloc::{AllocError, Global};
+use std::alloc::AllocError;
 use std::rc::Rc;
 
 /// What the signals of a body mean at another place. Listed are the interface signals that the body
@@ -39,15 +38,12 @@ impl SignalMeanings {
             _ => self.other,
         }
     }
+}
 
-    /// What a signal of the body means.
-    ///
-    /// # Errors
-    ///
-    /// `AllocError` where the number of a local signal passes 32 bits.
-    pub fn meaning(&self, signal: BoundSignal) -> Result<Meaning, AllocError>
-        ensures { IfOk result (λ m. meaning_of m ≡ meant_by self.now (name_view signal)) }
-    {
+impl Meanings for SignalMeanings {
+    ghost means = { λ m. meant_by m };
+
+    fn meaning(&self, signal: BoundSignal) -> Result<Meaning, AllocError> {
         match signal {
             BoundSignal::Outer(place) => Ok(self.outer_meaning(place)),
             BoundSignal::Inner(index) => {
@@ -56,40 +52,7 @@ impl SignalMeanings {
         }
     }
 
-    /// What a meaning is where signals mean what these say.
-    fn again(&self, meaning: Meaning) -> Result<Meaning, AllocError>
-        ensures { IfOk result (λ m. meaning_of m ≡ again (meant_by self.now)
-            (meaning_of meaning)) }
-    {
-        Ok(meaning.further(self.meaning(meaning.signal)?))
-    }
-
-    /// The same of each of a list.
-    fn all_again(&self, alloc: Global, list: &[Meaning]) -> Result<Vec<Meaning>, AllocError>
-        ensures { IfOk result (λ ms. map meaning_of ms.items ≡ map
-            (λ m. again (meant_by self.now) (meaning_of m)) list.now) }
-    {
-        let mut meanings = Vec::new(alloc);
-        for meaning in list {
-            meanings.push(self.again(*meaning)?)?;
-        }
-        Ok(meanings)
-    }
-
-    /// The meanings of a run in a body whose signals mean what these say.
-    ///
-    /// # Errors
-    ///
-    /// `AllocError` where memory is refused.
-    pub fn inside(&self, alloc: Global, run: &SignalMeanings) -> Result<SignalMeanings, AllocError>
-        ensures { IfOk result (λ r. (n : Name) → meant_by r n ≡ again (meant_by self.now)
-            (meant_by run.now n)) }
-    {
-        Ok(SignalMeanings {
-            numbers: run.numbers.clone()?,
-            meanings: self.all_again(alloc, &run.meanings)?,
-            other: self.again(run.other)?,
-            locals: sum(self.locals, run.locals)?,
-        })
+    fn locals(&self) -> u32 {
+        self.locals
     }
 }

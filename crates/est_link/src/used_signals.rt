@@ -1,6 +1,6 @@
 //! The interface signals that an open body has.
 ghost use Rattle.std.specs.Prelude.{◌≡◌, ◌<◌, ℕ, None, true, false, IfOk, OnOk, get_or, length};
-ghost use Rattle.est_link.specs.Inner.Meant.{body_meant};
+ghost use Rattle.est_link.specs.Linking.{body_meant};
 ghost use Rattle.est_link.specs.Inner.OpenBodies.{AreMeaningsKept, AreUsed, AreTestsKept};
 ghost use Rattle.est_link.specs.Inner.OpenBodies.{HaveGrown, IsBodyKept, IsJointKept, IsKept};
 ghost use Rattle.est_link.specs.Inner.OpenBodies.{IsTestKept};

@@ -2,7 +2,8 @@
 use Rattle.std.specs.Prelude.{◌≡◌, ◌<◌, ℕ, ◌+◌, Bool, true, List, length, map, get_or, Option, Some, None, is_some}
 use Rattle.std.specs.Prelude.{if◌then◌else◌}
 use Rattle.est_kernel.specs.Term.{Name, outer, inner, Query, tick, of, Joint}
-use Rattle.est_link.specs.Inner.Meant.{Meant, itself, query_meant, queries_meant, body_meant, again}
+use Rattle.est_link.specs.Inner.Meant.{itself, again}
+use Rattle.est_link.specs.Linking.{Meant, query_meant, queries_meant, body_meant}
 use Rattle.est_link.specs.Inner.Watches.{watched}
 use Rattle.est_link.specs.declared.meaning.Meaning.{Meaning}
 use Rattle.est_link.specs.declared.open_body.OpenBody.{OpenBody}

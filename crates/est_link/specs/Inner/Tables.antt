@@ -9,7 +9,7 @@ use Rattle.std.specs.Ordering.{nat_cmp}
 use Rattle.std.specs.Str.{bytes_eq}
 use Rattle.est_reduce.specs.Bodies.{Body, nothing}
 use Rattle.est_link.specs.Bodies.{HasSoundNames, IsBody, IsSent}
-use Rattle.est_link.specs.Inner.Meant.{body_meant}
+use Rattle.est_link.specs.Linking.{body_meant}
 use Rattle.est_order.specs.PlaceSets.{IsIn}
 use Rattle.est_link.specs.Inner.OpenBodies.{closed_of, meant_by}
 use Rattle.est_link.specs.Linking.{IsLinked, linked}

@@ -1,5 +1,5 @@
 use Rattle.std.proofs.Common.{◌≡◌, ◌∙◌, IfOk, ap, sym, subst}
-use Rattle.est_link.specs.Inner.Meant.{body_meant}
+use Rattle.est_link.specs.Linking.{body_meant}
 use Rattle.est_link.specs.Inner.OpenBodies.{closed_of, meant_by}
 use Rattle.est_link.specs.declared.open_body.OpenBody.{OpenBody}
 use Rattle.est_link.proofs.closing.+close.Goals as goal

@@ -4,7 +4,7 @@ use Rattle.est_kernel.specs.Term.{Query, Joint, joined}
 use Rattle.est_kernel.specs.View.{queries_of}
 use Rattle.est_reduce.specs.Views.{bound_query as query_view}
 use Rattle.est_reduce.proofs.Tests.{operands_seen}
-use Rattle.est_link.specs.Inner.Meant.{query_meant, queries_meant}
+use Rattle.est_link.specs.Linking.{query_meant, queries_meant}
 use Rattle.est_link.specs.Inner.OpenBodies.{meant_by}
 use Rattle.est_link.proofs.Meanings.{test_meant, listed_meant}
 use Rattle.est_link.proofs.closing.+tests.Goals as goal

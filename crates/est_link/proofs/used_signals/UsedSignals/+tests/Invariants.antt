@@ -1,6 +1,6 @@
 use Rattle.std.proofs.Common.{◌≡◌, map, take}
 use Rattle.est_kernel.specs.Term.{Name}
-use Rattle.est_link.specs.Inner.Meant.{Meant}
+use Rattle.est_link.specs.Linking.{Meant}
 use Rattle.est_link.specs.Inner.OpenBodies.{AreUsed, MeanThemselves}
 use Rattle.est_link.proofs.Meanings.{test_meant}
 use Rattle.est_link.proofs.used_signals.UsedSignals.+tests.Given as goal

@@ -1,6 +1,7 @@
 use Rattle.std.proofs.Common.{◌≡◌, map, take}
 use Rattle.est_kernel.specs.Term.{Name}
-use Rattle.est_link.specs.Inner.Meant.{Meant, again}
+use Rattle.est_link.specs.Inner.Meant.{again}
+use Rattle.est_link.specs.Linking.{Meant}
 use Rattle.est_link.specs.Inner.OpenBodies.{meaning_of, AreUsed, MeanThemselves}
 use Rattle.est_link.specs.declared.meaning.Meaning.{Meaning}
 use Rattle.est_link.proofs.used_signals.UsedSignals.add_meanings.Given as goal

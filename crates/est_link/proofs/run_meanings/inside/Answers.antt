@@ -1,19 +1,19 @@
-use Rattle.std.proofs.Common.{◌∙◌, map, refl, ap}
+use Rattle.std.proofs.Common.{◌∙◌, map, ap}
 use Rattle.est_link.specs.Inner.Meant.{again}
-use Rattle.est_link.specs.Inner.OpenBodies.{meaning_of, meant_by}
+use Rattle.est_link.specs.Inner.OpenBodies.{meaning_of}
 use Rattle.est_link.specs.declared.meaning.Meaning.{Meaning}
 use Rattle.est_link.proofs.Meanings.{run_again}
-use Rattle.est_link.proofs.signal_meanings.SignalMeanings.inside.Goals as goal
+use Rattle.est_link.proofs.run_meanings.inside.Goals as goal
 
 pub returns : goal.returns
-returns c =
-    let g = meant_by c.args.self.now in
-    run_again g c.args.self.now.locals (λ k. refl) c.args.run.now (record {
+returns g c =
+    let place = g.M.Meanings.means c.args.place.now in
+    run_again place c.locals.result c.locals.ensures c.args.run.now (record {
       numbers = c.in_ok-clone.field-0;
       meanings = c.in_ok-all_again.field-0;
       other = c.in_ok-again.field-0;
       locals = c.in_ok-sum.field-0;
     })
     (ap (λ v. v.items) c.in_ok-clone.ensures.cases)
-    (c.in_ok-all_again.ensures ∙ ap (map (λ (m : Meaning). again g (meaning_of m))) c.deref.ensures.value)
+    (c.in_ok-all_again.ensures ∙ ap (map (λ (m : Meaning). again place (meaning_of m))) c.deref.ensures.value)
     c.in_ok-again.ensures c.in_ok-sum.ensures
