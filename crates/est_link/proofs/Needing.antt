@@ -14,7 +14,7 @@ use Rattle.std.specs.Str.{bytes_eq}
 use Rattle.est_checks.specs.RecursiveRuns.{HasRun}
 use Rattle.est_checks.specs.MissingModules.{missing_at}
 use Rattle.est_order.specs.PlaceSets.{IsIn}
-use Rattle.est_link.specs.Inner.Needs.{with_place, with_places, IsClosed, IsClosedFrom}
+use Rattle.est_link.specs.Inner.Needs.{with_place, with_places, IsComplete, IsCompleteFrom}
 use Rattle.est_link.specs.Inner.Tables.{has_body, HasFront}
 use Rattle.est_link.specs.declared.module_bodies.ModuleBodies.{ModuleBodies}
 use Rattle.est_modules.specs.Modules.{Program, program_named, first_in_bodies}
@@ -114,14 +114,14 @@ row_is ps i p at = get_or-map (places_run ps) ps i p [] (slice_get_within ps i p
     ∙ ap (places_run ps) (get_or_from_slice_get ps i p p at)
 
 -- a module's runs are added
-pub closed_more : (ps : List Program) (order : List ℕ) (set : List Bool) (k : ℕ) (p : Program) → IsOrderOf ps order
+pub complete_more : (ps : List Program) (order : List ℕ) (set : List Bool) (k : ℕ) (p : Program) → IsOrderOf ps order
     → length set ≡ length ps → k < length order → slice_get ps (slice_index order k) ≡ Some p
-    → IsClosedFrom ps order (k + 1) set → IsClosedFrom ps order k (with_places set (places_run ps p))
-closed_more ps order set k p up size lt at closed i from within has to is =
+    → IsCompleteFrom ps order (k + 1) set → IsCompleteFrom ps order k (with_places set (places_run ps p))
+complete_more ps order set k p up size lt at complete i from within has to is =
     let now = are_added set (places_run ps p) in
     elim (cases_lt k i) [
       | inl later ↦ (elim (now.only (slice_index order i) has) [
-        | inl old ↦ now.kept to (closed i (omega (arith, later)) within old to is)
+        | inl old ↦ now.kept to (complete i (omega (arith, later)) within old to is)
         | inr new ↦
             let there : slice_index order i < length (run_rows ps) = places_are_there (run_rows ps) order up i within in
             let named : Contains (slice_index_or (run_rows ps) (slice_index order k) []) (slice_index order i) =
@@ -137,23 +137,23 @@ closed_more ps order set k p up size lt at closed i from within has to is =
     ]
 
 -- a module that isn't needed adds nothing
-pub closed_past : (ps : List Program) (order : List ℕ) (set : List Bool) (k : ℕ)
-    → slice_index_or set (slice_index order k) false ≡ false → IsClosedFrom ps order (k + 1) set
-    → IsClosedFrom ps order k set
-closed_past ps order set k absent closed i from within has to is = elim (cases_lt k i) [
-  | inl later ↦ closed i (omega (arith, later)) within has to is
+pub complete_past : (ps : List Program) (order : List ℕ) (set : List Bool) (k : ℕ)
+    → slice_index_or set (slice_index order k) false ≡ false → IsCompleteFrom ps order (k + 1) set
+    → IsCompleteFrom ps order k set
+complete_past ps order set k absent complete i from within has to is = elim (cases_lt k i) [
+  | inl later ↦ complete i (omega (arith, later)) within has to is
   | inr here ↦
       let same : i ≡ k = omega (arith, from, here) in
       absurd (false≢true (sym absent ∙ subst (λ j. IsIn set (slice_index order j)) same has))
 ]
 
 -- the whole order closes the set
-pub closed_whole : (ps : List Program) (order : List ℕ) (set : List Bool) → IsOrderOf ps order
-    → IsClosedFrom ps order 0 set → IsClosed ps set
-closed_whole ps order set up closed runner to has is = elim (cases_lt runner (length (run_rows ps))) [
+pub complete_whole : (ps : List Program) (order : List ℕ) (set : List Bool) → IsOrderOf ps order
+    → IsCompleteFrom ps order 0 set → IsComplete ps set
+complete_whole ps order set up complete runner to has is = elim (cases_lt runner (length (run_rows ps))) [
   | inl there ↦
       let at = each_stands (run_rows ps) order up runner there in
-      closed at.0 (omega arith) at.1 (subst (IsIn set) (sym at.2) has) to
+      complete at.0 (omega arith) at.1 (subst (IsIn set) (sym at.2) has) to
       (subst (λ r. IsRun (run_rows ps) r to) (sym at.2) is)
   | inr past ↦
       let none : Contains [] to = subst (λ r. Contains r to) (get_or-eq_default (run_rows ps) [] past) is.named in
@@ -164,10 +164,10 @@ closed_whole ps order set up closed runner to has is = elim (cases_lt runner (le
 
 -- the bodies of the modules that the next one runs are there
 run_made : (ps : List Program) (order : List ℕ) (set : List Bool) (t : ModuleBodies) (k : ℕ) (p : Program)
-    → IsOrderOf ps order → IsClosed ps set → first_in_bodies (missing_at ps) ps ≡ None → HasFront ps set order k t
+    → IsOrderOf ps order → IsComplete ps set → first_in_bodies (missing_at ps) ps ≡ None → HasFront ps set order k t
     → k < length order → IsIn set (slice_index order k) → slice_get ps (slice_index order k) ≡ Some p
     → (o : Occurrence) → Contains (occurrences [] p.body) o → (m : List ℕ) → IsRunOf o.act m → has_body t m ≡ true
-run_made ps order set t k p up closed there front lt has at o stands m is_run =
+run_made ps order set t k p up complete there front lt has at o stands m is_run =
     let body = first_none (λ (p : Program). first_of (missing_at ps p) (occurrences [] p.body)) ps
     (slice_index order k) p there at in
     let here : slice_get (occurrences [] p.body) stands.0 ≡ Some o =
@@ -180,18 +180,18 @@ run_made ps order set t k p up closed there front lt has at o stands m is_run =
     let before : stood.0 < k = up.after_runs k stood.0 lt stood.1
     (subst (λ r. IsRun (run_rows ps) (slice_index order k) r) (sym stood.2) leads) in
     let made =
-    front stood.0 before (subst (IsIn set) (sym stood.2) (closed (slice_index order k) place.0 has leads))
+    front stood.0 before (subst (IsIn set) (sym stood.2) (complete (slice_index order k) place.0 has leads))
     found.0 (ap (slice_get ps) stood.2 ∙ place.2) in
     ap (has_body t)
     (sym (same_bytes found.0.name m (found_passes (λ (p : Program). bytes_eq p.name m) ps found.0 found.1)))
     ∙ made
 
 pub next_ready : (ps : List Program) (order : List ℕ) (set : List Bool) (t : ModuleBodies) (k : ℕ) (p : Program)
-    → IsOrderOf ps order → IsClosed ps set → first_in_bodies (missing_at ps) ps ≡ None → HasFront ps set order k t
+    → IsOrderOf ps order → IsComplete ps set → first_in_bodies (missing_at ps) ps ≡ None → HasFront ps set order k t
     → k < length order → IsIn set (slice_index order k) → slice_get ps (slice_index order k) ≡ Some p
     → program_named ps p.name ≡ Some p → (n : List ℕ) → HasRun ps p.name n → has_body t n ≡ true
-next_ready ps order set t k p up closed there front lt has at named n run =
+next_ready ps order set t k p up complete there front lt has at named n run =
     let home : run.home ≡ p = some_same run.home p (sym run.there ∙ named) in
     let place : Occurrence = record { act = runs n run.renamings; around = run.around } in
-    run_made ps order set t k p up closed there front lt has at place
+    run_made ps order set t k p up complete there front lt has at place
     (subst (λ (q : Program). Contains (occurrences [] q.body) place) home run.stands) n refl

@@ -4,7 +4,7 @@ ghost use Rattle.std.specs.List.{slice_get};
 ghost use Rattle.est_checks.specs.Duplicates.{first_duplicate};
 ghost use Rattle.est_checks.specs.MissingModules.{missing_at};
 ghost use Rattle.est_link.specs.Linking.{linked};
-ghost use Rattle.est_link.specs.Inner.Needs.{IsClosed};
+ghost use Rattle.est_link.specs.Inner.Needs.{IsComplete};
 ghost use Rattle.est_link.specs.Inner.OpenBodies.{closed_of};
 ghost use Rattle.est_link.specs.Inner.Tables.{AreBodiesOf, HasBodies, IsGrown, bodies_of};
 ghost use Rattle.est_link.specs.Inner.Tables.{module_body_of};
@@ -77,7 +77,7 @@ pub fn bodies_along<'a>(
 ) -> Result<ModuleBodies<'a>, AllocError>
     requires order { IsOrderOf (map program_of heads.now) order.now }
     requires size { length needed.now ≡ length heads.now }
-    requires closed { IsClosed (map program_of heads.now) needed.now }
+    requires complete { IsComplete (map program_of heads.now) needed.now }
     requires distinct { first_duplicate (map program_of heads.now) ≡ None }
     requires there { first_in_bodies (missing_at (map program_of heads.now))
         (map program_of heads.now) ≡ None }

@@ -6,7 +6,7 @@
 ghost use Rattle.std.specs.Prelude.{◌≡◌, ◌<◌, Some, IfOk, false, length, map, slice_index_or};
 ghost use Rattle.std.specs.List.{slice_get};
 ghost use Rattle.est_order.specs.PlaceSets.{IsIn};
-ghost use Rattle.est_link.specs.Inner.Needs.{IsClosed, with_places};
+ghost use Rattle.est_link.specs.Inner.Needs.{IsComplete, with_places};
 ghost use Rattle.est_modules.specs.Modules.{Program, program_of};
 ghost use Rattle.est_modules.specs.ModuleOrders.{IsOrderOf, places_run};
 
@@ -57,7 +57,7 @@ pub fn needed_places(
     requires order { IsOrderOf (map program_of heads.now) order.now }
     requires main { main < length heads.now }
     ensures size { IfOk result (λ set. length set.items ≡ length heads.now) }
-    ensures closed { IfOk result (λ set. IsClosed (map program_of heads.now) set.items) }
+    ensures complete { IfOk result (λ set. IsComplete (map program_of heads.now) set.items) }
     ensures main { IfOk result (λ set. IsIn set.items main) }
 {
     let mut needed = vec![in alloc; false; heads.modules().len()]?;

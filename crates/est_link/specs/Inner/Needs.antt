@@ -15,10 +15,10 @@ abbrev pub with_places : List Bool → List ℕ → List Bool
 with_places set places = fold with_place set places
 
 -- the set has, with each module, those that it runs
-abbrev pub IsClosed : List Program → List Bool → Type 0
-IsClosed ps set = (runner run : ℕ) → IsIn set runner → IsRun (run_rows ps) runner run → IsIn set run
+abbrev pub IsComplete : List Program → List Bool → Type 0
+IsComplete ps set = (runner run : ℕ) → IsIn set runner → IsRun (run_rows ps) runner run → IsIn set run
 
 -- the set has, with each module from this place in an order on, those that it runs
-abbrev pub IsClosedFrom : List Program → (order : List ℕ) → ℕ → List Bool → Type 0
-IsClosedFrom ps order n set = (i : ℕ) → n ≤ i → i < length order → IsIn set (slice_index order i) → (run : ℕ)
+abbrev pub IsCompleteFrom : List Program → (order : List ℕ) → ℕ → List Bool → Type 0
+IsCompleteFrom ps order n set = (i : ℕ) → n ≤ i → i < length order → IsIn set (slice_index order i) → (run : ℕ)
     → IsRun (run_rows ps) (slice_index order i) run → IsIn set run

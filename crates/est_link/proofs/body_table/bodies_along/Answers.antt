@@ -55,7 +55,7 @@ loop-place-preserved c =
           record {
             right = subst (AreBodiesOf ps) (sym w.bodies-is)
                 (bodies_more ps c.requires.there old at.0 _ more named
-                (next_ready ps order set old k at.0 c.requires.order c.requires.closed c.requires.there
+                (next_ready ps order set old k at.0 c.requires.order c.requires.complete c.requires.there
                 c.loop-place.invariant.front lt has at.1 named) c.loop-place.invariant.right);
             front = subst (HasFront ps set order (k + 1)) (sym w.bodies-is)
                 (front_more ps order set old at.0 _ k more at.1 c.loop-place.invariant.front);

@@ -5,7 +5,7 @@ use Rattle.std.proofs.lemmas.Result.{IfOk-weaker}
 use Rattle.est_link.specs.Bodies.{HasSoundNames}
 use Rattle.est_link.specs.Linking.{IsLinked}
 use Rattle.est_order.specs.PlaceSets.{IsIn}
-use Rattle.est_link.specs.Inner.Needs.{IsClosed}
+use Rattle.est_link.specs.Inner.Needs.{IsComplete}
 use Rattle.est_link.specs.Inner.Tables.{bodies_of}
 use Rattle.est_link.specs.MainModule.{declarations_of}
 use Rattle.est_modules.specs.Modules.{Program, program_of, program_named}
@@ -27,9 +27,9 @@ pub bodies_along-requires-clause-size : goal.bodies_along-requires-clause-size
 bodies_along-requires-clause-size c = ap (λ (xs : List Bool). length xs) c.deref.ensures.value
     ∙ c.in_ok-needed-in-Some.ensures.size
 
-pub bodies_along-requires-clause-closed : goal.bodies_along-requires-clause-closed
-bodies_along-requires-clause-closed c = subst (IsClosed (map program_of c.args.heads.now))
-    (sym c.deref.ensures.value) c.in_ok-needed-in-Some.ensures.closed
+pub bodies_along-requires-clause-complete : goal.bodies_along-requires-clause-complete
+bodies_along-requires-clause-complete c = subst (IsComplete (map program_of c.args.heads.now))
+    (sym c.deref.ensures.value) c.in_ok-needed-in-Some.ensures.complete
 
 pub returns-in_ok-bodies-in-Some-clause-linked : goal.returns-in_ok-bodies-in-Some-clause-linked
 returns-in_ok-bodies-in-Some-clause-linked c =

@@ -2,11 +2,11 @@ use Rattle.std.proofs.Common.{◌≡◌, ◌∙◌, ◌<◌, ◌+◌, ◌-◌, L
 use Rattle.std.proofs.Common.{slice_index, slice_index_or, slice_set, arith}
 use Rattle.std.proofs.lemmas.List.{length-map, length-replicate}
 use Rattle.est_order.specs.PlaceSets.{IsIn}
-use Rattle.est_link.specs.Inner.Needs.{IsClosedFrom, with_places}
+use Rattle.est_link.specs.Inner.Needs.{IsCompleteFrom, with_places}
 use Rattle.est_modules.specs.Modules.{program_of}
 use Rattle.est_modules.specs.ModuleOrders.{places_run}
 use Rattle.est_modules.specs.declared.head.Head.{Head}
-use Rattle.est_link.proofs.Needing.{are_added, one_place, closed_more, closed_past, closed_whole}
+use Rattle.est_link.proofs.Needing.{are_added, one_place, complete_more, complete_past, complete_whole}
 use Rattle.est_modules.proofs.Standing.{order_within, program_at}
 use Rattle.est_link.proofs.needed.needed_places.Goals as goal
 
@@ -32,7 +32,7 @@ loop-left-init c =
     record {
       within = omega arith;
       size = ap (λ xs. length (slice_set xs main true)) made ∙ start.0;
-      closed = λ i from lt. absurd (omega (arith, from, lt));
+      complete = λ i from lt. absurd (omega (arith, from, lt));
       main = subst (λ xs. IsIn (slice_set xs main true) main) (sym made) start.1;
     }
 
@@ -71,10 +71,10 @@ loop-left-preserved-then-is_in c =
     record {
       within = omega (arith, c.loop-left.invariant.within);
       size = ap (λ xs. length xs) grown ∙ now.size ∙ c.loop-left.invariant.size;
-      closed = subst (IsClosedFrom ps order k) (sym grown)
-          (closed_more ps order set k at.0 c.requires.order
+      complete = subst (IsCompleteFrom ps order k) (sym grown)
+          (complete_more ps order set k at.0 c.requires.order
           (c.loop-left.invariant.size ∙ sym (length-map c.args.heads.now program_of)) lt at.1
-          (subst (λ n. IsClosedFrom ps order n set) (sym before) c.loop-left.invariant.closed));
+          (subst (λ n. IsCompleteFrom ps order n set) (sym before) c.loop-left.invariant.complete));
       main = subst (λ xs. IsIn xs c.args.main) (sym grown) (now.kept c.args.main c.loop-left.invariant.main);
     }
 
@@ -88,16 +88,16 @@ loop-left-preserved c =
     record {
       within = omega (arith, c.loop-left.invariant.within);
       size = c.loop-left.invariant.size;
-      closed = closed_past ps order set k
+      complete = complete_past ps order set k
           (ap (λ xs. slice_index_or xs (slice_index order k) false) (sym c.deref.ensures.value) ∙ sym c.is_in.ensures
           ∙ c.if-is_in.false)
-          (subst (λ n. IsClosedFrom ps order n set) (sym before) c.loop-left.invariant.closed);
+          (subst (λ n. IsCompleteFrom ps order n set) (sym before) c.loop-left.invariant.complete);
       main = c.loop-left.invariant.main;
     }
 
-pub returns-clause-closed : goal.returns-clause-closed
-returns-clause-closed c =
+pub returns-clause-complete : goal.returns-clause-complete
+returns-clause-complete c =
     let ps = map program_of c.args.heads.now in
     let none : c.loop-left.left ≡ 0 = omega arith in
-    closed_whole ps c.args.order.now c.loop-left.needed.items c.requires.order
-    (subst (λ n. IsClosedFrom ps c.args.order.now n c.loop-left.needed.items) none c.loop-left.invariant.closed)
+    complete_whole ps c.args.order.now c.loop-left.needed.items c.requires.order
+    (subst (λ n. IsCompleteFrom ps c.args.order.now n c.loop-left.needed.items) none c.loop-left.invariant.complete)

@@ -1,7 +1,7 @@
 use Rattle.std.proofs.Common.{◌≡◌, ◌≤◌, length, map}
 use Rattle.est_modules.specs.Modules.{program_of}
 use Rattle.est_order.specs.PlaceSets.{IsIn}
-use Rattle.est_link.specs.Inner.Needs.{IsClosedFrom}
+use Rattle.est_link.specs.Inner.Needs.{IsCompleteFrom}
 use Rattle.est_link.proofs.needed.needed_places.Given as goal
 
 abbrev pub invariant-loop-left : goal.invariant-loop-left
@@ -9,7 +9,7 @@ invariant-loop-left l =
     record {
       within : l.left ≤ length l.order;
       size : length l.needed.items ≡ length l.heads;
-      closed : IsClosedFrom (map program_of l.heads) l.order l.left l.needed.items;
+      complete : IsCompleteFrom (map program_of l.heads) l.order l.left l.needed.items;
       main : IsIn l.needed.items l.main;
     }
 
