@@ -26,7 +26,8 @@ name_bound n may m callers k qs b l (inner j) a = omega (arith, a)
 
 mutual
   asked_bound : (n : ℕ) (may : ℕ → Type 0) (m : ℕ) (callers : ℕ → Type 0) (k : ℕ) (qs : List Query)
-      → AreBindings n may m callers k qs → (l : ℕ) (q : Query) → MayAsk n l q → MayAsk m (k + l) (query_meant (in_run qs k) q)
+      → AreBindings n may m callers k qs → (l : ℕ) (q : Query) → MayAsk n l q
+      → MayAsk m (k + l) (query_meant (in_run qs k) q)
   asked_bound n may m callers k qs b l tick a = tt
   asked_bound n may m callers k qs b l (of s) a = name_bound n may m callers k qs b l s a
   asked_bound n may m callers k qs b l (negated t) a = asked_bound n may m callers k qs b l t a

@@ -64,10 +64,23 @@ placed_old t names n u i true same are has =
 placed_old t names n u i false other are has = are u ∙ sym (or_none (position (λ m. bytes_eq m u) names))
 
 -- a name that had one
-pub placed_again : (t : FirstPlaces) (names : List (List ℕ)) (n : List ℕ) (i : ℕ) → AreFirstPlaces t names
+placed_again : (t : FirstPlaces) (names : List (List ℕ)) (n : List ℕ) (i : ℕ) → AreFirstPlaces t names
     → first_place t n ≡ Some i → AreFirstPlaces t (names ++ n ∷ [])
 placed_again t names n i are has u =
     placed_old t names n u i (bytes_eq n u) refl are has ∙ sym (place_more (λ m. bytes_eq m u) names n)
+
+put_back : (t : FirstPlaces) (n u : List ℕ) (i place : ℕ) (b : Bool) → bytes_eq n u ≡ b → first_place t n ≡ Some i
+    → cond b (Some i) (cond b (Some place) (first_place t u)) ≡ first_place t u
+put_back t n u i place true same has = sym (ap (first_place t) (sym (same_bytes n u same)) ∙ has)
+put_back t n u i place false other has = refl
+
+-- a name that is there, whose place was changed and put back
+pub placed_back : (t : FirstPlaces) (names : List (List ℕ)) (n : List ℕ) (i place : ℕ) → AreFirstPlaces t names
+    → first_place t n ≡ Some i → (u : List ℕ) (o : Option ℕ)
+    → o ≡ cond (bytes_eq n u) (Some i) (cond (bytes_eq n u) (Some place) (first_place t u))
+    → o ≡ position (λ m. bytes_eq m u) (names ++ n ∷ [])
+placed_back t names n i place are has u o updates =
+    updates ∙ put_back t n u i place (bytes_eq n u) refl has ∙ placed_again t names n i are has u
 
 -- ---- elements of these names
 

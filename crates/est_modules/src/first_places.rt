@@ -33,7 +33,8 @@ impl<'a> FirstPlaces<'a> {
         }
     }
 
-    /// Takes in the name at the next place.
+    /// Takes in the name at the next place. Names seldom stand twice, so the tree is searched once for
+    /// a name that is new, and twice for one that is there.
     ///
     /// # Errors
     ///
@@ -42,8 +43,8 @@ impl<'a> FirstPlaces<'a> {
         ensures { OnOk result ((names : List (List ℕ)) → AreFirstPlaces self.old names
             → place ≡ length names → AreFirstPlaces self.new (names ++ name.now ∷ [])) }
     {
-        if let None = self.find(name) {
-            self.places.insert(name.as_bytes(), place)?;
+        if let Some(first) = self.places.insert(name.as_bytes(), place)? {
+            self.places.insert(name.as_bytes(), first)?;
         }
         Ok(())
     }

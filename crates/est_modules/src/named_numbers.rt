@@ -1,6 +1,5 @@
 //! Numbers of names, as sets.
 ghost use Rattle.std.specs.Prelude.{◌≡◌, ◌||◌, IfOk, IfSome, OnOk, map};
-ghost use Rattle.std.specs.List.{list_all};
 ghost use Rattle.std.specs.Str.{bytes_eq};
 ghost use Rattle.est_syntax.specs.Views.{renaming_view};
 ghost use Rattle.est_modules.specs.NamedNumbers.{Adds, AreNumbers, Tells};
@@ -13,6 +12,25 @@ use crate::number_set::NumberSet;
 use est_syntax::tree::Renaming;
 use est_text::identifier::Identifier;
 use std::alloc::{AllocError, Global};
+
+/// Puts in the number of a name, if it has one: whether it has.
+fn put_number(
+    numbers: &mut NumberSet,
+    table: &NameTable<'_>,
+    name: &Identifier,
+) -> Result<bool, AllocError>
+    requires { IsTable table.now }
+    ensures has { IfOk result (λ has. has ≡ is_numbered table.now name.now) }
+    ensures adds { OnOk result (Adds table.now (bytes_eq name.now) numbers.old numbers.new) }
+{
+    match table.number(name) {
+        Some(number) => {
+            numbers.insert(number)?;
+            Ok(true)
+        }
+        None => Ok(false),
+    }
+}
 
 /// Puts in the number of a name, if it has one.
 ///
@@ -27,9 +45,7 @@ pub fn put_name(
     requires { IsTable table.now }
     ensures { OnOk result (Adds table.now (bytes_eq name.now) numbers.old numbers.new) }
 {
-    if let Some(number) = table.number(name) {
-        numbers.insert(number)?;
-    }
+    put_number(numbers, table, name)?;
     Ok(())
 }
 
@@ -90,13 +106,6 @@ pub fn numbers_among(
     Ok(numbers)
 }
 
-/// Whether each name of a list has a number.
-fn are_numbered(table: &NameTable<'_>, names: &[Identifier]) -> bool
-    ensures { result ≡ list_all (is_numbered table.now) names.now }
-{
-    names.iter().all(|name| table.number(name).is_some())
-}
-
 /// The numbers of the names of a list, if each has one.
 ///
 /// # Errors
@@ -111,9 +120,11 @@ pub fn numbers_of_all(
     ensures { IfOk result (λ found. IfSome found (λ numbers. AreNumbers table.now names.now
         numbers)) }
 {
-    if are_numbered(table, names) {
-        Ok(Some(numbers_among(alloc, table, names)?))
-    } else {
-        Ok(None)
+    let mut numbers = NumberSet::new(alloc);
+    for name in names {
+        if !put_number(&mut numbers, table, name)? {
+            return Ok(None);
+        }
     }
+    Ok(Some(numbers))
 }
