@@ -192,9 +192,7 @@ def emitting_shuffled(line, names):
 
 def emitting_nested(names, depth):
     """A module that runs another, which emits all its outputs, in each of many `signal`s in one another, which together declare them all."""
-    parts = [names[n::depth] for n in range(depth)]
-    head = "".join(f"signal {','.join(part)} in " for part in parts)
-    return f"module M:output {','.join(names)};{head}{'run N end;' * depth}halt end module {emitter(names)}"
+    return f"module M:output {','.join(names)};{nested_signals(names, depth)}{'run N end;' * depth}halt end module {emitter(names)}"
 
 
 def signals_before_a_run(line, names):
@@ -216,6 +214,26 @@ def runs_inside_signal(line, runs):
     head = "module N:input a,b;await b end module module M:input a,b;signal "
     end = " in " + ";".join(["run N"] * runs) + " end end module"
     return head + ",".join(short_names(MOST_BYTES, line.room - len(head) - len(end))) + end
+
+
+def nested_signals(names, depth):
+    """As many `signal`s in one another, which together declare these names."""
+    return "".join(f"signal {','.join(names[n::depth])} in " for n in range(depth))
+
+
+def test_inside_signals(line, words, depth):
+    """A test of as many names, which all are one input, inside `signal`s in one another of as many names as the line has room for."""
+    head, end = "module M:input z;", f"await {' or '.join(['z'] * words)}{' end' * depth} end module"
+    room = line.room - len(head) - len(end) - depth * len("signal  in ")
+    return head + nested_signals(short_names(MOST_BYTES, room), depth) + end
+
+
+def runs_inside_signals(line, runs, depth):
+    """Runs of a module of two inputs, inside `signal`s in one another of as many names as the line has room for."""
+    head = "module N:input a,b;await b end module module M:input a,b;"
+    end = ";".join(["run N"] * runs) + " end" * depth + " end module"
+    room = line.room - len(head) - len(end) - depth * len("signal  in ")
+    return head + nested_signals(short_names(MOST_BYTES, room), depth) + end
 
 
 def inside_signal(line, names):
@@ -245,6 +263,8 @@ def texts(line):
     return (
         ("a test of 2,047 names inside a `signal` of 14,600", test_inside_signal(line, line.of(2047)), "TooLarge(Statements)"),
         ("1,023 runs inside a `signal` of 15,000 names", runs_inside_signal(line, line.of(1023)), "TooLarge(Statements)"),
+        ("a test of 2,047 names inside 120 `signal`s of 14,000 names together", test_inside_signals(line, line.of(2047), 120), "TooLarge(Statements)"),
+        ("1,023 runs inside 120 `signal`s of 14,000 names together", runs_inside_signals(line, line.of(1023), 120), "TooLarge(Statements)"),
         ("2,000 modules in a chain, run 650 times", passing_on(line.of(2000), 1).replace("module M:run", f"module M:{'run a;' * line.of(649)}run", 1), "a kernel of 0 signals"),
         ("1,280 modules in a chain, each of which suspends the next", suspending(line.of(1280)), "a kernel of 1 signals"),
         ("228 modules of 128 nested brackets that run one another", chain(line.of(228), "[" * 128, "]" * 128, "pause"), "a kernel of 0 signals"),
