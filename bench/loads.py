@@ -3,6 +3,7 @@
 
 usage: loads.py PROGRAM [NAME..]
        loads.py PROGRAM --fit [NAME..]
+       loads.py PROGRAM --count [NAME..]
        loads.py PROGRAM --search COUNT [SEED]
        loads.py --text SEED
 
@@ -14,6 +15,9 @@ With --fit, each text is also made a half, a quarter and an eighth as long, with
 printed is the exponent e of the family: the one with which c times bytes to the power of e comes nearest to its four times (least squares
 over logarithms). A time is that of one load among as many in one process as take a tenth of a second, so that the start of a process does
 not count. More than 1.15 is said. Texts made at random have no shorter ones.
+
+With --count, the same is done with the instructions of a load, as valgrind's callgrind counts them, in place of its time, less those of
+a load of a module that only halts. They are the same whatever else the machine does.
 
 With --search, COUNT texts are made at random, from SEED on (0 if it is left out), which mix long interfaces, many runs, renamings, `signal`s,
 relations and depth; those of seeds from 100000 to 199999 have up to thousands of small modules that run one another. The ten that took longest are run twice more and printed, each with its seed: --text prints the text of a seed.
@@ -263,8 +267,8 @@ def texts(line):
     return (
         ("a test of 2,047 names inside a `signal` of 14,600", test_inside_signal(line, line.of(2047)), "TooLarge(Statements)"),
         ("1,023 runs inside a `signal` of 15,000 names", runs_inside_signal(line, line.of(1023)), "TooLarge(Statements)"),
-        ("a test of 2,047 names inside 120 `signal`s of 14,000 names together", test_inside_signals(line, line.of(2047), 120), "TooLarge(Statements)"),
-        ("1,023 runs inside 120 `signal`s of 14,000 names together", runs_inside_signals(line, line.of(1023), 120), "TooLarge(Statements)"),
+        ("a test of 2,047 names inside 120 `signal`s of 14,000 names together", test_inside_signals(line, line.of(2047), line.of(120)), "TooLarge(Statements)"),
+        ("1,023 runs inside 120 `signal`s of 14,000 names together", runs_inside_signals(line, line.of(1023), line.of(120)), "TooLarge(Statements)"),
         ("2,000 modules in a chain, run 650 times", passing_on(line.of(2000), 1).replace("module M:run", f"module M:{'run a;' * line.of(649)}run", 1), "a kernel of 0 signals"),
         ("1,280 modules in a chain, each of which suspends the next", suspending(line.of(1280)), "a kernel of 1 signals"),
         ("228 modules of 128 nested brackets that run one another", chain(line.of(228), "[" * 128, "]" * 128, "pause"), "a kernel of 0 signals"),
@@ -307,7 +311,7 @@ def texts(line):
         ("1,000 outputs that a module emits, run with a `signal` of one name around each run", emitting_below_signals(line, names[1000]), "TooLarge(Signals)"),
         ("1,000 outputs that a module emits, run inside a `signal` of half of them", emitting_half(line, names[1000]), "TooLarge(Signals)"),
         ("1,000 outputs that a module emits, run inside a `signal` of half of them in another order", emitting_shuffled(line, names[1000]), "TooLarge(Signals)"),
-        ("2,900 outputs that a module emits, run in each of 120 `signal`s in one another", emitting_nested(names[2900], 120), "TooLarge(Signals)"),
+        ("2,900 outputs that a module emits, run in each of 120 `signal`s in one another", emitting_nested(names[2900], line.of(120)), "TooLarge(Signals)"),
         ("1,300 `signal`s of one name, and one of 5,000 names around a run", signals_before_a_run(line, names[5000]), "TooLarge(Statements)"),
     )
 
@@ -512,20 +516,35 @@ def seconds_each(program, text):
             more = more * 2 if used * 4 < TIMED_SECONDS else int(more * TIMED_SECONDS / used) + more
 
 
-def fit(program, wanted):
-    """Prints the exponent of each family: whether none is too large."""
+def instructions_of(program, text):
+    """The instructions of a process that makes one load of a text."""
+    with tempfile.NamedTemporaryFile("w", suffix=".txt") as file:
+        file.write(text)
+        file.flush()
+        words = ["valgrind", "--tool=callgrind", "--callgrind-out-file=/dev/null", program, "load", "1"]
+        done = subprocess.run(words, stdin=open(file.name), capture_output=True, text=True, check=True)
+    return int(re.search(r"Collected : (\d+)", done.stderr)[1])
+
+
+def instructions_each(program, text):
+    """The instructions of one load of a text."""
+    return instructions_of(program, text) - instructions_of(program, "module M:halt end module")
+
+
+def fit(program, wanted, measure, per, unit):
+    """Prints the exponent of each family, by what `measure` answers for each text (one `unit` is `per`): whether none is too large."""
     lines = [texts(Line(share)) for share in SHARES]
     good = True
     for rows in zip(*lines):
         title = rows[0][0]
         if wanted and not any(word in title for word in wanted):
             continue
-        points = [(len(text), seconds_each(program, text)) for _, text, _ in rows]
+        points = [(len(text), measure(program, text)) for _, text, _ in rows]
         exponent = exponent_of(points)
         good = good and exponent <= MOST_EXPONENT
-        times = ", ".join(f"{1000 * used:.2f}" for _, used in points)
+        measured = ", ".join(f"{used / per:.2f}" for _, used in points)
         note = "" if exponent <= MOST_EXPONENT else f"  OVER {MOST_EXPONENT}"
-        print(f"{exponent:7.2f}  {title}: {times} ms{note}", flush=True)
+        print(f"{exponent:7.2f}  {title}: {measured} {unit}{note}", flush=True)
     return good
 
 
@@ -550,7 +569,9 @@ def main():
         words = [int(word) for word in sys.argv[3:5]]
         sys.exit(0 if search(sys.argv[1], *words, *[0] * (2 - len(words))) else 1)
     if sys.argv[2:3] == ["--fit"]:
-        sys.exit(0 if fit(sys.argv[1], sys.argv[3:]) else 1)
+        sys.exit(0 if fit(sys.argv[1], sys.argv[3:], seconds_each, 0.001, "ms") else 1)
+    if sys.argv[2:3] == ["--count"]:
+        sys.exit(0 if fit(sys.argv[1], sys.argv[3:], instructions_each, 1_000_000, "million instructions") else 1)
     wanted = sys.argv[2:]
     wrong = 0
     for title, text, answer in texts(Line()) + kept_texts():

@@ -33,8 +33,8 @@ impl<'a> FirstPlaces<'a> {
         }
     }
 
-    /// Takes in the name at the next place. Names seldom stand twice, so the tree is searched once for
-    /// a name that is new, and twice for one that is there.
+    /// Takes in the name at the next place. A new name costs one search of the tree. One that is
+    /// there, which is seldom, costs two: its place is changed and put back.
     ///
     /// # Errors
     ///
