@@ -88,14 +88,6 @@ expression_is : (e : Expression) → expression_view e
     (out-Expression e).later.items))
 expression_is e = search (rules, the_lemmas)
 
--- one literal alone
-pub one_literal : (f : List ℕ → Query) (c : Conjunction) → (out-Conjunction c).later.items ≡ []
-    → conjunction_seen f c ≡ literal_seen f (out-Conjunction c).first.value
-one_literal f c e =
-    ap (conjunction_asked f) (conjunction_is c)
-    ∙ ap (λ (ls : List Literal). and_literals f (literal_seen f (out-Conjunction c).first.value) (literals_of
-    (map literal_view ls))) e
-
 -- two literals or more
 pub more_literals : (f : List ℕ → Query) (c : Conjunction) (l : Literal) (ls : List Literal)
     → (out-Conjunction c).later.items ≡ l ∷ ls → conjunction_seen f c
@@ -106,14 +98,6 @@ more_literals f c l ls e =
     ∙ ap (λ (ls : List Literal). and_literals f (literal_seen f (out-Conjunction c).first.value) (literals_of
     (map literal_view ls))) e
     ∙ ap (joined And (literal_seen f (out-Conjunction c).first.value)) (literals_seen f (literal_seen f l) ls)
-
--- one conjunction alone
-pub one_conjunction : (f : List ℕ → Query) (e : Expression) → (out-Expression e).later.items ≡ []
-    → expression_asked f (expression_view e) ≡ conjunction_seen f (out-Expression e).first.value
-one_conjunction f e h =
-    ap (expression_asked f) (expression_is e)
-    ∙ ap (λ (cs : List Conjunction). or_conjunctions f (conjunction_seen f (out-Expression e).first.value)
-    (conjunctions_of (map conjunction_view cs))) h
 
 -- two conjunctions or more
 pub more_conjunctions : (f : List ℕ → Query) (e : Expression) (c : Conjunction) (cs : List Conjunction)

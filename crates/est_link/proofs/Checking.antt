@@ -25,7 +25,6 @@ use Rattle.est_checks.proofs.Finding.{all_pass}
 use Rattle.est_checks.proofs.Uniqueness.{all_there}
 use Rattle.est_link.proofs.Distinct.{kept_name}
 use Rattle.est_modules.proofs.Standing.{first_none, found_place}
-use Rattle.est_link.proofs.Taking.{no_main}
 use Rattle.est_modules.proofs.Testing.{some_same, or_none_parts}
 use Rattle.est_relations.specs.declared.relations.TheConstants.{MOST_RELATIONS}
 
@@ -105,7 +104,3 @@ is_checked ps main h =
       names = sound_names ps refused.emitted refused.emissions from_order.1.1.0 refused.is;
       home = sound_main ps main (limit.counts main) distinct from_emissions.1.0 limit.is;
     }
-
--- the main module of such a library is there
-pub main_stands : (ps : List Program) (main : List ℕ) → IsFirstFault ps main None → program_named ps main ≡ None → ⊥
-main_stands ps main h = no_main ps main (program_named ps main) (is_checked ps main h).there

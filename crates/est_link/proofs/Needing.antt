@@ -147,7 +147,7 @@ complete_past ps order set k absent complete i from within has to is = elim (cas
       absurd (false≢true (sym absent ∙ subst (λ j. IsIn set (slice_index order j)) same has))
 ]
 
--- the whole order closes the set
+-- a set that is complete from the beginning of the order on is complete
 pub complete_whole : (ps : List Program) (order : List ℕ) (set : List Bool) → IsOrderOf ps order
     → IsCompleteFrom ps order 0 set → IsComplete ps set
 complete_whole ps order set up complete runner to has is = elim (cases_lt runner (length (run_rows ps))) [

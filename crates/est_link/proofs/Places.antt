@@ -1,7 +1,6 @@
 -- Places of elements, and statements along lists.
-use Rattle.std.proofs.Common.{◌≡◌, ℕ, ◌+◌, ◌<◌, List, [], ◌∷◌, length, map, drop, get_or, Some, refl, ap}
-use Rattle.std.proofs.Common.{Box, Global, sym, ◌∙◌, rules}
-use Rattle.std.proofs.lemmas.List.{at_drop_more}
+use Rattle.std.proofs.Common.{◌≡◌, ℕ, List, [], ◌∷◌, map, refl, ap}
+use Rattle.std.proofs.Common.{Box, Global, ◌∙◌, rules}
 use Rattle.est_syntax.specs.Views.{unit_view, sequence_view, statement_view, units_of, sequences_of}
 use Rattle.est_syntax.specs.Tree.{sequence, statement}
 use Rattle.est_syntax.specs.declared.tree.Unit.{Unit}
@@ -65,10 +64,3 @@ statement_whole ps bodies p bs t =
     (sequences_of (map sequence_view parts.later.items)) = search (rules, the_lemmas) in
     ap (λ t. linked ps bodies p bs (statement_derived t)) seen
     ∙ later_sequences ps bodies p bs (sequence_derived (sequence_view parts.first.value)) parts.later.items
-
--- ---- a loop from the end of a list
-
-pub chained_more : {X : Type 0} (f : Body → Body → Body) (g : X → Body) (xs : List X) (i : ℕ) (x : X) → i < length xs
-    → x ≡ get_or xs i x → chained f g (drop i xs) ≡ Some (joined_by f (g x) (chained f g (drop (i + 1) xs)))
-chained_more f g xs i x lt e = at_drop_more (chained f g) xs i x lt
-    ∙ ap (λ y. Some (joined_by f (g y) (chained f g (drop (i + 1) xs)))) (sym e)

@@ -2,7 +2,7 @@
 use Rattle.std.proofs.Common.{◌≡◌, ◌≢◌, ◌<◌, inl, inr, ℕ, zero, suc, ◌+◌, Bool, true, false, List, [], ◌∷◌, ◌++◌}
 use Rattle.std.proofs.Common.{length, map, get_or, get_or-set_same, get_or-set_other, replicate, slice_set, Option}
 use Rattle.std.proofs.Common.{Some, None, if◌then◌else◌, refl, ap, sym, ◌∙◌, subst, arith}
-use Rattle.std.proofs.lemmas.Bool.{cases_eq, false≢true}
+use Rattle.std.proofs.lemmas.Bool.{cases_eq}
 use Rattle.std.proofs.lemmas.List.{get_or_append_left, get_or_push, length-map, length_push, map_push}
 use Rattle.std.specs.Prelude.{is_some}
 use Rattle.est_kernel.specs.View.{queries_of}
@@ -148,25 +148,3 @@ joint_kept g o first second later =
           ∙ ap (λ (q : Query). queries_of q (map (test_meant g) parts.later.items)) second
           ∙ ap (queries_of (bound_query parts.second.value)) later,
     )
-
--- ---- the meanings by which each signal means itself
-
-pub own_meant : (o : UsedSignals) (r : SignalMeanings) → AreUsed o → r.numbers.value.items ≡ o.numbers.items
-    → r.meanings.items ≡ o.meanings.items → r.locals ≡ 0 → MeanThemselves o (meant_by r)
-own_meant o r are numbers meanings locals = record {
-  outers = λ i has.
-      let some = got (get_or o.numbers.items i None) has in
-      ap (λ os. numbered (get_or os i None) (map meaning_of r.meanings.items) (meaning_of r.other)) numbers
-      ∙ ap (λ (ms : List Meaning). numbered (get_or o.numbers.items i None) (map meaning_of ms) (meaning_of r.other))
-      meanings
-      ∙ ap (λ x. numbered x (map meaning_of o.meanings.items) (meaning_of r.other)) some.1
-      ∙ are.means i some.0 some.1 (meaning_of r.other);
-  inners = λ k. ap (λ j. itself (inner j)) (around k);
-}
-  where
-    got : (x : Option ℕ) → is_some x ≡ true → (k : ℕ) × (x ≡ Some k)
-    got None h = absurd (false≢true h)
-    got (Some k) h = (k, refl)
-
-    around : (k : ℕ) → r.locals + k ≡ k
-    around k = omega (arith, locals)

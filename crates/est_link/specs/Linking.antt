@@ -78,7 +78,8 @@ abbrev mutual
   queries_meant g (last t) = last (query_meant g t)
   queries_meant g (more t ts) = more (query_meant g t) (queries_meant g ts)
 
--- a statement, where each signal means what g says
+-- a statement, where each signal means what g says. Local signals have numbers from the outermost inwards, so g also
+-- says what those mean that the statement itself declares
 abbrev pub body_meant : (Name → Meant) → Body → Body
 body_meant g nothing = nothing
 body_meant g pause = pause
@@ -107,11 +108,11 @@ abbrev pub signal_in_run : List Query → ℕ → Name → Query
 signal_in_run qs l (outer i) = get_or qs i tick
 signal_in_run qs l (inner k) = of (inner (l + k))
 
--- what it means there
+-- what a test of that signal asks there, and what its emission emits
 abbrev pub in_run : List Query → ℕ → Name → Meant
 in_run qs l n = meant (signal_in_run qs l n)
 
--- what a statement of it becomes there
+-- what a statement of the module becomes there
 abbrev pub body_in_run : List Query → ℕ → Body → Body
 body_in_run qs l b = body_meant (in_run qs l) b
 

@@ -10,9 +10,8 @@ ghost use Rattle.est_modules.specs.Modules.{program_of};
 ghost use Rattle.est_link.specs.Linking.{locals_around, signal_at, trap_at, of_interface};
 ghost use Rattle.est_link.specs.Inner.Binds.{binding_of};
 
-use crate::meaning::Meaning;
+use crate::meaning::{Meaning, Meanings};
 use crate::numbers::{small, sum};
-use crate::run_meanings::Meanings;
 use crate::scope::Scope;
 use est_modules::head::{Declared, Head, Interface};
 use est_modules::renamings::RunRenamings;

@@ -9,8 +9,9 @@ ghost use Rattle.est_link.specs.Inner.Watches.{watched};
 ghost use Rattle.est_reduce.specs.Views.{bound_joint as joint_view, bound_name as name_view};
 ghost use Rattle.est_reduce.specs.Views.{bound_query as query_view, body_of};
 
+use crate::meaning::Meanings;
 use crate::open_body::OpenBody;
-use crate::run_meanings::{Meanings, inside};
+use crate::run_meanings::inside;
 use crate::signal_meanings::SignalMeanings;
 use crate::watch::Watch;
 use est_kernel::statement::Connective;

@@ -25,7 +25,7 @@ ghost use Rattle.est_reduce.specs.Views.{bound_query as query_view};
 use crate::bindings::{Binding, locals_around, signal_at, trap_at};
 use crate::bound_runs::bind_body;
 use crate::found_tests::find_test;
-use crate::local_names::{LocalNames, count};
+use crate::local_names::LocalNames;
 use crate::meaning::Meaning;
 use crate::module_bodies::ModuleBodies;
 use crate::open_body::OpenBody;
@@ -198,8 +198,9 @@ fn flat_signal<'b>(
         (signals (names_view names.now) ∷ binders_of at.now.scope.now)
         (statement_derived (statement_view statement.now)))) }
 {
-    let count = count(names)?;
-    let scope = Scope::Signals(LocalNames::of(at.linker.alloc, names)?, &*at.scope);
+    let names = LocalNames::of(at.linker.alloc, names)?;
+    let count = names.count()?;
+    let scope = Scope::Signals(names, &*at.scope);
     Ok(OpenBody::Signal(count, box_inside(at, &scope, statement)?))
 }
 

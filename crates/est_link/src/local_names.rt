@@ -1,4 +1,4 @@
-//! The names that a `signal` declares, to be found.
+//! The names that a `signal` declares, found in a tree.
 ghost use Rattle.std.specs.Prelude.{◌≡◌, ◌∷◌, IfOk, length};
 ghost use Rattle.std.specs.List.{position};
 ghost use Rattle.std.specs.Str.{bytes_eq};
@@ -12,8 +12,8 @@ use est_text::identifier::Identifier;
 use std::alloc::{AllocError, Global};
 use std::marker::Model;
 
-/// The names that a `signal` declares. A look-up takes as many steps as their count has digits in
-/// binary, since a `signal` may declare thousands. A contract sees the names.
+/// The names that a `signal` declares. It may declare thousands, so they are found in a tree: a
+/// look-up takes as many steps as their count has digits in binary. A contract sees the names.
 #[derive(Drop)]
 pub struct LocalNames<'a> {
     names: &'a Names,
@@ -32,17 +32,6 @@ impl<'a> Model for LocalNames<'a> {
 
     ghost invariant = { λ t. AreFirstPlaces t.places (t.names.now.first ∷
         t.names.now.later.items) };
-}
-
-/// How many names there are.
-///
-/// # Errors
-///
-/// `AllocError` where they are 2^32 or more.
-pub fn count(names: &Names) -> Result<u32, AllocError>
-    ensures { IfOk result (λ n. n ≡ length (names.now.first ∷ names.now.later.items)) }
-{
-    sum(small(names.later.len())?, 1)
 }
 
 /// The first places of names.
@@ -86,6 +75,6 @@ impl<'a> LocalNames<'a> {
     pub fn count(&self) -> Result<u32, AllocError>
         ensures { IfOk result (λ n. n ≡ length (self.now.first ∷ self.now.later)) }
     {
-        count(self.names)
+        sum(small(self.names.later.len())?, 1)
     }
 }

@@ -7,6 +7,7 @@ ghost use Rattle.est_link.specs.Inner.OpenBodies.{meaning_of};
 ghost use Rattle.est_reduce.specs.Views.{bound_name as name_view, bound_query as query_view};
 
 use est_reduce::body::{BoundSignal, BoundTest};
+use std::alloc::AllocError;
 
 /// What a signal means: a signal, or `tick`.
 #[derive(Clone, Copy)]
@@ -57,4 +58,30 @@ impl Meaning {
             is_tick: self.is_tick || of_signal.is_tick,
         }
     }
+}
+
+/// What says of each signal of a body what it means at another place: the `Binding` of a run, or the
+/// `SignalMeanings` of a body.
+pub trait Meanings {
+    ghost use Rattle.std.specs.Prelude.{◌≡◌, ◌+◌, ℕ, IfOk};
+    ghost use Rattle.est_kernel.specs.Term.{Name, inner};
+    ghost use Rattle.est_link.specs.Inner.Meant.{itself};
+    ghost use Rattle.est_link.specs.Inner.OpenBodies.{meaning_of};
+    ghost use Rattle.est_link.specs.Linking.{Meant};
+    ghost use Rattle.est_reduce.specs.Views.{bound_name as name_view};
+
+    /// What each signal means.
+    ghost means: { Self → Name → Meant };
+
+    /// What a signal of the body means.
+    ///
+    /// # Errors
+    ///
+    /// `AllocError` where a number passes 32 bits.
+    fn meaning(&self, signal: BoundSignal) -> Result<Meaning, AllocError>
+        ensures { IfOk result (λ m. meaning_of m ≡ means self.now (name_view signal)) };
+
+    /// How many local signals lie around the body there. Their numbers come before those of its own.
+    fn locals(&self) -> u32
+        ensures { (k : ℕ) → means self.now (inner k) ≡ itself (inner (result + k)) };
 }

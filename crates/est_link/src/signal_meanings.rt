@@ -3,9 +3,8 @@ ghost use Rattle.std.specs.Prelude.{◌≡◌};
 ghost use Rattle.est_kernel.specs.Term.{outer};
 ghost use Rattle.est_link.specs.Inner.OpenBodies.{meaning_of, meant_by};
 
-use crate::meaning::Meaning;
+use crate::meaning::{Meaning, Meanings};
 use crate::numbers::sum;
-use crate::run_meanings::Meanings;
 use est_reduce::body::BoundSignal;
 use std::alloc::AllocError;
 use std::rc::Rc;

@@ -83,17 +83,11 @@ adds_both t f g old now new first second i =
     second i ∙ ap (λ b. b || passes g o) (first i) ∙ or_assoc (numbers_of old i) (passes f o) (passes g o)
     ∙ ap (λ b. numbers_of old i || b) (passes_or f g o)
 
--- a name with a number, and one without
+-- a name with a number
 pub adds_number : (t : NameTable) (s : List ℕ) (n : ℕ) (old new : NumberSet) → IsTable t → number_in t s ≡ Some n
     → ((i : ℕ) → numbers_of new i ≡ (numbers_of old i || nat_eq n i)) → Adds t (bytes_eq s) old new
 adds_number t s n old new is at put i =
     put i ∙ ap (λ b. numbers_of old i || b) (named_at t s n i (slice_get t.names.items i) refl is at)
-
-pub adds_unnumbered : (t : NameTable) (s : List ℕ) (set : NumberSet) → IsTable t → number_in t s ≡ None
-    → Adds t (bytes_eq s) set set
-adds_unnumbered t s set is none i =
-    same_or (numbers_of set i)
-    ∙ ap (λ b. numbers_of set i || b) (unnamed t s i is none)
 
 -- ---- what a set tells
 

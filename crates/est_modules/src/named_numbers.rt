@@ -1,5 +1,5 @@
 //! Numbers of names, as sets.
-ghost use Rattle.std.specs.Prelude.{◌≡◌, ◌||◌, IfOk, IfSome, OnOk, map};
+ghost use Rattle.std.specs.Prelude.{◌≡◌, IfOk, IfSome, OnOk, map};
 ghost use Rattle.std.specs.Str.{bytes_eq};
 ghost use Rattle.est_syntax.specs.Views.{renaming_view};
 ghost use Rattle.est_modules.specs.NamedNumbers.{Adds, AreNumbers, Tells};
@@ -13,7 +13,7 @@ use est_syntax::tree::Renaming;
 use est_text::identifier::Identifier;
 use std::alloc::{AllocError, Global};
 
-/// Puts in the number of a name, if it has one: whether it has.
+/// Puts in the number of a name if it has one, and says whether it has.
 fn put_number(
     numbers: &mut NumberSet,
     table: &NameTable<'_>,

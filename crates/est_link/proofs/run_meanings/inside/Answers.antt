@@ -7,13 +7,13 @@ use Rattle.est_link.proofs.run_meanings.inside.Goals as goal
 
 pub returns : goal.returns
 returns g c =
-    let place = g.M.Meanings.means c.args.place.now in
-    run_again place c.locals.result c.locals.ensures c.args.run.now (record {
+    let means = g.M.Meanings.means c.args.outside.now in
+    run_again means c.locals.result c.locals.ensures c.args.meanings.now (record {
       numbers = c.in_ok-clone.field-0;
       meanings = c.in_ok-all_again.field-0;
       other = c.in_ok-again.field-0;
       locals = c.in_ok-sum.field-0;
     })
     (ap (λ v. v.items) c.in_ok-clone.ensures.cases)
-    (c.in_ok-all_again.ensures ∙ ap (map (λ (m : Meaning). again place (meaning_of m))) c.deref.ensures.value)
+    (c.in_ok-all_again.ensures ∙ ap (map (λ (m : Meaning). again means (meaning_of m))) c.deref.ensures.value)
     c.in_ok-again.ensures c.in_ok-sum.ensures
