@@ -60,8 +60,8 @@ impl Meaning {
     }
 }
 
-/// What says of each signal of a body what it means at another place: the `Binding` of a run, or the
-/// `SignalMeanings` of a body.
+/// What says of each signal of a body what it means at another place: the `Binding` of a run, or
+/// the `SignalMeanings` of a body.
 pub trait Meanings {
     ghost use Rattle.std.specs.Prelude.{◌≡◌, ◌+◌, ℕ, IfOk};
     ghost use Rattle.est_kernel.specs.Term.{Name, inner};
@@ -81,7 +81,8 @@ pub trait Meanings {
     fn meaning(&self, signal: BoundSignal) -> Result<Meaning, AllocError>
         ensures { IfOk result (λ m. meaning_of m ≡ means self.now (name_view signal)) };
 
-    /// How many local signals lie around the body there. Their numbers come before those of its own.
+    /// How many local signals lie around the body there. Their numbers come before those of its
+    /// own.
     fn locals(&self) -> u32
         ensures { (k : ℕ) → means self.now (inner k) ≡ itself (inner (result + k)) };
 }

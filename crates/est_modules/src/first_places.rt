@@ -33,8 +33,8 @@ impl<'a> FirstPlaces<'a> {
         }
     }
 
-    /// Takes in the name at the next place. A name that is there keeps its first place. Names seldom
-    /// stand twice: a new one takes one search of the tree, one that is there two.
+    /// Takes in the name at the next place. A name that is there keeps its first place. Names
+    /// seldom stand twice: a new one takes one search of the tree, one that is there two.
     ///
     /// # Errors
     ///
