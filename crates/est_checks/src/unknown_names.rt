@@ -40,10 +40,12 @@ fn unknown_renaming(
         (find (λ r. not (is_visible (program_of check.now.home.now) (binders_of scope.now) r.outer))
         renamings.now) }
 {
-    match renamings.iter().find(|renaming| !is_visible(check.home, kept, scope, &renaming.outer)) {
-        Some(renaming) => Some(renaming.outer),
-        None => None,
+    for renaming in renamings {
+        if !is_visible(check.home, kept, scope, &renaming.outer) {
+            return Some(renaming.outer);
+        }
     }
+    None
 }
 
 #[tactic(auto, unfolding(crate::specs::UnknownNames::is_unbound))]
@@ -73,16 +75,12 @@ fn unbound_name(
         (find (λ d. is_unbound (program_of check.now.home.now) (binders_of scope.now)
         (map renaming_view renamings.now) d.name) interface.now) }
 {
-    match interface.iter().find(|declared| is_unbound(
-        check,
-        kept,
-        scope,
-        renamings,
-        &declared.name,
-    )) {
-        Some(declared) => Some(declared.name),
-        None => None,
+    for declared in interface {
+        if is_unbound(check, kept, scope, renamings, &declared.name) {
+            return Some(declared.name);
+        }
     }
+    None
 }
 
 /// Yes if whole sets of names show that each interface name of the module of a name is renamed or
@@ -207,6 +205,27 @@ fn unknown_in<'a, 'b>(
     first_in_body(&check, alloc, table, kept, &*home)
 }
 
+/// The first name of a library that isn't visible where it is used. The kept names of its modules
+/// are known.
+fn unknown_among(
+    alloc: Global,
+    table: &NameTable<'_>,
+    kept: &KeptNames<'_>,
+    heads: &Heads<'_>,
+) -> Result<Option<Identifier>, AllocError>
+    requires table { IsTable table.now }
+    requires kept { AreKept table.now (names_of (map program_of heads.now)) kept.now }
+    ensures { IfOk result (λ name. name ≡ first_in_bodies (unknown_at (map program_of heads.now))
+        (map program_of heads.now)) }
+{
+    for home in heads.modules() {
+        if let Some(name) = unknown_in(alloc, table, kept, &*heads, &*home)? {
+            return Ok(Some(name));
+        }
+    }
+    Ok(None)
+}
+
 /// The first name of a library that isn't visible where it is used.
 ///
 /// # Errors
@@ -222,10 +241,5 @@ pub fn first_unknown(
         (map program_of heads.now)) }
 {
     let kept = interfaces_of(alloc, table, &*heads)?;
-    for home in heads.modules() {
-        if let Some(name) = unknown_in(alloc, table, &kept, &*heads, &*home)? {
-            return Ok(Some(name));
-        }
-    }
-    Ok(None)
+    unknown_among(alloc, table, &kept, heads)
 }
