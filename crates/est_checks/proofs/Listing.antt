@@ -27,7 +27,8 @@ inner_found test rs = ap (option_map (λ (r : RenamingTree). r.inner))
 
 -- the bad renaming of a run, along the renamings of the code
 pub bad_found : (q : Program) (rs : List Renaming) → option_map (λ (r : Renaming). r.inner)
-    (find (λ (r : Renaming). is_misnamed q (map renaming_view rs) r.inner) rs) ≡ bad_in_run (map renaming_view rs) (Some q)
+    (find (λ (r : Renaming). is_misnamed q (map renaming_view rs) r.inner) rs)
+    ≡ bad_in_run (map renaming_view rs) (Some q)
 bad_found q rs = sym (inner_found (is_misnamed q (map renaming_view rs)) rs)
 
 -- the left name of the first renaming that passes a test of it

@@ -39,8 +39,8 @@ count_statement-loop-sequence-preserved t c =
       within = at_most TOO_MANY c.sum-count.result _ c.sum-count.ensures;
       done = counted_next TOO_MANY here first c.deref-sequence-items.result.now c.loop-sequence.sequence-index
           c.sequence-item.result c.loop-sequence.count c.count_sequence.result c.sum.result c.sum-count.result
-          c.loop-sequence-test.true c.sequence-item.is c.loop-sequence.invariant.done c.count_sequence.ensures c.sum.ensures
-          c.sum-count.ensures;
+          c.loop-sequence-test.true c.sequence-item.is c.loop-sequence.invariant.done
+          c.count_sequence.ensures c.sum.ensures c.sum-count.ensures;
     }
 
 pub count_statement-returns : goal.count_statement-returns

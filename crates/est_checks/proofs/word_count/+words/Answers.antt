@@ -34,10 +34,10 @@ expression_words-loop-conjunction-preserved t c =
     let first = conjunction_counted (out-Expression c.args.expression.now).first.value in
     record {
       within = at_most TOO_MANY c.sum-count.result _ c.sum-count.ensures;
-      done = counted_next TOO_MANY conjunction_counted first c.deref-conjunction-items.result.now c.loop-conjunction.conjunction-index
-          c.conjunction-item.result c.loop-conjunction.count c.conjunction_words.result c.sum.result c.sum-count.result
-          c.loop-conjunction-test.true c.conjunction-item.is c.loop-conjunction.invariant.done c.conjunction_words.ensures c.sum.ensures
-          c.sum-count.ensures;
+      done = counted_next TOO_MANY conjunction_counted first c.deref-conjunction-items.result.now
+          c.loop-conjunction.conjunction-index c.conjunction-item.result c.loop-conjunction.count
+          c.conjunction_words.result c.sum.result c.sum-count.result c.loop-conjunction-test.true c.conjunction-item.is
+          c.loop-conjunction.invariant.done c.conjunction_words.ensures c.sum.ensures c.sum-count.ensures;
     }
 
 pub expression_words-returns : goal.expression_words-returns
