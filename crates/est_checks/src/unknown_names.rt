@@ -205,27 +205,6 @@ fn unknown_in<'a, 'b>(
     first_in_body(&check, alloc, table, kept, &*home)
 }
 
-/// The first name of a library that isn't visible where it is used. The kept names of its modules
-/// are known.
-fn unknown_among(
-    alloc: Global,
-    table: &NameTable<'_>,
-    kept: &KeptNames<'_>,
-    heads: &Heads<'_>,
-) -> Result<Option<Identifier>, AllocError>
-    requires table { IsTable table.now }
-    requires kept { AreKept table.now (names_of (map program_of heads.now)) kept.now }
-    ensures { IfOk result (λ name. name ≡ first_in_bodies (unknown_at (map program_of heads.now))
-        (map program_of heads.now)) }
-{
-    for home in heads.modules() {
-        if let Some(name) = unknown_in(alloc, table, kept, &*heads, &*home)? {
-            return Ok(Some(name));
-        }
-    }
-    Ok(None)
-}
-
 /// The first name of a library that isn't visible where it is used.
 ///
 /// # Errors
@@ -241,5 +220,10 @@ pub fn first_unknown(
         (map program_of heads.now)) }
 {
     let kept = interfaces_of(alloc, table, &*heads)?;
-    unknown_among(alloc, table, &kept, heads)
+    for home in heads.modules() {
+        if let Some(name) = unknown_in(alloc, table, &kept, &*heads, &*home)? {
+            return Ok(Some(name));
+        }
+    }
+    Ok(None)
 }

@@ -1,7 +1,7 @@
 use Rattle.std.proofs.Common.{◌≡◌, drop, map}
 use Rattle.est_modules.specs.Modules.{program_of, first_in_bodies}
 use Rattle.est_checks.specs.UnknownNames.{unknown_at}
-use Rattle.est_checks.proofs.unknown_names.unknown_among.Given as goal
+use Rattle.est_checks.proofs.unknown_names.first_unknown.Given as goal
 
 abbrev pub invariant-loop-home : goal.invariant-loop-home
 invariant-loop-home l =
