@@ -1,6 +1,7 @@
 -- Faults that checks find, one check after another.
 use Rattle.std.proofs.Common.{◌≡◌, ℕ, ◌<◌, ◌⊎◌, inl, inr, List, [], length, map, get_or, Bool, true, false}
-use Rattle.std.proofs.Common.{if◌then◌else◌, Option, Some, None, option_map, Result, Ok, Err, refl, ap, sym, ◌∙◌, arith}
+use Rattle.std.proofs.Common.{if◌then◌else◌, Option, Some, None, option_map, Result, Ok, Err, refl, ap, sym, ◌∙◌}
+use Rattle.std.proofs.Common.{subst, arith}
 use Rattle.std.proofs.lemmas.List.{get_or-map, length-map}
 use Rattle.std.proofs.lemmas.Option.{none-some, slice_get_within, get_or_from_slice_get}
 use Rattle.std.specs.List.{slice_get}
@@ -186,6 +187,14 @@ pub first_next : (ps : List Program) (main : List ℕ) → None ≡ fault_before
     → IsFirstOf (run_checks ps main) found → IsFirstFault ps main found
 first_next ps main e found h =
     first ps main None found (sym e) (λ f some. absurd (none-some f some)) (λ none. h)
+
+-- what the order or later checks find is found; the name that they are asked for is that of the main module
+pub first_later : (ps : List Program) (main name : List ℕ) → name ≡ main → None ≡ fault_before_order ps main
+    → (fault : LinkFault) → (fault ≡ Memory) ⊎ IsFirstOf (run_checks ps name) (Some fault)
+    → (fault ≡ Memory) ⊎ IsFirstFault ps main (Some fault)
+first_later ps main name same none fault (inl memory) = inl memory
+first_later ps main name same none fault (inr h) =
+    inr (first_next ps main none (Some fault) (subst (λ m. IsFirstOf (run_checks ps m) (Some fault)) same h))
 
 -- ---- what is known without a fault
 

@@ -8,6 +8,7 @@ pub mod Finding
 pub mod First
 pub mod Leaving
 pub mod Listing
+pub mod Looping
 pub mod Noting
 pub mod OneName
 pub mod RunsThere

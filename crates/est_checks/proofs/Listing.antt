@@ -25,12 +25,11 @@ inner_found test rs = ap (option_map (λ (r : RenamingTree). r.inner))
     (find_map (λ (r : RenamingTree). test r.inner) renaming_view rs)
     ∙ same_none renaming_view (λ (r : RenamingTree). r.inner) _
 
--- the bad renaming of a run, from the one that was found
-pub bad_found : (q : Program) (rs : List Renaming) (o : Option Renaming)
-    → o ≡ find (λ (r : Renaming). is_misnamed q (map renaming_view rs) r.inner) rs
-    → option_map (λ (r : Renaming). r.inner) o ≡ bad_in_run (map renaming_view rs) (Some q)
-bad_found q rs o e = ap (option_map (λ (r : Renaming). r.inner)) e
-    ∙ sym (inner_found (is_misnamed q (map renaming_view rs)) rs)
+-- the bad renaming of a run, along the renamings of the code
+pub bad_found : (q : Program) (rs : List Renaming) → option_map (λ (r : Renaming). r.inner)
+    (find (λ (r : Renaming). is_misnamed q (map renaming_view rs) r.inner) rs)
+    ≡ bad_in_run (map renaming_view rs) (Some q)
+bad_found q rs = sym (inner_found (is_misnamed q (map renaming_view rs)) rs)
 
 -- the left name of the first renaming that passes a test of it
 pub outer_found : (test : List ℕ → Bool) (rs : List Renaming)

@@ -1,5 +1,7 @@
 -- Sums up to a most, along lists.
-use Rattle.std.proofs.Common.{◌≡◌, ℕ, ◌+◌, min, List, [], ◌∷◌, map, refl, ap, sym, ◌∙◌, arith, rules}
+use Rattle.std.proofs.Common.{◌≡◌, ℕ, ◌+◌, ◌<◌, ◌≤◌, min, List, [], ◌∷◌, length, get_or, map, take, refl, ap, sym, ◌∙◌}
+use Rattle.std.proofs.Common.{arith, rules}
+use Rattle.std.proofs.lemmas.List.Sums.{fold_more}
 use Rattle.std.specs.List.{fold}
 use Rattle.est_syntax.specs.Views.{literal_view, conjunction_view, expression_view, literals_of, conjunctions_of}
 use Rattle.est_syntax.specs.Views.{unit_view, sequence_view, statement_view, units_of, sequences_of}
@@ -44,6 +46,20 @@ joined f n m xs =
 -- the number that the code has so far
 abbrev pub so_far : {X : Type 0} → ℕ → (X → ℕ) → ℕ → List X → ℕ
 so_far c f n xs = fold (λ k x. min c (min c (k + min c (f x)) + 1)) (min c n) xs
+
+-- no number goes past the most
+pub at_most : (c a b : ℕ) → a ≡ min c b → a ≤ c
+at_most c a b e = omega arith
+
+-- one more element is counted
+pub counted_next : {X : Type 0} (c : ℕ) (f : X → ℕ) (n : ℕ) (xs : List X) (i : ℕ) (x : X) (before here both after : ℕ)
+    → i < length xs → x ≡ get_or xs i x → before ≡ so_far c f n (take i xs) → here ≡ min c (f x)
+    → both ≡ min c (before + here) → after ≡ min c (both + 1) → after ≡ so_far c f n (take (i + 1) xs)
+counted_next {X = X} c f n xs i x before here both after room is start number add one =
+    let step = λ (k : ℕ). λ (y : X). min c (min c (k + min c (f y)) + 1) in
+    one ∙ ap (λ m. min c (m + 1)) add ∙ ap (λ m. min c (min c (before + m) + 1)) number
+    ∙ ap (λ k. step k x) start ∙ ap (step (so_far c f n (take i xs))) is
+    ∙ sym (fold_more step (min c n) xs i x room)
 
 -- is the whole number, up to the most
 pub whole_count : {X : Type 0} (c : ℕ) (f : X → ℕ) (n : ℕ) (xs : List X) → so_far c f n xs ≡ min c (all_counted f n xs)

@@ -34,6 +34,13 @@ pub fn inputs_of<'a>(alloc: Global, interface: &'a [Declared]) -> Result<NameSet
     Ok(names)
 }
 
+/// Whether a name is neither one of these inputs nor `tick`.
+fn is_other(inputs: &NameSet<'_>, name: &Identifier) -> bool
+    ensures { result ≡ not (has inputs.now name.now || is_tick name.now) }
+{
+    !(inputs.contains(name) || is_tick(name))
+}
+
 /// The names of an interface that are neither inputs nor `tick`.
 fn other_names(
     alloc: Global,
@@ -45,7 +52,7 @@ fn other_names(
 {
     let mut others = Vec::new(alloc);
     for declared in interface {
-        if !(inputs.contains(&declared.name) || is_tick(&declared.name)) {
+        if is_other(inputs, &declared.name) {
             others.push(declared.name)?;
         }
     }

@@ -46,17 +46,19 @@ fn is_misnamed(
     !run.interface.declares(signal) || twice.contains(signal)
 }
 
-fn misnamed<'a>(
-    run: &Head<'_>,
-    twice: &NameSet<'_>,
-    renamings: &'a [Renaming],
-) -> Option<&'a Renaming>
+/// The right name of the first of these renamings that is bad.
+fn misnamed(run: &Head<'_>, twice: &NameSet<'_>, renamings: &[Renaming]) -> Option<Identifier>
     requires { (s : List ℕ) → has twice.now s
         ≡ is_renamed_twice (map renaming_view renamings.now) s }
-    ensures { option_map (λ r. r.now) result ≡ find (λ r. is_misnamed (program_of run.now)
-        (map renaming_view renamings.now) r.inner) renamings.now }
+    ensures { result ≡ option_map (λ r. r.inner) (find (λ r. is_misnamed (program_of run.now)
+        (map renaming_view renamings.now) r.inner) renamings.now) }
 {
-    renamings.iter().find(|renaming| is_misnamed(run, twice, renamings, &renaming.inner))
+    for renaming in renamings {
+        if is_misnamed(run, twice, renamings, &renaming.inner) {
+            return Some(renaming.inner);
+        }
+    }
+    None
 }
 
 fn bad_in_run(
@@ -71,10 +73,7 @@ fn bad_in_run(
         return Ok(None);
     };
     let twice = renamed_twice(alloc, renamings)?;
-    match misnamed(run, &twice, renamings) {
-        Some(renaming) => Ok(Some(renaming.inner)),
-        None => Ok(None),
-    }
+    Ok(misnamed(run, &twice, renamings))
 }
 
 /// The check for renamings whose right name is no interface signal of the module that is run, or

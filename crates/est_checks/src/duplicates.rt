@@ -8,6 +8,7 @@ ghost use Rattle.est_modules.specs.Visible.{stands_in};
 ghost use Rattle.est_checks.specs.Duplicates.{redeclared, redeclared_in, duplicate_of};
 ghost use Rattle.est_checks.specs.Duplicates.{first_duplicate};
 
+use crate::declared_names::declared_names;
 use crate::place_check::{Check, first_in_body};
 use est_modules::head::{Declared, Head};
 use est_modules::head_tree::Heads;
@@ -44,17 +45,6 @@ fn redeclared_name(alloc: Global, names: &Names) -> Result<Option<Identifier>, A
     redeclared(alloc, &listed)
 }
 
-/// The names of an interface, in their order.
-fn listed(alloc: Global, interface: &[Declared]) -> Result<Vec<Identifier>, AllocError>
-    ensures { IfOk result (λ names. names.items ≡ map (λ d. d.name) interface.now) }
-{
-    let mut names = Vec::new(alloc);
-    for declared in interface {
-        names.push(declared.name)?;
-    }
-    Ok(names)
-}
-
 /// The first name of an interface that is `tick` or stands before it there.
 fn redeclared_signal(
     alloc: Global,
@@ -62,7 +52,7 @@ fn redeclared_signal(
 ) -> Result<Option<Identifier>, AllocError>
     ensures { IfOk result (λ name. name ≡ redeclared [] (map (λ d. d.name) interface.now)) }
 {
-    redeclared(alloc, &listed(alloc, interface)?)
+    redeclared(alloc, &declared_names(alloc, interface)?)
 }
 
 /// The check for `signal` lists that have a name twice, or `tick`.

@@ -1,7 +1,6 @@
 //! Emissions of inputs.
 ghost use Rattle.std.specs.Prelude.{◌≡◌, ℕ, List, ◌&&◌, [], Some, true, false, IfOk, IsTrue, map};
-ghost use Rattle.std.specs.Prelude.{option_map};
-ghost use Rattle.std.specs.List.{find, list_any};
+ghost use Rattle.std.specs.List.{list_any};
 ghost use Rattle.est_syntax.specs.Views.{renaming_view};
 ghost use Rattle.est_modules.specs.Scopes.{binders_of};
 ghost use Rattle.est_modules.specs.Modules.{program_of, program_named, first_in_bodies};
@@ -18,7 +17,7 @@ use crate::allowed_names::{allowed_names, inputs_of};
 use crate::emission::Emissions;
 use crate::place_check::{Check, first_in_body};
 use crate::run_emissions::sent_of;
-use est_modules::head::{Declared, Head};
+use est_modules::head::Head;
 use est_modules::head_tree::Heads;
 use est_modules::kept_names::KeptNames;
 use est_modules::name_set::NameSet;
@@ -64,29 +63,6 @@ fn is_refused_in_run(
         && is_refused(check, kept, scope, &renamings.callers_name(signal))
 }
 
-fn refused_signal<'a>(
-    check: &EmitInput<'_, '_, '_, '_>,
-    kept: &OpenNames<'_, '_, '_>,
-    scope: &Scope<'_>,
-    renamings: &RunRenamings<'_>,
-    name: &Identifier,
-    interface: &'a [Declared],
-) -> Option<&'a Declared>
-    requires { IsOpen (Bars check.now) (binders_of scope.now) kept.now }
-    ensures { option_map (λ d. d.now) result ≡ find (λ d. is_refused_in_run (emitted_of
-        check.now.table.now) (program_of check.now.home.now) (binders_of scope.now)
-        (map renaming_view renamings.now) name.now d.name) interface.now }
-{
-    interface.iter().find(|declared| is_refused_in_run(
-        check,
-        kept,
-        scope,
-        renamings,
-        name,
-        &declared.name,
-    ))
-}
-
 /// The caller's name for the first interface signal of a module that is run for which a run of it
 /// is refused.
 fn refused_name(
@@ -103,14 +79,31 @@ fn refused_name(
         name.now (Some (program_of run.now)) }
 {
     let interface = run.interface.signals();
-    match refused_signal(check, kept, scope, renamings, name, interface) {
-        Some(declared) => Some(renamings.callers_name(&declared.name)),
-        None => None,
+    for declared in interface {
+        if is_refused_in_run(check, kept, scope, renamings, name, &declared.name) {
+            return Some(renamings.callers_name(&declared.name));
+        }
     }
+    None
 }
 
-/// Whether a renaming binds a signal that the module which is run emits to an input of the caller,
+/// Whether this renaming binds a signal that the module of a name emits to an input of the caller,
 /// or to `tick`.
+fn is_refused_renaming(
+    check: &EmitInput<'_, '_, '_, '_>,
+    kept: &OpenNames<'_, '_, '_>,
+    scope: &Scope<'_>,
+    name: &Identifier,
+    renaming: &Renaming,
+) -> bool
+    requires { IsOpen (Bars check.now) (binders_of scope.now) kept.now }
+    ensures { result ≡ (is_refused (program_of check.now.home.now) (binders_of scope.now)
+        renaming.now.outer && emitted_of check.now.table.now name.now renaming.now.inner) }
+{
+    is_refused(check, kept, scope, &renaming.outer) && check.table.emits(name, &renaming.inner)
+}
+
+/// Whether one of these renamings binds such a signal so.
 fn binds_input(
     check: &EmitInput<'_, '_, '_, '_>,
     kept: &OpenNames<'_, '_, '_>,
@@ -122,8 +115,12 @@ fn binds_input(
     ensures { result ≡ list_any (λ r. is_refused (program_of check.now.home.now) (binders_of
         scope.now) r.outer && emitted_of check.now.table.now name.now r.inner) renamings.now }
 {
-    renamings.iter().any(|renaming| is_refused(check, kept, scope, &renaming.outer)
-        && check.table.emits(name, &renaming.inner))
+    for renaming in renamings {
+        if is_refused_renaming(check, kept, scope, name, renaming) {
+            return true;
+        }
+    }
+    false
 }
 
 /// Yes if whole sets of names show that the module of a name emits no interface name that is bound

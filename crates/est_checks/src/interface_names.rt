@@ -1,5 +1,5 @@
 //! The interface names of modules, as sets of numbers.
-ghost use Rattle.std.specs.Prelude.{◌≡◌, ◌||◌, map, IfOk};
+ghost use Rattle.std.specs.Prelude.{◌||◌, map, IfOk};
 ghost use Rattle.est_modules.specs.Modules.{is_declared, program_of};
 ghost use Rattle.est_modules.specs.NamedNumbers.{Tells};
 ghost use Rattle.est_modules.specs.NameTables.{IsTable};
@@ -7,8 +7,9 @@ ghost use Rattle.est_modules.specs.OpenNames.{AreKept};
 ghost use Rattle.est_modules.specs.Visible.{is_tick};
 ghost use Rattle.est_checks.specs.Inner.InterfaceNames.{names_of};
 
+use crate::declared_names::declared_names;
 use crate::run_names::{Choice, kept_of};
-use est_modules::head::{Declared, Head};
+use est_modules::head::Head;
 use est_modules::head_tree::Heads;
 use est_modules::kept_names::KeptNames;
 use est_modules::name_table::NameTable;
@@ -17,17 +18,6 @@ use est_modules::number_set::NumberSet;
 use est_modules::visibility::tick;
 use est_text::identifier::Identifier;
 use std::alloc::{AllocError, Global};
-
-/// The names of an interface.
-fn names_of(alloc: Global, interface: &[Declared]) -> Result<Vec<Identifier>, AllocError>
-    ensures { IfOk result (λ names. names.items ≡ map (λ d. d.name) interface.now) }
-{
-    let mut names = Vec::new(alloc);
-    for declared in interface {
-        names.push(declared.name)?;
-    }
-    Ok(names)
-}
 
 /// All interface names of a module.
 #[derive(Clone, Copy)]
@@ -45,7 +35,7 @@ impl Choice for InterfaceNames<'_, '_> {
 
     fn choose(&self, alloc: Global, name: &Identifier) -> Result<Vec<Identifier>, AllocError> {
         match self.heads.named(name) {
-            Some(run) => names_of(alloc, run.interface.signals()),
+            Some(run) => declared_names(alloc, run.interface.signals()),
             None => Ok(Vec::new(alloc)),
         }
     }
@@ -83,7 +73,7 @@ pub fn own_names(
     ensures { IfOk result (λ own. Tells table.now (λ s. is_declared (program_of home.now).interface
         s || is_tick s) own) }
 {
-    let names = names_of(alloc, home.interface.signals())?;
+    let names = declared_names(alloc, home.interface.signals())?;
     let mut own = NumberSet::new(alloc);
     put_names(&mut own, table, &names)?;
     put_name(&mut own, table, &tick())?;

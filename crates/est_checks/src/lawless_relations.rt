@@ -31,7 +31,12 @@ fn offered_of<'a>(alloc: Global, interface: &'a [Declared]) -> Result<NameSet<'a
 fn are_past_offers(offered: &NameSet<'_>, names: &[Identifier]) -> bool
     ensures { result ≡ list_any (λ n. not (has offered.now n)) names.now }
 {
-    names.iter().any(|name| !offered.contains(name))
+    for name in names {
+        if !offered.contains(name) {
+            return true;
+        }
+    }
+    false
 }
 
 /// Whether a member of a relation is not among the names that may be offered.
@@ -46,25 +51,18 @@ fn is_past(offered: &NameSet<'_>, relation: &Relation) -> bool
     }
 }
 
-fn lawless_place(offered: &NameSet<'_>, relations: &[&Relation]) -> Option<usize>
-    ensures { result ≡ position (λ r. is_past (has offered.now) (relation_view r.now))
-        relations.now }
-{
-    relations
-        .iter()
-        .position(|relation| is_past(offered, relation))
-}
-
 /// The number, from 1, of the first of these relations with a member that is not among the names
 /// that may be offered.
 fn lawless_number(offered: &NameSet<'_>, relations: &[&Relation]) -> Option<usize>
     ensures { result ≡ option_map (λ i. i + 1)
         (position (λ r. is_past (has offered.now) (relation_view r.now)) relations.now) }
 {
-    match lawless_place(offered, relations) {
-        Some(place) => Some(place + 1),
-        None => None,
+    for place in 0..relations.len() {
+        if is_past(offered, relations[place]) {
+            return Some(place + 1);
+        }
     }
+    None
 }
 
 /// The number, from 1 in the order of the text, of the first relation of a module with a member

@@ -11,6 +11,7 @@
 mod allowed_names;
 pub mod around_order;
 pub mod bad_renamings;
+mod declared_names;
 pub mod duplicates;
 pub mod emission;
 pub mod fault;

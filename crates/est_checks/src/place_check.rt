@@ -49,7 +49,7 @@ pub trait Check {
 }
 
 /// Keeps the first fault that a check finds in a module.
-#[derive(Clone, Copy)]
+#[derive(Drop)]
 struct First<'a, 'b, C> {
     check: &'a C,
     home: &'a Head<'b>,

@@ -40,10 +40,12 @@ fn unknown_renaming(
         (find (λ r. not (is_visible (program_of check.now.home.now) (binders_of scope.now) r.outer))
         renamings.now) }
 {
-    match renamings.iter().find(|renaming| !is_visible(check.home, kept, scope, &renaming.outer)) {
-        Some(renaming) => Some(renaming.outer),
-        None => None,
+    for renaming in renamings {
+        if !is_visible(check.home, kept, scope, &renaming.outer) {
+            return Some(renaming.outer);
+        }
     }
+    None
 }
 
 #[tactic(auto, unfolding(crate::specs::UnknownNames::is_unbound))]
@@ -73,16 +75,12 @@ fn unbound_name(
         (find (λ d. is_unbound (program_of check.now.home.now) (binders_of scope.now)
         (map renaming_view renamings.now) d.name) interface.now) }
 {
-    match interface.iter().find(|declared| is_unbound(
-        check,
-        kept,
-        scope,
-        renamings,
-        &declared.name,
-    )) {
-        Some(declared) => Some(declared.name),
-        None => None,
+    for declared in interface {
+        if is_unbound(check, kept, scope, renamings, &declared.name) {
+            return Some(declared.name);
+        }
     }
+    None
 }
 
 /// Yes if whole sets of names show that each interface name of the module of a name is renamed or

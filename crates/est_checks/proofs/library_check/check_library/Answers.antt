@@ -3,7 +3,7 @@ use Rattle.std.proofs.lemmas.Result.{err_from_is_err_and}
 use Rattle.est_checks.specs.FirstFaults.{IsFirstOf}
 use Rattle.est_checks.specs.Inner.Stages.{run_checks}
 use Rattle.est_modules.specs.Modules.{program_of}
-use Rattle.est_checks.proofs.Finding.{first_found, first_next}
+use Rattle.est_checks.proofs.Finding.{first_found, first_later, first_next, none_twice}
 use Rattle.est_checks.proofs.library_check.check_library.Goals as goal
 
 pub returns-in_err-main-clause-found : goal.returns-in_err-main-clause-found
@@ -12,6 +12,17 @@ returns-in_err-main-clause-found c =
     rw (p.1, p.2)
     (first_found (map program_of c.args.heads.now) c.args.main.now c.in_err-main.field-0.0
     c.in_err-main.ensures.found)
+
+pub check_runs-requires : goal.check_runs-requires
+check_runs-requires c = none_twice (map program_of c.args.heads.now) c.args.main.now c.in_ok-main.ensures.found
+
+pub returns-in_err-order-clause-found : goal.returns-in_err-order-clause-found
+returns-in_err-order-clause-found c =
+    let residual = c.from_residual-in_err-order in
+    let p = err_from_is_err_and residual.result residual.ensures.1 in
+    rw (p.1, p.2)
+    (first_later (map program_of c.args.heads.now) c.args.main.now c.in_ok-main.main c.in_ok-main.ensures.name
+    c.in_ok-main.ensures.found c.in_err-order.field-0.0 c.in_err-order.ensures.found)
 
 pub returns-clause-found : goal.returns-clause-found
 returns-clause-found c =

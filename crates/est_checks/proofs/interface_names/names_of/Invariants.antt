@@ -1,6 +1,0 @@
-use Rattle.std.proofs.Common.{◌≡◌, map, take}
-use Rattle.est_modules.specs.declared.head.Declared.{Declared}
-use Rattle.est_checks.proofs.interface_names.names_of.Given as goal
-
-abbrev pub invariant-loop-declared : goal.invariant-loop-declared
-invariant-loop-declared l = l.names.items ≡ map (λ (d : Declared). d.name) (take l.declared-index l.interface)
