@@ -103,7 +103,7 @@ fn is_refused_renaming(
     is_refused(check, kept, scope, &renaming.outer) && check.table.emits(name, &renaming.inner)
 }
 
-/// Whether one of these renamings binds such a signal so.
+/// Whether one of these renamings does that.
 fn binds_input(
     check: &EmitInput<'_, '_, '_, '_>,
     kept: &OpenNames<'_, '_, '_>,

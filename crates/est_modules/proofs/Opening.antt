@@ -1,17 +1,26 @@
 -- Names of modules that are run, as far as no `signal` around a place declares them.
 use Rattle.std.proofs.Common.{◌≡◌, ℕ, List, [], ◌∷◌, Option, Some, Bool, true, false, cond, refl, sym, subst}
+use Rattle.std.proofs.lemmas.Bool.{true≢false}
 use Rattle.std.proofs.lemmas.Option.{none-some}
 use Rattle.std.specs.List.{find}
 use Rattle.std.specs.Str.{bytes_eq}
 use Rattle.est_modules.specs.NamedNumbers.{AreNumbers, Tells}
 use Rattle.est_modules.specs.NameTables.{IsTable}
-use Rattle.est_modules.specs.Occurrences.{Binder}
+use Rattle.est_modules.specs.Occurrences.{Binder, signals, a_trap}
 use Rattle.est_modules.specs.OpenNames.{AreKept, IsSame, IsOpen}
 use Rattle.est_modules.specs.declared.name_table.NameTable.{NameTable}
 use Rattle.est_modules.specs.declared.open_names.OpenNames.{OpenNames}
-use Rattle.est_modules.specs.Visible.{is_local}
+use Rattle.est_modules.specs.Visible.{has_signals, is_local}
 use Rattle.est_modules.specs.declared.kept_names.Kept.{Kept}
 use Rattle.est_modules.proofs.Testing.{same_bytes, some_same}
+
+-- ---- local names
+
+-- without a `signal` around a place, no name is local there
+pub none_local : (bs : List Binder) (s : List ℕ) → has_signals bs ≡ false → is_local bs s ≡ false
+none_local [] s h = refl
+none_local (signals ns ∷ bs) s h = absurd (true≢false h)
+none_local (a_trap t ∷ bs) s h = none_local bs s h
 
 -- ---- what is kept of modules
 

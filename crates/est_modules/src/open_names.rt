@@ -18,7 +18,7 @@ use crate::name_table::NameTable;
 use crate::named_numbers::{put_name, put_names, put_renamed};
 use crate::number_set::NumberSet;
 use crate::scope::Scope;
-use crate::visibility::is_local;
+use crate::visibility::{has_signals, is_local};
 use est_syntax::tree::{Names, Renaming};
 use est_text::identifier::Identifier;
 use std::alloc::{AllocError, Global};
@@ -102,14 +102,18 @@ impl<'a, 'b, 'c> OpenNames<'a, 'b, 'c> {
         self.hidden.has(number)
     }
 
-    /// Whether a `signal` around the place declares a name. A name without a number is looked for
-    /// in each of them.
+    /// Whether a `signal` around the place declares a name. Where there is none, the name isn't
+    /// looked up. A name without a number is looked for in each `signal`.
+    #[tactic(auto, using(crate::proofs::Opening::none_local))]
     pub fn is_local(&self, scope: &Scope<'_>, name: &Identifier) -> bool
         requires table { IsTable self.now.table.now }
         requires hidden { Tells self.now.table.now (is_local (binders_of scope.now))
             self.now.hidden }
         ensures { result ≡ is_local (binders_of scope.now) name.now }
     {
+        if !has_signals(scope) {
+            return false;
+        }
         match self.number(name) {
             Some(number) => self.is_hidden(number),
             None => is_local(scope, name),
