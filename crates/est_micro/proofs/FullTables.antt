@@ -22,26 +22,13 @@ use Rattle.est_cells.specs.Decided.{AgainDecided, NodeDecided, PartsDecided, She
 use Rattle.est_cells.specs.Tables.{Again, AgainBelow, Below, Cells, CellsBelow, Sheet}
 use Rattle.est_cells.specs.Tables.{make_again, sheet_size, is_sure, is_possible}
 use Rattle.est_cells.specs.Whole.{TableBelow, table_gates, table_meaning}
+use Rattle.est_net.proofs.Ranges.{decided_within}
 use Rattle.est_net.specs.Cells.{cell_at, decided, steps_of}
 use Rattle.est_net.specs.Layout.{cell_count, node_in, output_count, parts_in, possible_codes, rank, sheet_in}
 use Rattle.est_net.specs.Layout.{sure_codes}
 use Rattle.est_micro.specs.Runs.{table_of}
 use Rattle.est_micro.proofs.Frames.{size_least}
 use Rattle.est_micro.proofs.Rounds.{rank_within, may_be}
-
--- at most as many cells are decided as there are
-step_small : (v : Status) → steps_of v ≤ 1
-step_small Present = omega arith
-step_small Absent = omega arith
-step_small Unknown = omega arith
-
-pub decided_within : (cells : List Status) → decided cells ≤ length cells
-decided_within [] = omega arith
-decided_within (x ∷ xs) =
-    let k = decided_within xs in
-    let o = step_small x in
-    let e : decided (x ∷ xs) ≡ steps_of x + decided xs = sum_by-cons steps_of x xs in
-    omega arith
 
 -- the cells from place lo on and before place hi are decided
 abbrev Known : (lo hi : ℕ) (f : ℕ → Status) → Type 0

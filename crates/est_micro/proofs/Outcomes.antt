@@ -48,7 +48,7 @@ use Rattle.est_rounds.specs.Contract.{IsReaction, HasNoReaction}
 use Rattle.est_rounds.specs.Views.{env_of, set_of}
 use Rattle.est_rounds.specs.declared.signal_set.SignalSet.{SignalSet}
 use Rattle.est_micro.specs.Runs.{IsSettled, output_cells, table_of}
-use Rattle.est_micro.specs.Engine.{GoesOnFrom, HasValues}
+use Rattle.est_micro.specs.Engine.{GoesOnFrom, HasValues, IsAsMeant}
 use Rattle.est_micro.specs.declared.run.Settled.{Settled}
 use Rattle.est_micro.proofs.Settling.{within_places}
 use Rattle.est_micro.proofs.AllDecided.{all_cells_decided}
@@ -88,6 +88,10 @@ least_of : (k : Kernel) (x : State) (inputs : ℕ → Bool) (cells : List Status
     → Meant k x inputs cells
 least_of k x inputs cells r h = table_least (judged_signals k.interface inputs) inputs k.root x
     (table_of k.interface k.root cells) h.closed
+
+pub as_meant : (k : Kernel) (x : State) (inputs : ℕ → Bool) (cells : List Status) (r : Settled)
+    → IsSettled k x inputs cells r → IsAsMeant k x inputs cells
+as_meant k x inputs cells r h = record { sound = h.sound; whole = least_of k x inputs cells r h }
 
 -- where there is a reaction, every cell is decided
 decided_by : (k : Kernel) (x : State) (inputs : ℕ → Bool) (cells : List Status) (r : Settled)

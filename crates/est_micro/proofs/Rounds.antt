@@ -26,7 +26,7 @@ use Rattle.est_net.specs.Layout.{output_count, rank, sheet_in}
 use Rattle.est_rounds.specs.Views.{env_of, set_of}
 use Rattle.est_rounds.specs.declared.signal_set.Env.{Env as Known}
 use Rattle.est_rounds.specs.declared.signal_set.SignalSet.{SignalSet}
-use Rattle.est_micro.specs.Laws.{Heard, Seen}
+use Rattle.est_micro.specs.Hearing.{Heard, Seen}
 use Rattle.est_micro.specs.declared.direction.Direction.{Direction}
 use Rattle.est_micro.specs.Runs.{sheet_swept, output_cells, output_gate, IsRound, table_of}
 use Rattle.est_micro.specs.declared.cells.Found.{Found}

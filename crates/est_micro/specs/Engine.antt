@@ -7,6 +7,7 @@ use Rattle.est_kernel.specs.declared.state.State.{State}
 use Rattle.est_kernel.specs.declared.state.State.TheVariants.{Paused}
 use Rattle.est_meaning.specs.declared.status.Status.{Status}
 use Rattle.est_cells.specs.Decided.{IsReactionOf, TableDecided}
+use Rattle.est_cells.specs.Whole.{TableBelow, table_meaning}
 use Rattle.est_meaning.specs.Rounds.{judged_signals}
 use Rattle.est_net.specs.Cells.{decided}
 use Rattle.est_net.specs.Layout.{cell_count, output_count}
@@ -16,7 +17,7 @@ use Rattle.est_micro.specs.Runs.{AreOfferedTrue, table_of}
 
 -- the table is that of the kernel, and so is what may be emitted
 pub record IsNetOf (net : Net) (k : Kernel) : Type 0 where
-  pub size : length net.table.cells.items ≡ cell_count k
+  pub size : length net.cells.items ≡ cell_count k
   pub outputs : net.outputs ≡ output_count k.interface
   pub reach : IsReachOf net.reach k.root
 
@@ -26,6 +27,14 @@ pub record HasValues (k : Kernel) (x : State) (inputs : ℕ → Bool) (cells : L
   pub offered : AreOfferedTrue k.interface inputs cells
   pub decided : TableDecided (judged_signals k.interface inputs) k.root (table_of k.interface k.root cells)
   pub values : IsReactionOf (judged_signals k.interface inputs) inputs k.root x (table_of k.interface k.root cells)
+
+-- Each cell that is decided is so in the meaning, with its value; each cell that the meaning decides is decided. So the
+-- open cells are exactly those that the meaning leaves open
+pub record IsAsMeant (k : Kernel) (x : State) (inputs : ℕ → Bool) (cells : List Status) : Type 0 where
+  pub sound : TableBelow (judged_signals k.interface inputs) k.root (table_of k.interface k.root cells)
+      (table_meaning (judged_signals k.interface inputs) inputs k.root x)
+  pub whole : TableBelow (judged_signals k.interface inputs) k.root
+      (table_meaning (judged_signals k.interface inputs) inputs k.root x) (table_of k.interface k.root cells)
 
 -- the pauses from which a state goes on, if it does
 abbrev pub GoesOnFrom : State → (ℕ → Bool) → Type 0

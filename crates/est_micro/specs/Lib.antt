@@ -1,4 +1,5 @@
 pub mod Sweeps
+pub mod Hearing
 pub mod Laws
 pub mod Views
 pub mod Runs

@@ -13,18 +13,20 @@ ghost use Rattle.est_meaning.specs.Environments.{verdict};
 ghost use Rattle.est_cells.specs.Gates.{sure_code, may_code, then_codes};
 ghost use Rattle.est_cells.specs.Tables.{if_run, is_sure, is_possible};
 ghost use Rattle.est_net.specs.Cells.{Learns, cell_at};
+ghost use Rattle.est_net.specs.Kept.{kept};
 ghost use Rattle.est_net.specs.Layout.{sure_codes, possible_codes};
 ghost use Rattle.est_rounds.specs.Views.{env_of, set_of};
 ghost use Rattle.est_micro.specs.Sweeps.{told};
 ghost use Rattle.est_micro.specs.Views.{AreTold, IsJudged, IsLeft, IsPaired};
 
 use crate::direction::Direction;
+use crate::learning::learn;
 use est_kernel::code_set::CodeSet;
 use est_kernel::completion::Completion;
 use est_kernel::mask;
 use est_kernel::statement::{LocalSignal, Signal, TrapIndex};
 use est_meaning::status::Status;
-use est_net::table::Table;
+use est_net::net::Net;
 use est_rounds::acts::{Acts, Judgement};
 use est_rounds::signal_set::{self, Env, SignalSet};
 
@@ -138,50 +140,52 @@ fn with_cell(read: CodesRead, code: usize, status: Status) -> CodesRead
 /// Tells a code cell what is judged of its code, and adds what it then says to what was read.
 #[inline(always)]
 fn tell_code(
-    table: &mut Table,
+    net: &mut Net,
     cell: usize,
     code: usize,
     judged: &Judgement,
     read: CodesRead,
 ) -> CodesRead
-    requires within { cell + code < length table.old.cells.items }
+    requires within { cell + code < length net.old.cells.items }
     requires few { code < 64 }
     ensures learns { Learns (cell + code)
         (verdict (codes_of judged.now.must.codes code) (codes_of judged.now.can.codes code))
-        table.old.cells.items table.new.cells.items }
+        net.old.cells.items net.new.cells.items }
     ensures sure { codes_of result.sure code
-        ≡ (codes_of read.sure code || is_sure (cell_at table.new.cells.items (cell + code))) }
+        ≡ (codes_of read.sure code || is_sure (cell_at net.new.cells.items (cell + code))) }
     ensures other_sure { (k : ℕ) → k ≢ code → codes_of result.sure k ≡ codes_of read.sure k }
     ensures possible { codes_of result.possible code
         ≡ (codes_of read.possible code
-        || is_possible (cell_at table.new.cells.items (cell + code))) }
+        || is_possible (cell_at net.new.cells.items (cell + code))) }
     ensures other_possible { (k : ℕ) → k ≢ code
         → codes_of result.possible k ≡ codes_of read.possible k }
+    ensures kept { kept net.new ≡ kept net.old }
 {
-    let status = table.learn(cell + code, verdict_on(judged, code));
+    let status = learn(net, cell + code, verdict_on(judged, code));
     with_cell(read, code, status)
 }
 
 /// Tells `count` code cells what is judged of their codes, and reads them. Codes 0 and 1, which
 /// every statement has, stand before the loop: there each is a constant for the compiler.
 #[inline(always)]
-fn tell(table: &mut Table, cell: usize, count: usize, judged: &Judgement) -> CodesRead
-    requires within { cell + count ≤ length table.old.cells.items }
+fn tell(net: &mut Net, cell: usize, count: usize, judged: &Judgement) -> CodesRead
+    requires within { cell + count ≤ length net.old.cells.items }
     requires some { 2 ≤ count }
     requires few { count ≤ 64 }
-    ensures told { AreTold cell count judged.now table.old.cells.items table.new.cells.items }
-    ensures sure { codes_of result.sure ≡ sure_codes (cell_at table.new.cells.items) cell count }
+    ensures told { AreTold cell count judged.now net.old.cells.items net.new.cells.items }
+    ensures sure { codes_of result.sure ≡ sure_codes (cell_at net.new.cells.items) cell count }
     ensures possible { codes_of result.possible
-        ≡ possible_codes (cell_at table.new.cells.items) cell count }
+        ≡ possible_codes (cell_at net.new.cells.items) cell count }
+    ensures kept { kept net.new ≡ kept net.old }
 {
     let none = CodesRead {
         sure: CodeSet::empty(),
         possible: CodeSet::empty(),
     };
-    let first = tell_code(table, cell, 0, judged, none);
-    let mut read = tell_code(table, cell, 1, judged, first);
+    let first = tell_code(net, cell, 0, judged, none);
+    let mut read = tell_code(net, cell, 1, judged, first);
     for code in 2..count {
-        read = tell_code(table, cell, code, judged, read);
+        read = tell_code(net, cell, code, judged, read);
     }
     read
 }
@@ -480,14 +484,15 @@ fn with_possible(present: u64, more: u64, possible: u64) -> u64
 
 /// Tells a statement's code cells what is judged of it, and reads them.
 #[inline(always)]
-pub fn leave(table: &mut Table, at: &Place, own: &Judgement, past: usize) -> Found
-    requires within { at.now.cell + at.now.traps + 3 ≤ length table.old.cells.items }
+pub fn leave(net: &mut Net, at: &Place, own: &Judgement, past: usize) -> Found
+    requires within { at.now.cell + at.now.traps + 3 ≤ length net.old.cells.items }
     requires few { at.now.traps ≤ 62 }
-    ensures { IsLeft at.now.cell at.now.traps own.now past table.old.cells.items
-        table.new.cells.items
+    ensures left { IsLeft at.now.cell at.now.traps own.now past net.old.cells.items
+        net.new.cells.items
         result }
+    ensures kept { kept net.new ≡ kept net.old }
 {
-    let read = tell(table, at.cell + 1, at.traps + 2, own);
+    let read = tell(net, at.cell + 1, at.traps + 2, own);
     Found {
         judged: Judgement {
             must: Acts {

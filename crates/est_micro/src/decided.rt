@@ -20,19 +20,19 @@ use crate::cells::{self, Found, Place};
 use crate::idle::past;
 use est_kernel::code_set::CodeSet;
 use est_kernel::statement::{LocalSignal, Signal, Statement};
-use est_net::table::Table;
+use est_net::net::Net;
 use est_rounds::acts::{Acts, Judgement};
 use est_rounds::signal_set::{self, SignalSet};
 
 /// Puts the signal of an emission into the set, if its go cell is true.
 #[inline(always)]
-fn add_emission(table: &Table, cell: usize, signal: Signal, emitted: &mut SignalSet)
+fn add_emission(net: &Net, cell: usize, signal: Signal, emitted: &mut SignalSet)
     requires bit { HasSignalBit signal }
-    requires within { cell + 3 ≤ length table.now.cells.items }
+    requires within { cell + 3 ≤ length net.now.cells.items }
     ensures { set_of emitted.new ≡ union (set_of emitted.old)
-        (if_run (is_sure (cell_at table.now.cells.items cell)) (name_of signal)) }
+        (if_run (is_sure (cell_at net.now.cells.items cell)) (name_of signal)) }
 {
-    let is_emitted = cells::is_true(table.status(cell));
+    let is_emitted = cells::is_true(net.status(cell));
     *emitted = signal_set::union_of(*emitted, cells::signal_if(is_emitted, signal));
 }
 
@@ -41,7 +41,7 @@ fn add_emission(table: &Table, cell: usize, signal: Signal, emitted: &mut Signal
 #[cycle(add)]
 #[inline(always)]
 fn add_both(
-    table: &Table,
+    net: &Net,
     main: bool,
     cell: usize,
     traps: usize,
@@ -51,18 +51,18 @@ fn add_both(
 ) -> usize
     requires fits { FitsMasks p.now × FitsMasks q.now }
     requires within { cell + sheet_size main p.now traps + sheet_size main q.now traps
-        ≤ length table.now.cells.items }
-    ensures { AddsBoth main p.now q.now cell traps table.now.cells.items emitted.old emitted.new
+        ≤ length net.now.cells.items }
+    ensures { AddsBoth main p.now q.now cell traps net.now.cells.items emitted.old emitted.new
         result }
 {
-    let past = add_emitted(table, main, cell, traps, p, emitted);
-    add_emitted(table, main, past, traps, q, emitted)
+    let past = add_emitted(net, main, cell, traps, p, emitted);
+    add_emitted(net, main, past, traps, q, emitted)
 }
 
 /// Puts the emitted signals of a loop that can go on into the set.
 #[cycle(add)]
 fn add_loop(
-    table: &Table,
+    net: &Net,
     main: bool,
     cell: usize,
     traps: usize,
@@ -72,19 +72,19 @@ fn add_loop(
     requires main { main ≡ true }
     requires fits { FitsMasks p.now }
     requires within { cell + traps + 3 + sheet_size true p.now traps + sheet_size false p.now traps
-        ≤ length table.now.cells.items }
+        ≤ length net.now.cells.items }
     ensures { (a : _)
-        → AddsEmitted main (Loop' a p.now) cell traps table.now.cells.items emitted.old emitted.new
+        → AddsEmitted main (Loop' a p.now) cell traps net.now.cells.items emitted.old emitted.new
         result }
 {
-    let past = add_emitted(table, main, cell + traps + 3, traps, p, emitted);
-    add_emitted(table, false, past, traps, p, emitted)
+    let past = add_emitted(net, main, cell + traps + 3, traps, p, emitted);
+    add_emitted(net, false, past, traps, p, emitted)
 }
 
 /// Puts the emitted signals of a local signal's scope into the set, but for that signal.
 #[cycle(add)]
 fn add_local(
-    table: &Table,
+    net: &Net,
     main: bool,
     cell: usize,
     traps: usize,
@@ -94,13 +94,13 @@ fn add_local(
 ) -> usize
     requires fits { (s.index < 64) × FitsMasks p.now }
     requires within { cell + traps + 4 + sheet_size main p.now traps
-        ≤ length table.now.cells.items }
+        ≤ length net.now.cells.items }
     ensures { (a : _)
-        → AddsEmitted main (Binder' s a p.now) cell traps table.now.cells.items emitted.old
+        → AddsEmitted main (Binder' s a p.now) cell traps net.now.cells.items emitted.old
         emitted.new result }
 {
     let mut inside = signal_set::no_signal();
-    let past = add_emitted(table, main, cell + traps + 4, traps, p, &mut inside);
+    let past = add_emitted(net, main, cell + traps + 4, traps, p, &mut inside);
     *emitted = signal_set::union_of(*emitted, signal_set::all_but(s, inside));
     past
 }
@@ -109,7 +109,7 @@ fn add_local(
 /// first place after its cells.
 #[cycle(add)]
 fn add_emitted(
-    table: &Table,
+    net: &Net,
     main: bool,
     cell: usize,
     traps: usize,
@@ -117,8 +117,8 @@ fn add_emitted(
     emitted: &mut SignalSet,
 ) -> usize
     requires fits { FitsMasks s.now }
-    requires within { cell + sheet_size main s.now traps ≤ length table.now.cells.items }
-    ensures { AddsEmitted main s.now cell traps table.now.cells.items emitted.old emitted.new
+    requires within { cell + sheet_size main s.now traps ≤ length net.now.cells.items }
+    ensures { AddsEmitted main s.now cell traps net.now.cells.items emitted.old emitted.new
         result }
 {
     let parts = cell + traps + 3;
@@ -127,34 +127,34 @@ fn add_emitted(
         Statement::Pause(_) => parts,
         Statement::Exit(_) => parts,
         Statement::Emit(signal) => {
-            add_emission(table, cell, *signal, emitted);
+            add_emission(net, cell, *signal, emitted);
             parts
         }
-        Statement::Present(_, p, q) => add_both(table, main, parts, traps, p, q, emitted),
-        Statement::Seq(p, q) => add_both(table, main, parts, traps, p, q, emitted),
-        Statement::Par(p, q) => add_both(table, main, parts, traps, p, q, emitted),
-        Statement::Suspend(_, p) => add_emitted(table, main, parts, traps, p, emitted),
+        Statement::Present(_, p, q) => add_both(net, main, parts, traps, p, q, emitted),
+        Statement::Seq(p, q) => add_both(net, main, parts, traps, p, q, emitted),
+        Statement::Par(p, q) => add_both(net, main, parts, traps, p, q, emitted),
+        Statement::Suspend(_, p) => add_emitted(net, main, parts, traps, p, emitted),
         Statement::Loop(p) => {
             if main {
-                add_loop(table, main, cell, traps, p, emitted)
+                add_loop(net, main, cell, traps, p, emitted)
             } else {
-                add_emitted(table, main, parts, traps, p, emitted)
+                add_emitted(net, main, parts, traps, p, emitted)
             }
         }
-        Statement::Trap(p) => add_emitted(table, main, parts, traps + 1, p, emitted),
-        Statement::Local(s, p) => add_local(table, main, cell, traps, *s, p, emitted),
+        Statement::Trap(p) => add_emitted(net, main, parts, traps + 1, p, emitted),
+        Statement::Local(s, p) => add_local(net, main, cell, traps, *s, p, emitted),
     }
 }
 
 /// The codes whose cells are true, of `count` of them from a place on.
-fn read_codes(table: &Table, cell: usize, count: usize) -> CodeSet
-    requires within { cell + count ≤ length table.now.cells.items }
+fn read_codes(net: &Net, cell: usize, count: usize) -> CodeSet
+    requires within { cell + count ≤ length net.now.cells.items }
     requires few { count ≤ 64 }
-    ensures { codes_of result ≡ sure_codes (cell_at table.now.cells.items) cell count }
+    ensures { codes_of result ≡ sure_codes (cell_at net.now.cells.items) cell count }
 {
     let mut codes = CodeSet::empty();
     for code in 0..count {
-        let is_given = cells::is_true(table.status(cell + code));
+        let is_given = cells::is_true(net.status(cell + code));
         codes = cells::with_code(codes, code, is_given);
     }
     codes
@@ -163,39 +163,39 @@ fn read_codes(table: &Table, cell: usize, count: usize) -> CodeSet
 /// Whether all cells of a statement are decided. They are gone through only where the codes 0 and 1
 /// are decided: as a rule all others are decided then too.
 #[inline(always)]
-pub fn is_decided(table: &Table, at: &Place, s: &Statement) -> bool
+pub fn is_decided(net: &Net, at: &Place, s: &Statement) -> bool
     requires { at.now.cell + sheet_size at.now.main s.now at.now.traps
-        ≤ length table.now.cells.items }
+        ≤ length net.now.cells.items }
     ensures { (result ≡ true) ↔ AllDecided at.now.cell
         (at.now.cell + sheet_size at.now.main s.now at.now.traps)
-        table.now.cells.items }
+        net.now.cells.items }
 {
-    if !table.is_decided(at.cell + 2) {
+    if !net.is_decided(at.cell + 2) {
         return false;
     }
-    if !table.is_decided(at.cell + 1) {
+    if !net.is_decided(at.cell + 1) {
         return false;
     }
-    table.all_decided(at.cell, past(at.cell, at.main, s, at.traps))
+    net.all_decided(at.cell, past(at.cell, at.main, s, at.traps))
 }
 
 /// What is found of a statement all of whose cells are decided.
 #[inline(always)]
-pub fn read(table: &Table, at: &Place, s: &Statement) -> Found
+pub fn read(net: &Net, at: &Place, s: &Statement) -> Found
     requires fits { FitsMasks s.now }
     requires within { at.now.cell + sheet_size at.now.main s.now at.now.traps
-        ≤ length table.now.cells.items }
+        ≤ length net.now.cells.items }
     requires few { at.now.traps ≤ 62 }
     requires decided { AllDecided at.now.cell
         (at.now.cell + sheet_size at.now.main s.now at.now.traps)
-        table.now.cells.items }
-    ensures { IsRead s.now at.now table.now.cells.items result }
+        net.now.cells.items }
+    ensures { IsRead s.now at.now net.now.cells.items result }
 {
     let mut emitted = signal_set::no_signal();
-    let past = add_emitted(table, at.main, at.cell, at.traps, s, &mut emitted);
+    let past = add_emitted(net, at.main, at.cell, at.traps, s, &mut emitted);
     let acts = Acts {
         signals: emitted,
-        codes: read_codes(table, at.cell + 1, at.traps + 2),
+        codes: read_codes(net, at.cell + 1, at.traps + 2),
     };
     let judged = Judgement {
         must: acts,

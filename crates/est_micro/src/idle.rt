@@ -10,7 +10,7 @@ ghost use Rattle.est_micro.specs.Views.{IsIdle};
 use crate::cells::Place;
 use est_kernel::statement::Statement;
 use est_meaning::status::Status;
-use est_net::table::Table;
+use est_net::net::Net;
 
 /// The first place after the cells of a statement whose first cell stands at this one. Recursion is
 /// as deep as the statement is.
@@ -69,16 +69,16 @@ fn is_off(go: Status, gate: Status) -> bool
 
 /// The first place after the cells of a statement with parts that is not begun, by its go cell and
 /// the gate, if none of its cells is true.
-pub fn past_idle(table: &Table, at: &Place, s: &Statement, gate: Status) -> Option<usize>
+pub fn past_idle(net: &Net, at: &Place, s: &Statement, gate: Status) -> Option<usize>
     requires { at.now.cell + sheet_size at.now.main s.now at.now.traps
-        ≤ length table.now.cells.items }
-    ensures { IfSome result (IsIdle s.now at.now gate table.now.cells.items) }
+        ≤ length net.now.cells.items }
+    ensures { IfSome result (IsIdle s.now at.now gate net.now.cells.items) }
 {
-    if !has_parts(s) || !is_off(table.status(at.cell), gate) {
+    if !has_parts(s) || !is_off(net.status(at.cell), gate) {
         return None;
     }
     let past = past(at.cell, at.main, s, at.traps);
-    if table.has_no_true(at.cell, past) {
+    if net.has_no_true(at.cell, past) {
         Some(past)
     } else {
         None

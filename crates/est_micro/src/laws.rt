@@ -1,13 +1,9 @@
-//! The laws of sweeps.
+//! The law that nothing is missed.
 
-ghost use Rattle.est_micro.specs.Laws.{SweepsAreSound, SweepsComeToRest};
+ghost use Rattle.est_micro.specs.Laws.{NothingIsMissed};
 
-/// If what is decided before a sweep agrees with the meaning, so does what the sweep decides.
-pub fn sweeps_are_sound()
-    ensures { SweepsAreSound }
-{}
-
-/// Where a sweep changes nothing, the gates decide nothing more.
-pub fn sweeps_come_to_rest()
-    ensures { SweepsComeToRest }
+/// Where no open cell can be decided any more, all that Must and Can decide is decided in the
+/// cells.
+pub fn nothing_is_missed()
+    ensures { NothingIsMissed }
 {}

@@ -10,8 +10,8 @@
 //! sweep only reads them (`decided`). A sweep goes in program order, or visits the second side of
 //! each `||` first. After each sweep the run tells the cells of the signals what is emitted
 //! (`outputs`). It ends as soon as every cell is decided, or after a sweep that decides nothing.
-//! The laws of `laws` say that this is enough: what a sweep decides is so, and where a sweep
-//! changes nothing, nothing more follows.
+//! That is enough: what a sweep decides is so, and where a sweep changes nothing, nothing more
+//! follows. The law of `laws` says that then nothing is missed.
 #![tactic(auto)]
 
 mod begin;
@@ -20,6 +20,7 @@ mod decided;
 mod direction;
 mod idle;
 pub mod laws;
+mod learning;
 pub mod micro;
 mod next;
 mod outputs;

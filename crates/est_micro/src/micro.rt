@@ -6,9 +6,10 @@ ghost use Rattle.est_kernel.specs.Pauses.{pauses_of};
 ghost use Rattle.est_kernel.specs.declared.state.State.TheVariants.{Done};
 ghost use Rattle.est_meaning.specs.States.{IsState};
 ghost use Rattle.est_net.specs.Cells.{decided};
+ghost use Rattle.est_net.specs.Kept.{kept, reopened};
 ghost use Rattle.est_net.specs.Layout.{output_count};
 ghost use Rattle.est_rounds.specs.Contract.{HasNoReaction, IsReaction};
-ghost use Rattle.est_micro.specs.Engine.{GoesOnFrom, HasValues, IsNetOf};
+ghost use Rattle.est_micro.specs.Engine.{GoesOnFrom, HasValues, IsAsMeant, IsNetOf};
 ghost use Rattle.est_micro.specs.Runs.{IsSettled};
 
 use crate::direction::Direction;
@@ -20,7 +21,6 @@ use est_kernel::mask;
 use est_kernel::pause_set::PauseSet;
 use est_kernel::state::{Inputs, Outcome, State, Stuck};
 use est_net::net::Net;
-use est_net::table::Table;
 use est_rounds::engine::Engine;
 
 /// The engine that decides the cells of a table, each once, until nothing more can be decided.
@@ -34,7 +34,7 @@ pub struct Micro {
 /// The outcome of a kernel that has not ended, where nothing more can be decided: its pauses are
 /// read off the cells.
 fn outcome(
-    table: &Table,
+    net: &Net,
     kernel: &Kernel,
     outputs: usize,
     state: &State,
@@ -47,25 +47,16 @@ fn outcome(
     requires from { GoesOnFrom state.now (pauses_of from.now) }
     requires outputs { outputs ≡ output_count kernel.now.interface }
     requires settled { IsSettled kernel.now state.now (bits inputs.now.signals)
-        table.now.cells.items settled.now }
+        net.now.cells.items settled.now }
     ensures ok { IfOk result (λ o. IsReaction kernel.now state.now inputs.now o) }
     ensures values { OnOk result
-        (HasValues kernel.now state.now (bits inputs.now.signals) table.now.cells.items) }
+        (HasValues kernel.now state.now (bits inputs.now.signals) net.now.cells.items) }
     ensures stuck { IfErr result (λ s. HasNoReaction kernel.now state.now inputs.now s) }
 {
     let must = settled.found.judged.must;
     if must.codes.has(Completion::Pause) {
         let mut next = PauseSet::new();
-        collect(
-            table,
-            true,
-            outputs,
-            0,
-            kernel.root(),
-            true,
-            from,
-            &mut next,
-        );
+        collect(net, true, outputs, 0, kernel.root(), true, from, &mut next);
         return Ok(Outcome {
             outputs: must.signals.interface,
             next: State::Paused(next),
@@ -105,14 +96,16 @@ impl Micro {
 
     /// How many cells the last run decided.
     pub fn steps(&self) -> usize
-        ensures count { result ≡ decided self.now.net.table.cells.items }
-        ensures bound { result ≤ length self.now.net.table.cells.items }
+        ensures count { result ≡ decided self.now.net.cells.items }
+        ensures bound { result ≤ length self.now.net.cells.items }
     {
-        self.net.table.decided()
+        self.net.steps()
     }
 
     /// Reacts to the inputs of an instant, for the kernel of its table. Where there is a reaction,
-    /// each cell is decided, with its value in it, so `steps` is then the number of cells.
+    /// each cell is decided, with its value in it, so `steps` is then the number of cells. Where
+    /// there is none, exactly those cells are open that the meaning leaves open. The table is opened
+    /// once, at the beginning: the writes of the run are as many as the cells that it decides.
     pub fn run(&mut self, kernel: &Kernel, state: &State, inputs: &Inputs) -> Result<Outcome, Stuck>
         requires net { IsNetOf self.old.net kernel.now }
         requires state { IsState kernel.now.root state.now }
@@ -120,13 +113,16 @@ impl Micro {
         ensures ok { IfOk result (λ o. IsReaction kernel.now state.now inputs.now o) }
         ensures values { OnOk result
             (HasValues kernel.now state.now (bits inputs.now.signals)
-            self.new.net.table.cells.items) }
+            self.new.net.cells.items) }
         ensures stuck { IfErr result (λ s. HasNoReaction kernel.now state.now inputs.now s) }
+        ensures meant { IsAsMeant kernel.now state.now (bits inputs.now.signals)
+            self.new.net.cells.items }
+        ensures once { kept self.new.net ≡ reopened self.old.net }
     {
-        let outputs = self.net.outputs;
-        let possible = self.net.reach.from_state(state);
+        let outputs = self.net.outputs();
+        let possible = self.net.reach().from_state(state);
         let settled = settle(
-            &mut self.net.table,
+            &mut self.net,
             kernel,
             outputs,
             state,
@@ -142,26 +138,10 @@ impl Micro {
             }),
             State::Fresh => {
                 let from = PauseSet::new();
-                outcome(
-                    &self.net.table,
-                    kernel,
-                    outputs,
-                    state,
-                    &from,
-                    inputs,
-                    &settled,
-                )
+                outcome(&self.net, kernel, outputs, state, &from, inputs, &settled)
             }
             State::Paused(from) => {
-                outcome(
-                    &self.net.table,
-                    kernel,
-                    outputs,
-                    state,
-                    from,
-                    inputs,
-                    &settled,
-                )
+                outcome(&self.net, kernel, outputs, state, from, inputs, &settled)
             }
         }
     }
@@ -170,9 +150,11 @@ impl Micro {
 impl Engine for Micro {
     ghost use Rattle.std.specs.Prelude.{IfOk, IfErr, OnOk};
     ghost use Rattle.est_kernel.specs.Bits.{bits};
+    ghost use Rattle.std.specs.Prelude.{◌≡◌};
     ghost use Rattle.est_meaning.specs.States.{IsState};
+    ghost use Rattle.est_net.specs.Kept.{kept, reopened};
     ghost use Rattle.est_rounds.specs.Contract.{AreInputs, HasNoReaction, IsReaction};
-    ghost use Rattle.est_micro.specs.Engine.{HasValues, IsNetOf};
+    ghost use Rattle.est_micro.specs.Engine.{HasValues, IsAsMeant, IsNetOf};
 
     ghost is_for = { λ m k. IsNetOf m.net k };
 
@@ -183,8 +165,11 @@ impl Engine for Micro {
         ensures engine { IsNetOf self.new.net kernel.now }
         ensures ok { IfOk result (λ o. IsReaction kernel.now state.now inputs.now o) }
         ensures values { OnOk result (HasValues kernel.now state.now (bits inputs.now.signals)
-            self.new.net.table.cells.items) }
+            self.new.net.cells.items) }
         ensures stuck { IfErr result (λ s. HasNoReaction kernel.now state.now inputs.now s) }
+        ensures meant { IsAsMeant kernel.now state.now (bits inputs.now.signals)
+            self.new.net.cells.items }
+        ensures once { kept self.new.net ≡ reopened self.old.net }
     {
         self.run(kernel, state, inputs)
     }

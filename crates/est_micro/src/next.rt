@@ -20,14 +20,14 @@ ghost use Rattle.est_micro.specs.Pausing.{Collects, CollectsTwo};
 use crate::cells::is_true;
 use est_kernel::pause_set::PauseSet;
 use est_kernel::statement::{PauseIndex, Statement};
-use est_net::table::Table;
+use est_net::net::Net;
 
 /// Whether a statement gives code 1.
-fn gives_pause(table: &Table, cell: usize, traps: usize) -> bool
-    requires { cell + traps + 3 ≤ length table.now.cells.items }
-    ensures { result ≡ sure_codes (cell_at table.now.cells.items) (cell + 1) (traps + 2) 1 }
+fn gives_pause(net: &Net, cell: usize, traps: usize) -> bool
+    requires { cell + traps + 3 ≤ length net.now.cells.items }
+    ensures { result ≡ sure_codes (cell_at net.now.cells.items) (cell + 1) (traps + 2) 1 }
 {
-    is_true(table.status(cell + 2))
+    is_true(net.status(cell + 2))
 }
 
 /// Whether both hold.
@@ -84,7 +84,7 @@ fn keep(on: bool, s: &Statement, pauses: &PauseSet, next: &mut PauseSet)
 #[cycle(collect)]
 #[inline(always)]
 fn collect_part(
-    table: &Table,
+    net: &Net,
     main: bool,
     cell: usize,
     traps: usize,
@@ -93,15 +93,15 @@ fn collect_part(
     pauses: &PauseSet,
     next: &mut PauseSet,
 ) -> usize
-    requires { cell + sheet_size main s.now traps ≤ length table.now.cells.items }
-    ensures { Collects s.now main cell traps table.now.cells.items on pauses.now next.old
+    requires { cell + sheet_size main s.now traps ≤ length net.now.cells.items }
+    ensures { Collects s.now main cell traps net.now.cells.items on pauses.now next.old
         next.new result }
 {
     match s {
         Statement::Nothing => cell + traps + 3,
         Statement::Emit(_) => cell + traps + 3,
         Statement::Exit(_) => cell + traps + 3,
-        _ => collect(table, main, cell, traps, s, on, pauses, next),
+        _ => collect(net, main, cell, traps, s, on, pauses, next),
     }
 }
 
@@ -110,7 +110,7 @@ fn collect_part(
 #[cycle(collect)]
 #[inline(always)]
 fn collect_two(
-    table: &Table,
+    net: &Net,
     main: bool,
     cell: usize,
     traps: usize,
@@ -121,19 +121,19 @@ fn collect_two(
     next: &mut PauseSet,
 ) -> usize
     requires { cell + sheet_size main p.now traps
-        + sheet_size main q.now traps ≤ length table.now.cells.items }
-    ensures { CollectsTwo p.now q.now main cell traps table.now.cells.items on pauses.now
+        + sheet_size main q.now traps ≤ length net.now.cells.items }
+    ensures { CollectsTwo p.now q.now main cell traps net.now.cells.items on pauses.now
         next.old next.new result }
 {
-    let past = collect_part(table, main, cell, traps, p, on, pauses, next);
-    collect_part(table, main, past, traps, q, on, pauses, next)
+    let past = collect_part(net, main, cell, traps, p, on, pauses, next);
+    collect_part(net, main, past, traps, q, on, pauses, next)
 }
 
 /// Puts the pauses at which a suspended statement stands into `next`, if it is on: where the
 /// suspension alone pauses, those that it had.
 #[cycle(collect)]
 fn collect_suspend(
-    table: &Table,
+    net: &Net,
     main: bool,
     cell: usize,
     traps: usize,
@@ -143,15 +143,15 @@ fn collect_suspend(
     next: &mut PauseSet,
 ) -> usize
     requires { cell + traps + 3 + sheet_size main p.now traps
-        ≤ length table.now.cells.items }
+        ≤ length net.now.cells.items }
     ensures { (t a : _)
-        → Collects (Suspend' t a p.now) main cell traps table.now.cells.items on pauses.now next.old
+        → Collects (Suspend' t a p.now) main cell traps net.now.cells.items on pauses.now next.old
         next.new result }
 {
     let inside = cell + traps + 3;
-    let past = collect(table, main, inside, traps, p, on, pauses, next);
-    let pauses_itself = gives_pause(table, cell, traps);
-    let body_pauses = gives_pause(table, inside, traps);
+    let past = collect(net, main, inside, traps, p, on, pauses, next);
+    let pauses_itself = gives_pause(net, cell, traps);
+    let body_pauses = gives_pause(net, inside, traps);
     let held = both(pauses_itself, !body_pauses);
     keep(both(on, held), p, pauses, next);
     past
@@ -160,7 +160,7 @@ fn collect_suspend(
 /// Puts the pauses at which a loop stands into `next`, if it is on.
 #[cycle(collect)]
 fn collect_loop(
-    table: &Table,
+    net: &Net,
     main: bool,
     cell: usize,
     traps: usize,
@@ -172,30 +172,30 @@ fn collect_loop(
     requires main { main ≡ true }
     requires within { cell + traps + 3 + sheet_size true p.now traps
         + sheet_size false p.now traps
-        ≤ length table.now.cells.items }
+        ≤ length net.now.cells.items }
     ensures { (a : _)
-        → Collects (Loop' a p.now) main cell traps table.now.cells.items on pauses.now next.old
+        → Collects (Loop' a p.now) main cell traps net.now.cells.items on pauses.now next.old
         next.new result }
 {
-    let past = collect(table, main, cell + traps + 3, traps, p, on, pauses, next);
-    collect(table, false, past, traps, p, on, pauses, next)
+    let past = collect(net, main, cell + traps + 3, traps, p, on, pauses, next);
+    collect(net, false, past, traps, p, on, pauses, next)
 }
 
 /// Puts a pause into `next`, if it is on and gives code 1.
 fn collect_pause(
-    table: &Table,
+    net: &Net,
     cell: usize,
     traps: usize,
     n: PauseIndex,
     on: bool,
     next: &mut PauseSet,
 ) -> usize
-    requires { cell + traps + 3 ≤ length table.now.cells.items }
+    requires { cell + traps + 3 ≤ length net.now.cells.items }
     ensures { (main pauses : _)
-        → Collects (Pause n) main cell traps table.now.cells.items on pauses next.old
+        → Collects (Pause n) main cell traps net.now.cells.items on pauses next.old
         next.new result }
 {
-    let gives = gives_pause(table, cell, traps);
+    let gives = gives_pause(net, cell, traps);
     put(next, n, both(on, gives));
     cell + traps + 3
 }
@@ -203,7 +203,7 @@ fn collect_pause(
 /// Puts the pauses at which a `||` stands into `next`, if it is on and gives code 1.
 #[cycle(collect)]
 fn collect_par(
-    table: &Table,
+    net: &Net,
     main: bool,
     cell: usize,
     traps: usize,
@@ -215,15 +215,15 @@ fn collect_par(
 ) -> usize
     requires { cell + traps + 3 + sheet_size main p.now traps
         + sheet_size main q.now traps
-        ≤ length table.now.cells.items }
+        ≤ length net.now.cells.items }
     ensures { (a b : _)
-        → Collects (Par' a p.now b q.now) main cell traps table.now.cells.items on pauses.now
+        → Collects (Par' a p.now b q.now) main cell traps net.now.cells.items on pauses.now
         next.old
         next.new result }
 {
-    let gives = gives_pause(table, cell, traps);
+    let gives = gives_pause(net, cell, traps);
     collect_two(
-        table,
+        net,
         main,
         cell + traps + 3,
         traps,
@@ -238,7 +238,7 @@ fn collect_par(
 /// Puts the pauses at which the body of a trap stands into `next`, if it is on.
 #[cycle(collect)]
 fn collect_trap(
-    table: &Table,
+    net: &Net,
     main: bool,
     cell: usize,
     traps: usize,
@@ -248,27 +248,18 @@ fn collect_trap(
     next: &mut PauseSet,
 ) -> usize
     requires { cell + traps + 3 + sheet_size main p.now
-        (traps + 1) ≤ length table.now.cells.items }
+        (traps + 1) ≤ length net.now.cells.items }
     ensures { (a : _)
-        → Collects (Trap' a p.now) main cell traps table.now.cells.items on pauses.now next.old
+        → Collects (Trap' a p.now) main cell traps net.now.cells.items on pauses.now next.old
         next.new result }
 {
-    collect(
-        table,
-        main,
-        cell + traps + 3,
-        traps + 1,
-        p,
-        on,
-        pauses,
-        next,
-    )
+    collect(net, main, cell + traps + 3, traps + 1, p, on, pauses, next)
 }
 
 /// Puts the pauses at which the body of a local signal's binder stands into `next`, if it is on.
 #[cycle(collect)]
 fn collect_local(
-    table: &Table,
+    net: &Net,
     main: bool,
     cell: usize,
     traps: usize,
@@ -278,19 +269,19 @@ fn collect_local(
     next: &mut PauseSet,
 ) -> usize
     requires { cell + traps + 4 + sheet_size main p.now traps
-        ≤ length table.now.cells.items }
+        ≤ length net.now.cells.items }
     ensures { (s a : _)
-        → Collects (Binder' s a p.now) main cell traps table.now.cells.items on pauses.now next.old
+        → Collects (Binder' s a p.now) main cell traps net.now.cells.items on pauses.now next.old
         next.new result }
 {
-    collect(table, main, cell + traps + 4, traps, p, on, pauses, next)
+    collect(net, main, cell + traps + 4, traps, p, on, pauses, next)
 }
 
 /// Puts the pauses at which a statement stands into `next`, if it is on. Answers the first place
 /// after its cells.
 #[cycle(collect)]
 pub fn collect(
-    table: &Table,
+    net: &Net,
     main: bool,
     cell: usize,
     traps: usize,
@@ -299,8 +290,8 @@ pub fn collect(
     pauses: &PauseSet,
     next: &mut PauseSet,
 ) -> usize
-    requires { cell + sheet_size main s.now traps ≤ length table.now.cells.items }
-    ensures { Collects s.now main cell traps table.now.cells.items on pauses.now next.old
+    requires { cell + sheet_size main s.now traps ≤ length net.now.cells.items }
+    ensures { Collects s.now main cell traps net.now.cells.items on pauses.now next.old
         next.new result }
 {
     let parts = cell + traps + 3;
@@ -308,21 +299,19 @@ pub fn collect(
         Statement::Nothing => parts,
         Statement::Emit(_) => parts,
         Statement::Exit(_) => parts,
-        Statement::Pause(n) => collect_pause(table, cell, traps, *n, on, next),
-        Statement::Present(_, p, q) => collect_two(
-            table, main, parts, traps, p, q, on, pauses, next,
-        ),
-        Statement::Seq(p, q) => collect_two(table, main, parts, traps, p, q, on, pauses, next),
-        Statement::Par(p, q) => collect_par(table, main, cell, traps, p, q, on, pauses, next),
-        Statement::Suspend(_, p) => collect_suspend(table, main, cell, traps, p, on, pauses, next),
+        Statement::Pause(n) => collect_pause(net, cell, traps, *n, on, next),
+        Statement::Present(_, p, q) => collect_two(net, main, parts, traps, p, q, on, pauses, next),
+        Statement::Seq(p, q) => collect_two(net, main, parts, traps, p, q, on, pauses, next),
+        Statement::Par(p, q) => collect_par(net, main, cell, traps, p, q, on, pauses, next),
+        Statement::Suspend(_, p) => collect_suspend(net, main, cell, traps, p, on, pauses, next),
         Statement::Loop(p) => {
             if main {
-                collect_loop(table, main, cell, traps, p, on, pauses, next)
+                collect_loop(net, main, cell, traps, p, on, pauses, next)
             } else {
-                collect(table, main, parts, traps, p, on, pauses, next)
+                collect(net, main, parts, traps, p, on, pauses, next)
             }
         }
-        Statement::Trap(p) => collect_trap(table, main, cell, traps, p, on, pauses, next),
-        Statement::Local(_, p) => collect_local(table, main, cell, traps, p, on, pauses, next),
+        Statement::Trap(p) => collect_trap(net, main, cell, traps, p, on, pauses, next),
+        Statement::Local(_, p) => collect_local(net, main, cell, traps, p, on, pauses, next),
     }
 }

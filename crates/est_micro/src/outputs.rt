@@ -7,16 +7,18 @@ ghost use Rattle.est_kernel.specs.Interfaces.{emittable};
 ghost use Rattle.est_meaning.specs.Rounds.{how_many};
 ghost use Rattle.est_cells.specs.Tables.{is_sure, is_possible};
 ghost use Rattle.est_net.specs.Cells.{cell_at};
+ghost use Rattle.est_net.specs.Kept.{kept};
 ghost use Rattle.est_net.specs.Layout.{output_count};
 ghost use Rattle.est_micro.specs.Outputs.{AreSignalsTold, IsToldOne, told_of};
 ghost use Rattle.est_micro.specs.Runs.{IsExchanged};
 
 use crate::cells::{is_true, may_be_true};
+use crate::learning::learn;
 use est_kernel::code_set::CodeSet;
 use est_kernel::kernel::Kernel;
 use est_kernel::mask;
 use est_meaning::status::Status;
-use est_net::table::Table;
+use est_net::net::Net;
 use est_rounds::acts::{Acts, Judgement};
 use est_rounds::signal_set::{self, Env, SignalSet};
 
@@ -55,7 +57,7 @@ struct Reading {
 
 /// Tells a signal's cell, if it has one, and reads it.
 fn exchange_one(
-    table: &mut Table,
+    net: &mut Net,
     signals: u64,
     inputs: u64,
     judged: &Judgement,
@@ -63,20 +65,21 @@ fn exchange_one(
     n: u8,
 ) -> Reading
     requires place { n < 64 }
-    requires within { bits signals n ≡ true → so_far.cell < length table.old.cells.items }
+    requires within { bits signals n ≡ true → so_far.cell < length net.old.cells.items }
     ensures told { IsToldOne (bits signals n) (told_of inputs judged.now n) so_far.cell
-        table.old.cells.items table.new.cells.items result.cell }
+        net.old.cells.items net.new.cells.items result.cell }
     ensures sure { bits result.sure n ≡ (bits so_far.sure n || (bits signals n
-        && is_sure (cell_at table.new.cells.items so_far.cell))) }
+        && is_sure (cell_at net.new.cells.items so_far.cell))) }
     ensures other_sure { (k : ℕ) → k ≢ n → bits result.sure k ≡ bits so_far.sure k }
     ensures possible { bits result.possible n ≡ (bits so_far.possible n || (bits signals n
-        && is_possible (cell_at table.new.cells.items so_far.cell))) }
+        && is_possible (cell_at net.new.cells.items so_far.cell))) }
     ensures other_possible { (k : ℕ) → k ≢ n → bits result.possible k ≡ bits so_far.possible k }
+    ensures kept { kept net.new ≡ kept net.old }
 {
     if !mask::has(signals, n) {
         return so_far;
     }
-    let status = table.learn(so_far.cell, gate(inputs, judged, n));
+    let status = learn(net, so_far.cell, gate(inputs, judged, n));
     Reading {
         sure: put(so_far.sure, n, is_true(status)),
         possible: put(so_far.possible, n, may_be_true(status)),
@@ -86,20 +89,21 @@ fn exchange_one(
 
 /// Tells the cells of all signals, and reads them.
 fn exchange_all(
-    table: &mut Table,
+    net: &mut Net,
     signals: u64,
     places: usize,
     inputs: u64,
     judged: &Judgement,
 ) -> Reading
     requires few { places ≤ 64 }
-    requires within { how_many (bits signals) places ≤ length table.old.cells.items }
+    requires within { how_many (bits signals) places ≤ length net.old.cells.items }
     ensures told { AreSignalsTold (bits signals) places
-        (told_of inputs judged.now) table.old.cells.items table.new.cells.items }
+        (told_of inputs judged.now) net.old.cells.items net.new.cells.items }
     ensures sure { (k : ℕ) → bits result.sure k ≡ (ltb k places && (bits signals k
-        && is_sure (cell_at table.new.cells.items (how_many (bits signals) k)))) }
+        && is_sure (cell_at net.new.cells.items (how_many (bits signals) k)))) }
     ensures possible { (k : ℕ) → bits result.possible k ≡ (ltb k places && (bits signals k
-        && is_possible (cell_at table.new.cells.items (how_many (bits signals) k)))) }
+        && is_possible (cell_at net.new.cells.items (how_many (bits signals) k)))) }
+    ensures kept { kept net.new ≡ kept net.old }
 {
     let mut read = Reading {
         sure: 0,
@@ -107,22 +111,23 @@ fn exchange_all(
         cell: 0,
     };
     for n in 0..places {
-        read = exchange_one(table, signals, inputs, judged, read, n as u8);
+        read = exchange_one(net, signals, inputs, judged, read, n as u8);
     }
     read
 }
 
 /// Tells the cells of the signals what the statement emits. Answers what is then known, by the
 /// cells and by what was offered.
-pub fn exchange(table: &mut Table, kernel: &Kernel, inputs: u64, judged: &Judgement) -> Env
-    requires { output_count kernel.now.interface ≤ length table.old.cells.items }
-    ensures { IsExchanged kernel.now.interface (bits inputs)
+pub fn exchange(net: &mut Net, kernel: &Kernel, inputs: u64, judged: &Judgement) -> Env
+    requires { output_count kernel.now.interface ≤ length net.old.cells.items }
+    ensures exchanged { IsExchanged kernel.now.interface (bits inputs)
         (bits judged.now.must.signals.interface)
-        (bits judged.now.can.signals.interface) table.old.cells.items table.new.cells.items result }
+        (bits judged.now.can.signals.interface) net.old.cells.items net.new.cells.items result }
+    ensures kept { kept net.new ≡ kept net.old }
 {
     let interface = kernel.interface();
     let signals = interface.emittable();
-    let read = exchange_all(table, signals, interface.len(), inputs, judged);
+    let read = exchange_all(net, signals, interface.len(), inputs, judged);
     Env {
         present: SignalSet {
             interface: mask::either(inputs, read.sure),

@@ -17,6 +17,7 @@ ghost use Rattle.est_meaning.specs.States.{is_live};
 ghost use Rattle.est_meaning.specs.Environments.{status_of};
 ghost use Rattle.est_cells.specs.Gates.{sure_code, may_code};
 ghost use Rattle.est_cells.specs.Tables.{sheet_size};
+ghost use Rattle.est_net.specs.Kept.{kept};
 ghost use Rattle.est_rounds.specs.Views.{env_of, set_of};
 ghost use Rattle.est_micro.specs.Views.{IsChosen, IsJudged, IsResumed};
 ghost use Rattle.est_micro.specs.declared.direction.Direction.TheVariants.{Forwards, Backwards};
@@ -26,11 +27,12 @@ use crate::cells::{self, Found, Place};
 use crate::decided;
 use crate::direction::Direction;
 use crate::idle::past;
+use crate::learning::learn;
 use est_kernel::completion::Completion;
 use est_kernel::pause_set::PauseSet;
 use est_kernel::statement::{LocalSignal, Statement};
 use est_meaning::status::Status;
-use est_net::table::Table;
+use est_net::net::Net;
 use est_rounds::acts::Judgement;
 use est_rounds::answer::answer_to;
 use est_rounds::resume::has_live;
@@ -38,23 +40,24 @@ use est_rounds::signal_set::{self, Env};
 
 /// Sweeps a pause, which ends where it is run.
 #[inline(always)]
-fn resume_pause(table: &mut Table, at: &Place, run: Status) -> Found
-    requires within { at.now.cell + at.now.traps + 3 ≤ length table.old.cells.items }
+fn resume_pause(net: &mut Net, at: &Place, run: Status) -> Found
+    requires within { at.now.cell + at.now.traps + 3 ≤ length net.old.cells.items }
     requires few { at.now.traps ≤ 62 }
-    ensures { (e n pauses : _)
+    ensures swept { (e n pauses : _)
         → IsResumed (Pause n) at.now
-        pauses run e table.old.cells.items table.new.cells.items result }
+        pauses run e net.old.cells.items net.new.cells.items result }
+    ensures kept { kept net.new ≡ kept net.old }
 {
-    table.learn(at.cell, Status::Absent);
+    learn(net, at.cell, Status::Absent);
     let own = cells::leaf(run, Completion::End);
-    cells::leave(table, at, &own, at.cell + at.traps + 3)
+    cells::leave(net, at, &own, at.cell + at.traps + 3)
 }
 
 /// Sweeps a part. If it is on (one of its pauses is set), it goes on where it is run; else the gate
 /// tells whether it is begun.
 #[cycle(resume)]
 fn part(
-    table: &mut Table,
+    net: &mut Net,
     at: &Place,
     p: &Statement,
     pauses: &PauseSet,
@@ -67,22 +70,23 @@ fn part(
     requires live { is_on ≡ true → is_live p.now (pauses_of pauses.now) ≡ true }
     requires fits { FitsMasks p.now }
     requires within { at.now.cell + sheet_size true p.now at.now.traps
-        ≤ length table.old.cells.items }
+        ≤ length net.old.cells.items }
     requires traps { at.now.traps + trap_depth (term_of p.now) ≤ 62 }
-    ensures { IsChosen p.now at.now pauses.now is_on gate run env.now table.old.cells.items
-        table.new.cells.items result }
+    ensures swept { IsChosen p.now at.now pauses.now is_on gate run env.now net.old.cells.items
+        net.new.cells.items result }
+    ensures kept { kept net.new ≡ kept net.old }
 {
     if is_on {
-        resume(table, at, p, pauses, run, env)
+        resume(net, at, p, pauses, run, env)
     } else {
-        begin(table, at, p, gate, env)
+        begin(net, at, p, gate, env)
     }
 }
 
 /// Sweeps a `present` whose test has this status.
 #[cycle(resume)]
 fn resume_present(
-    table: &mut Table,
+    net: &mut Net,
     at: &Place,
     asked: Status,
     p: &Statement,
@@ -97,14 +101,15 @@ fn resume_present(
     requires fits { FitsMasks p.now × FitsMasks q.now }
     requires within { at.now.cell + at.now.traps + 3 + sheet_size true p.now at.now.traps
         + sheet_size true q.now at.now.traps
-        ≤ length table.old.cells.items }
+        ≤ length net.old.cells.items }
     requires first_traps { at.now.traps + trap_depth (term_of p.now) ≤ 62 }
     requires second_traps { at.now.traps + trap_depth (term_of q.now) ≤ 62 }
-    ensures { (t a b : _) → asked ≡ status_of (env_of env.now) (query_of t)
-        → IsResumed (Present' t a p.now b q.now) at.now pauses.now run env.now table.old.cells.items
-        table.new.cells.items result }
+    ensures swept { (t a b : _) → asked ≡ status_of (env_of env.now) (query_of t)
+        → IsResumed (Present' t a p.now b q.now) at.now pauses.now run env.now net.old.cells.items
+        net.new.cells.items result }
+    ensures kept { kept net.new ≡ kept net.old }
 {
-    let go = table.learn(at.cell, Status::Absent);
+    let go = learn(net, at.cell, Status::Absent);
     let is_on = has_live(p, pauses);
     let place = Place {
         main: at.main,
@@ -112,7 +117,7 @@ fn resume_present(
         cell: at.cell + at.traps + 3,
         traps: at.traps,
     };
-    let first = part(table, &place, p, pauses, is_on, go.and(asked), run, env);
+    let first = part(net, &place, p, pauses, is_on, go.and(asked), run, env);
     let place = Place {
         main: at.main,
         direction: at.direction,
@@ -120,7 +125,7 @@ fn resume_present(
         traps: at.traps,
     };
     let second = part(
-        table,
+        net,
         &place,
         q,
         pauses,
@@ -130,13 +135,13 @@ fn resume_present(
         env,
     );
     let own = cells::either(&first.judged, &second.judged);
-    cells::leave(table, at, &own, second.past)
+    cells::leave(net, at, &own, second.past)
 }
 
 /// Sweeps a `suspend` whose test has this status.
 #[cycle(resume)]
 fn resume_suspend(
-    table: &mut Table,
+    net: &mut Net,
     at: &Place,
     asked: Status,
     p: &Statement,
@@ -148,29 +153,30 @@ fn resume_suspend(
     requires live { is_live p.now (pauses_of pauses.now) ≡ true }
     requires fits { FitsMasks p.now }
     requires within { at.now.cell + at.now.traps + 3 + sheet_size true p.now at.now.traps
-        ≤ length table.old.cells.items }
+        ≤ length net.old.cells.items }
     requires traps { at.now.traps + trap_depth (term_of p.now) ≤ 62 }
-    ensures { (t a : _) → asked ≡ status_of (env_of env.now) (query_of t)
-        → IsResumed (Suspend' t a p.now) at.now pauses.now run env.now table.old.cells.items
-        table.new.cells.items result }
+    ensures swept { (t a : _) → asked ≡ status_of (env_of env.now) (query_of t)
+        → IsResumed (Suspend' t a p.now) at.now pauses.now run env.now net.old.cells.items
+        net.new.cells.items result }
+    ensures kept { kept net.new ≡ kept net.old }
 {
-    table.learn(at.cell, Status::Absent);
+    learn(net, at.cell, Status::Absent);
     let place = Place {
         main: at.main,
         direction: at.direction,
         cell: at.cell + at.traps + 3,
         traps: at.traps,
     };
-    let body = resume(table, &place, p, pauses, run.and(asked.opposite()), env);
+    let body = resume(net, &place, p, pauses, run.and(asked.opposite()), env);
     let held = cells::leaf(run.and(asked), Completion::Pause);
     let own = cells::with_codes(&body.judged, &held);
-    cells::leave(table, at, &own, body.past)
+    cells::leave(net, at, &own, body.past)
 }
 
 /// Sweeps a `;`.
 #[cycle(resume)]
 fn resume_seq(
-    table: &mut Table,
+    net: &mut Net,
     at: &Place,
     p: &Statement,
     q: &Statement,
@@ -184,14 +190,15 @@ fn resume_seq(
     requires fits { FitsMasks p.now × FitsMasks q.now }
     requires within { at.now.cell + at.now.traps + 3 + sheet_size true p.now at.now.traps
         + sheet_size true q.now at.now.traps
-        ≤ length table.old.cells.items }
+        ≤ length net.old.cells.items }
     requires first_traps { at.now.traps + trap_depth (term_of p.now) ≤ 62 }
     requires second_traps { at.now.traps + trap_depth (term_of q.now) ≤ 62 }
-    ensures { (a b : _)
-        → IsResumed (Seq' a p.now b q.now) at.now pauses.now run env.now table.old.cells.items
-        table.new.cells.items result }
+    ensures swept { (a b : _)
+        → IsResumed (Seq' a p.now b q.now) at.now pauses.now run env.now net.old.cells.items
+        net.new.cells.items result }
+    ensures kept { kept net.new ≡ kept net.old }
 {
-    let go = table.learn(at.cell, Status::Absent);
+    let go = learn(net, at.cell, Status::Absent);
     let is_on = has_live(p, pauses);
     let place = Place {
         main: at.main,
@@ -199,7 +206,7 @@ fn resume_seq(
         cell: at.cell + at.traps + 3,
         traps: at.traps,
     };
-    let first = part(table, &place, p, pauses, is_on, go, run, env);
+    let first = part(net, &place, p, pauses, is_on, go, run, env);
     let inside = cells::told(env, first.judged.must.signals);
     let later = cells::ends(&first.judged);
     let place = Place {
@@ -208,15 +215,15 @@ fn resume_seq(
         cell: first.past,
         traps: at.traps,
     };
-    let second = part(table, &place, q, pauses, !is_on, later, run, &inside);
+    let second = part(net, &place, q, pauses, !is_on, later, run, &inside);
     let own = cells::followed(&first.judged, &second.judged);
-    cells::leave(table, at, &own, second.past)
+    cells::leave(net, at, &own, second.past)
 }
 
 /// Sweeps a loop.
 #[cycle(resume)]
 fn resume_loop(
-    table: &mut Table,
+    net: &mut Net,
     at: &Place,
     p: &Statement,
     pauses: &PauseSet,
@@ -228,20 +235,21 @@ fn resume_loop(
     requires fits { FitsMasks p.now }
     requires within { at.now.cell + at.now.traps + 3 + sheet_size true p.now at.now.traps
         + sheet_size false p.now at.now.traps
-        ≤ length table.old.cells.items }
+        ≤ length net.old.cells.items }
     requires traps { at.now.traps + trap_depth (term_of p.now) ≤ 62 }
-    ensures { (a : _)
-        → IsResumed (Loop' a p.now) at.now pauses.now run env.now table.old.cells.items
-        table.new.cells.items result }
+    ensures swept { (a : _)
+        → IsResumed (Loop' a p.now) at.now pauses.now run env.now net.old.cells.items
+        net.new.cells.items result }
+    ensures kept { kept net.new ≡ kept net.old }
 {
-    table.learn(at.cell, Status::Absent);
+    learn(net, at.cell, Status::Absent);
     let place = Place {
         main: at.main,
         direction: at.direction,
         cell: at.cell + at.traps + 3,
         traps: at.traps,
     };
-    let first = resume(table, &place, p, pauses, run, env);
+    let first = resume(net, &place, p, pauses, run, env);
     let inside = cells::told(env, first.judged.must.signals);
     let later = cells::ends(&first.judged);
     let place = Place {
@@ -250,9 +258,9 @@ fn resume_loop(
         cell: first.past,
         traps: at.traps,
     };
-    let again = begin(table, &place, p, later, &inside);
+    let again = begin(net, &place, p, later, &inside);
     let own = cells::followed(&first.judged, &again.judged);
-    cells::leave(table, at, &own, again.past)
+    cells::leave(net, at, &own, again.past)
 }
 
 /// What counts of a side of a `||`: one that has ended gives code 0 where the `||` is run.
@@ -281,7 +289,7 @@ fn second_lives(first_on: bool, q: &Statement, pauses: &PauseSet) -> bool
 /// Sweeps a `||`, the first side before the second.
 #[cycle(resume)]
 fn resume_par(
-    table: &mut Table,
+    net: &mut Net,
     at: &Place,
     p: &Statement,
     q: &Statement,
@@ -296,14 +304,15 @@ fn resume_par(
     requires fits { FitsMasks p.now × FitsMasks q.now }
     requires within { at.now.cell + at.now.traps + 3 + sheet_size true p.now at.now.traps
         + sheet_size true q.now at.now.traps
-        ≤ length table.old.cells.items }
+        ≤ length net.old.cells.items }
     requires first_traps { at.now.traps + trap_depth (term_of p.now) ≤ 62 }
     requires second_traps { at.now.traps + trap_depth (term_of q.now) ≤ 62 }
-    ensures { (a b : _)
-        → IsResumed (Par' a p.now b q.now) at.now pauses.now run env.now table.old.cells.items
-        table.new.cells.items result }
+    ensures swept { (a b : _)
+        → IsResumed (Par' a p.now b q.now) at.now pauses.now run env.now net.old.cells.items
+        net.new.cells.items result }
+    ensures kept { kept net.new ≡ kept net.old }
 {
-    let go = table.learn(at.cell, Status::Absent);
+    let go = learn(net, at.cell, Status::Absent);
     let first_on = has_live(p, pauses);
     let second_on = second_lives(first_on, q, pauses);
     let place = Place {
@@ -312,7 +321,7 @@ fn resume_par(
         cell: at.cell + at.traps + 3,
         traps: at.traps,
     };
-    let first = part(table, &place, p, pauses, first_on, go, run, env);
+    let first = part(net, &place, p, pauses, first_on, go, run, env);
     let inside = cells::told(env, first.judged.must.signals);
     let place = Place {
         main: at.main,
@@ -320,17 +329,17 @@ fn resume_par(
         cell: first.past,
         traps: at.traps,
     };
-    let second = part(table, &place, q, pauses, second_on, go, run, &inside);
+    let second = part(net, &place, q, pauses, second_on, go, run, &inside);
     let left = side(first_on, &first, run);
     let right = side(second_on, &second, run);
     let own = cells::beside(&left, &right);
-    cells::leave(table, at, &own, second.past)
+    cells::leave(net, at, &own, second.past)
 }
 
 /// Sweeps a `||`, the second side before the first.
 #[cycle(resume)]
 fn resume_par_back(
-    table: &mut Table,
+    net: &mut Net,
     at: &Place,
     p: &Statement,
     q: &Statement,
@@ -345,14 +354,15 @@ fn resume_par_back(
     requires fits { FitsMasks p.now × FitsMasks q.now }
     requires within { at.now.cell + at.now.traps + 3 + sheet_size true p.now at.now.traps
         + sheet_size true q.now at.now.traps
-        ≤ length table.old.cells.items }
+        ≤ length net.old.cells.items }
     requires first_traps { at.now.traps + trap_depth (term_of p.now) ≤ 62 }
     requires second_traps { at.now.traps + trap_depth (term_of q.now) ≤ 62 }
-    ensures { (a b : _)
-        → IsResumed (Par' a p.now b q.now) at.now pauses.now run env.now table.old.cells.items
-        table.new.cells.items result }
+    ensures swept { (a b : _)
+        → IsResumed (Par' a p.now b q.now) at.now pauses.now run env.now net.old.cells.items
+        net.new.cells.items result }
+    ensures kept { kept net.new ≡ kept net.old }
 {
-    let go = table.learn(at.cell, Status::Absent);
+    let go = learn(net, at.cell, Status::Absent);
     let first_on = has_live(p, pauses);
     let second_on = second_lives(first_on, q, pauses);
     let place = Place {
@@ -367,19 +377,19 @@ fn resume_par_back(
         cell: past(place.cell, true, p, at.traps),
         traps: at.traps,
     };
-    let second = part(table, &later, q, pauses, second_on, go, run, env);
+    let second = part(net, &later, q, pauses, second_on, go, run, env);
     let inside = cells::told(env, second.judged.must.signals);
-    let first = part(table, &place, p, pauses, first_on, go, run, &inside);
+    let first = part(net, &place, p, pauses, first_on, go, run, &inside);
     let left = side(first_on, &first, run);
     let right = side(second_on, &second, run);
     let own = cells::beside(&left, &right);
-    cells::leave(table, at, &own, second.past)
+    cells::leave(net, at, &own, second.past)
 }
 
 /// Sweeps a trap.
 #[cycle(resume)]
 fn resume_trap(
-    table: &mut Table,
+    net: &mut Net,
     at: &Place,
     p: &Statement,
     pauses: &PauseSet,
@@ -390,29 +400,30 @@ fn resume_trap(
     requires live { is_live p.now (pauses_of pauses.now) ≡ true }
     requires fits { FitsMasks p.now }
     requires within { at.now.cell + at.now.traps + 3 + sheet_size true p.now
-        (at.now.traps + 1) ≤ length table.old.cells.items }
+        (at.now.traps + 1) ≤ length net.old.cells.items }
     requires traps { at.now.traps + 1 + trap_depth (term_of p.now) ≤ 62 }
-    ensures { (a : _)
-        → IsResumed (Trap' a p.now) at.now pauses.now run env.now table.old.cells.items
-        table.new.cells.items result }
+    ensures swept { (a : _)
+        → IsResumed (Trap' a p.now) at.now pauses.now run env.now net.old.cells.items
+        net.new.cells.items result }
+    ensures kept { kept net.new ≡ kept net.old }
 {
-    table.learn(at.cell, Status::Absent);
+    learn(net, at.cell, Status::Absent);
     let place = Place {
         main: at.main,
         direction: at.direction,
         cell: at.cell + at.traps + 3,
         traps: at.traps + 1,
     };
-    let body = resume(table, &place, p, pauses, run, env);
+    let body = resume(net, &place, p, pauses, run, env);
     let own = cells::out_of_trap(&body.judged);
-    cells::leave(table, at, &own, body.past)
+    cells::leave(net, at, &own, body.past)
 }
 
 /// Sweeps a local signal's binder: its body, and then the cell of its status, by what the body
 /// emits.
 #[cycle(resume)]
 fn resume_local(
-    table: &mut Table,
+    net: &mut Net,
     at: &Place,
     s: LocalSignal,
     p: &Statement,
@@ -424,31 +435,32 @@ fn resume_local(
     requires live { is_live p.now (pauses_of pauses.now) ≡ true }
     requires fits { (s.index < 64) × FitsMasks p.now }
     requires within { at.now.cell + at.now.traps + 4 + sheet_size true p.now at.now.traps
-        ≤ length table.old.cells.items }
+        ≤ length net.old.cells.items }
     requires traps { at.now.traps + trap_depth (term_of p.now) ≤ 62 }
-    ensures { (a : _)
-        → IsResumed (Binder' s a p.now) at.now pauses.now run env.now table.old.cells.items
-        table.new.cells.items result }
+    ensures swept { (a : _)
+        → IsResumed (Binder' s a p.now) at.now pauses.now run env.now net.old.cells.items
+        net.new.cells.items result }
+    ensures kept { kept net.new ≡ kept net.old }
 {
-    table.learn(at.cell, Status::Absent);
+    learn(net, at.cell, Status::Absent);
     let cell = at.cell + at.traps + 3;
-    let inside = signal_set::set_local(env, s, table.status(cell));
+    let inside = signal_set::set_local(env, s, net.status(cell));
     let place = Place {
         main: at.main,
         direction: at.direction,
         cell: cell + 1,
         traps: at.traps,
     };
-    let body = resume(table, &place, p, pauses, run, &inside);
-    table.learn(cell, cells::status_of(&body.judged, s));
+    let body = resume(net, &place, p, pauses, run, &inside);
+    learn(net, cell, cells::status_of(&body.judged, s));
     let own = cells::hiding(&body.judged, s);
-    cells::leave(table, at, &own, body.past)
+    cells::leave(net, at, &own, body.past)
 }
 
 /// Sweeps the cells of a statement that goes on from its pauses, if it is run, one after another.
 #[cycle(resume)]
 fn resume_each(
-    table: &mut Table,
+    net: &mut Net,
     at: &Place,
     s: &Statement,
     pauses: &PauseSet,
@@ -459,34 +471,35 @@ fn resume_each(
     requires live { is_live s.now (pauses_of pauses.now) ≡ true }
     requires fits { FitsMasks s.now }
     requires within { at.now.cell + sheet_size true s.now at.now.traps
-        ≤ length table.old.cells.items }
+        ≤ length net.old.cells.items }
     requires traps { at.now.traps + trap_depth (term_of s.now) ≤ 62 }
-    ensures { IsResumed s.now at.now pauses.now run env.now table.old.cells.items
-        table.new.cells.items
+    ensures swept { IsResumed s.now at.now pauses.now run env.now net.old.cells.items
+        net.new.cells.items
         result }
+    ensures kept { kept net.new ≡ kept net.old }
 {
     match s {
         Statement::Present(t, p, q) => {
             let asked = answer_to(env, t);
-            resume_present(table, at, asked, p, q, pauses, run, env)
+            resume_present(net, at, asked, p, q, pauses, run, env)
         }
         Statement::Suspend(t, p) => {
             let asked = answer_to(env, t);
-            resume_suspend(table, at, asked, p, pauses, run, env)
+            resume_suspend(net, at, asked, p, pauses, run, env)
         }
-        Statement::Seq(p, q) => resume_seq(table, at, p, q, pauses, run, env),
-        Statement::Loop(p) => resume_loop(table, at, p, pauses, run, env),
+        Statement::Seq(p, q) => resume_seq(net, at, p, q, pauses, run, env),
+        Statement::Loop(p) => resume_loop(net, at, p, pauses, run, env),
         Statement::Par(p, q) => match at.direction {
-            Direction::Forwards => resume_par(table, at, p, q, pauses, run, env),
-            Direction::Backwards => resume_par_back(table, at, p, q, pauses, run, env),
+            Direction::Forwards => resume_par(net, at, p, q, pauses, run, env),
+            Direction::Backwards => resume_par_back(net, at, p, q, pauses, run, env),
         },
-        Statement::Trap(p) => resume_trap(table, at, p, pauses, run, env),
-        Statement::Local(s, p) => resume_local(table, at, *s, p, pauses, run, env),
-        Statement::Pause(_) => resume_pause(table, at, run),
+        Statement::Trap(p) => resume_trap(net, at, p, pauses, run, env),
+        Statement::Local(s, p) => resume_local(net, at, *s, p, pauses, run, env),
+        Statement::Pause(_) => resume_pause(net, at, run),
         // These have no pause.
-        Statement::Nothing => resume_pause(table, at, run),
-        Statement::Emit(_) => resume_pause(table, at, run),
-        Statement::Exit(_) => resume_pause(table, at, run),
+        Statement::Nothing => resume_pause(net, at, run),
+        Statement::Emit(_) => resume_pause(net, at, run),
+        Statement::Exit(_) => resume_pause(net, at, run),
     }
 }
 
@@ -494,7 +507,7 @@ fn resume_each(
 /// of them are decided, they are only read.
 #[cycle(resume)]
 pub fn resume(
-    table: &mut Table,
+    net: &mut Net,
     at: &Place,
     s: &Statement,
     pauses: &PauseSet,
@@ -505,15 +518,16 @@ pub fn resume(
     requires live { is_live s.now (pauses_of pauses.now) ≡ true }
     requires fits { FitsMasks s.now }
     requires within { at.now.cell + sheet_size true s.now at.now.traps
-        ≤ length table.old.cells.items }
+        ≤ length net.old.cells.items }
     requires traps { at.now.traps + trap_depth (term_of s.now) ≤ 62 }
-    ensures { IsResumed s.now at.now pauses.now run env.now table.old.cells.items
-        table.new.cells.items
+    ensures swept { IsResumed s.now at.now pauses.now run env.now net.old.cells.items
+        net.new.cells.items
         result }
+    ensures kept { kept net.new ≡ kept net.old }
 {
-    if decided::is_decided(&*table, at, s) {
-        decided::read(&*table, at, s)
+    if decided::is_decided(net, at, s) {
+        decided::read(net, at, s)
     } else {
-        resume_each(table, at, s, pauses, run, env)
+        resume_each(net, at, s, pauses, run, env)
     }
 }

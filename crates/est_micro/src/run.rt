@@ -7,6 +7,7 @@ ghost use Rattle.est_kernel.specs.Masks.{FitsMasks};
 ghost use Rattle.est_kernel.specs.View.{term_of};
 ghost use Rattle.est_meaning.specs.States.{IsState};
 ghost use Rattle.est_cells.specs.Tables.{sheet_size};
+ghost use Rattle.est_net.specs.Kept.{kept, reopened};
 ghost use Rattle.est_net.specs.Layout.{cell_count, output_count};
 ghost use Rattle.est_net.specs.Reach.{HasEmissions};
 ghost use Rattle.est_rounds.specs.Views.{env_of};
@@ -22,12 +23,12 @@ use est_kernel::kernel::Kernel;
 use est_kernel::state::State;
 use est_kernel::statement::Statement;
 use est_meaning::status::Status;
-use est_net::table::Table;
+use est_net::net::Net;
 use est_rounds::signal_set::Env;
 
 /// Sweeps the cells of a kernel's statement from this state.
 fn sweep(
-    table: &mut Table,
+    net: &mut Net,
     root: &Statement,
     outputs: usize,
     state: &State,
@@ -37,11 +38,12 @@ fn sweep(
     requires state { IsState root.now state.now }
     requires fits { FitsMasks root.now }
     requires traps { 0 + trap_depth (term_of root.now) ≤ 62 }
-    requires within { outputs + sheet_size true root.now 0 ≤ length table.old.cells.items }
-    ensures { IsSwept true root.now outputs 0
+    requires within { outputs + sheet_size true root.now 0 ≤ length net.old.cells.items }
+    ensures swept { IsSwept true root.now outputs 0
         (sheet_swept direction root.now state.now (env_of env.now))
-        table.old.cells.items
-        table.new.cells.items result }
+        net.old.cells.items
+        net.new.cells.items result }
+    ensures kept { kept net.new ≡ kept net.old }
 {
     let place = Place {
         main: true,
@@ -50,15 +52,15 @@ fn sweep(
         direction,
     };
     match state {
-        State::Fresh => begin(table, &place, root, Status::Present, env),
-        State::Done => begin(table, &place, root, Status::Absent, env),
-        State::Paused(pauses) => resume(table, &place, root, pauses, Status::Present, env),
+        State::Fresh => begin(net, &place, root, Status::Present, env),
+        State::Done => begin(net, &place, root, Status::Absent, env),
+        State::Paused(pauses) => resume(net, &place, root, pauses, Status::Present, env),
     }
 }
 
 /// Makes one round: a sweep by what is known, and then the cells of the signals.
 fn round(
-    table: &mut Table,
+    net: &mut Net,
     kernel: &Kernel,
     outputs: usize,
     state: &State,
@@ -68,13 +70,14 @@ fn round(
 ) -> Found
     requires state { IsState kernel.now.root state.now }
     requires outputs { outputs ≡ output_count kernel.now.interface }
-    requires size { length table.old.cells.items ≡ cell_count kernel.now }
-    ensures { IsRound direction kernel.now.interface
+    requires size { length net.old.cells.items ≡ cell_count kernel.now }
+    ensures made { IsRound direction kernel.now.interface
         (bits inputs) kernel.now.root state.now env.old env.new
-        table.old.cells.items table.new.cells.items result }
+        net.old.cells.items net.new.cells.items result }
+    ensures kept { kept net.new ≡ kept net.old }
 {
-    let found = sweep(table, kernel.root(), outputs, state, env, direction);
-    *env = exchange(table, kernel, inputs, &found.judged);
+    let found = sweep(net, kernel.root(), outputs, state, env, direction);
+    *env = exchange(net, kernel, inputs, &found.judged);
     found
 }
 
@@ -111,7 +114,7 @@ fn next_direction(direction: Direction, now: usize, before: usize, cells: usize)
 /// Opens the table, and makes rounds until nothing more can be decided. `possible` has every signal
 /// that may be emitted from this state. The first sweep goes the way of `first`.
 pub fn settle(
-    table: &mut Table,
+    net: &mut Net,
     kernel: &Kernel,
     outputs: usize,
     state: &State,
@@ -121,23 +124,24 @@ pub fn settle(
 ) -> Settled
     requires state { IsState kernel.now.root state.now }
     requires outputs { outputs ≡ output_count kernel.now.interface }
-    requires size { length table.old.cells.items ≡ cell_count kernel.now }
+    requires size { length net.old.cells.items ≡ cell_count kernel.now }
     requires possible { HasEmissions kernel.now.root state.now (bits possible) }
-    ensures { IsSettled kernel.now state.now (bits inputs) table.new.cells.items result }
+    ensures settled { IsSettled kernel.now state.now (bits inputs) net.new.cells.items result }
+    ensures kept { kept net.new ≡ reopened net.old }
 {
-    let cells = table.len();
-    table.clear();
+    let cells = net.cells();
+    net.clear();
     let doubt = in_doubt(possible);
-    let mut env = exchange(table, kernel, inputs, &doubt);
+    let mut env = exchange(net, kernel, inputs, &doubt);
     let mut before = 0;
     let mut direction = first;
-    let mut found = round(table, kernel, outputs, state, inputs, &mut env, direction);
-    let mut now = table.decided();
+    let mut found = round(net, kernel, outputs, state, inputs, &mut env, direction);
+    let mut now = net.steps();
     while goes_on(now, before, cells) {
         direction = next_direction(direction, now, before, cells);
         before = now;
-        found = round(table, kernel, outputs, state, inputs, &mut env, direction);
-        now = table.decided();
+        found = round(net, kernel, outputs, state, inputs, &mut env, direction);
+        now = net.steps();
     }
     Settled {
         found,

@@ -1,4 +1,4 @@
 pub mod Deciding
 mod Covering
-mod Ranges
+pub mod Ranges
 mod Reaching

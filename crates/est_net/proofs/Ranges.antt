@@ -1,13 +1,15 @@
 -- Ranges of cells, looked at and decided one after another.
 use Rattle.std.specs.Prelude.{◌≡◌, ◌≢◌, ◌↔◌, ◌<◌, ◌≤◌, ◌+◌, ◌⊎◌, ◌&&◌, ℕ, zero, suc, Bool, true, false, not, List}
-use Rattle.std.specs.Prelude.{length, set}
+use Rattle.std.specs.Prelude.{[], ◌∷◌, ◌-◌, length, set, slice_get, Some}
 use Rattle.std.proofs.Common.{refl, ap, sym, ◌∙◌, arith, inl, inr, subst}
 use Rattle.std.proofs.lemmas.List.{get_or-set_same, get_or-set_other, length-set, set-get_or}
-use Rattle.std.proofs.lemmas.List.Sums.{sum_by-set}
+use Rattle.std.proofs.lemmas.List.Sums.{sum_by-cons, sum_by-set}
+use Rattle.std.proofs.lemmas.Option.{slice_get-get_or}
 use Rattle.est_meaning.specs.declared.status.Status.{Status}
 use Rattle.est_meaning.specs.declared.status.Status.TheVariants.{Present, Absent, Unknown}
 use Rattle.est_cells.specs.Tables.{is_sure}
-use Rattle.est_net.specs.Cells.{AllDecided, AreFalse, Learns, NoneTrue, cell_at, is_known, learned, steps_of}
+use Rattle.est_net.specs.Cells.{AllDecided, AllOpen, AreFalse, Learns, NoneTrue, cell_at, decided, is_known, is_open}
+use Rattle.est_net.specs.Cells.{known_as, learned, steps_of}
 
 last_or_before : (k n : ℕ) → k < n + 1 → (k ≡ n) ⊎ (k < n)
 last_or_before zero zero l = inl refl
@@ -84,6 +86,26 @@ unfolding AllDecided
 known_more lo n cells was b now l h e f =
     each_more (λ v. v ≢ Unknown) lo n cells was b now l h (known b (cell_at cells n) e) f
 
+-- each cell of an empty range is open; one cell more
+pub all_opened : (lo : ℕ) (cells : List Status) → AllOpen lo lo cells
+unfolding AllOpen
+all_opened lo cells i l u = absurd (omega arith)
+
+opened : (b : Bool) (v : Status) → b ≡ is_open v → (b ≡ true) ↔ (v ≡ Unknown)
+opened true Unknown e = (λ h. refl, λ d. refl)
+opened false Unknown e = let z : false ≡ true = e in cc
+opened true Present e = let z : true ≡ false = e in cc
+opened false Present e = (λ h. cc, λ h. cc)
+opened true Absent e = let z : true ≡ false = e in cc
+opened false Absent e = (λ h. cc, λ h. cc)
+
+pub open_more : (lo n : ℕ) (cells : List Status) (was is_one now : Bool) → lo ≤ n
+    → ((was ≡ true) ↔ AllOpen lo n cells) → is_one ≡ is_open (cell_at cells n) → now ≡ (was && is_one)
+    → (now ≡ true) ↔ AllOpen lo (n + 1) cells
+unfolding AllOpen
+open_more lo n cells was b now l h e f =
+    each_more (λ v. v ≡ Unknown) lo n cells was b now l h (opened b (cell_at cells n) e) f
+
 -- no cell of an empty range has changed; one cell more is told that it is false
 pub none_false : (lo : ℕ) (cells : List Status) → AreFalse lo lo cells cells
 none_false lo cells = record {
@@ -94,12 +116,6 @@ none_false lo cells = record {
   more = omega arith;
   quiet = λ e. refl;
 }
-
--- a cell that is told that it is false, by an assignment: what it then knows, told to it, is what it then knows
-pub told_twice : (v w now : Status) → now ≡ learned v w → learned v now ≡ now
-told_twice Present w now e = sym e
-told_twice Absent w now e = sym e
-told_twice Unknown w now e = refl
 
 step_or_same : (v w : Status) → steps_of v ≤ steps_of (learned v w)
 step_or_same Present w = omega arith
@@ -152,3 +168,51 @@ one_false lo n hi old mid new a b none x y =
       more = omega arith;
       quiet = λ e. y.quiet (omega arith) ∙ x.quiet (omega arith);
     }
+
+-- a range of open cells, as it is made false from its first cell on
+not_present : (v : Status) → v ≡ Unknown → v ≢ Present
+not_present v e h = let z : Unknown ≡ Present = sym e ∙ h in cc
+
+pub open_there : (lo n hi : ℕ) (old mid : List Status) → lo ≤ n → n < hi → hi ≤ length old → AllOpen lo hi old
+    → AreFalse lo n old mid → slice_get mid n ≡ Some Unknown
+unfolding AllOpen
+open_there lo n hi old mid a b long all x =
+    let size = x.size in
+    slice_get-get_or mid n Absent (omega arith) ∙ ap Some (x.after n (omega arith) ∙ all n a b)
+
+pub filled_more : (lo n hi : ℕ) (old mid new : List Status) → lo ≤ n → n < hi → hi ≤ length old → AllOpen lo hi old
+    → AreFalse lo n old mid → new ≡ set mid n (known_as false) → AreFalse lo (n + 1) old new
+unfolding AllOpen NoneTrue
+filled_more lo n hi old mid new a b long all x e =
+    let size = x.size in
+    let here : cell_at mid n ≡ Unknown = x.after n (omega arith) ∙ all n a b in
+    one_false lo n hi old mid new a b (λ i l u. not_present (cell_at old i) (all i l u)) x
+    (assigned_false mid new n Absent (omega arith) (ap (λ (v : Status). learned v Absent) (sym here)) e)
+
+-- at most as many cells are decided as there are
+step_small : (v : Status) → steps_of v ≤ 1
+step_small Present = omega arith
+step_small Absent = omega arith
+step_small Unknown = omega arith
+
+pub decided_within : (cells : List Status) → decided cells ≤ length cells
+decided_within [] = omega arith
+decided_within (x ∷ xs) =
+    let k = decided_within xs in
+    let o = step_small x in
+    let e : decided (x ∷ xs) ≡ steps_of x + decided xs = sum_by-cons steps_of x xs in
+    omega arith
+
+-- n open cells of a list are decided
+pub record FewerOpen (left n : ℕ) (new : List Status) : Type 0 where
+  pub enough : n ≤ left
+  pub counted : decided new + (left - n) ≡ length new
+
+pub fewer_open : (left n : ℕ) (old mid new : List Status) → mid ≡ old → decided new ≡ decided mid + n
+    → length new ≡ length mid → decided old + left ≡ length old → FewerOpen left n new
+fewer_open left n old mid new e count size counted =
+    let within = decided_within new in
+    let a = ap decided e in
+    let b = ap (λ (z : List Status). length z) e in
+    let few : n ≤ left = omega arith in
+    record { enough = few; counted = omega arith }

@@ -54,6 +54,16 @@ is_known Present = true
 is_known Absent = true
 is_known Unknown = false
 
+-- whether a cell is open
+abbrev pub is_open : Status → Bool
+is_open Present = false
+is_open Absent = false
+is_open Unknown = true
+
+-- each cell from place lo on and before place hi is open
+unfoldable pub AllOpen : (lo hi : ℕ) → List Status → Type 0
+AllOpen lo hi cells = (i : ℕ) → lo ≤ i → i < hi → cell_at cells i ≡ Unknown
+
 -- each cell from place lo on and before place hi is decided
 unfoldable pub AllDecided : (lo hi : ℕ) → List Status → Type 0
 AllDecided lo hi cells = (i : ℕ) → lo ≤ i → i < hi → cell_at cells i ≢ Unknown

@@ -3,3 +3,4 @@ pub mod Inner
 pub mod Layout
 pub mod Owners
 pub mod Reach
+pub mod Kept

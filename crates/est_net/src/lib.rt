@@ -10,4 +10,4 @@ mod lay;
 pub mod net;
 pub mod owners;
 pub mod reach;
-pub mod table;
+mod table;

@@ -1,18 +1,19 @@
 //! The table of cells of a kernel.
 
-ghost use Rattle.std.specs.Prelude.{◌≡◌, ◌<◌, ◌≤◌, ◌+◌, length, set, slice_get, Some, IfOk};
-ghost use Rattle.std.specs.Prelude.{option_map, replicate};
+ghost use Rattle.std.specs.Prelude.{◌≡◌, ◌↔◌, ◌<◌, ◌≤◌, ◌+◌, ◌%◌, ◌^◌, true, length, set, slice_get};
+ghost use Rattle.std.specs.Prelude.{Some, IfOk, option_map, replicate};
 ghost use Rattle.est_kernel.specs.Bits.{bits};
 ghost use Rattle.est_kernel.specs.Interfaces.{emittable};
 ghost use Rattle.est_meaning.specs.Rounds.{how_many};
 ghost use Rattle.est_meaning.specs.declared.status.Status.TheVariants.{Unknown};
-ghost use Rattle.est_net.specs.Cells.{decided, known_as, value_of};
+ghost use Rattle.est_net.specs.Cells.{AllDecided, AllOpen, AreFalse, NoneTrue, cell_at, decided};
+ghost use Rattle.est_net.specs.Cells.{is_known, known_as, value_of};
 ghost use Rattle.est_net.specs.Layout.{cell_count, output_count};
 ghost use Rattle.est_net.specs.Reach.{IsReachOf};
 
 use crate::lay::lay;
 use crate::reach::Reach;
-use crate::table::Table;
+use crate::table;
 use est_kernel::interface::Interface;
 use est_kernel::kernel::Kernel;
 use est_kernel::mask;
@@ -22,12 +23,17 @@ use std::alloc::{AllocError, Global};
 /// The table of cells of a kernel.
 #[derive(Drop)]
 pub struct Net {
-    /// The cells.
-    pub table: Table,
-    /// How many of them are of signals of the interface. They come first.
-    pub outputs: usize,
+    cells: Vec<Status>,
+    /// How many of them are open.
+    left_open: usize,
+    /// How many cells were decided before they were last opened, modulo 2^64.
+    earlier: u64,
+    /// How many cells are of signals of the interface. They come first.
+    outputs: usize,
     /// What may be emitted in an instant.
-    pub reach: Reach,
+    reach: Reach,
+    /// All others are decided.
+    ghost counted: { decided cells.items + left_open ≡ length cells.items },
 }
 
 /// How many signals up to a place are in the mask.
@@ -65,9 +71,11 @@ fn open_cells(alloc: Global, count: usize) -> Result<Vec<Status>, AllocError>
 }
 
 impl Net {
+    ghost use Rattle.est_net.specs.Kept.{kept, reopened};
+
     /// The table of a kernel, all cells open, or memory was refused.
     pub fn build(alloc: Global, kernel: &Kernel) -> Result<Net, AllocError>
-        ensures cells { IfOk result (λ net. net.table.cells.items
+        ensures cells { IfOk result (λ net. net.cells.items
             ≡ replicate (cell_count kernel.now) Unknown) }
         ensures outputs { IfOk result (λ net. net.outputs ≡ output_count kernel.now.interface) }
         ensures reach { IfOk result (λ net. IsReachOf net.reach kernel.now.root) }
@@ -75,9 +83,12 @@ impl Net {
         let outputs = count_outputs(kernel.interface());
         let mut cells = open_cells(alloc, outputs)?;
         lay(&mut cells, true, kernel.root(), 0)?;
+        table::open_all(cells.as_mut_slice());
         let reach = Reach::of(alloc, kernel.root())?;
         Ok(Net {
-            table: Table::new(cells),
+            left_open: cells.len(),
+            cells,
+            earlier: 0,
             outputs,
             reach,
         })
@@ -85,39 +96,132 @@ impl Net {
 
     /// How many cells there are.
     pub fn cells(&self) -> usize
-        ensures { result ≡ length self.now.table.cells.items }
+        ensures { result ≡ length self.now.cells.items }
     {
-        self.table.len()
+        self.cells.len()
+    }
+
+    /// How many of them are of signals of the interface. They come first.
+    pub fn outputs(&self) -> usize
+        ensures { result ≡ self.now.outputs }
+    {
+        self.outputs
+    }
+
+    /// What may be emitted in an instant.
+    pub fn reach(&self) -> &Reach
+        ensures { result.now ≡ self.now.reach }
+    {
+        &self.reach
+    }
+
+    /// How many cells are decided.
+    pub fn steps(&self) -> usize
+        ensures count { result ≡ decided self.now.cells.items }
+        ensures bound { result ≤ length self.now.cells.items }
+    {
+        self.cells.len() - self.left_open
+    }
+
+    /// How many cells were ever decided, modulo 2^64, each as often as it was: `clear` takes none
+    /// of them back.
+    pub fn writes(&self) -> u64
+        ensures { result ≡ (self.now.earlier + decided self.now.cells.items) % 2 ^ 64 }
+    {
+        self.earlier.wrapping_add(self.steps() as u64)
+    }
+
+    /// What a cell knows.
+    #[inline(always)]
+    pub fn status(&self, cell: usize) -> Status
+        requires { cell < length self.now.cells.items }
+        ensures { result ≡ cell_at self.now.cells.items cell }
+    {
+        self.cells[cell]
     }
 
     /// The value of a cell, if it is decided.
     pub fn value(&self, cell: usize) -> Option<bool>
-        requires { cell < length self.now.table.cells.items }
-        ensures { option_map value_of (slice_get self.now.table.cells.items cell) ≡ Some result }
+        requires { cell < length self.now.cells.items }
+        ensures { option_map value_of (slice_get self.now.cells.items cell) ≡ Some result }
     {
-        self.table.value(cell)
+        match self.cells[cell] {
+            Status::Present => Some(true),
+            Status::Absent => Some(false),
+            Status::Unknown => None,
+        }
+    }
+
+    /// Whether a cell is decided.
+    pub fn is_decided(&self, cell: usize) -> bool
+        requires { cell < length self.now.cells.items }
+        ensures { result ≡ is_known (cell_at self.now.cells.items cell) }
+    {
+        table::is_decided(self.cells[cell])
+    }
+
+    /// Whether each cell of a range is decided.
+    pub fn all_decided(&self, from: usize, past: usize) -> bool
+        requires range { from ≤ past }
+        requires within { past ≤ length self.now.cells.items }
+        ensures { (result ≡ true) ↔ AllDecided from past self.now.cells.items }
+    {
+        table::all_decided(self.cells.as_slice(), from, past)
+    }
+
+    /// Whether each cell of a range is open.
+    pub fn all_open(&self, from: usize, past: usize) -> bool
+        requires range { from ≤ past }
+        requires within { past ≤ length self.now.cells.items }
+        ensures { (result ≡ true) ↔ AllOpen from past self.now.cells.items }
+    {
+        table::all_open(self.cells.as_slice(), from, past)
+    }
+
+    /// Whether no cell of a range is true.
+    pub fn has_no_true(&self, from: usize, past: usize) -> bool
+        requires range { from ≤ past }
+        requires within { past ≤ length self.now.cells.items }
+        ensures { (result ≡ true) ↔ NoneTrue from past self.now.cells.items }
+    {
+        table::has_no_true(self.cells.as_slice(), from, past)
     }
 
     /// Decides a cell that is open. No other cell changes.
+    #[inline(always)]
     pub fn write(&mut self, cell: usize, value: bool)
-        requires { slice_get self.old.table.cells.items cell ≡ Some Unknown }
-        ensures cells { self.new.table.cells.items
-            ≡ set self.old.table.cells.items cell (known_as value) }
-        ensures count { decided self.new.table.cells.items ≡ decided self.old.table.cells.items
-            + 1 }
-        ensures outputs { self.new.outputs ≡ self.old.outputs }
-        ensures reach { self.new.reach ≡ self.old.reach }
+        requires { slice_get self.old.cells.items cell ≡ Some Unknown }
+        ensures cells { self.new.cells.items ≡ set self.old.cells.items cell (known_as value) }
+        ensures count { decided self.new.cells.items ≡ decided self.old.cells.items + 1 }
+        ensures kept { kept self.new ≡ kept self.old }
     {
-        self.table.write(cell, value);
+        table::decide(self.cells.as_mut_slice(), cell, value);
+        self.left_open -= 1;
     }
 
-    /// Opens all cells.
-    pub fn clear(&mut self)
-        ensures cells { self.new.table.cells.items
-            ≡ replicate (length self.old.table.cells.items) Unknown }
-        ensures outputs { self.new.outputs ≡ self.old.outputs }
-        ensures reach { self.new.reach ≡ self.old.reach }
+    /// Decides the cells of a range, all of them open, to be false: as many writes as it has cells.
+    /// No other cell changes.
+    pub fn fill(&mut self, from: usize, past: usize)
+        requires range { from ≤ past }
+        requires within { past ≤ length self.old.cells.items }
+        requires open { AllOpen from past self.old.cells.items }
+        ensures cells { AreFalse from past self.old.cells.items self.new.cells.items }
+        ensures count { decided self.new.cells.items + from
+            ≡ decided self.old.cells.items + past }
+        ensures kept { kept self.new ≡ kept self.old }
     {
-        self.table.clear();
+        table::fill(self.cells.as_mut_slice(), from, past);
+        self.left_open -= past - from;
+    }
+
+    /// Opens all cells. The number of writes stays.
+    pub fn clear(&mut self)
+        ensures cells { self.new.cells.items
+            ≡ replicate (length self.old.cells.items) Unknown }
+        ensures kept { kept self.new ≡ reopened self.old }
+    {
+        self.earlier = self.earlier.wrapping_add(self.steps() as u64);
+        table::open_all(self.cells.as_mut_slice());
+        self.left_open = self.cells.len();
     }
 }

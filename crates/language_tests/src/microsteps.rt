@@ -55,23 +55,27 @@ struct Told {
     reached: [u64; 3],
     /// How many cells are decided.
     decided: [usize; 3],
+    /// How many writes the table counts in the instant.
+    written: [u64; 3],
     /// How many cells there are.
     cells: usize,
 }
 
-/// Which outputs may be emitted in an instant without inputs, and how many cells it decides. The
-/// state stays where it is undecided.
-fn instant(engine: &mut Micro, kernel: &Kernel, state: &mut State) -> (u64, usize)
+/// Which outputs may be emitted in an instant without inputs, how many cells it decides, and how
+/// many writes the table counts in it. The state stays where it is undecided.
+fn instant(engine: &mut Micro, kernel: &Kernel, state: &mut State) -> (u64, usize, u64)
     requires net { IsNetOf engine.old.net kernel.now }
     requires state { IsState kernel.now.root state.old }
     ensures net { IsNetOf engine.new.net kernel.now }
     ensures state { IsState kernel.now.root state.new }
 {
-    let reached = engine.net().reach.from_state(&*state);
+    let reached = engine.net().reach().from_state(&*state);
+    let before = engine.net().writes();
     if let Ok(outcome) = engine.react(kernel, &*state, &offered(kernel, 0)) {
         *state = outcome.next;
     }
-    (reached, engine.steps())
+    let written = engine.net().writes().wrapping_sub(before);
+    (reached, engine.steps(), written)
 }
 
 /// What three instants of a kernel tell.
@@ -84,6 +88,7 @@ fn three_instants(rt: &impl Abort, alloc: Global, kernel: &Kernel) -> Told {
     Told {
         reached: [first.0, second.0, third.0],
         decided: [first.1, second.1, third.1],
+        written: [first.2, second.2, third.2],
         cells: engine.net().cells(),
     }
 }
@@ -100,6 +105,9 @@ fn decided_cells(rt: HostRuntime) {
     for (body, decided, cells) in &DECIDED {
         let told = told_of(&rt, rt.alloc(), "", body);
         assert_eq!(rt; told.decided, *decided, "{body}");
+        let [first, second, third] = *decided;
+        let each = [first as u64, second as u64, third as u64];
+        assert_eq!(rt; told.written, each, "{body}");
         assert_eq!(rt; told.cells, *cells, "{body}");
     }
 }

@@ -9,4 +9,3 @@ pub mod Standing
 pub mod Answers
 pub mod Instants
 pub mod Left
-pub mod Engines

@@ -7,7 +7,7 @@ use Rattle.est_meaning.specs.States.{IsState, state_term}
 use Rattle.est_relations.specs.Offers.{PendingInputs, KeepsExclusions, IsFirstImplied, OfferAnswer as PendingAnswer}
 use Rattle.est_relations.specs.declared.refusal.Refusal.{Refusal as PendingRefusal}
 use Rattle.reactor_core.specs.declared.entry.PastInstant.{PastInstant}
-use Rattle.reactor_core.specs.Engines.{IsEngineOf}
+use Rattle.est_micro.specs.Engine.{IsNetOf}
 use Rattle.reactor_core.specs.declared.entry.Load.{Load as LoadEntry}
 use Rattle.reactor_core.specs.declared.entry.SlotEntry.{SlotEntry}
 use Rattle.reactor_core.specs.declared.loaded.Module.{Module}
@@ -53,7 +53,7 @@ pub record IsNext (m : Module) (state : State) (pending outputs : ℕ) (next : S
 -- the parts of a reactor run, and the engine is for the kernel
 pub record AreRunning (p : Parts) : Type 0 where
   pub running : IsRunning p.journal p.loaded p.state p.pending p.instants.items
-  pub engine : IsEngineOf p.engine p.loaded.kernel
+  pub engine : IsNetOf p.engine.net p.loaded.kernel
 
 -- this is the outcome of their next instant
 abbrev pub HaveOutcome : Parts → Outcome → Type 0

@@ -9,7 +9,6 @@
 //! and reactor as they were.
 #![tactic(auto)]
 
-mod cost;
 pub mod entry;
 pub mod journal;
 pub mod laws;

@@ -4,12 +4,12 @@ ghost use Rattle.std.specs.Prelude.{MatchOption, IfOk, IfErr, true, false, slice
 ghost use Rattle.est_kernel.specs.Bits.{bits};
 ghost use Rattle.est_kernel.specs.Interfaces.{offerable};
 ghost use Rattle.est_meaning.specs.Knowledge.{IsIn};
+ghost use Rattle.est_micro.specs.Engine.{IsNetOf};
 ghost use Rattle.reactor_core.specs.Meaning.{Running, RunsAfter, ModuleOf, is_loaded, instants_of};
 ghost use Rattle.reactor_core.specs.Meaning.{entry};
 ghost use Rattle.reactor_core.specs.Loading.{IsLoadFault};
 ghost use Rattle.reactor_core.specs.Standing.{given_by};
 ghost use Rattle.reactor_core.specs.Instants.{OpenAnswer};
-ghost use Rattle.reactor_core.specs.Engines.{IsEngineOf};
 ghost use Rattle.reactor_core.specs.Left.{IsKernelOf, IsLeftOf};
 ghost use Rattle.reactor_core.specs.Answers.{LoadAnswer, OfferAnswer, DiscardAnswer, UnloadAnswer};
 ghost use Rattle.reactor_core.specs.Answers.{ShownAnswer, HasRoom, RefusesEntry, load_of};
@@ -17,7 +17,6 @@ ghost use Rattle.reactor_core.specs.Answers.{ShownAnswer, HasRoom, RefusesEntry,
 use crate::entry::{Action, Load, PastInstant, SlotEntry, Stamp};
 use crate::journal::Journal;
 use crate::loaded::Module;
-use crate::reactor::engine::ModuleEngine;
 use crate::reactor::instant::Instant;
 use crate::reactor::parts::{Parts, check_relations, join};
 use crate::reading::read_module;
@@ -26,12 +25,13 @@ use crate::text::Text;
 use est_kernel::interface::Interface;
 use est_kernel::kernel::Kernel;
 use est_kernel::state::State;
+use est_micro::micro::Micro;
+use est_net::net::Net;
 use est_relations::relations::Relations;
 use est_text::identifier::Identifier;
 use std::alloc::Global;
 use std::marker::Model;
 
-mod engine;
 pub mod instant;
 mod parts;
 
@@ -81,15 +81,15 @@ fn instant_at(instants: &[PastInstant], n: u64) -> Option<PastInstant>
 /// The load of the module `main` of a text: its entry keeps copies of both, its module is read from
 /// the text, and the engine is that of the module's kernel. If `main` is no identifier,
 /// `read_module` has refused it, so the last arm is never taken.
-fn read_load(alloc: Global, main: &str, text: &str) -> Result<(Load, Module, ModuleEngine), Refusal>
+fn read_load(alloc: Global, main: &str, text: &str) -> Result<(Load, Module, Micro), Refusal>
     ensures entry { IfOk result (λ read. read.0 ≡ load_of main.now text.now) }
     ensures given { IfOk result (λ read. ModuleOf read.0 (given_by read.1)) }
-    ensures engine { IfOk result (λ read. IsEngineOf read.2 read.1.kernel) }
+    ensures engine { IfOk result (λ read. IsNetOf read.2.net read.1.kernel) }
     ensures fault { IfErr result (IsLoadFault main.now text.now) }
 {
     let text = Text::copied(alloc, text)?;
     let loaded = read_module(alloc, main, text.as_str())?;
-    let engine = ModuleEngine::for_kernel(alloc, &loaded.kernel)?;
+    let engine = Micro::new(Net::build(alloc, &loaded.kernel)?);
     match Identifier::from_text(main) {
         Some(main) => Ok((Load { main, text }, loaded, engine)),
         None => Err(Refusal::Module(ModuleRefusal::MisnamedMain)),
@@ -188,10 +188,10 @@ impl Reactor {
         stamp: Stamp,
         load: Load,
         loaded: Module,
-        engine: ModuleEngine,
+        engine: Micro,
     ) -> Result<Reactor, (Refusal, Journal)>
         requires given { ModuleOf load (given_by loaded) }
-        requires engine { IsEngineOf engine loaded.kernel }
+        requires engine { IsNetOf engine.net loaded.kernel }
         ensures { MatchResult result
             (λ r. HasRoom journal × (r ≡ journal ++ entry stamp (Action.Load load) ∷ []))
             (λ refused. RefusesEntry journal refused.0 × (refused.1 ≡ journal)) }

@@ -14,9 +14,9 @@ ghost use Rattle.reactor_core.specs.Answers.{HasRoom, RefusesEntry};
 use crate::entry::{Action, PastInstant, SlotEntry, Stamp};
 use crate::journal::Journal;
 use crate::loaded::Module;
-use crate::reactor::engine::ModuleEngine;
 use crate::refusal::Refusal;
 use est_kernel::state::{Inputs, Outcome, State, Stuck};
+use est_micro::micro::Micro;
 use est_relations::pending::Pending;
 use est_rounds::engine::Engine;
 use est_text::identifier::Identifier;
@@ -27,7 +27,7 @@ use est_text::identifier::Identifier;
 pub struct Parts {
     pub journal: Journal,
     pub loaded: Module,
-    pub engine: ModuleEngine,
+    pub engine: Micro,
     pub state: State,
     /// The inputs that are offered and not yet taken, a bit for each in the order of declaration.
     pub pending: u64,

@@ -10,99 +10,99 @@ use Rattle.est_micro.proofs.BegunNodes.{within_back, within_told}
 use Rattle.est_micro.proofs.IdleSheets.{idle_begun}
 use Rattle.est_micro.proofs.begin.+begin.Goals as goal
 
-pub begin_present-returns : goal.begin_present-returns
-begin_present-returns t c = λ q a b asks.
+pub begin_present-returns-clause-swept : goal.begin_present-returns-clause-swept
+begin_present-returns-clause-swept t c = λ q a b asks.
     present_begun c.args.at.now q a c.args.p.now b c.args.q.now c.args.gate c.args.asked _ _ _ _ c.args.env.now _ _ _ _
     _ _
     _ _ _ asks
     c.learn-go.ensures.learns c.learn-go.ensures.known c.and.ensures c.opposite.ensures c.and-2.ensures
-    c.begin-first.ensures
-    c.begin-second.ensures c.either-own.ensures c.leave.ensures
+    c.begin-first.ensures.swept
+    c.begin-second.ensures.swept c.either-own.ensures c.leave.ensures.left
 
-pub begin_suspend-returns : goal.begin_suspend-returns
-begin_suspend-returns t c = λ q a.
+pub begin_suspend-returns-clause-swept : goal.begin_suspend-returns-clause-swept
+begin_suspend-returns-clause-swept t c = λ q a.
     suspend_begun c.args.at.now q a c.args.p.now c.args.gate _ c.args.env.now _ _ _ _ _ _ c.learn-go.ensures.learns
-    c.learn-go.ensures.known c.begin-body.ensures c.leave.ensures
+    c.learn-go.ensures.known c.begin-body.ensures.swept c.leave.ensures.left
 
-pub begin_seq-returns : goal.begin_seq-returns
-begin_seq-returns t c = λ a b.
+pub begin_seq-returns-clause-swept : goal.begin_seq-returns-clause-swept
+begin_seq-returns-clause-swept t c = λ a b.
     seq_begun c.args.at.now a c.args.p.now b c.args.q.now c.args.gate _ _ c.args.env.now _ _ _ _ _ _ _ _ _ _
-    c.learn-go.ensures.learns c.learn-go.ensures.known c.ends-later.ensures c.told-inside.ensures c.begin-first.ensures
-    c.begin-second.ensures
-    c.followed-own.ensures c.leave.ensures
+    c.learn-go.ensures.learns c.learn-go.ensures.known c.ends-later.ensures c.told-inside.ensures c.begin-first.ensures.swept
+    c.begin-second.ensures.swept
+    c.followed-own.ensures c.leave.ensures.left
 
-pub begin_par-returns : goal.begin_par-returns
-begin_par-returns t c = λ a b.
+pub begin_par-returns-clause-swept : goal.begin_par-returns-clause-swept
+begin_par-returns-clause-swept t c = λ a b.
     par_begun c.args.at.now a c.args.p.now b c.args.q.now c.args.gate _ c.args.env.now _ _ _ _ _ _ _ _ _ _
     c.requires.direction c.learn-go.ensures.learns c.learn-go.ensures.known c.told-inside.ensures
-    c.begin-first.ensures
-    c.begin-second.ensures
-    c.beside-own.ensures c.leave.ensures
+    c.begin-first.ensures.swept
+    c.begin-second.ensures.swept
+    c.beside-own.ensures c.leave.ensures.left
 
-pub begin_par_back-returns : goal.begin_par_back-returns
-begin_par_back-returns t c = λ a b.
+pub begin_par_back-returns-clause-swept : goal.begin_par_back-returns-clause-swept
+begin_par_back-returns-clause-swept t c = λ a b.
     par_begun_back c.args.at.now a c.args.p.now b c.args.q.now c.args.gate _ _ c.args.env.now _ _ _ _ _ _ _ _ _ _
     c.requires.direction c.learn-go.ensures.learns c.learn-go.ensures.known c.past.ensures c.told-inside.ensures
-    c.begin-second.ensures
-    c.begin-first.ensures
-    c.beside-own.ensures c.leave.ensures
+    c.begin-second.ensures.swept
+    c.begin-first.ensures.swept
+    c.beside-own.ensures c.leave.ensures.left
 
-pub begin_trap-returns : goal.begin_trap-returns
-begin_trap-returns t c = λ a.
+pub begin_trap-returns-clause-swept : goal.begin_trap-returns-clause-swept
+begin_trap-returns-clause-swept t c = λ a.
     trap_begun c.args.at.now a c.args.p.now c.args.gate _ c.args.env.now _ _ _ _ _ _ _ c.learn-go.ensures.learns
-    c.learn-go.ensures.known c.begin-body.ensures c.out_of_trap-own.ensures c.leave.ensures
+    c.learn-go.ensures.known c.begin-body.ensures.swept c.out_of_trap-own.ensures c.leave.ensures.left
 
-pub begin_again-returns : goal.begin_again-returns
-begin_again-returns t c = λ a.
+pub begin_again-returns-clause-swept : goal.begin_again-returns-clause-swept
+begin_again-returns-clause-swept t c = λ a.
     again_begun c.args.at.now.direction c.args.at.now.main c.args.at.now.cell c.args.at.now.traps a c.args.p.now
     c.args.gate _
     c.args.env.now _ _ _ _ _ _
-    c.requires.main c.learn-go.ensures.learns c.learn-go.ensures.known c.begin-body.ensures c.leave.ensures
+    c.requires.main c.learn-go.ensures.learns c.learn-go.ensures.known c.begin-body.ensures.swept c.leave.ensures.left
 
-pub begin_loop-returns : goal.begin_loop-returns
-begin_loop-returns t c = λ a.
+pub begin_loop-returns-clause-swept : goal.begin_loop-returns-clause-swept
+begin_loop-returns-clause-swept t c = λ a.
     loop_begun c.args.at.now.direction c.args.at.now.main c.args.at.now.cell c.args.at.now.traps a c.args.p.now
     c.args.gate _
     c.args.env.now _ _ _ _ _ _ _ _
     _
-    c.requires.main c.learn-go.ensures.learns c.learn-go.ensures.known c.begin-first.ensures c.begin-again.ensures
-    c.emitting-own.ensures c.leave.ensures
+    c.requires.main c.learn-go.ensures.learns c.learn-go.ensures.known c.begin-first.ensures.swept c.begin-again.ensures.swept
+    c.emitting-own.ensures c.leave.ensures.left
 
-pub begin_local-returns : goal.begin_local-returns
-begin_local-returns t c = λ a.
+pub begin_local-returns-clause-swept : goal.begin_local-returns-clause-swept
+begin_local-returns-clause-swept t c = λ a.
     local_begun c.args.at.now c.args.s a c.args.p.now c.args.gate _ _ c.args.env.now _ _ _ _ _ _ _ _ _
     c.learn-go.ensures.learns c.learn-go.ensures.known
     (c.set_local-inside.ensures ∙ ap (λ (v : Status). with_local (env_of c.args.env.now) c.args.s.index v)
     c.status.ensures)
-    c.begin-body.ensures c.status_of.ensures c.learn.ensures.learns
-    c.hiding-own.ensures c.leave.ensures
+    c.begin-body.ensures.swept c.status_of.ensures c.learn.ensures.learns
+    c.hiding-own.ensures c.leave.ensures.left
 
 pub begin_again-leave-requires-clause-within : goal.begin_again-leave-requires-clause-within
 begin_again-leave-requires-clause-within t c =
-    within_one _ _ c.args.table.now.cells.items _ _ _ _ _ _ _ c.requires.within c.learn-go.ensures.learns.size
-    c.begin-body.ensures
+    within_one _ _ c.args.net.now.cells.items _ _ _ _ _ _ _ c.requires.within c.learn-go.ensures.learns.size
+    c.begin-body.ensures.swept
 
 pub begin_suspend-leave-requires-clause-within : goal.begin_suspend-leave-requires-clause-within
 begin_suspend-leave-requires-clause-within t c =
-    within_one _ _ c.args.table.now.cells.items _ _ _ _ _ _ _ c.requires.within c.learn-go.ensures.learns.size
-    c.begin-body.ensures
+    within_one _ _ c.args.net.now.cells.items _ _ _ _ _ _ _ c.requires.within c.learn-go.ensures.learns.size
+    c.begin-body.ensures.swept
 
 pub begin_trap-leave-requires-clause-within : goal.begin_trap-leave-requires-clause-within
 begin_trap-leave-requires-clause-within t c =
-    within_one _ _ c.args.table.now.cells.items _ _ _ _ _ _ _ c.requires.within c.learn-go.ensures.learns.size
-    c.begin-body.ensures
+    within_one _ _ c.args.net.now.cells.items _ _ _ _ _ _ _ c.requires.within c.learn-go.ensures.learns.size
+    c.begin-body.ensures.swept
 
 pub begin_loop-leave-requires-clause-within : goal.begin_loop-leave-requires-clause-within
 begin_loop-leave-requires-clause-within t c =
-    within_two _ _ _ c.args.table.now.cells.items _ _ _ _ _ _ _ _ _ _ _ _ _ c.requires.within
-    c.learn-go.ensures.learns.size c.begin-first.ensures
-    c.begin-again.ensures
+    within_two _ _ _ c.args.net.now.cells.items _ _ _ _ _ _ _ _ _ _ _ _ _ c.requires.within
+    c.learn-go.ensures.learns.size c.begin-first.ensures.swept
+    c.begin-again.ensures.swept
 
 pub begin_seq-leave-requires-clause-within : goal.begin_seq-leave-requires-clause-within
 begin_seq-leave-requires-clause-within t c =
-    within_two _ _ _ c.args.table.now.cells.items _ _ _ _ _ _ _ _ _ _ _ _ _ c.requires.within
-    c.learn-go.ensures.learns.size c.begin-first.ensures
-    c.begin-second.ensures
+    within_two _ _ _ c.args.net.now.cells.items _ _ _ _ _ _ _ _ _ _ _ _ _ c.requires.within
+    c.learn-go.ensures.learns.size c.begin-first.ensures.swept
+    c.begin-second.ensures.swept
 
 pub begin_seq-begin-second-requires : goal.begin_seq-begin-second-requires
 begin_seq-begin-second-requires t c = (
@@ -110,7 +110,7 @@ begin_seq-begin-second-requires t c = (
   (
     c.requires.fits.1,
     (
-      within_next c.args.table.now.cells.items _ _ _ _ _ _ _ _ c.begin-first.ensures c.requires.within
+      within_next c.args.net.now.cells.items _ _ _ _ _ _ _ _ c.begin-first.ensures.swept c.requires.within
           c.learn-go.ensures.learns.size,
       c.requires.second_traps,
     ),
@@ -119,9 +119,9 @@ begin_seq-begin-second-requires t c = (
 
 pub begin_par-leave-requires-clause-within : goal.begin_par-leave-requires-clause-within
 begin_par-leave-requires-clause-within t c =
-    within_two _ _ _ c.args.table.now.cells.items _ _ _ _ _ _ _ _ _ _ _ _ _ c.requires.within
-    c.learn-go.ensures.learns.size c.begin-first.ensures
-    c.begin-second.ensures
+    within_two _ _ _ c.args.net.now.cells.items _ _ _ _ _ _ _ _ _ _ _ _ _ c.requires.within
+    c.learn-go.ensures.learns.size c.begin-first.ensures.swept
+    c.begin-second.ensures.swept
 
 pub begin_par-begin-second-requires : goal.begin_par-begin-second-requires
 begin_par-begin-second-requires t c = (
@@ -129,7 +129,7 @@ begin_par-begin-second-requires t c = (
   (
     c.requires.fits.1,
     (
-      within_next c.args.table.now.cells.items _ _ _ _ _ _ _ _ c.begin-first.ensures c.requires.within
+      within_next c.args.net.now.cells.items _ _ _ _ _ _ _ _ c.begin-first.ensures.swept c.requires.within
           c.learn-go.ensures.learns.size,
       c.requires.second_traps,
     ),
@@ -138,9 +138,9 @@ begin_par-begin-second-requires t c = (
 
 pub begin_par_back-leave-requires-clause-within : goal.begin_par_back-leave-requires-clause-within
 begin_par_back-leave-requires-clause-within t c =
-    within_two _ _ _ c.args.table.now.cells.items _ _ _ _ _ _ _ _ _ _ _ _ _ c.requires.within
-    c.learn-go.ensures.learns.size c.begin-second.ensures
-    c.begin-first.ensures
+    within_two _ _ _ c.args.net.now.cells.items _ _ _ _ _ _ _ _ _ _ _ _ _ c.requires.within
+    c.learn-go.ensures.learns.size c.begin-second.ensures.swept
+    c.begin-first.ensures.swept
 
 pub begin_par_back-begin-second-requires : goal.begin_par_back-begin-second-requires
 begin_par_back-begin-second-requires t c = (
@@ -148,7 +148,7 @@ begin_par_back-begin-second-requires t c = (
   (
     c.requires.fits.1,
     (
-      within_back _ _ _ _ c.args.table.now.cells.items _ c.past.ensures c.requires.within
+      within_back _ _ _ _ c.args.net.now.cells.items _ c.past.ensures c.requires.within
           c.learn-go.ensures.learns.size,
       c.requires.second_traps,
     ),
@@ -161,8 +161,8 @@ begin_par_back-begin-first-requires t c = (
   (
     c.requires.fits.0,
     (
-      within_one _ _ c.args.table.now.cells.items _ _ _ _ _ _ _ c.requires.within c.learn-go.ensures.learns.size
-          c.begin-second.ensures,
+      within_one _ _ c.args.net.now.cells.items _ _ _ _ _ _ _ c.requires.within c.learn-go.ensures.learns.size
+          c.begin-second.ensures.swept,
       c.requires.first_traps,
     ),
   ),
@@ -170,9 +170,9 @@ begin_par_back-begin-first-requires t c = (
 
 pub begin_present-leave-requires-clause-within : goal.begin_present-leave-requires-clause-within
 begin_present-leave-requires-clause-within t c =
-    within_two _ _ _ c.args.table.now.cells.items _ _ _ _ _ _ _ _ _ _ _ _ _ c.requires.within
-    c.learn-go.ensures.learns.size c.begin-first.ensures
-    c.begin-second.ensures
+    within_two _ _ _ c.args.net.now.cells.items _ _ _ _ _ _ _ _ _ _ _ _ _ c.requires.within
+    c.learn-go.ensures.learns.size c.begin-first.ensures.swept
+    c.begin-second.ensures.swept
 
 pub begin_present-begin-second-requires : goal.begin_present-begin-second-requires
 begin_present-begin-second-requires t c = (
@@ -180,7 +180,7 @@ begin_present-begin-second-requires t c = (
   (
     c.requires.fits.1,
     (
-      within_next c.args.table.now.cells.items _ _ _ _ _ _ _ _ c.begin-first.ensures c.requires.within
+      within_next c.args.net.now.cells.items _ _ _ _ _ _ _ _ c.begin-first.ensures.swept c.requires.within
           c.learn-go.ensures.learns.size,
       c.requires.second_traps,
     ),
@@ -193,7 +193,7 @@ begin_loop-begin-again-requires t c = (
   (
     c.requires.fits,
     (
-      within_next c.args.table.now.cells.items _ _ _ _ _ _ _ _ c.begin-first.ensures
+      within_next c.args.net.now.cells.items _ _ _ _ _ _ _ _ c.begin-first.ensures.swept
           (rw c.requires.main c.requires.within) c.learn-go.ensures.learns.size,
       c.requires.traps,
     ),
@@ -202,17 +202,17 @@ begin_loop-begin-again-requires t c = (
 
 pub begin_local-learn-requires : goal.begin_local-learn-requires
 begin_local-learn-requires t c =
-    within_local (c.args.at.now.cell + c.args.at.now.traps) _ c.args.table.now.cells.items _ _ _ _ _ _ _
+    within_local (c.args.at.now.cell + c.args.at.now.traps) _ c.args.net.now.cells.items _ _ _ _ _ _ _
     c.requires.within
-    c.learn-go.ensures.learns.size c.begin-body.ensures
+    c.learn-go.ensures.learns.size c.begin-body.ensures.swept
 
 pub begin_local-leave-requires-clause-within : goal.begin_local-leave-requires-clause-within
 begin_local-leave-requires-clause-within t c =
-    within_told (c.args.at.now.cell + c.args.at.now.traps) _ c.args.table.now.cells.items _ _ _ _ _ _ _ _
+    within_told (c.args.at.now.cell + c.args.at.now.traps) _ c.args.net.now.cells.items _ _ _ _ _ _ _ _
     c.requires.within
-    c.learn-go.ensures.learns.size c.begin-body.ensures c.learn.ensures.learns.size
+    c.learn-go.ensures.learns.size c.begin-body.ensures.swept c.learn.ensures.learns.size
 
-pub begin-returns-in-Some : goal.begin-returns-in-Some
-begin-returns-in-Some t c =
-    idle_begun c.args.s.now c.args.at.now c.args.gate c.args.env.now c.args.table.now.cells.items _ _ _
-    (rw c.in-Some.is at c.past_idle.ensures) c.make_false.ensures c.nothing.ensures.judged c.nothing.ensures.past
+pub begin-returns-in-Some-clause-swept : goal.begin-returns-in-Some-clause-swept
+begin-returns-in-Some-clause-swept t c =
+    idle_begun c.args.s.now c.args.at.now c.args.gate c.args.env.now c.args.net.now.cells.items _ _ _
+    (rw c.in-Some.is at c.past_idle.ensures) c.make_false.ensures.cells c.nothing.ensures.judged c.nothing.ensures.past

@@ -28,7 +28,7 @@ add_emitted-overflow_add-parts t c =
 pub add_emitted-overflow_add-parts-2 : goal.add_emitted-overflow_add-parts-2
 add_emitted-overflow_add-parts-2 t c =
     let least = size_least c.args.main c.args.s.now c.args.traps in
-    omega (arith, least, c.requires.within, c.args.table.now.cells.ok.0)
+    omega (arith, least, c.requires.within, c.args.net.now.cells.ok.0)
 
 pub add_emitted-returns-in-Nothing : goal.add_emitted-returns-in-Nothing
 add_emitted-returns-in-Nothing t c =

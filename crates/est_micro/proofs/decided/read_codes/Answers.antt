@@ -15,7 +15,7 @@ loop-code-preserved c =
 
 pub returns : goal.returns
 returns c =
-    let f = cell_at c.args.table.now.cells.items in
+    let f = cell_at c.args.net.now.cells.items in
     let e : c.loop-code.code ≡ c.args.count = omega arith in
     read_sure_done _ f c.args.cell c.args.count
     (subst (λ (z : ℕ). ReadSoFar (codes_of c.loop-code.codes) (λ (k : ℕ). is_sure (f (c.args.cell + k))) z) e

@@ -7,4 +7,4 @@ use Rattle.est_micro.proofs.decided.read_codes.Given as goal
 
 abbrev pub invariant-loop-code : goal.invariant-loop-code
 invariant-loop-code l =
-    ReadSoFar (codes_of l.codes) (λ (k : ℕ). is_sure (cell_at l.table.cells.items (l.cell + k))) l.code
+    ReadSoFar (codes_of l.codes) (λ (k : ℕ). is_sure (cell_at l.net.cells.items (l.cell + k))) l.code

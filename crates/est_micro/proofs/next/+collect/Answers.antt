@@ -82,7 +82,7 @@ collect-overflow_add-parts t c =
 pub collect-overflow_add-parts-2 : goal.collect-overflow_add-parts-2
 collect-overflow_add-parts-2 t c =
     let least = size_least c.args.main c.args.s.now c.args.traps in
-    omega (arith, least, c.requires, c.args.table.now.cells.ok.0)
+    omega (arith, least, c.requires, c.args.net.now.cells.ok.0)
 
 pub collect_suspend-gives_pause-body_pauses-requires : goal.collect_suspend-gives_pause-body_pauses-requires
 collect_suspend-gives_pause-body_pauses-requires t c =

@@ -6,5 +6,5 @@ use Rattle.est_micro.proofs.next.gives_pause.Goals as goal
 
 pub returns : goal.returns
 returns c =
-    pause_cell (cell_at c.args.table.now.cells.items) c.args.cell c.args.traps _
+    pause_cell (cell_at c.args.net.now.cells.items) c.args.cell c.args.traps _
     (c.is_true.ensures ∙ ap is_sure c.status.ensures)

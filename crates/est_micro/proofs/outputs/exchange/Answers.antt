@@ -36,8 +36,8 @@ exchange_all-read-requires-clause-within c =
     (c.emittable-signals.ensures ∙ ap emittable c.interface-interface.ensures)
     (c.len.ensures.len ∙ ap length c.interface-interface.ensures) c.requires
 
-pub returns : goal.returns
-returns c =
+pub returns-clause-exchanged : goal.returns-clause-exchanged
+returns-clause-exchanged c =
     let f = c.emittable-signals.ensures ∙ ap emittable c.interface-interface.ensures in
     let m = c.len.ensures.len ∙ ap length c.interface-interface.ensures in
     let r = c.exchange_all-read.ensures in

@@ -1,4 +1,4 @@
-use Rattle.std.proofs.Common.{◌≡◌, arith}
+use Rattle.std.proofs.Common.{◌≡◌, ◌∙◌, arith, refl}
 use Rattle.est_kernel.proofs.Masks.{bits_zero}
 use Rattle.est_kernel.specs.Bits.{bits}
 use Rattle.est_micro.specs.Outputs.{told_of}
@@ -7,12 +7,15 @@ use Rattle.est_micro.proofs.outputs.exchange_all.Goals as goal
 
 pub loop-n-init : goal.loop-n-init
 loop-n-init c =
-    exchanging_none (bits c.args.signals) (told_of c.args.inputs c.args.judged.now) (bits 0) bits_zero
-    c.args.table.now.cells.items
+    record {
+      exchanging = exchanging_none (bits c.args.signals) (told_of c.args.inputs c.args.judged.now) (bits 0) bits_zero
+          c.args.net.now.cells.items;
+      kept = refl;
+    }
 
 pub exchange_one-read-requires-clause-within : goal.exchange_one-read-requires-clause-within
 exchange_one-read-requires-clause-within c = λ h.
-    let x = c.loop-n.invariant.telling in
+    let x = c.loop-n.invariant.exchanging.telling in
     let size = x.so_far.changes.size in
     cell_within (bits c.args.signals) c.args.places _ _ _ x.cell_is (omega arith)
     (omega (arith, size, c.requires.within)) h
@@ -20,20 +23,24 @@ exchange_one-read-requires-clause-within c = λ h.
 pub loop-n-preserved : goal.loop-n-preserved
 loop-n-preserved c =
     let r = c.exchange_one-read.ensures in
-    exchanging_more (bits c.args.signals) _ (told_of c.args.inputs c.args.judged.now) _ _ _ _ _ _
-    c.args.table.now.cells.items _ _ c.loop-n.invariant r.told r.sure r.other_sure r.possible r.other_possible
+    record {
+      exchanging = exchanging_more (bits c.args.signals) _ (told_of c.args.inputs c.args.judged.now) _ _ _ _ _ _
+          c.args.net.now.cells.items _ _ c.loop-n.invariant.exchanging r.told r.sure r.other_sure r.possible
+          r.other_possible;
+      kept = r.kept ∙ c.loop-n.invariant.kept;
+    }
 
 pub returns-clause-told : goal.returns-clause-told
 returns-clause-told c =
     let e : c.loop-n.n ≡ c.args.places = omega arith in
-    (exchanging_all _ _ _ _ _ _ _ _ _ e c.loop-n.invariant).telling.so_far
+    (exchanging_all _ _ _ _ _ _ _ _ _ e c.loop-n.invariant.exchanging).telling.so_far
 
 pub returns-clause-sure : goal.returns-clause-sure
 returns-clause-sure c =
     let e : c.loop-n.n ≡ c.args.places = omega arith in
-    (exchanging_all _ _ _ _ _ _ _ _ _ e c.loop-n.invariant).sure
+    (exchanging_all _ _ _ _ _ _ _ _ _ e c.loop-n.invariant.exchanging).sure
 
 pub returns-clause-possible : goal.returns-clause-possible
 returns-clause-possible c =
     let e : c.loop-n.n ≡ c.args.places = omega arith in
-    (exchanging_all _ _ _ _ _ _ _ _ _ e c.loop-n.invariant).possible
+    (exchanging_all _ _ _ _ _ _ _ _ _ e c.loop-n.invariant.exchanging).possible

@@ -1,8 +1,13 @@
+use Rattle.std.proofs.Common.{◌≡◌}
 use Rattle.est_kernel.specs.Bits.{bits}
+use Rattle.est_net.specs.Kept.{kept}
 use Rattle.est_micro.specs.Outputs.{told_of}
 use Rattle.est_micro.proofs.Exchanging.{Exchanging}
 use Rattle.est_micro.proofs.outputs.exchange_all.Given as goal
 
 abbrev pub invariant-loop-n : goal.invariant-loop-n
-invariant-loop-n l = Exchanging (bits l.signals) l.n (told_of l.inputs l.judged) l.read.cell (bits l.read.sure)
-    (bits l.read.possible) l.fn.table.cells.items l.table.cells.items
+invariant-loop-n l = record {
+  exchanging : Exchanging (bits l.signals) l.n (told_of l.inputs l.judged) l.read.cell (bits l.read.sure)
+      (bits l.read.possible) l.fn.net.cells.items l.net.cells.items;
+  kept : kept l.net ≡ kept l.fn.net;
+}

@@ -35,11 +35,11 @@ sweep-found-requires-clause-fits c =
 
 pub exchange-requires : goal.exchange-requires
 exchange-requires c =
-    let s = c.sweep-found.ensures.changes.size in
+    let s = c.sweep-found.ensures.swept.changes.size in
     omega (arith, s, c.requires.size)
 
-pub returns : goal.returns
-returns c =
+pub returns-clause-made : goal.returns-clause-made
+returns-clause-made c =
     round_is c.args.direction c.args.kernel.now c.args.state.now c.args.inputs _ c.args.outputs c.args.env.now _ _ _ _
     c.sweep-found.result
-    c.root.ensures c.requires.outputs c.sweep-found.ensures c.exchange.ensures
+    c.root.ensures c.requires.outputs c.sweep-found.ensures.swept c.exchange.ensures.exchanged

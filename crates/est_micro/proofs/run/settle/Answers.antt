@@ -5,52 +5,58 @@ use Rattle.est_meaning.specs.declared.status.Status.{Status}
 use Rattle.est_meaning.specs.declared.status.Status.TheVariants.{Unknown}
 use Rattle.est_net.specs.Reach.{HasEmissions}
 use Rattle.est_micro.specs.Runs.{IsExchanged}
-use Rattle.est_micro.proofs.FullTables.{decided_within}
+use Rattle.est_net.proofs.Ranges.{decided_within}
 use Rattle.est_micro.proofs.Settling.{start_ready, round_made, settled}
 use Rattle.est_micro.proofs.run.settle.Goals as goal
 
 pub loop-found-init : goal.loop-found-init
 loop-found-init c =
     let k = c.args.kernel.now in
-    let n = length c.args.table.now.cells.items in
+    let n = length c.args.net.now.cells.items in
     let h = subst
     (λ (z : List Status). IsExchanged k.interface (bits c.args.inputs)
     (bits c.in_doubt-doubt.result.must.signals.interface)
-    (bits c.in_doubt-doubt.result.can.signals.interface) z c.exchange-env.new.table.cells.items c.exchange-env.result)
-    c.clear.ensures
-    c.exchange-env.ensures in
-    round_made _ k c.args.state.now (bits c.args.inputs) _ _ _ _ _ _ _
-    (start_ready k c.args.state.now (bits c.args.inputs) _ _ n _ _ k.closed c.requires.size
-    c.in_doubt-doubt.ensures.sure
-    (subst (λ (z : ℕ). HasEmissions k.root c.args.state.now (bits z)) (sym c.in_doubt-doubt.ensures.possible)
-    c.requires.possible) h (length-replicate n Unknown))
-    c.round-found.ensures (omega arith) c.decided-now.ensures
+    (bits c.in_doubt-doubt.result.can.signals.interface) z c.exchange-env.new.net.cells.items c.exchange-env.result)
+    c.clear.ensures.cells
+    c.exchange-env.ensures.exchanged in
+    record {
+      settling = round_made _ k c.args.state.now (bits c.args.inputs) _ _ _ _ _ _ _
+          (start_ready k c.args.state.now (bits c.args.inputs) _ _ n _ _ k.closed c.requires.size
+          c.in_doubt-doubt.ensures.sure
+          (subst (λ (z : ℕ). HasEmissions k.root c.args.state.now (bits z)) (sym c.in_doubt-doubt.ensures.possible)
+          c.requires.possible) h (length-replicate n Unknown))
+          c.round-found.ensures.made (omega arith) c.steps-now.ensures.count;
+      once = c.round-found.ensures.kept ∙ (c.exchange-env.ensures.kept ∙ c.clear.ensures.kept);
+    }
 
 pub loop-found-preserved : goal.loop-found-preserved
 loop-found-preserved c =
-    round_made _ c.args.kernel.now c.args.state.now (bits c.args.inputs) _ _ _ _ _ _ _ c.loop-found.invariant.ready
-    c.round-found-in-loop-found.ensures
-    (let counted = c.loop-found.invariant.counted in omega arith) c.decided-now-in-loop-found.ensures
+    record {
+      settling = round_made _ c.args.kernel.now c.args.state.now (bits c.args.inputs) _ _ _ _ _ _ _ c.loop-found.invariant.settling.ready
+          c.round-found-in-loop-found.ensures.made
+          (let counted = c.loop-found.invariant.settling.counted in omega arith) c.steps-now-in-loop-found.ensures.count;
+      once = c.round-found-in-loop-found.ensures.kept ∙ c.loop-found.invariant.once;
+    }
 
 pub loop-found-smaller : goal.loop-found-smaller
 loop-found-smaller c =
-    let m = round_made _ c.args.kernel.now c.args.state.now (bits c.args.inputs) _ _ c.loop-found.table.cells.items _ _
-    c.loop-found.now _ c.loop-found.invariant.ready
-    c.round-found-in-loop-found.ensures
-    (let counted = c.loop-found.invariant.counted in omega arith) c.decided-now-in-loop-found.ensures in
+    let m = round_made _ c.args.kernel.now c.args.state.now (bits c.args.inputs) _ _ c.loop-found.net.cells.items _ _
+    c.loop-found.now _ c.loop-found.invariant.settling.ready
+    c.round-found-in-loop-found.ensures.made
+    (let counted = c.loop-found.invariant.settling.counted in omega arith) c.steps-now-in-loop-found.ensures.count in
     let a = m.ready.size in
-    let b = c.loop-found.invariant.ready.size in
-    let d = c.loop-found.invariant.rising in
-    let e = c.loop-found.invariant.counted in
-    let f = decided_within c.loop-found.table.cells.items in
+    let b = c.loop-found.invariant.settling.ready.size in
+    let d = c.loop-found.invariant.settling.rising in
+    let e = c.loop-found.invariant.settling.counted in
+    let f = decided_within c.loop-found.net.cells.items in
     let g = c.goes_on.ensures.more c.loop-found-test.true in
     omega arith
 
-pub returns : goal.returns
-returns c =
+pub returns-clause-settled : goal.returns-clause-settled
+returns-clause-settled c =
     let now = c.loop-found.now in
-    let count : c.len-cells.result ≡ length c.loop-found.table.cells.items
-    = c.len-cells.ensures ∙ (c.requires.size ∙ sym c.loop-found.invariant.ready.size) in
-    settled c.args.kernel.now c.args.state.now (bits c.args.inputs) _ _ _ _ c.loop-found.invariant
+    let count : c.cells-cells.result ≡ length c.loop-found.net.cells.items
+    = c.cells-cells.ensures ∙ (c.requires.size ∙ sym c.loop-found.invariant.settling.ready.size) in
+    settled c.args.kernel.now c.args.state.now (bits c.args.inputs) _ _ _ _ c.loop-found.invariant.settling
     (subst (λ (z : ℕ). (now ≡ c.loop-found.before) ⊎ (now ≡ z)) count
     (c.goes_on.ensures.rest c.loop-found-test.false))

@@ -1,0 +1,57 @@
+//! What a cell is told. Each cell that is decided by it is decided by a write of the table.
+
+ghost use Rattle.std.specs.Prelude.{◌≡◌, ◌<◌, ◌≤◌, length};
+ghost use Rattle.est_meaning.specs.declared.status.Status.TheVariants.{Absent};
+ghost use Rattle.est_net.specs.Cells.{AreFalse, Learns, NoneTrue, cell_at};
+ghost use Rattle.est_net.specs.Kept.{kept};
+
+use est_meaning::status::Status;
+use est_net::net::Net;
+
+/// Tells a cell something, and answers what it then knows. It is decided by it if it is open and
+/// what it is told isn't Unknown.
+#[inline(always)]
+pub fn learn(net: &mut Net, cell: usize, now: Status) -> Status
+    requires { cell < length net.old.cells.items }
+    ensures learns { Learns cell now net.old.cells.items net.new.cells.items }
+    ensures known { result ≡ cell_at net.new.cells.items cell }
+    ensures kept { kept net.new ≡ kept net.old }
+{
+    if net.is_decided(cell) {
+        return net.status(cell);
+    }
+    match now {
+        Status::Present => net.write(cell, true),
+        Status::Absent => net.write(cell, false),
+        Status::Unknown => {}
+    }
+    now
+}
+
+/// Tells the cells of a range, of which none is true, that they are false, one after another.
+fn learn_false(net: &mut Net, from: usize, past: usize)
+    requires range { from ≤ past }
+    requires within { past ≤ length net.old.cells.items }
+    requires none { NoneTrue from past net.old.cells.items }
+    ensures cells { AreFalse from past net.old.cells.items net.new.cells.items }
+    ensures kept { kept net.new ≡ kept net.old }
+{
+    for cell in from..past {
+        learn(net, cell, Status::Absent);
+    }
+}
+
+/// Makes the cells of a range false, of which none is true: where all are open, at once.
+pub fn make_false(net: &mut Net, from: usize, past: usize)
+    requires range { from ≤ past }
+    requires within { past ≤ length net.old.cells.items }
+    requires none { NoneTrue from past net.old.cells.items }
+    ensures cells { AreFalse from past net.old.cells.items net.new.cells.items }
+    ensures kept { kept net.new ≡ kept net.old }
+{
+    if net.all_open(from, past) {
+        net.fill(from, past);
+    } else {
+        learn_false(net, from, past);
+    }
+}

@@ -1,0 +1,22 @@
+-- What a write leaves of a table (this project's own form).
+use Rattle.std.specs.Prelude.{ℕ, ◌+◌, ◌%◌, ◌^◌}
+use Rattle.est_net.specs.Cells.{decided}
+use Rattle.est_net.specs.declared.net.Net.{Net}
+use Rattle.est_net.specs.declared.reach.Reach.{Reach}
+
+-- how many cells were decided before the cells were last opened, and what never changes
+pub record Kept : Type 0 where
+  pub earlier : ℕ
+  pub outputs : ℕ
+  pub reach : Reach
+
+abbrev pub kept : Net → Kept
+kept net = record { earlier = net.earlier; outputs = net.outputs; reach = net.reach }
+
+-- what is left of it once its cells are opened: those that were decided count among the earlier ones
+abbrev pub reopened : Net → Kept
+reopened net = record {
+  earlier = (net.earlier + decided net.cells.items) % 2 ^ 64;
+  outputs = net.outputs;
+  reach = net.reach;
+}
