@@ -2,3 +2,8 @@ pub mod Deciding
 mod Covering
 mod Ranges
 mod Reaching
+mod Finding
+mod KernelOwners
+mod OwnerCounts
+mod OwnerLists
+mod OwnerValues

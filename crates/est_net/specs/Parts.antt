@@ -1,0 +1,32 @@
+-- The parts of a statement by their numbers, and how many loops and traps lie around each (this project's own form).
+use Rattle.std.specs.Prelude.{◌+◌, ℕ, cond, ltb, nat_eq}
+use Rattle.est_kernel.specs.declared.statement.Statement.{Statement}
+use Rattle.est_kernel.specs.declared.statement.Statement.TheVariants.{Nothing, Pause, Emit, Present', Suspend', Seq'}
+use Rattle.est_kernel.specs.declared.statement.Statement.TheVariants.{Loop', Par', Trap', Exit, Local' as Binder'}
+use Rattle.est_net.specs.Owners.{statements}
+
+-- a part of a statement, and how many loops and traps lie around it
+pub record Part : Type 0 where
+  pub statement : Statement
+  pub loops : ℕ
+  pub traps : ℕ
+
+abbrev pub part : Statement → (d t : ℕ) → Part
+part s d t = record { statement = s; loops = d; traps = t }
+
+-- the statement of number m in one that has number n and lies inside d loops and t traps
+abbrev pub part_at : Statement → (n d t m : ℕ) → Part
+part_at Nothing n d t m = part Nothing d t
+part_at (Pause k) n d t m = part (Pause k) d t
+part_at (Emit s) n d t m = part (Emit s) d t
+part_at (Exit k) n d t m = part (Exit k) d t
+part_at (Present' s a p b q) n d t m = cond (nat_eq m n) (part (Present' s a p b q) d t)
+    (cond (ltb m (n + 1 + statements p)) (part_at p (n + 1) d t m) (part_at q (n + 1 + statements p) d t m))
+part_at (Suspend' s a p) n d t m = cond (nat_eq m n) (part (Suspend' s a p) d t) (part_at p (n + 1) d t m)
+part_at (Seq' a p b q) n d t m = cond (nat_eq m n) (part (Seq' a p b q) d t)
+    (cond (ltb m (n + 1 + statements p)) (part_at p (n + 1) d t m) (part_at q (n + 1 + statements p) d t m))
+part_at (Loop' a p) n d t m = cond (nat_eq m n) (part (Loop' a p) d t) (part_at p (n + 1) (d + 1) t m)
+part_at (Par' a p b q) n d t m = cond (nat_eq m n) (part (Par' a p b q) d t)
+    (cond (ltb m (n + 1 + statements p)) (part_at p (n + 1) d t m) (part_at q (n + 1 + statements p) d t m))
+part_at (Trap' a p) n d t m = cond (nat_eq m n) (part (Trap' a p) d t) (part_at p (n + 1) d (t + 1) m)
+part_at (Binder' s a p) n d t m = cond (nat_eq m n) (part (Binder' s a p) d t) (part_at p (n + 1) d t m)
