@@ -1,8 +1,6 @@
 -- Looking for a cell among those of a statement: its own, and those of its parts.
-use Rattle.std.specs.Prelude.{◌≡◌, ◌<◌, ◌≤◌, ◌+◌, ◌-◌, ℕ, Bool, true, false, cond, List, [], ◌++◌, length, Some}
-use Rattle.std.proofs.Common.{refl, ap, sym, ◌∙◌, arith, subst}
-use Rattle.std.proofs.lemmas.Option.{slice_get-get_or}
-use Rattle.std.proofs.lemmas.List.FromFn.{get_or-map-range_with_len}
+use Rattle.std.specs.Prelude.{◌≡◌, ◌<◌, ◌≤◌, ◌+◌, ◌-◌, ℕ, Bool, true, false, cond, List, [], ◌++◌, length}
+use Rattle.std.proofs.Common.{refl, sym, ◌∙◌, arith, subst}
 use Rattle.est_kernel.specs.declared.statement.Statement.{Statement}
 use Rattle.est_kernel.specs.declared.statement.Statement.TheVariants.{Nothing, Pause, Emit, Present', Suspend', Seq'}
 use Rattle.est_kernel.specs.declared.statement.Statement.TheVariants.{Loop', Par', Trap', Exit, Local' as Binder'}
@@ -13,7 +11,7 @@ use Rattle.est_net.specs.declared.owners.Search.{Search}
 use Rattle.est_net.specs.declared.owners.Search.TheVariants.{Found, After}
 use Rattle.est_net.specs.declared.owners.Spot.{Spot}
 use Rattle.est_net.specs.declared.owners.StatementCell.{StatementCell}
-use Rattle.est_net.proofs.OwnerLists.{at_left, at_right, own_length, owners_length}
+use Rattle.est_net.proofs.OwnerLists.{at_left, at_right, own_length, own_there, owners_length}
 
 -- among the first of two lists, or the second
 in_first : (c x : ℕ) (a b : List StatementCell) (o : StatementCell) → IsAmong c a x o → IsAmong c (a ++ b) x o
@@ -28,14 +26,7 @@ in_second c d x m a b o l e h =
 -- a cell of the statement's own
 own_here : (i n t own c x : ℕ) → c ≤ x → x - c < own
     → IsAmong c (own_owners i n t own) x (cell_of i n (kind_at t (x - c)))
-own_here i n t own c x l h =
-    let f : ℕ → StatementCell = λ z. cell_of i n (kind_at t z) in
-    let m = own_length i n t own in
-    record {
-      from = l;
-      here = slice_get-get_or (own_owners i n t own) (x - c) (f 0) (omega arith)
-          ∙ ap Some (get_or-map-range_with_len f 0 own (x - c) (x - c) (f 0) h (omega arith));
-    }
+own_here i n t own c x l h = record { from = l; here = own_there i n t own (x - c) h }
 
 pub own_found : (main : Bool) (s : Statement) (i n t c x : ℕ) → c ≤ x → x - c < own_cells s t
     → IsAmong c (owners_in main s i n t) x (cell_of i n (kind_at t (x - c)))

@@ -9,6 +9,8 @@ use Rattle.std.proofs.lemmas.List.{length-append, length-map}
 use Rattle.std.proofs.lemmas.List.Sums.{sum_by-cons, sum_by-append}
 use Rattle.std.proofs.lemmas.Option.{slice_get-map, same_Some}
 use Rattle.std.proofs.Math.Nat.{eq-or-lt_of_le}
+use Rattle.est_kernel.specs.Interfaces.{emittable}
+use Rattle.est_kernel.specs.declared.kernel.Kernel.{Kernel}
 use Rattle.est_kernel.specs.declared.statement.Statement.{Statement}
 use Rattle.est_net.specs.declared.owners.Owner.{Owner}
 use Rattle.est_net.specs.declared.owners.Owner.TheVariants as owner
@@ -20,10 +22,11 @@ use Rattle.est_cells.specs.Tables.{sheet_size}
 use Rattle.est_cells.specs.Whole.{Table}
 use Rattle.est_net.specs.Layout.{sheet_in}
 use Rattle.est_net.specs.Laws.{is_statement}
-use Rattle.est_net.specs.Owners.{owners_in, own_cells, places, statements}
+use Rattle.est_net.specs.Owners.{owners, owners_in, own_cells, places, statements}
 use Rattle.est_net.specs.OwnerValues.{value_at}
-use Rattle.est_net.specs.Parts.{part_at}
-use Rattle.est_net.proofs.OwnerLists.{at_left, at_right, owners_length, split}
+use Rattle.est_net.specs.Parts.{IsCellOf, IsOwner, part_at}
+use Rattle.est_net.proofs.OwnerLists.{at_left, at_right, owners_length, split, stands}
+use Rattle.est_net.proofs.OwnerCells.{has_cells}
 use Rattle.est_net.proofs.OwnerValues.{owner_value}
 use Rattle.est_net.proofs.OwnerCounts.{count, counts}
 
@@ -55,22 +58,27 @@ place_stands f (suc m) n l h = elim (eq-or-lt_of_le {n = n} {m = m} (omega arith
   | inr k ↦ at_left (places f m) (cond (f m) (m ∷ []) []) (how_many f n) n (place_stands f m n k h)
 ]
 
--- a place that stands in the list at x has x before it
-one_back : (b : Bool) (n y p : ℕ) → slice_get (cond b (n ∷ []) []) y ≡ Some p → (y ≡ 0) × (p ≡ n)
-one_back true n zero p h = (refl, sym (same_Some n p h))
+-- a place that stands in the list at x has x before it, and passes the test
+one_back : (b : Bool) (n y p : ℕ) → slice_get (cond b (n ∷ []) []) y ≡ Some p → (y ≡ 0) × (p ≡ n) × (b ≡ true)
+one_back true n zero p h = (refl, sym (same_Some n p h), refl)
 one_back true n (suc y) p h = cc
 one_back false n y p h = cc
 
-pub place_back : (f : ℕ → Bool) (m x n : ℕ) → slice_get (places f m) x ≡ Some n → how_many f n ≡ x
+pub place_back : (f : ℕ → Bool) (m x n : ℕ) → slice_get (places f m) x ≡ Some n
+    → (how_many f n ≡ x) × (n < m) × (f n ≡ true)
 place_back f zero x n h = cc
 place_back f (suc m) x n h = elim (split (places f m) (cond (f m) (m ∷ []) []) x n h) [
-  | inl k ↦ place_back f m x n k
+  | inl k ↦
+      let w = place_back f m x n k in
+      let l = w.1 in
+      (w.0, omega arith, w.2)
   | inr w ↦
       let k = places_length f m in
       let o = one_back (f m) m w.0 n w.2 in
       let z = o.0 in
       let e = w.1 in
-      ap (how_many f) o.1 ∙ omega arith
+      let l = o.1 in
+      (ap (how_many f) o.1 ∙ omega arith, omega arith, ap f o.1 ∙ o.2)
 ]
 
 -- what stands in a list to which a function was applied
@@ -108,7 +116,7 @@ kernel_value i n s f x o h =
     elim (split (map (λ m. owner.Signal m) (places i n)) (map (λ c. owner.Statement c) (owners_in true s 0 0 0)) x o h) [
       | inl k ↦
           let w = mapped (λ (m : ℕ). owner.Signal m) (places i n) x o k in
-          subst (λ z. value_at s (read i n s f) z ≡ f x) w.2 (ap f (place_back i n x w.0 w.1))
+          subst (λ z. value_at s (read i n s f) z ≡ f x) w.2 (ap f (place_back i n x w.0 w.1).0)
       | inr v ↦
           let w = mapped (λ (c : StatementCell). owner.Statement c) (owners_in true s 0 0 0) v.0 o v.2 in
           let a = length-map (places i n) (λ m. owner.Signal m) in
@@ -158,3 +166,47 @@ kernel_counts f n s m l =
     let c = statement_count m (owners_in true s 0 0 0) in
     let d = counts true s 0 0 0 0 m (omega arith) (omega arith) in
     a ∙ (ap (λ z. z + count_by (is_statement m) (map (λ o. owner.Statement o) (owners_in true s 0 0 0))) b ∙ omega arith)
+
+-- what has a cell
+some_signal : (k : Kernel) (n : ℕ) → n < length k.interface → emittable k.interface n ≡ true
+    → slice_get (owners k) (how_many (emittable k.interface) n) ≡ Some (owner.Signal n)
+some_signal k n l h =
+    let f = emittable k.interface in
+    let x = how_many f n in
+    at_left (map (λ m. owner.Signal m) (places f (length k.interface)))
+    (map (λ o. owner.Statement o) (owners_in true k.root 0 0 0)) x (owner.Signal n)
+    (map_stands (λ m. owner.Signal m) (places f (length k.interface)) x n (place_stands f (length k.interface) n l h))
+
+some_statement : (k : Kernel) (o : StatementCell) → IsCellOf k.root o
+    → (x : ℕ) × (slice_get (owners k) x ≡ Some (owner.Statement o))
+some_statement k o h =
+    let turn = h.incarnation in
+    let z = has_cells true k.root 0 0 0 0 o.statement o.incarnation (λ e. refl) (omega arith)
+    (let n = h.number in omega arith) (omega arith) o.kind h.kind in
+    let f = emittable k.interface in (
+      how_many f (length k.interface) + z.0,
+      statement_stands f (length k.interface) k.root (how_many f (length k.interface) + z.0) z.0 o refl z.1,
+    )
+
+pub some_cell : (k : Kernel) (o : Owner) → IsOwner k o → (x : ℕ) × (slice_get (owners k) x ≡ Some o)
+some_cell k (owner.Signal n) h = (how_many (emittable k.interface) n, some_signal k n h.0 h.1)
+some_cell k (owner.Statement o) h = some_statement k o h
+
+pub no_other : (k : Kernel) (x : ℕ) (o : Owner) → slice_get (owners k) x ≡ Some o → IsOwner k o
+no_other k x o h =
+    let f = emittable k.interface in
+    let n = length k.interface in
+    elim (split (map (λ m. owner.Signal m) (places f n)) (map (λ c. owner.Statement c) (owners_in true k.root 0 0 0)) x o
+    h) [
+      | inl y ↦
+          let w = mapped (λ (m : ℕ). owner.Signal m) (places f n) x o y in
+          let e = place_back f n x w.0 w.1 in
+          subst (λ z. IsOwner k z) w.2 (e.1, e.2)
+      | inr v ↦
+          let w = mapped (λ (c : StatementCell). owner.Statement c) (owners_in true k.root 0 0 0) v.0 o v.2 in
+          let r = stands true k.root 0 0 0 0 0 v.0 w.0 w.1 in
+          let past = r.past in
+          let turn = r.turn in
+          subst (λ z. IsOwner k z) w.2
+          (record { number = omega arith; incarnation = omega arith; kind = r.kind refl })
+    ]

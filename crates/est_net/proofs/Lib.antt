@@ -4,6 +4,7 @@ mod Ranges
 mod Reaching
 mod Finding
 mod KernelOwners
+mod OwnerCells
 mod OwnerCounts
 mod OwnerLists
 mod OwnerValues

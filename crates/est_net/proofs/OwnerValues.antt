@@ -131,23 +131,26 @@ owner_value main (Seq' a p b q) i n c t x f o z h =
     (r.first, owner_value main q i (n + 1 + statements p) (c + t + 3 + sheet_size main p t) t y f o z k)) h
 owner_value true (Loop' a p) i n c t x f o z h =
     let e = sheet_size true p t in
-    one_value f i n c t (t + 3) x Unknown o _ _ (omega arith) (λ e. absurd (omega arith))
+    let u = value_in true p (n + 1) (sheet_in f true p (c + t + 3) t) o in
+    let v = value_in false p (n + 1) (sheet_in f false p (c + t + 3 + e) t) o in
+    let l = (part_at p (n + 1) 0 0 o.statement).loops in
+    one_value f i n c t (t + 3) x Unknown o _ (cond (nat_eq o.incarnation (l + 1)) v u) (omega arith) (λ e. absurd (omega arith))
     (λ y k. elim (split (owners_in true p i (n + 1) t) (owners_in false p 1 (n + 1) t) y o k) [
       | inl k ↦
           let r = stands true p i (n + 1) 0 0 t y o k in
           let i0 = z refl in
           let turn = r.turn in (
             r.first,
-            not_again o.incarnation (part_at p (n + 1) 0 0 o.statement).loops _ _ (omega arith)
+            not_again o.incarnation l v u (omega arith)
                 ∙ (owner_value true p i (n + 1) (c + t + 3) t y f o z k ∙ ap f (omega arith)),
           )
       | inr w ↦
           let r = stands false p 1 (n + 1) 0 0 t w.0 o w.2 in
           let turn = r.turn in
-          let l = owners_length true p i (n + 1) t in
+          let size = owners_length true p i (n + 1) t in
           let d = w.1 in (
             r.first,
-            again o.incarnation (part_at p (n + 1) 0 0 o.statement).loops _ _ (omega arith)
+            again o.incarnation l v u (omega arith)
                 ∙ (owner_value false p 1 (n + 1) (c + t + 3 + e) t w.0 f o (λ q. let b : false ≡ true = q in cc) w.2
                 ∙ ap f (omega arith)),
           )

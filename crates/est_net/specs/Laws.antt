@@ -8,7 +8,7 @@ use Rattle.est_cells.specs.Tables.{sheet_size}
 use Rattle.est_net.specs.Layout.{cell_count, table_in}
 use Rattle.est_net.specs.Owners.{statements, own_cells, owners_in, owners}
 use Rattle.est_net.specs.OwnerValues.{value_at}
-use Rattle.est_net.specs.Parts.{part_at}
+use Rattle.est_net.specs.Parts.{IsOwner, part_at}
 use Rattle.est_net.specs.declared.owners.Owner.{Owner}
 use Rattle.est_net.specs.declared.owners.Owner.TheVariants as owner
 
@@ -17,8 +17,11 @@ pub record OwnersAreCounted : Type 0 where
   pub sheet : (main : Bool) (s : Statement) (i n t : ℕ) → length (owners_in main s i n t) ≡ sheet_size main s t
   pub kernel : (k : Kernel) → length (owners k) ≡ cell_count k
 
--- no owner stands twice: each has one cell
-pub record OwnersAreDistinct : Type 0 where
+-- each signal that may be emitted, and each kind of cell of each statement in each of its incarnations, has exactly one
+-- cell, and nothing else has one
+pub record EachOwnerHasOneCell : Type 0 where
+  pub some_cell : (k : Kernel) (o : Owner) → IsOwner k o → (x : ℕ) × (slice_get (owners k) x ≡ Some o)
+  pub no_other : (k : Kernel) (x : ℕ) (o : Owner) → slice_get (owners k) x ≡ Some o → IsOwner k o
   pub one_cell : (k : Kernel) (x y : ℕ) (o : Owner) → slice_get (owners k) x ≡ Some o → slice_get (owners k) y ≡ Some o
       → x ≡ y
 

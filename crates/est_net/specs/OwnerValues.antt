@@ -23,8 +23,8 @@ own_value c v Go = c.go
 own_value c v (Code k) = verdict (c.must k) (c.may k)
 own_value c v OfSignal = v
 
--- the cell of this owner in the sheet of a statement that has number n. Where the sheet has a loop's body twice, it is the
--- restart's if the incarnation counts the loops around the statement up to this one
+-- the cell of this owner in the sheet of a statement that has number n. A loop that has its body twice has it in the
+-- restart's sheet if the incarnation counts the loops from the owner's statement outwards up to this one
 abbrev pub value_in : (main : Bool) (s : Statement) (n : ℕ) → Sheet main s → StatementCell → Status
 value_in main Nothing n T o = own_value T.cells Unknown o.kind
 value_in main (Pause k) n T o = own_value T.cells Unknown o.kind

@@ -1,9 +1,15 @@
 -- The parts of a statement by their numbers, and how many loops and traps lie around each (this project's own form).
-use Rattle.std.specs.Prelude.{◌+◌, ℕ, cond, ltb, nat_eq}
+use Rattle.std.specs.Prelude.{◌≡◌, ◌<◌, ◌≤◌, ◌+◌, ℕ, true, cond, ltb, nat_eq, length}
+use Rattle.est_kernel.specs.Interfaces.{emittable}
+use Rattle.est_kernel.specs.declared.kernel.Kernel.{Kernel}
 use Rattle.est_kernel.specs.declared.statement.Statement.{Statement}
 use Rattle.est_kernel.specs.declared.statement.Statement.TheVariants.{Nothing, Pause, Emit, Present', Suspend', Seq'}
 use Rattle.est_kernel.specs.declared.statement.Statement.TheVariants.{Loop', Par', Trap', Exit, Local' as Binder'}
-use Rattle.est_net.specs.Owners.{statements}
+use Rattle.est_net.specs.Owners.{statements, own_cells, kind_at}
+use Rattle.est_net.specs.declared.owners.CellKind.{CellKind}
+use Rattle.est_net.specs.declared.owners.StatementCell.{StatementCell}
+use Rattle.est_net.specs.declared.owners.Owner.{Owner}
+use Rattle.est_net.specs.declared.owners.Owner.TheVariants as owner
 
 -- a part of a statement, and how many loops and traps lie around it
 pub record Part : Type 0 where
@@ -30,3 +36,20 @@ part_at (Par' a p b q) n d t m = cond (nat_eq m n) (part (Par' a p b q) d t)
     (cond (ltb m (n + 1 + statements p)) (part_at p (n + 1) d t m) (part_at q (n + 1 + statements p) d t m))
 part_at (Trap' a p) n d t m = cond (nat_eq m n) (part (Trap' a p) d t) (part_at p (n + 1) d (t + 1) m)
 part_at (Binder' s a p) n d t m = cond (nat_eq m n) (part (Binder' s a p) d t) (part_at p (n + 1) d t m)
+
+-- what a cell of a part may tell: t + 3 kinds inside t traps, and one more where the part declares a signal
+pub record IsKindOf (q : Part) (kind : CellKind) : Type 0 where
+  pub offset : ℕ
+  pub within : offset < own_cells q.statement q.traps
+  pub same : kind ≡ kind_at q.traps offset
+
+-- what a statement has cells of: each part, in its incarnations from 0 up to the number of loops around it, in each kind
+pub record IsCellOf (s : Statement) (o : StatementCell) : Type 0 where
+  pub number : o.statement < statements s
+  pub incarnation : o.incarnation ≤ (part_at s 0 0 0 o.statement).loops
+  pub kind : IsKindOf (part_at s 0 0 0 o.statement) o.kind
+
+-- what a kernel has cells of: the signals that may be emitted, and its statement
+abbrev pub IsOwner : Kernel → Owner → Type 0
+IsOwner k (owner.Signal n) = (n < length k.interface) × (emittable k.interface n ≡ true)
+IsOwner k (owner.Statement o) = IsCellOf k.root o

@@ -1,6 +1,6 @@
 //! The laws of the list of owners.
 
-ghost use Rattle.est_net.specs.Laws.{OwnersAreCounted, OwnersAreDistinct, StatementsHaveCells};
+ghost use Rattle.est_net.specs.Laws.{OwnersAreCounted, EachOwnerHasOneCell, StatementsHaveCells};
 ghost use Rattle.est_net.specs.Laws.{OwnersAreRead};
 
 /// There are as many owners as cells.
@@ -8,9 +8,10 @@ pub fn owners_are_counted()
     ensures { OwnersAreCounted }
 {}
 
-/// Each owner has one cell.
-pub fn owners_are_distinct()
-    ensures { OwnersAreDistinct }
+/// Each owner has exactly one cell: each signal that may be emitted, and each kind of cell of each
+/// statement in each of its incarnations; and nothing else has one.
+pub fn each_owner_has_one_cell()
+    ensures { EachOwnerHasOneCell }
 {}
 
 /// A statement inside d loops and t traps has (d + 1) (t + 3) cells, and a `signal` (d + 1) (t + 4).
