@@ -53,7 +53,8 @@ pub record HasPart (s p : Statement) (within : ℕ → ℕ) : Type 0 where
 abbrev pub inside : Spot → ℕ → Spot
 inside at own = record { statement = at.statement + 1; cell = at.cell + own }
 
-pub part_finds : (main : Bool) (s p : Statement) (i : ℕ) (at : Spot) (t own : ℕ) (within : ℕ → ℕ) (x : ℕ) (r : Search) → HasPart s p within
+pub part_finds : (main : Bool) (s p : Statement) (i : ℕ) (at : Spot) (t own : ℕ) (within : ℕ → ℕ) (x : ℕ) (r : Search)
+    → HasPart s p within
     → own ≡ own_cells s t → at.statement ≤ at.cell → 3 ≤ own
     → Finds main p i (inside at own) (within t) x r → Finds main s i at t x r
 part_finds main s p i at t own within x (Found o) w e a b h =

@@ -113,7 +113,8 @@ kernel_length f n s =
 pub kernel_value : (i : ℕ → Bool) (n : ℕ) (s : Statement) (f : ℕ → Status) (x : ℕ) (o : Owner)
     → slice_get (listed i n s) x ≡ Some o → value_at s (read i n s f) o ≡ f x
 kernel_value i n s f x o h =
-    elim (split (map (λ m. owner.Signal m) (places i n)) (map (λ c. owner.Statement c) (owners_in true s 0 0 0)) x o h) [
+    elim (split (map (λ m. owner.Signal m) (places i n)) (map (λ c. owner.Statement c) (owners_in true s 0 0 0)) x o
+    h) [
       | inl k ↦
           let w = mapped (λ (m : ℕ). owner.Signal m) (places i n) x o k in
           subst (λ z. value_at s (read i n s f) z ≡ f x) w.2 (ap f (place_back i n x w.0 w.1).0)
@@ -165,7 +166,8 @@ kernel_counts f n s m l =
     let b = no_signals m (places f n) in
     let c = statement_count m (owners_in true s 0 0 0) in
     let d = counts true s 0 0 0 0 m (omega arith) (omega arith) in
-    a ∙ (ap (λ z. z + count_by (is_statement m) (map (λ o. owner.Statement o) (owners_in true s 0 0 0))) b ∙ omega arith)
+    a ∙ (ap (λ z. z + count_by (is_statement m) (map (λ o. owner.Statement o) (owners_in true s 0 0 0))) b
+    ∙ omega arith)
 
 -- what has a cell
 some_signal : (k : Kernel) (n : ℕ) → n < length k.interface → emittable k.interface n ≡ true
@@ -196,7 +198,8 @@ pub no_other : (k : Kernel) (x : ℕ) (o : Owner) → slice_get (owners k) x ≡
 no_other k x o h =
     let f = emittable k.interface in
     let n = length k.interface in
-    elim (split (map (λ m. owner.Signal m) (places f n)) (map (λ c. owner.Statement c) (owners_in true k.root 0 0 0)) x o
+    elim (split (map (λ m. owner.Signal m) (places f n)) (map (λ c. owner.Statement c) (owners_in true k.root 0 0 0))
+    x o
     h) [
       | inl y ↦
           let w = mapped (λ (m : ℕ). owner.Signal m) (places f n) x o y in

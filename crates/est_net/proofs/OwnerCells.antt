@@ -73,7 +73,8 @@ has_cells main Nothing i n d t m j z l u w = leaf_cells main Nothing i n d t m j
 has_cells main (Pause k) i n d t m j z l u w = leaf_cells main (Pause k) i n d t m j refl z l (omega arith) w
 has_cells main (Emit s) i n d t m j z l u w = leaf_cells main (Emit s) i n d t m j refl z l (omega arith) w
 has_cells main (Exit k) i n d t m j z l u w = leaf_cells main (Exit k) i n d t m j refl z l (omega arith) w
-has_cells main (Present' s a p b q) i n d t m j z l u w = with_own main (Present' s a p b q) i n d t (t + 3) m j _ refl z l w
+has_cells main (Present' s a p b q) i n d t m j z l u w = with_own main (Present' s a p b q) i n d t (t + 3) m j _
+    refl z l w
     (λ k. has_two (n + 1 + statements p) m j _ _ _ (owners_in main p i (n + 1) t)
     (owners_in main q i (n + 1 + statements p) t) (λ r. is_first m n _ _ _ _ k r)
     (λ r. is_second m n _ _ _ _ (omega arith) r)
@@ -98,7 +99,8 @@ has_cells true (Loop' a p) i n d t m j z l u w = with_own true (Loop' a p) i n d
       | inl e ↦ has_first m j _ (owners_in true p i (n + 1) t) (owners_in false p 1 (n + 1) t)
           (has_cells true p i (n + 1) (d + 1) t m j z k (omega arith) (omega arith))
       | inr e ↦ has_second m j _ (owners_in true p i (n + 1) t) (owners_in false p 1 (n + 1) t)
-          (has_cells false p 1 (n + 1) (d + 1) t m j (λ q. let b : false ≡ true = q in cc) k (omega arith) (omega arith))
+          (has_cells false p 1 (n + 1) (d + 1) t m j (λ q. let b : false ≡ true = q in cc) k (omega arith)
+          (omega arith))
     ]))
 has_cells false (Loop' a p) i n d t m j z l u w = with_own false (Loop' a p) i n d t (t + 3) m j _ refl z l w
     (λ k. has_same m j _ _ (owners_in false p (i + 1) (n + 1) t ++ []) (is_inside m n _ _ k)

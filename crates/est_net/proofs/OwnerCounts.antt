@@ -80,7 +80,8 @@ counts_with main s i n d t own m a o l here inside =
       | inr e ↦
           let c : count m f ≡ 0 = none m f (λ x y k z. e (sym (ap (λ (v : StatementCell). v.statement)
           (own_at i n t own x y k).1 ∙ z))) in
-          subst (λ (y : ℕ). Counts main d (part_at s n d t m) y) (sym (both ∙ ap (λ (y : ℕ). y + count m a) c ∙ omega arith))
+          subst (λ (y : ℕ). Counts main d (part_at s n d t m) y)
+          (sym (both ∙ ap (λ (y : ℕ). y + count m a) c ∙ omega arith))
           (inside (omega arith))
     ]
 
@@ -149,7 +150,8 @@ counts true (Loop' a p) i n d t m l u = counts_with true (Loop' a p) i n d t (t 
     (owners_in false p 1 (n + 1) t) (is_inside m n _ _ k)
     (counts true p i (n + 1) (d + 1) t m k (omega arith)) (counts false p 1 (n + 1) (d + 1) t m k (omega arith)))
 counts false (Loop' a p) i n d t m l u = counts_with false (Loop' a p) i n d t (t + 3) m _ refl l
-    (λ e. both_none m (owners_in false p (i + 1) (n + 1) t) [] (none_before false p (i + 1) (n + 1) t m (omega arith)) refl)
+    (λ e. both_none m (owners_in false p (i + 1) (n + 1) t) [] (none_before false p (i + 1) (n + 1) t m (omega arith))
+    refl)
     (λ k. subst (λ (q : Part). Counts false d q (count m (owners_in false p (i + 1) (n + 1) t ++ [])))
     (sym (is_inside m n _ _ k))
     (let both = count_joined m (owners_in false p (i + 1) (n + 1) t) [] in
@@ -166,7 +168,8 @@ counts main (Par' a p b q) i n d t m l u = counts_with main (Par' a p b q) i n d
     (λ r. none_after main p i (n + 1) t m r) (λ r. counts main q i (n + 1 + statements p) d t m r (omega arith)))
 counts main (Trap' a p) i n d t m l u = counts_with main (Trap' a p) i n d t (t + 3) m _ refl l
     (λ e. none_before main p i (n + 1) (t + 1) m (omega arith))
-    (λ k. subst (λ (q : Part). Counts main d q (count m (owners_in main p i (n + 1) (t + 1)))) (sym (is_inside m n _ _ k))
+    (λ k. subst (λ (q : Part). Counts main d q (count m (owners_in main p i (n + 1) (t + 1))))
+    (sym (is_inside m n _ _ k))
     (counts main p i (n + 1) d (t + 1) m k (omega arith)))
 counts main (Binder' s a p) i n d t m l u = counts_with main (Binder' s a p) i n d t (t + 4) m _ refl l
     (λ e. none_before main p i (n + 1) t m (omega arith))

@@ -41,15 +41,18 @@ owners_length main (Pause k) i n t = own_length i n t (t + 3)
 owners_length main (Emit s) i n t = own_length i n t (t + 3)
 owners_length main (Exit k) i n t = own_length i n t (t + 3)
 owners_length main (Present' s a p b q) i n t =
-    two_length i n t (t + 3) _ _ _ _ (owners_length main p i (n + 1) t) (owners_length main q i (n + 1 + statements p) t)
+    two_length i n t (t + 3) _ _ _ _ (owners_length main p i (n + 1) t)
+    (owners_length main q i (n + 1 + statements p) t)
 owners_length main (Suspend' s a p) i n t = one_length i n t (t + 3) _ _ (owners_length main p i (n + 1) t)
 owners_length main (Seq' a p b q) i n t =
-    two_length i n t (t + 3) _ _ _ _ (owners_length main p i (n + 1) t) (owners_length main q i (n + 1 + statements p) t)
+    two_length i n t (t + 3) _ _ _ _ (owners_length main p i (n + 1) t)
+    (owners_length main q i (n + 1 + statements p) t)
 owners_length main (Loop' a p) i n t = two_length i n t (t + 3) _ _ _ _
     (owners_length main p (inside_loop main i) (n + 1) t)
     (again_length main (owners_in false p 1 (n + 1) t) _ (owners_length false p 1 (n + 1) t))
 owners_length main (Par' a p b q) i n t =
-    two_length i n t (t + 3) _ _ _ _ (owners_length main p i (n + 1) t) (owners_length main q i (n + 1 + statements p) t)
+    two_length i n t (t + 3) _ _ _ _ (owners_length main p i (n + 1) t)
+    (owners_length main q i (n + 1 + statements p) t)
 owners_length main (Trap' a p) i n t = one_length i n t (t + 3) _ _ (owners_length main p i (n + 1) (t + 1))
 owners_length main (Binder' s a p) i n t = one_length i n t (t + 4) _ _ (owners_length main p i (n + 1) t)
 
@@ -126,8 +129,8 @@ abbrev pub Turn : Bool → (a b : ℕ) → Type 0
 Turn true a b = a ≤ b
 Turn false a b = a ≡ b
 
--- an owner of a sheet: its number is one of the statement's, and its incarnation and its kind are ones that the loops and
--- traps around its statement allow; the whole has number n, incarnation i, and d loops and t traps around it
+-- an owner of a sheet: its number is one of the statement's, and its incarnation and its kind are ones that the loops
+-- and traps around its statement allow; the whole has number n, incarnation i, and d loops and t traps around it
 pub record Stands (main : Bool) (s : Statement) (i n d u t : ℕ) (o : StatementCell) : Type 0 where
   pub first : n ≤ o.statement
   pub past : o.statement < n + statements s
@@ -226,7 +229,8 @@ stands main (Exit k) i n d u t x o h = own_stands main (Exit k) i n d u t (t + 3
 stands main (Present' s a p b q) i n d u t x o h = two_stands main p q (Present' s a p b q) i n d u t x o _ _ refl refl
     (λ l r. is_first o.statement n _ _ _ _ l r) (λ l. is_second o.statement n _ _ _ _ (omega arith) l)
     (λ y k. stands main p i (n + 1) d u t y o k) (λ y k. stands main q i (n + 1 + statements p) d u t y o k) h
-stands main (Suspend' s a p) i n d u t x o h = one_stands main p (Suspend' s a p) i n d u u t t (t + 3) x o _ refl (λ z. z) refl
+stands main (Suspend' s a p) i n d u t x o h = one_stands main p (Suspend' s a p) i n d u u t t (t + 3) x o _ refl
+    (λ z. z) refl
     (λ l. is_inside o.statement n _ _ l) (λ y k. stands main p i (n + 1) d u t y o k) h
 stands main (Seq' a p b q) i n d u t x o h = two_stands main p q (Seq' a p b q) i n d u t x o _ _ refl refl
     (λ l r. is_first o.statement n _ _ _ _ l r) (λ l. is_second o.statement n _ _ _ _ (omega arith) l)
@@ -235,9 +239,11 @@ stands true (Loop' a p) i n d u t x o h = elim (split (own_owners i n t (t + 3))
   | inl k ↦ own_stands true (Loop' a p) i n d u t (t + 3) x o refl k
   | inr w ↦ elim (split (owners_in true p i (n + 1) t) _ w.0 o w.2) [
     | inl k ↦ part_stands true true p (Loop' a p) i i (n + 1) n (d + 1) d u u t t o (omega arith) (omega arith)
-        (λ l r. is_inside o.statement n _ _ l) (λ l z. omega arith) (λ z. z) (stands true p i (n + 1) (d + 1) u t w.0 o k)
+        (λ l r. is_inside o.statement n _ _ l) (λ l z. omega arith) (λ z. z)
+        (stands true p i (n + 1) (d + 1) u t w.0 o k)
     | inr v ↦ part_stands false true p (Loop' a p) 1 i (n + 1) n (d + 1) d u u t t o (omega arith) (omega arith)
-        (λ l r. is_inside o.statement n _ _ l) (λ l z. omega arith) (λ z. z) (stands false p 1 (n + 1) (d + 1) u t v.0 o v.2)
+        (λ l r. is_inside o.statement n _ _ l) (λ l z. omega arith) (λ z. z)
+        (stands false p 1 (n + 1) (d + 1) u t v.0 o v.2)
   ]
 ]
 stands false (Loop' a p) i n d u t x o h = elim (split (own_owners i n t (t + 3)) _ x o h) [
@@ -252,7 +258,9 @@ stands false (Loop' a p) i n d u t x o h = elim (split (own_owners i n t (t + 3)
 stands main (Par' a p b q) i n d u t x o h = two_stands main p q (Par' a p b q) i n d u t x o _ _ refl refl
     (λ l r. is_first o.statement n _ _ _ _ l r) (λ l. is_second o.statement n _ _ _ _ (omega arith) l)
     (λ y k. stands main p i (n + 1) d u t y o k) (λ y k. stands main q i (n + 1 + statements p) d u t y o k) h
-stands main (Trap' a p) i n d u t x o h = one_stands main p (Trap' a p) i n d (u + 1) u (t + 1) t (t + 3) x o _ refl (λ z. omega arith) refl
+stands main (Trap' a p) i n d u t x o h = one_stands main p (Trap' a p) i n d (u + 1) u (t + 1) t (t + 3) x o _ refl
+    (λ z. omega arith) refl
     (λ l. is_inside o.statement n _ _ l) (λ y k. stands main p i (n + 1) d (u + 1) (t + 1) y o k) h
-stands main (Binder' s a p) i n d u t x o h = one_stands main p (Binder' s a p) i n d u u t t (t + 4) x o _ refl (λ z. z) refl
+stands main (Binder' s a p) i n d u t x o h = one_stands main p (Binder' s a p) i n d u u t t (t + 4) x o _ refl
+    (λ z. z) refl
     (λ l. is_inside o.statement n _ _ l) (λ y k. stands main p i (n + 1) d u t y o k) h

@@ -134,7 +134,8 @@ owner_value true (Loop' a p) i n c t x f o z h =
     let u = value_in true p (n + 1) (sheet_in f true p (c + t + 3) t) o in
     let v = value_in false p (n + 1) (sheet_in f false p (c + t + 3 + e) t) o in
     let l = (part_at p (n + 1) 0 0 o.statement).loops in
-    one_value f i n c t (t + 3) x Unknown o _ (cond (nat_eq o.incarnation (l + 1)) v u) (omega arith) (λ e. absurd (omega arith))
+    one_value f i n c t (t + 3) x Unknown o _ (cond (nat_eq o.incarnation (l + 1)) v u) (omega arith)
+    (λ e. absurd (omega arith))
     (λ y k. elim (split (owners_in true p i (n + 1) t) (owners_in false p 1 (n + 1) t) y o k) [
       | inl k ↦
           let r = stands true p i (n + 1) 0 0 t y o k in

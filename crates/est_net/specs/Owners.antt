@@ -1,10 +1,11 @@
--- Whose the cells of a kernel are: one list of owners, in the order of the cells. Incarnation 0 of a statement goes on or
--- is begun without a restart; incarnation i is begun by the restart of the i-th loop around the statement, counted from
--- the innermost outwards (this project's own form of the incarnations in Berry, The Constructive Semantics of Pure
--- Esterel).
+-- Whose the cells of a kernel are: one list of owners, in the order of the cells. Each statement has cells of its own
+-- in each of its incarnations. Incarnation 0 goes on or is begun without a restart; incarnation i is begun by the
+-- restart of the i-th loop around the statement, counted from the innermost outwards (this project's own form of the
+-- incarnations in Berry, The Constructive Semantics of Pure Esterel).
 use Rattle.std.specs.Prelude.{◌+◌, ℕ, suc, zero, Bool, true, false, cond, ltb, List, [], ◌∷◌, ◌++◌, length, map}
 use Rattle.std.specs.List.{range_with_len}
 use Rattle.est_kernel.specs.Interfaces.{emittable}
+use Rattle.est_kernel.specs.declared.interface.Declaration.{Declaration}
 use Rattle.est_kernel.specs.declared.kernel.Kernel.{Kernel}
 use Rattle.est_kernel.specs.declared.statement.Statement.{Statement}
 use Rattle.est_kernel.specs.declared.statement.Statement.TheVariants.{Nothing, Pause, Emit, Present', Suspend', Seq'}
@@ -79,8 +80,12 @@ abbrev pub places : (ℕ → Bool) → ℕ → List ℕ
 places f zero = []
 places f (suc n) = places f n ++ cond (f n) (n ∷ []) []
 
+-- the places of the signals of an interface that may be emitted
+abbrev pub signal_places : List Declaration → List ℕ
+signal_places i = places (emittable i) (length i)
+
 -- whose the cells of a kernel are, in their order: those of the signals that may be emitted, by their places, and then
 -- those of its statement
 abbrev pub owners : Kernel → List Owner
-owners k = map (λ n. owner.Signal n) (places (emittable k.interface) (length k.interface))
+owners k = map (λ n. owner.Signal n) (signal_places k.interface)
     ++ map (λ o. owner.Statement o) (owners_in true k.root 0 0 0)

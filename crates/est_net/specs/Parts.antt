@@ -43,7 +43,7 @@ pub record IsKindOf (q : Part) (kind : CellKind) : Type 0 where
   pub within : offset < own_cells q.statement q.traps
   pub same : kind ≡ kind_at q.traps offset
 
--- what a statement has cells of: each part, in its incarnations from 0 up to the number of loops around it, in each kind
+-- what a statement has cells of: each part in each kind, in its incarnations from 0 up to the number of loops around it
 pub record IsCellOf (s : Statement) (o : StatementCell) : Type 0 where
   pub number : o.statement < statements s
   pub incarnation : o.incarnation ≤ (part_at s 0 0 0 o.statement).loops

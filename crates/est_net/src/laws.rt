@@ -14,7 +14,8 @@ pub fn each_owner_has_one_cell()
     ensures { EachOwnerHasOneCell }
 {}
 
-/// A statement inside d loops and t traps has (d + 1) (t + 3) cells, and a `signal` (d + 1) (t + 4).
+/// A statement inside d loops and t traps has (d + 1) (t + 3) cells, and a `signal` has
+/// (d + 1) (t + 4).
 pub fn statements_have_cells()
     ensures { StatementsHaveCells }
 {}

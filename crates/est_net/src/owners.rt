@@ -1,12 +1,11 @@
 //! What a cell belongs to.
 
-ghost use Rattle.std.specs.Prelude.{◌≡◌, ◌<◌, ◌≤◌, ◌+◌, IfOk, IfErr, Some, length, slice_get};
+ghost use Rattle.std.specs.Prelude.{◌≡◌, ◌<◌, ◌≤◌, ◌+◌, IfOk, IfErr, Some, slice_get};
 ghost use Rattle.est_kernel.specs.Bits.{bits};
-ghost use Rattle.est_kernel.specs.Interfaces.{emittable};
 ghost use Rattle.est_kernel.specs.Limits.{trap_depth};
 ghost use Rattle.est_kernel.specs.View.{term_of};
 ghost use Rattle.est_net.specs.Layout.{cell_count, output_count};
-ghost use Rattle.est_net.specs.Owners.{inside_loop, kind_at, own_cells, owners, places};
+ghost use Rattle.est_net.specs.Owners.{inside_loop, kind_at, own_cells, owners, signal_places};
 ghost use Rattle.est_net.specs.Inner.Finding.{Finds};
 
 use est_kernel::interface::Interface;
@@ -160,7 +159,7 @@ fn find(
 /// The signal of the interface whose cell this is, or which of the cells after those of signals it
 /// is.
 fn find_signal(interface: &Interface, cell: usize) -> Result<usize, usize>
-    ensures found { IfOk result (λ place. slice_get (places (emittable interface.now) (length interface.now)) cell ≡ Some place) }
+    ensures found { IfOk result (λ n. slice_get (signal_places interface.now) cell ≡ Some n) }
     ensures after { IfErr result (λ left. output_count interface.now + left ≡ cell) }
 {
     let signals = interface.emittable();

@@ -18,8 +18,8 @@ returns-in-Trap t c =
     let a = c.args in
     let has = subst (λ z. HasPart z c.in-Trap.p.value (λ n. n + 1)) (sym c.in-Trap.is)
     (record { owners = λ main i n k. refl; statements = refl; size = λ main k. refl }) in
-    part_finds a.main a.s.now c.deref-in-Trap.result.now a.incarnation a.at a.traps c.own_cells-own.result (λ n. n + 1) a.cell
-    c.find-in-Trap.result (subst (λ z. HasPart a.s.now z (λ n. n + 1)) (sym c.deref-in-Trap.ensures) has)
+    part_finds a.main a.s.now c.deref-in-Trap.result.now a.incarnation a.at a.traps c.own_cells-own.result (λ n. n + 1)
+    a.cell c.find-in-Trap.result (subst (λ z. HasPart a.s.now z (λ n. n + 1)) (sym c.deref-in-Trap.ensures) has)
     c.own_cells-own.ensures.same c.requires.numbers c.own_cells-own.ensures.some c.find-in-Trap.ensures
 
 pub returns-in-Suspend : goal.returns-in-Suspend
@@ -49,8 +49,8 @@ returns-in-After t c =
     let a = c.args in
     let has = subst (λ z. HasBody z c.in-Loop.p.value) (sym c.in-Loop.is)
     (record { owners = λ main i n k. refl; statements = refl; size = λ main k. refl }) in
-    again_finds a.main a.s.now c.in-Loop.p.value a.incarnation a.at c.in-After.next.statement c.in-After.next.cell a.traps
-    c.own_cells-own.result a.cell c.find-in-After.result has c.own_cells-own.ensures.same c.if-main.true
+    again_finds a.main a.s.now c.in-Loop.p.value a.incarnation a.at c.in-After.next.statement c.in-After.next.cell
+    a.traps c.own_cells-own.result a.cell c.find-in-After.result has c.own_cells-own.ensures.same c.if-main.true
     (subst (λ z. IsAfter a.main z (inside a.at c.own_cells-own.result) a.traps a.cell c.in-After.next) c.deref.ensures
     c.in-After.ensures)
     (subst (λ z. Finds false z 1 (record { statement = a.at.statement + 1; cell = c.in-After.next.cell }) a.traps a.cell
@@ -73,8 +73,9 @@ returns-in-Found-find t c =
     ] in
     first_found a.main a.s.now p q a.incarnation a.at a.traps c.own_cells-own.result a.cell c.in-Found-find.owner has
     c.own_cells-own.ensures.same
-    (subst (λ z. IsAmong (a.at.cell + c.own_cells-own.result) (owners_in a.main z a.incarnation (a.at.statement + 1) a.traps)
-    a.cell c.in-Found-find.owner) c.deref-in-Present.ensures c.in-Found-find.ensures)
+    (subst (λ z. IsAmong (a.at.cell + c.own_cells-own.result)
+    (owners_in a.main z a.incarnation (a.at.statement + 1) a.traps) a.cell c.in-Found-find.owner)
+    c.deref-in-Present.ensures c.in-Found-find.ensures)
 
 pub returns-in-After-find : goal.returns-in-After-find
 returns-in-After-find t c =
