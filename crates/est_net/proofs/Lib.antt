@@ -2,3 +2,9 @@ pub mod Deciding
 mod Covering
 pub mod Ranges
 mod Reaching
+mod Finding
+mod KernelOwners
+mod OwnerCells
+mod OwnerCounts
+mod OwnerLists
+mod OwnerValues

@@ -6,6 +6,7 @@
 //! all of them open. A cell is decided once, by one assignment, which changes no other cell.
 #![tactic(auto)]
 
+pub mod laws;
 mod lay;
 pub mod net;
 pub mod owners;

@@ -1,11 +1,11 @@
 //! What a cell belongs to.
 
-ghost use Rattle.std.specs.Prelude.{◌≡◌, ◌<◌, ◌≤◌, ◌+◌, IfOk, IfErr};
+ghost use Rattle.std.specs.Prelude.{◌≡◌, ◌<◌, ◌≤◌, ◌+◌, IfOk, IfErr, Some, slice_get};
 ghost use Rattle.est_kernel.specs.Bits.{bits};
 ghost use Rattle.est_kernel.specs.Limits.{trap_depth};
 ghost use Rattle.est_kernel.specs.View.{term_of};
 ghost use Rattle.est_net.specs.Layout.{cell_count, output_count};
-ghost use Rattle.est_net.specs.Owners.{IsOfSignal, IsOwnerOf, inside_loop, kind_at, own_cells};
+ghost use Rattle.est_net.specs.Owners.{inside_loop, kind_at, own_cells, owners, signal_places};
 ghost use Rattle.est_net.specs.Inner.Finding.{Finds};
 
 use est_kernel::interface::Interface;
@@ -148,7 +148,8 @@ fn find(
                     };
                     find(false, p, 1, again, traps, cell)
                 }
-                found => found,
+                Search::After(next) => Search::After(next),
+                Search::Found(owner) => Search::Found(owner),
             }
         }
         Statement::Trap(p) => find(main, p, incarnation, inside, traps + 1, cell),
@@ -158,7 +159,7 @@ fn find(
 /// The signal of the interface whose cell this is, or which of the cells after those of signals it
 /// is.
 fn find_signal(interface: &Interface, cell: usize) -> Result<usize, usize>
-    ensures found { IfOk result (IsOfSignal interface.now cell) }
+    ensures found { IfOk result (λ n. slice_get (signal_places interface.now) cell ≡ Some n) }
     ensures after { IfErr result (λ left. output_count interface.now + left ≡ cell) }
 {
     let signals = interface.emittable();
@@ -174,10 +175,11 @@ fn find_signal(interface: &Interface, cell: usize) -> Result<usize, usize>
     Err(left)
 }
 
-/// What a cell of the kernel's table belongs to. It takes no memory.
+/// What a cell of the kernel's table belongs to: the owner at this place of the list of owners. It
+/// takes no memory.
 pub fn owner_of(kernel: &Kernel, cell: usize) -> Owner
     requires { cell < cell_count kernel.now }
-    ensures { IsOwnerOf kernel.now cell result }
+    ensures { slice_get (owners kernel.now) cell ≡ Some result }
 {
     match find_signal(kernel.interface(), cell) {
         Ok(place) => Owner::Signal(place),

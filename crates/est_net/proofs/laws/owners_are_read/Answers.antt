@@ -1,0 +1,7 @@
+use Rattle.std.specs.Prelude.{length}
+use Rattle.est_kernel.specs.Interfaces.{emittable}
+use Rattle.est_net.proofs.KernelOwners.{kernel_value}
+use Rattle.est_net.proofs.laws.owners_are_read.Goals as goal
+
+pub returns : goal.returns
+returns c = record { value = λ k. kernel_value (emittable k.interface) (length k.interface) k.root }

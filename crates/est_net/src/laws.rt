@@ -1,0 +1,26 @@
+//! The laws of the list of owners.
+
+ghost use Rattle.est_net.specs.Laws.{OwnersAreCounted, EachOwnerHasOneCell, StatementsHaveCells};
+ghost use Rattle.est_net.specs.Laws.{OwnersAreRead};
+
+/// There are as many owners as cells.
+pub fn owners_are_counted()
+    ensures { OwnersAreCounted }
+{}
+
+/// Each owner has exactly one cell: each signal that may be emitted, and each kind of cell of each
+/// statement in each of its incarnations; and nothing else has one.
+pub fn each_owner_has_one_cell()
+    ensures { EachOwnerHasOneCell }
+{}
+
+/// A statement inside d loops and t traps has (d + 1) (t + 3) cells, and a `signal` has
+/// (d + 1) (t + 4).
+pub fn statements_have_cells()
+    ensures { StatementsHaveCells }
+{}
+
+/// In the table read off a list of cells, the cell of an owner is the one at the owner's place.
+pub fn owners_are_read()
+    ensures { OwnersAreRead }
+{}
