@@ -1,9 +1,8 @@
 -- The way back to the first node.
-use Rattle.std.proofs.Common.{◌≡◌, ◌∙◌, ℕ, ◌<◌, ◌≤◌, ◌+◌, List, [], ◌∷◌, ◌++◌, length, get_or, sym, refl, ap, subst, arith}
+use Rattle.std.proofs.Common.{◌≡◌, ◌∙◌, ℕ, ◌<◌, List, [], ◌∷◌, length, get_or, sym, refl, ap, subst, arith}
 use Rattle.std.proofs.Common.{Option, Some, None}
 use Rattle.std.proofs.lemmas.List.{get_or_default}
 use Rattle.std.proofs.lemmas.List.Elements.{All-get_or}
-use Rattle.std.specs.List.{All}
 use Rattle.state_search.specs.Back.{GoneBack}
 use Rattle.state_search.specs.Table.{Is, At, Leads, nowhere, there, IsRow, Came, IsTree}
 use Rattle.state_search.specs.Words.{LedTo, Path}

@@ -1,15 +1,13 @@
 -- What is found stays found.
-use Rattle.std.proofs.Common.{◌≡◌, ◌≢◌, ◌∙◌, ℕ, ◌<◌, ◌≤◌, ◌+◌, inl, inr, List, [], ◌∷◌, ◌++◌, length, get_or, sym, refl, ap, subst, arith}
-use Rattle.std.proofs.Common.{Option, Some, None}
-use Rattle.std.proofs.lemmas.Bool.{cases_lt}
-use Rattle.std.proofs.lemmas.List.{get_or_append_left, get_or_push, length_push, length-append}
-use Rattle.std.proofs.lemmas.List.Elements.{All-push, All-weaker, Contains-append_left}
-use Rattle.std.specs.List.{All, AllPairs, Contains}
-use Rattle.state_search.specs.Table.{Is, At, Leads, IsRow, HasRow, IsDone, Came}
+use Rattle.std.proofs.Common.{◌∙◌, ℕ, List, ◌++◌, arith}
+use Rattle.std.proofs.Common.{Option}
+use Rattle.std.proofs.lemmas.List.{get_or_append_left, length-append}
+use Rattle.std.proofs.lemmas.List.Elements.{All-weaker, Contains-append_left}
+use Rattle.state_search.specs.Table.{IsRow, HasRow, IsDone, Came}
 use Rattle.state_search.specs.declared.found.Node.{Node}
 use Rattle.state_search.specs.declared.found.Row.{Row}
 use Rattle.state_search.specs.declared.machine.Step.{Step}
-use Rattle.state_search.proofs.Nodes.{is_stays, is_old, leads_stays}
+use Rattle.state_search.proofs.Nodes.{is_stays, leads_stays}
 
 module _ {S L : Type 0} where
   pub row_stays : (does : S → L → Option S → Type 0) (nodes more : List (Node S)) (r : Row L) → IsRow does nodes r

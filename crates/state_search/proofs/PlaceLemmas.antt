@@ -1,12 +1,11 @@
 -- The places of states.
-use Rattle.std.proofs.Common.{◌≡◌, ◌≢◌, ◌∙◌, ℕ, ◌<◌, ◌≤◌, ◌+◌, Bool, true, false, cond, inl, inr, List, [], ◌∷◌, ◌++◌, length, sym, refl, ap, subst, arith}
-use Rattle.std.proofs.Common.{Option, Some, None}
+use Rattle.std.proofs.Common.{◌≡◌, ◌≢◌, ◌∙◌, ℕ, Bool, true, cond, inl, inr, List, [], ◌∷◌, ◌++◌, length, sym, ap, subst, arith}
+use Rattle.std.proofs.Common.{Some, None}
 use Rattle.std.proofs.lemmas.Bool.{cases_Bool, false≢true}
 use Rattle.std.proofs.lemmas.List.Elements.{All-push}
 use Rattle.std.specs.HashMap.{HashMap, get}
-use Rattle.std.specs.List.{All}
 use Rattle.state_search.specs.Places.{Places}
-use Rattle.state_search.specs.Table.{At, IsExact}
+use Rattle.state_search.specs.Table.{IsExact}
 use Rattle.state_search.specs.declared.found.Node.{Node}
 use Rattle.state_search.proofs.Nodes.{is_last, at_stays}
 

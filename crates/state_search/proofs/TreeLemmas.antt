@@ -1,19 +1,19 @@
 -- A tree, a row at a time.
-use Rattle.std.proofs.Common.{◌≡◌, ◌≢◌, ◌∙◌, ℕ, ◌<◌, ◌≤◌, ◌+◌, inl, inr, List, [], ◌∷◌, ◌++◌, length, get_or, sym, refl, ap, subst, arith, take}
+use Rattle.std.proofs.Common.{◌≡◌, ◌≢◌, ◌∙◌, ℕ, ◌<◌, ◌≤◌, ◌+◌, inl, inr, List, [], ◌∷◌, ◌++◌, length, get_or, sym, refl, subst, arith, take}
 use Rattle.std.proofs.Common.{Option, Some, None, append-nil}
 use Rattle.std.proofs.lemmas.Bool.{cases_eq}
 use Rattle.std.proofs.lemmas.List.{get_or_push, length_push, get_or-take, get_or_default, take_more, length-take}
 use Rattle.std.proofs.lemmas.List.Elements.{All-push, All-weaker, All-get_or, All-contains, Contains-push, Contains-append_left}
 use Rattle.std.proofs.lemmas.List.Quantifiers.{all_pairs_push}
-use Rattle.std.specs.List.{All, AllPairs, Contains}
-use Rattle.state_search.specs.Places.{Puts, had, comes}
+use Rattle.std.specs.List.{All, AllPairs}
+use Rattle.state_search.specs.Places.{had, comes}
 use Rattle.state_search.specs.Searching.{Adds, stops, goes, HasLabel, IsExpanding, IsSearching}
-use Rattle.state_search.specs.Table.{Is, At, Leads, nowhere, there, IsRow, HasRow, IsDone, Came, IsTree, IsFound}
+use Rattle.state_search.specs.Table.{Is, At, Leads, nowhere, there, IsRow, HasRow, IsDone, Came, IsTree}
 use Rattle.state_search.specs.declared.found.Node.{Node}
 use Rattle.state_search.specs.declared.found.Row.{Row}
 use Rattle.state_search.specs.declared.machine.Step.{Step}
 use Rattle.state_search.proofs.Growth.{row_stays, has_stays, done_stays, came_stays}
-use Rattle.state_search.proofs.Nodes.{is_stays, at_stays, is_last, is_one, is_there, is_old, is_cases, leads_stays}
+use Rattle.state_search.proofs.Nodes.{is_stays, at_stays, is_last, is_one, is_old, is_cases}
 
 module _ {S L : Type 0} (is_state : S → Type 0) (does : S → L → Option S → Type 0) (covers : S → List (Step S L) → Type 0)
     (apart : L → L → Type 0) where

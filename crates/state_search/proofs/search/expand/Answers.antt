@@ -1,4 +1,4 @@
-use Rattle.std.proofs.Common.{◌≡◌, ◌<◌, ◌+◌, ◌∙◌, refl, sym, arith, length, take, rules}
+use Rattle.std.proofs.Common.{◌<◌, ◌+◌, refl, arith, length}
 use Rattle.std.proofs.lemmas.List.{take_all}
 use Rattle.state_search.proofs.Nodes.{is_read}
 use Rattle.state_search.proofs.TreeLemmas.{expands, expanded, adding, adds_one, adds_stay, AreSteps}

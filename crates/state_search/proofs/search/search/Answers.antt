@@ -1,4 +1,4 @@
-use Rattle.std.proofs.Common.{◌≡◌, ◌<◌, ◌≤◌, ◌+◌, ◌∙◌, refl, sym, arith, length, inl, inr, rules, []}
+use Rattle.std.proofs.Common.{◌∙◌, refl, arith, inl, []}
 use Rattle.state_search.proofs.Nodes.{is_last, puts_first}
 use Rattle.state_search.proofs.PlaceLemmas.{no_places}
 use Rattle.state_search.proofs.TreeLemmas.{begins}

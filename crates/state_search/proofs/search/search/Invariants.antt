@@ -1,4 +1,4 @@
-use Rattle.std.proofs.Common.{◌-◌, ◌+◌, length}
+use Rattle.std.proofs.Common.{◌-◌, ◌+◌}
 use Rattle.state_search.specs.Places.{Places}
 use Rattle.state_search.specs.Searching.{IsSearching}
 use Rattle.state_search.specs.Table.{At}

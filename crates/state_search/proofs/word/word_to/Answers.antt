@@ -1,4 +1,4 @@
-use Rattle.std.proofs.Common.{◌≡◌, ◌<◌, ◌≤◌, ◌+◌, ◌∙◌, ap, refl, sym, arith, length, reverse, List, [], ◌∷◌, ◌++◌, rules}
+use Rattle.std.proofs.Common.{◌≡◌, ◌∙◌, ap, arith, reverse, [], ◌∷◌}
 use Rattle.std.proofs.lemmas.List.{reverse-append}
 use Rattle.std.proofs.lemmas.Result.{IfOk-weaker}
 use Rattle.state_search.proofs.BackLemmas.{at_row, one_back, all_back, led_by, goes_back}
@@ -7,7 +7,7 @@ use Rattle.state_search.proofs.word.word_to.Goals as goal
 pub loop-place-init : goal.loop-place-init
 loop-place-init g c =
     let gone = at_row (g.M.Machine.is_state c.args.machine.now) (g.M.Machine.does c.args.machine.now) (g.M.Machine.apart c.args.machine.now)
-        _ _ c.args.at c.index-row.result.now c.requires.tree c.requires.within c.index-row.ensures in
+    _ _ c.args.at c.index-row.result.now c.requires.tree c.requires.within c.index-row.ensures in
     record {
       within = (gone c.index-row.result.now).at.within;
       gone = λ r. rw (c.in_ok-push.ensures.items, c.new-back.ensures.items) (gone r);
@@ -17,7 +17,7 @@ pub index-row-requires-in-loop-place : goal.index-row-requires-in-loop-place
 index-row-requires-in-loop-place g c =
     let e = c.args.found.now.rows.ok.0 in
     let w = led_by (g.M.Machine.is_state c.args.machine.now) (g.M.Machine.does c.args.machine.now) (g.M.Machine.apart c.args.machine.now) _ c.args.found.now.rows.items _ c.loop-place.place _ c.index.result.now c.requires.tree c.loop-place-test.true
-        (c.loop-place.invariant.gone c.index-row.result.now) c.index.ensures in
+    (c.loop-place.invariant.gone c.index-row.result.now) c.index.ensures in
     rw e w
 
 pub loop-place-smaller : goal.loop-place-smaller
