@@ -6,7 +6,7 @@ use crate::mask;
 use crate::statement::PauseIndex;
 
 /// A set of pauses, one bit for each.
-#[derive(Clone, Copy, PartialEq, Eq)]
+#[derive(Clone, Copy, PartialEq, Eq, Hash)]
 pub struct PauseSet {
     words: [u64; 32],
 }

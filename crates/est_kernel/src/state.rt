@@ -3,7 +3,7 @@
 use crate::pause_set::PauseSet;
 
 /// Where a kernel stands between two instants.
-#[derive(Clone, Copy, PartialEq, Eq)]
+#[derive(Clone, Copy, PartialEq, Eq, Hash)]
 pub enum State {
     /// It has not begun.
     Fresh,

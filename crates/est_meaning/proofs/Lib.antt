@@ -2,6 +2,7 @@ pub mod AgreementLemmas
 pub mod CodeSetLemmas
 pub mod DecidedByMust
 pub mod EmittedIsPresent
+pub mod GivesGrows
 pub mod KnowledgeIsMonotone
 pub mod OneReactionAtMost
 pub mod PauseWordLemmas

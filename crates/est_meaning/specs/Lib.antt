@@ -8,3 +8,4 @@ pub mod Knowledge
 pub mod Laws
 pub mod States
 pub mod Steps
+pub mod Growing

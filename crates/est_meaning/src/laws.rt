@@ -3,6 +3,7 @@
 //! They are stated in `specs/Laws` over the definitions that a reaction engine's contract names,
 //! and ask nothing of a caller.
 
+ghost use Rattle.est_meaning.specs.Growing.{ReactionsStay};
 ghost use Rattle.est_meaning.specs.Laws.{DecidedByMust, OneReactionAtMost, KnowledgeIsMonotone};
 ghost use Rattle.est_meaning.specs.Laws.{RoundsComeToRest, EmittedIsPresent, PausesAreEnough};
 
@@ -54,4 +55,11 @@ pub fn emitted_is_present()
 /// After each step of a state's term some state that the program can hold stands for what is left.
 pub fn pauses_are_enough()
     ensures { PausesAreEnough }
+{}
+
+/// What a program does while some signals are still unknown is what it does whatever they are.
+///
+/// Where the rules react, they react in the same way wherever more is known.
+pub fn reactions_stay()
+    ensures { ReactionsStay }
 {}

@@ -1,0 +1,4 @@
+pub mod OneAtMost
+pub mod PartLemmas
+pub mod CoverLemmas
+pub mod EveryLemmas

@@ -1,0 +1,10 @@
+//! What all runs of a module have in common: whether it always reacts, whether tests hold in each
+//! instant, and whether two modules do the same.
+#![tactic(auto)]
+
+pub mod asked;
+mod cover;
+pub mod every;
+mod input_sets;
+pub mod one_module;
+pub mod reactive;

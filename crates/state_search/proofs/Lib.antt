@@ -1,0 +1,5 @@
+pub mod BackLemmas
+pub mod Growth
+pub mod Nodes
+pub mod PlaceLemmas
+pub mod TreeLemmas

@@ -1,0 +1,5 @@
+pub mod Back
+pub mod Places
+pub mod Searching
+pub mod Table
+pub mod Words

@@ -1,0 +1,145 @@
+//! The search.
+ghost use Rattle.std.specs.Prelude.{◌≡◌, ◌<◌, ◌+◌, IfOk, OnOk, length};
+ghost use Rattle.std.specs.Bool.{MatchBool};
+ghost use Rattle.state_search.specs.Places.{Places};
+ghost use Rattle.state_search.specs.Searching.{Adds, IsSearching};
+ghost use Rattle.state_search.specs.Table.{At, IsFound, HasEnded};
+
+use crate::found::{Found, Node, Row};
+use crate::machine::{Machine, Standing, Step};
+use crate::places::place_of;
+use std::alloc::{AllocError, Global};
+use std::collections::HashMap;
+
+/// How far a search goes: it stops once it has found more than this.
+#[derive(Clone, Copy)]
+pub struct Limits {
+    /// States.
+    pub states: usize,
+    /// Steps.
+    pub steps: usize,
+}
+
+/// Adds a step of the state at a place as a row, and the state after it as a node if it is new.
+fn add_row<S: Standing, L: Copy + Drop>(
+    places: &mut HashMap<S, usize>,
+    nodes: &mut Vec<Node<S>>,
+    rows: &mut Vec<Row<L>>,
+    from: usize,
+    depth: usize,
+    step: Step<S, L>,
+) -> Result<(), AllocError>
+    requires places { Places S.eq places.old nodes.old.items }
+    requires depth { depth < length nodes.old.items }
+    ensures places { OnOk result (Places S.eq places.new nodes.new.items) }
+    ensures adds { IfOk result (λ _.
+        Adds nodes.old.items rows.old.items from depth step nodes.new.items rows.new.items) }
+{
+    let next = match step.next {
+        Some(state) => {
+            let node = Node {
+                state,
+                by: rows.len(),
+                depth: depth + 1,
+            };
+            Some(place_of(places, nodes, node)?)
+        }
+        None => None,
+    };
+    rows.push(Row {
+        from,
+        label: step.label,
+        next,
+    })?;
+    Ok(())
+}
+
+/// Adds all steps of the state that is next in turn, and answers whether there were no more than
+/// that many.
+fn expand<M: Machine>(
+    machine: &M,
+    scratch: &mut M::Scratch,
+    most: usize,
+    places: &mut HashMap<M::State, usize>,
+    found: &mut Found<M::State, M::Label>,
+    steps: &mut Vec<Step<M::State, M::Label>>,
+) -> Result<bool, AllocError>
+    requires fits { M.fits machine.now scratch.old }
+    requires places { Places M.State.eq places.old found.old.nodes.items }
+    requires within { found.old.done < length found.old.nodes.items }
+    requires search { IsSearching (M.is_state machine.now) (M.does machine.now) (M.covers machine.now)
+        (M.apart machine.now) found.old.nodes.items found.old.rows.items found.old.done }
+    ensures fits { M.fits machine.now scratch.new }
+    ensures places { OnOk result (Places M.State.eq places.new found.new.nodes.items) }
+    ensures first { OnOk result ((x : M.State) → At found.old.nodes.items 0 x → At found.new.nodes.items 0 x) }
+    ensures search { IfOk result (λ whole. MatchBool whole
+        ((found.new.done ≡ found.old.done + 1)
+        × IsSearching (M.is_state machine.now) (M.does machine.now) (M.covers machine.now) (M.apart machine.now)
+        found.new.nodes.items found.new.rows.items found.new.done)
+        ((most + length found.old.rows.items < length found.new.rows.items)
+        × IsFound (M.is_state machine.now) (M.does machine.now) (M.covers machine.now) (M.apart machine.now)
+        found.new.nodes.items found.new.rows.items found.new.done)) }
+{
+    let from = found.done;
+    let node = found.nodes[from];
+    steps.clear();
+    let whole = machine.steps(scratch, &node.state, most, steps)?;
+    for step in steps.as_slice() {
+        add_row(
+            places,
+            &mut found.nodes,
+            &mut found.rows,
+            from,
+            node.depth,
+            *step,
+        )?;
+    }
+    if whole {
+        found.done += 1;
+    }
+    Ok(whole)
+}
+
+/// Searches all states that the machine reaches from one, breadth first, as far as the limits
+/// allow.
+pub fn search<M: Machine>(
+    alloc: Global,
+    machine: &M,
+    scratch: &mut M::Scratch,
+    start: M::State,
+    limits: Limits,
+) -> Result<Found<M::State, M::Label>, AllocError>
+    requires fits { M.fits machine.now scratch.old }
+    requires state { M.is_state machine.now start }
+    ensures fits { M.fits machine.now scratch.new }
+    ensures first { IfOk result (λ f. At f.nodes.items 0 start) }
+    ensures found { IfOk result (λ f. IsFound (M.is_state machine.now) (M.does machine.now) (M.covers machine.now)
+        (M.apart machine.now) f.nodes.items f.rows.items f.done) }
+    ensures ended { IfOk result (λ f. HasEnded limits.states limits.steps f.nodes.items f.rows.items f.done) }
+{
+    let mut found = Found {
+        nodes: Vec::new(alloc),
+        rows: Vec::new(alloc),
+        done: 0,
+    };
+    let mut places = HashMap::new(alloc);
+    let mut steps = Vec::new(alloc);
+    let first = Node {
+        state: start,
+        by: 0,
+        depth: 0,
+    };
+    place_of(&mut places, &mut found.nodes, first)?;
+    while found.done < found.nodes.len() {
+        if found.nodes.len() > limits.states {
+            return Ok(found);
+        }
+        let Some(most) = limits.steps.checked_sub(found.rows.len()) else {
+            return Ok(found);
+        };
+        if !expand(machine, scratch, most, &mut places, &mut found, &mut steps)? {
+            return Ok(found);
+        }
+    }
+    Ok(found)
+}

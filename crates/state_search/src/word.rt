@@ -1,0 +1,42 @@
+//! How a state was reached.
+ghost use Rattle.std.specs.Prelude.{◌≡◌, ◌<◌, IfOk, length, reverse, slice_index_or};
+ghost use Rattle.state_search.specs.Table.{At, IsTree};
+ghost use Rattle.state_search.specs.declared.found.Row.{Row as RowValue};
+ghost use Rattle.state_search.specs.Words.{LedTo};
+
+use crate::found::{Found, Row};
+use crate::machine::Machine;
+use std::alloc::{AllocError, Global};
+
+/// These labels, the last ones first.
+fn reversed<L: Copy + Drop>(alloc: Global, back: &[L]) -> Result<Vec<L>, AllocError>
+    ensures { IfOk result (λ word. word.items ≡ reverse back.now) }
+{
+    back.iter().rev().copied().collect(alloc)
+}
+
+/// The labels of the steps that lead to the row at this place and by it, from the first state on.
+/// There are as many as the depth of the state before the row, and one more.
+pub fn word_to<M: Machine>(
+    alloc: Global,
+    machine: &M,
+    found: &Found<M::State, M::Label>,
+    at: usize,
+) -> Result<Vec<M::Label>, AllocError>
+    requires within { at < length found.now.rows.items }
+    requires tree { IsTree (M.is_state machine.now) (M.does machine.now) (M.apart machine.now)
+        found.now.nodes.items found.now.rows.items }
+    ensures { IfOk result (λ word. (start : M.State) → At found.now.nodes.items 0 start
+        → (r : RowValue M.Label) → LedTo (M.does machine.now) start found.now.nodes.items (slice_index_or found.now.rows.items at r) word.items) }
+{
+    let row = found.rows[at];
+    let mut back = Vec::new(alloc);
+    back.push(row.label)?;
+    let mut place = row.from;
+    while place > 0 {
+        let row = found.rows[found.nodes[place].by];
+        back.push(row.label)?;
+        place = row.from;
+    }
+    reversed(alloc, &back)
+}
