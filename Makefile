@@ -5,9 +5,10 @@ PREFIX ?= /usr/local
 # rt ci proves as many crates side by side as RT_JOBS says, each by one job: a second job at one crate costs more than it saves.
 CORES := $(shell nproc)
 
-.PHONY: help try run build abro examples client socket gateway hostile soak documents test check bench faults times install
+.PHONY: help doctor try run build abro examples client socket gateway hostile soak documents test check bench faults times install
 
 help:
+	@echo 'make doctor    say what of all that is used here is installed, what the rest is for, and how to get it'
 	@echo 'make try       run the opening script on the program as it stands, built WITHOUT proof: about a minute'
 	@echo 'make run       prove what is needed, a line for each crate, and run the opening script on the proved program'
 	@echo 'make test      the gate: documents, the client, the server, the gateway, hostile use, refused memory, examples, what must not compile, and then all proofs,'
@@ -28,6 +29,9 @@ help:
 	@echo 'make documents write the lists of docs/generated anew from the sources'
 	@echo 'make bench     prove and build, and then time commands, instants, texts, policies and the socket, and see how loads take memory'
 	@echo 'make times     the proofs, wrong bodies and tests of make test, and a table of the time that each crate takes'
+
+doctor:
+	@python3 scripts/doctor.py
 
 try:
 	@echo 'This program is built WITHOUT proof; make run proves it first.' >&2
@@ -65,6 +69,7 @@ soak:
 	tests/hostile/run --long
 
 documents:
+	python3 scripts/version.py
 	python3 scripts/reading_list.py
 	python3 scripts/wrong_bodies.py
 	python3 tests/documents.py
