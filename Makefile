@@ -29,6 +29,7 @@ help:
 	@echo 'make setup     the tests of make doctor, make run and the package, which is installed on a bare Debian, on the program built WITHOUT proof'
 	@echo 'make package LOG=FILE  a package for Debian and an archive, with what was proved by the run of rt ci that wrote FILE; without LOG it is named unproved'
 	@echo 'make package-check LOG=FILE  makes that package, sees that another folder gives the same program, and installs it on a bare Debian'
+	@echo 'make container builds the image of the gateway, localhost/estserve, with buildah, and tries it; no part of make test'
 	@echo 'make documents write the lists of docs/generated anew from the sources'
 	@echo 'make bench     prove and build, and then time commands, instants, texts, policies and the socket, and see how loads take memory'
 	@echo 'make times     the proofs, wrong bodies and tests of make test, and a table of the time that each crate takes'
@@ -58,6 +59,10 @@ setup:
 
 package:
 	@python3 scripts/package.py $(if $(LOG),--log '$(LOG)')
+
+container:
+	tests/setup/run test_container
+	packaging/container "$$(python3 scripts/package.py $(if $(LOG),--log '$(LOG)'))"
 
 package-check:
 	tests/setup/same_program
