@@ -5,9 +5,10 @@ PREFIX ?= /usr/local
 # rt ci proves as many crates side by side as RT_JOBS says, each by one job: a second job at one crate costs more than it saves.
 CORES := $(shell nproc)
 
-.PHONY: help try run build abro examples client socket gateway hostile soak documents test check bench faults times install
+.PHONY: help doctor try run build abro examples client socket gateway hostile soak documents test check bench faults times install setup package package-check container
 
 help:
+	@echo 'make doctor    say what of all that is used here is installed, what the rest is for, and how to get it'
 	@echo 'make try       run the opening script on the program as it stands, built WITHOUT proof: about a minute'
 	@echo 'make run       prove what is needed, a line for each crate, and run the opening script on the proved program'
 	@echo 'make test      the gate: documents, the client, the server, the gateway, hostile use, refused memory, examples, what must not compile, and then all proofs,'
@@ -25,9 +26,16 @@ help:
 	@echo '               make soak ESTSERVE=$$PWD/$(PROGRAM) takes the proved program; no part of make test'
 	@echo 'make abro      the waves of ABRO, by the client, on the program built WITHOUT proof: about a minute, and at once from then on'
 	@echo 'make install   put the proved program, the client, its page of the manual and completions under PREFIX (/usr/local)'
+	@echo 'make setup     the tests of make doctor, make run and the package, which is installed on a bare Debian, on the program built WITHOUT proof'
+	@echo 'make package LOG=FILE  a package for Debian and an archive, with what was proved by the run of rt ci that wrote FILE; without LOG it is named unproved'
+	@echo 'make package-check LOG=FILE  makes that package, sees that another folder gives the same program, and installs it on a bare Debian'
+	@echo 'make container builds the image of the gateway, localhost/estserve, with buildah, and tries it; no part of make test'
 	@echo 'make documents write the lists of docs/generated anew from the sources'
 	@echo 'make bench     prove and build, and then time commands, instants, texts, policies and the socket, and see how loads take memory'
 	@echo 'make times     the proofs, wrong bodies and tests of make test, and a table of the time that each crate takes'
+
+doctor:
+	@python3 scripts/doctor.py
 
 try:
 	@echo 'This program is built WITHOUT proof; make run proves it first.' >&2
@@ -45,6 +53,20 @@ abro:
 
 install:
 	@clients/install '$(PREFIX)' $(PROGRAM)
+
+setup:
+	tests/setup/run
+
+package:
+	@python3 scripts/package.py $(if $(LOG),--log '$(LOG)')
+
+container:
+	tests/setup/run test_container
+	packaging/container "$$(python3 scripts/package.py $(if $(LOG),--log '$(LOG)'))"
+
+package-check:
+	tests/setup/same_program
+	PACKAGE=$$(python3 scripts/package.py $(if $(LOG),--log '$(LOG)')) && PACKAGE=$$PACKAGE tests/setup/run test_bare
 
 examples:
 	python3 scripts/examples.py
@@ -65,13 +87,14 @@ soak:
 	tests/hostile/run --long
 
 documents:
+	python3 scripts/version.py
 	python3 scripts/reading_list.py
 	python3 scripts/wrong_bodies.py
 	python3 tests/documents.py
 
 test:
 	python3 tests/documents.py
-	python3 scripts/trial.py sh -c 'clients/tests/run && tests/socket/run && tests/journals/walk && tests/gateway/run && tests/hostile/run && tests/faults/run'
+	python3 scripts/trial.py sh -c 'clients/tests/run && tests/socket/run && tests/journals/walk && tests/gateway/run && tests/hostile/run && tests/faults/run && tests/setup/run'
 	python3 tests/journals/run
 	python3 tests/must-not-compile/run
 	RT_JOBS=$(CORES) rt ci

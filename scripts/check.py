@@ -7,20 +7,11 @@ First it says what will be judged, and how many processor minutes each part took
 Crates below are proved where they have changed. The text of the proofs goes to out/check.log of the crate. It stops at the first
 crate that is not proved. Nothing here counts for `make test`: only what `rt ci` passes does.
 """
-import re
 import subprocess
 import sys
 import time
 
-from crates import ROOT, add_lowest_first, libraries, say
-
-ROW = re.compile(r"\| `(\w+)` \| ([\d.]+) \| ([\d.]+) \| ([\d.]+) \| [\d.]+ \|")
-
-
-def minutes_by_crate():
-    """Processor minutes of each crate's proof, tests and wrong bodies, by the last table."""
-    found = ROW.finditer((ROOT / "docs" / "GATE.md").read_text())
-    return {row[1]: [float(number) for number in row.groups()[1:]] for row in found}
+from crates import ROOT, add_lowest_first, libraries, minutes_by_crate, say
 
 
 def has_tests(crate):

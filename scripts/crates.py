@@ -1,8 +1,10 @@
 """The crates of crates.txt, in the order in which they are proved; what run.py and check.py share."""
 import pathlib
+import re
 import sys
 
 ROOT = pathlib.Path(__file__).resolve().parent.parent
+ROW = re.compile(r"\| `(\w+)` \| ([\d.]+) \| ([\d.]+) \| ([\d.]+) \| [\d.]+ \|")
 
 
 def libraries():
@@ -19,6 +21,12 @@ def add_lowest_first(name, below, found):
             add_lowest_first(library, below, found)
     if name not in found:
         found.append(name)
+
+
+def minutes_by_crate():
+    """Processor minutes of each crate's proof, tests and wrong bodies, by the last table."""
+    found = ROW.finditer((ROOT / "docs" / "GATE.md").read_text())
+    return {row[1]: [float(number) for number in row.groups()[1:]] for row in found}
 
 
 def say(text, end="\n"):

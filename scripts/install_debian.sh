@@ -1,10 +1,10 @@
 #!/usr/bin/env bash
-# Installs the Debian packages that the gateway's page and its tests need: aiohttp, a browser, its
-# driver. It waits while another process installs packages. Where they can't be installed (no
-# network, no root, no Debian) it says so and ends with status 0: the tests that need them say that
-# they were skipped.
+# Installs the Debian packages that some tests need: aiohttp, a browser and its driver for the
+# gateway's page, mmdebstrap and lintian for the package. It waits while another process installs
+# packages. Where they can't be installed (no network, no root, no Debian) it says so and ends with
+# status 0: the tests that need them say that they were skipped.
 set -u
-PACKAGES="python3-aiohttp python3-selenium chromium chromium-driver"
+PACKAGES="python3-aiohttp python3-selenium chromium chromium-driver mmdebstrap lintian"
 WAIT=300 # seconds for the lock of the package manager
 
 missing() {
@@ -18,12 +18,22 @@ install() {
     apt-get install --yes --no-install-recommends --option "DPkg::Lock::Timeout=$WAIT" $PACKAGES
 }
 
+# Debian's packages are for Debian's python3, and the page is run by the python3 of the path.
+check_interpreter() {
+    path=$(command -v python3) || return
+    if ! "$path" -c 'import aiohttp' 2> /dev/null; then
+        echo "install_debian.sh: $path has no aiohttp, so start the page by /usr/bin/python3," \
+            "or: $path -m pip install aiohttp" >&2
+    fi
+}
+
 if ! command -v apt-get > /dev/null; then
     echo "install_debian.sh: no apt-get here: $PACKAGES are not installed" >&2
     exit 0
 fi
 if [ -z "$(missing)" ]; then
     echo "install_debian.sh: $PACKAGES are installed"
+    check_interpreter
     exit 0
 fi
 export DEBIAN_FRONTEND=noninteractive
@@ -35,4 +45,5 @@ else
     echo "install_debian.sh: not installed: $(missing | tr '\n' ' ')" >&2
 fi
 rm -f "$log"
+check_interpreter
 exit 0

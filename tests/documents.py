@@ -6,8 +6,8 @@ body says why it is wrong; README.md has at most 100 lines; each crate stands in
 has its storeys and its order; each function of the walk there stands in its file; each script of examples/scripts has
 its answers and its row in examples/README.md, and the opening one is the stored run; each test that docs/EXAMPLES.md
 names is written; each link leads to a file and a heading, and each quoted block stands in its file; no line of code,
-definition or proof is too wide; docs/GATE.md tells nearly as many lines of proof as there are; and docs/DECISIONS.md has
-at most 60 entries, which say what was rejected.
+definition or proof is too wide; docs/GATE.md tells nearly as many lines of proof as there are; docs/DECISIONS.md has at
+most 60 entries, which say what was rejected; and the version is the same wherever it stands.
 Ends with status 1 after naming what differs.
 """
 
@@ -20,6 +20,7 @@ sys.path.insert(0, str(ROOT / "scripts"))
 sys.dont_write_bytecode = True
 import proof_lines  # noqa: E402
 import reading_list  # noqa: E402
+import version  # noqa: E402
 import wrong_bodies  # noqa: E402
 
 
@@ -184,7 +185,7 @@ def wide_lines():
 def main():
     faults = differing_tables() + missing_sentences() + missing_functions() + faulty_examples()
     faults += long_readme() + missing_crates("docs/ARCHITECTURE.md") + shuffled_crates() + missing_tests() + wide_lines()
-    faults += faulty_decisions() + proof_lines.stale_rows()
+    faults += faulty_decisions() + proof_lines.stale_rows() + version.stale_places()
     for document in [*ROOT.glob("*.md"), *ROOT.glob("docs/**/*.md"), *ROOT.glob("examples/*.md")]:
         faults += broken_links(document) + broken_anchors(document) + stale_quotes(document)
     print("\n".join(faults) if faults else "documents: in step with the repository")

@@ -3,7 +3,7 @@ _estserve_client() {
     local word=${COMP_WORDS[COMP_CWORD]} before=${COMP_WORDS[COMP_CWORD-1]} command=${COMP_WORDS[1]} words
     COMPREPLY=()
     case $before in
-    --inputs | --vcd | --expect | --program | --socket | --before | --module)
+    --inputs | --vcd | --expect | --program | --socket | --before | --module | --record)
         mapfile -t COMPREPLY < <(compgen -f -- "$word")
         return
         ;;
@@ -19,8 +19,9 @@ _estserve_client() {
     test) words="--module --main --update --program --unproved --help" ;;
     shell) words="--socket --user --role --reads --program --stop --help" ;;
     apply) words="--dry-run --prune --before --yes --socket --user --role --reads --program --help" ;;
+    proof) words="--record --help" ;;
     *)
-        mapfile -t COMPREPLY < <(compgen -W "run test shell apply --version --help" -- "$word")
+        mapfile -t COMPREPLY < <(compgen -W "run test shell apply proof --version --help" -- "$word")
         return
         ;;
     esac

@@ -194,6 +194,30 @@ def add_apply(commands: Any) -> None:
     parser.set_defaults(act=apply)
 
 
+def proof(arguments: argparse.Namespace) -> int:
+    from . import proof
+
+    return proof.proof(arguments)
+
+
+def add_proof(commands: Any) -> None:
+    help = "compare the installed programs with the package's PROOF.json, and say what it shows"
+    parser = commands.add_parser("proof", help=help)
+    help = "the file, in place of the installed one"
+    parser.add_argument("--record", metavar="FILE", help=help)
+    parser.set_defaults(act=proof)
+
+
+class TellVersion(argparse.Action):
+    """Prints the version, and of a package whether it is unproved."""
+
+    def __call__(self, parser: argparse.ArgumentParser, *words: Any, **more: Any) -> None:
+        from .proof import version_suffix
+
+        print(f"estserve-client {__version__}{version_suffix()}")
+        parser.exit()
+
+
 def add_neighbour(commands: Any, name: str, package: str, asked: str) -> None:
     """Adds the subcommand of a package beside this one. The package has its HELP, and a module
     `command` with a function `add_parser(subparsers)`, which is imported where it is asked for.
@@ -216,13 +240,20 @@ def add_neighbours(commands: Any, asked: str) -> None:
             add_neighbour(commands, name, package, asked)
 
 
-ADDERS = {"run": add_run, "test": add_test, "shell": add_shell, "apply": add_apply}
+ADDERS = {
+    "run": add_run,
+    "test": add_test,
+    "shell": add_shell,
+    "apply": add_apply,
+    "proof": add_proof,
+}
 
 
 def make_parser(asked: str = "") -> Parser:
     """The words of the command line, with the one command that is asked for, or else with all."""
     parser = Parser(prog=TELLER.name, description="The client of estserve.")
-    parser.add_argument("--version", action="version", version=f"estserve-client {__version__}")
+    help = "print the version, and end"
+    parser.add_argument("--version", action=TellVersion, nargs=0, help=help)
     # Without `prog` the library words the usage anew, for which it imports more than all the rest.
     commands = parser.add_subparsers(
         dest="command", required=True, metavar="COMMAND", prog=parser.prog

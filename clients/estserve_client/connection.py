@@ -664,7 +664,7 @@ def connect(path: Path, timeout: Optional[float] = None, reads: int = READS) -> 
 
 def find_program(named: Optional[Path] = None) -> Path:
     """The program: the one that is named, or of the variable ESTSERVE, or the one that `make run`
-    builds, or one on the path, or one beside the command that was started.
+    builds, or one beside the command that was started, or one on the path.
 
     Raises Disconnected, if there is none.
     """
@@ -676,7 +676,7 @@ def find_program(named: Optional[Path] = None) -> Path:
     import shutil
 
     beside = os.path.join(os.path.dirname(os.path.realpath(sys.argv[0])), "estserve")
-    found = shutil.which("estserve") or shutil.which(beside)
+    found = shutil.which(beside) or shutil.which("estserve")
     if found is None:
         raise Disconnected(
             "there is no program estserve: build it by `make build`, or name it by --program"

@@ -58,22 +58,34 @@ class People:
         self._owner = os.geteuid() if owner is None else owner
 
     def of_uid(self, uid: int) -> Person:
-        """The person of a Unix user's number. Raises Refused, where no user has it."""
+        """The person of a Unix user's number. Raises Refused, where no user has it, and the file
+        doesn't list it."""
         try:
             name = pwd.getpwuid(uid).pw_name
         except KeyError:
-            raise unknown_person(uid) from None
+            return self._listed(str(uid), uid)
         return Person(name, self._users_of(name, uid))
 
     def named(self, name: str) -> Person:
-        """The person of a Unix user's name. Raises Refused, where there is no such user."""
+        """The person of a Unix user's name. Raises Refused, where there is no such user, and the
+        file doesn't list it."""
         try:
             uid = pwd.getpwnam(name).pw_uid
         except (KeyError, ValueError):
-            raise unknown_person(-1) from None
+            return self._listed(name, -1)
         return Person(name, self._users_of(name, uid))
+
+    def _listed(self, name: str, uid: int) -> Person:
+        """A person who is no user of this machine, as in a container. Raises Refused, unless the
+        file lists this name or number."""
+        users = () if self._table is None else self._users_of(name, uid)
+        if not users:
+            raise unknown_person(uid)
+        return Person(name, users)
 
     def _users_of(self, name: str, uid: int) -> Tuple[str, ...]:
         if self._table is None:
             return tuple(sorted({name} | ({"root"} if uid == self._owner else set())))
-        return tuple(sorted(user for user, names in self._table.items() if name in names))
+        # an entry of digits is a number, whatever users are called
+        keys = {str(uid)} if name.isdigit() else {str(uid), name}
+        return tuple(sorted(user for user, names in self._table.items() if keys & set(names)))

@@ -15,11 +15,13 @@ import time
 import unittest
 import unittest.mock
 
-from support import CLIENTS, ROOT
+from support import CLIENTS, ROOT, needs_program
 
 from estserve_client import commands
+from estserve_team import command
 
-MANUAL = CLIENTS / "man" / "estserve-client.1"
+MANUALS = CLIENTS / "man"
+MANUAL = MANUALS / "estserve-client.1"
 COMPLETIONS = CLIENTS / "completions"
 OF_MAKE = (
     "MAKEFLAGS",
@@ -69,18 +71,43 @@ class Pages(unittest.TestCase):
             for word in words:
                 self.assertRegex(text, rf"(?m)^\.B[IR]? .*{word}\b", f"{name} {word}")
 
+    def test_the_gateways_manual_has_each_word_and_option(self):
+        parser = argparse.ArgumentParser()
+        command.add_parser(parser.add_subparsers())
+        team = parser._actions[-1].choices["team"]
+        text = (MANUALS / "estserve-team.1").read_text().replace("\\-", "-")
+        shown = [action for action in team._actions if action.help != argparse.SUPPRESS]
+        options = {word for action in shown for word in action.option_strings} - {"-h", "--help"}
+        for word in options:
+            self.assertRegex(text, rf"(?m)^\.B[IR]* {word}\b", word)
+        for word in team._subparsers._group_actions[0].choices:
+            self.assertRegex(text, rf"(?m)^\.B {word}$", word)
+
+    @needs_program
+    def test_the_programs_manual_has_each_option(self):
+        text = (MANUALS / "estserve.1").read_text().replace("\\-", "-")
+        told = b"".join(
+            subprocess.run([os.environ["ESTSERVE"], *words, "--help"], capture_output=True).stderr
+            for words in ([], ["script"], ["serve"])
+        ).decode()
+        options = set(re.findall(r"--[a-z]+", told))
+        self.assertLess({"--log", "--report", "--socket", "--workers", "--version"}, options)
+        for word in options:
+            self.assertRegex(text, rf"(?m)^\.B[IR]* (-h \", \" )?{word}\b", word)
+
     @unittest.skipUnless(
         shutil.which("man") and shutil.which("groff"), "man or groff is not installed"
     )
     def test_the_manual_is_without_warnings(self):
-        words = ["man", "--warnings", "-E", "UTF-8", "-l", "-Tutf8", "-Z", str(MANUAL)]
-        ran = subprocess.run(
-            words,
-            capture_output=True,
-            text=True,
-            env={**os.environ, "MANROFFSEQ": "", "LC_ALL": "C.UTF-8"},
-        )
-        self.assertEqual((ran.returncode, ran.stderr), (0, ""))
+        for page in sorted(MANUALS.iterdir()):
+            words = ["man", "--warnings", "-E", "UTF-8", "-l", "-Tutf8", "-Z", str(page)]
+            ran = subprocess.run(
+                words,
+                capture_output=True,
+                text=True,
+                env={**os.environ, "MANROFFSEQ": "", "LC_ALL": "C.UTF-8"},
+            )
+            self.assertEqual((ran.returncode, ran.stderr), (0, ""), page.name)
 
     def test_completions_have_each_command_and_option(self):
         for path in sorted(COMPLETIONS.iterdir()):
@@ -188,19 +215,40 @@ class Installed(InAFolder):
         start = self.folder / "p" / "lib" / "estserve" / "start.py"
         start.write_text("import sys\nprint('site' in sys.modules, *sys.argv[1:])\n")
         for words, has_site in ((["run", "a b"], False), ([], False), (["team", "who"], True)):
-            command = [self.folder / "p" / "bin" / "estserve-client", *words]
-            told = subprocess.run(command, capture_output=True, text=True).stdout
+            words_run = [self.folder / "p" / "bin" / "estserve-client", *words]
+            told = subprocess.run(words_run, capture_output=True, text=True).stdout
             self.assertEqual(told.split(), [str(has_site), *" ".join(words).split()])
 
-    def test_a_staged_place(self):
+    def test_a_staged_place_is_named_nowhere_and_the_units_name_the_programs(self):
         program = self.script("program", "#!/bin/sh\n")
         ran = self.install(program, DESTDIR=f"{self.folder}/stage")
         self.assertEqual((ran.returncode, ran.stderr), (0, ""))
         stage = self.folder / "stage" / f"{self.folder}/p".lstrip("/")
-        text = (stage / "bin" / "estserve-client").read_text()
-        self.assertIn(f'exec python3 $site "{self.folder}/p/lib/estserve/start.py" "$@"', text)
-        text = (stage / "lib" / "estserve" / "start.py").read_text()
-        self.assertIn(f'"{self.folder}/p/lib/estserve"', text)
+        for path in (path for path in stage.rglob("*") if path.is_file()):
+            self.assertNotIn(f"{self.folder}/stage".encode(), path.read_bytes(), path)
+        units = stage / "lib" / "systemd" / "system"
+        for unit, words in (("estserve-team@", "estserve-client team"), ("estserve@", "estserve serve")):
+            text = (units / f"{unit}.service").read_text()
+            self.assertIn(f"\nExecStart={self.folder}/p/bin/{words} --", text)
+
+    def test_it_runs_where_it_was_moved_to_and_through_a_link(self):
+        program = self.script(
+            "program", '#!/bin/sh\nread line\necho "the program: $*"\ncat > /dev/null\n'
+        )
+        ran = self.install(program)
+        self.assertEqual((ran.returncode, ran.stderr), (0, ""))
+        moved = (self.folder / "p").rename(self.folder / "elsewhere")
+        (self.folder / "link").symlink_to(moved / "bin" / "estserve-client")
+        variables = {key: value for key, value in os.environ.items() if key != "ESTSERVE"}
+        for command in (moved / "bin" / "estserve-client", self.folder / "link"):
+            ran = subprocess.run(
+                [command, "shell"],
+                capture_output=True,
+                text=True,
+                stdin=subprocess.DEVNULL,
+                env=variables,
+            )
+            self.assertIn("this is no answer of estserve: 'the program: script'", ran.stderr)
 
     def test_without_a_program(self):
         ran = self.install(self.folder / "none")

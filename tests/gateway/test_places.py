@@ -141,6 +141,16 @@ class Persons(unittest.TestCase):
                 ask()
             self.assertEqual(held.exception.code, 1003)
 
+    def test_the_file_may_list_numbers_and_names_that_no_user_here_has(self):
+        people = People(read_people('[people]\nann = ["3999999", "far"]\nroot = ["65534"]\n'))
+        self.assertEqual(people.of_uid(3_999_999), ("3999999", ("ann",)))
+        self.assertEqual(people.named("far"), ("far", ("ann",)))
+        self.assertEqual(people.of_uid(NOBODY), ("nobody", ("root",)))
+        for ask in (lambda: people.of_uid(3_999_998), lambda: people.named("3999999")):
+            with self.assertRaises(Refused) as held:
+                ask()
+            self.assertEqual(held.exception.fault, "UnknownPerson")
+
     def test_what_is_no_file_of_people_is_told_with_its_line(self):
         for text, line in [
             ("", 1),

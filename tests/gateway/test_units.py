@@ -26,10 +26,7 @@ AT_ONCE = 4  # are started beside each other
 PACKAGING = teams.ROOT / "packaging"
 UNIT = PACKAGING / "estserve-team@.service"
 SERVER_UNIT = PACKAGING / "estserve@.service"
-INSTALLED = {
-    "/usr/bin/python3": sys.executable,
-    "/usr/lib/estserve/clients": str(teams.ROOT / "clients"),
-}
+CLIENT = f"{sys.executable} {teams.ROOT / 'clients' / 'estserve.py'}"
 
 
 def setting(name, unit=UNIT):
@@ -39,9 +36,8 @@ def setting(name, unit=UNIT):
 
 def installed_here(text):
     """A text of a unit, with the paths of this machine."""
-    for path, here in {**INSTALLED, "/usr/lib/estserve/estserve": teams.program_file()}.items():
-        text = text.replace(path, here)
-    return text
+    text = text.replace("/usr/bin/estserve-client", CLIENT)
+    return text.replace("/usr/bin/estserve ", f"{teams.program_file()} ")
 
 
 def words_of(state):

@@ -207,6 +207,13 @@ class PathsAndWords(unittest.TestCase):
                 self.assertEqual(server.end(), (0, report(6), b""))
                 other.root().close()
 
+    def test_version_and_help_are_told_on_standard_error(self):
+        version = (ROOT / "VERSION").read_text()
+        self.assertEqual(run("--version"), (2, b"", f"estserve {version}".encode()))
+        status, printed, told = run("--help")
+        self.assertEqual((status, printed), (2, b""))
+        self.assertIn(b"protocol version 1\n", told)
+
     def test_words_that_are_no_order(self):
         for words in ([], ["--workers", "0"], ["--workers", "17"], ["--connections", "0"], ["--connections", "65536"], ["--log"]):
             with self.subTest(words):

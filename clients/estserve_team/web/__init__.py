@@ -1,6 +1,7 @@
 """The gateway over HTTP: the page, and what it asks. This module imports no aiohttp; `start`
 does, where HTTP is asked for."""
 import argparse
+import sys
 import weakref
 from typing import Any, Dict
 
@@ -11,6 +12,10 @@ from .visits import LINK_SECONDS
 
 NO_HTTP = 1020  # the code of the refusal of a link where the gateway serves no HTTP
 HERE = "127.0.0.1:8710"  # where `--http` serves that names no other place
+NO_AIOHTTP = (
+    "the page needs aiohttp, which {0} lacks: on Debian, apt-get install python3-aiohttp and start "
+    "it by /usr/bin/python3; elsewhere, {0} -m pip install aiohttp"
+)
 
 _sites: "weakref.WeakKeyDictionary[Any, Any]" = (
     weakref.WeakKeyDictionary()
@@ -71,7 +76,7 @@ async def start(gateway: Any, options: argparse.Namespace) -> Any:
     try:
         from .site import Site
     except ImportError as fault:
-        raise Failed("the page needs aiohttp: apt-get install python3-aiohttp") from fault
+        raise Failed(NO_AIOHTTP.format(sys.executable)) from fault
     site = Site(gateway, read)
     try:
         await site.start()

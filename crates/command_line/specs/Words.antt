@@ -46,11 +46,11 @@ serve_line =
     let with_workers = with_rule with_socket (number_rule (codes "workers") MOST_WORKERS) in
     with_rule with_workers (number_rule (codes "connections") MOST_CONNECTIONS)
 
--- the program's command line: one of its orders has to be named
+-- the program's command line: one of its orders has to be named, or help or the version is asked for
 abbrev pub command_line : App
 command_line =
     let bare = new_app (codes "estserve") in
-    let named = record bare { top = record bare.top { subcommand_required = true } } in
+    let named = record bare { top = record bare.top { has_version = true; subcommand_required = true } } in
     with_subcommand (with_subcommand named script_line.top) serve_line.top
 
 -- ---- what is read of the options

@@ -25,6 +25,12 @@ pub fn the_name_alone_is_no_order()
     ensures { fault_of command_line (codes "estserve" ∷ []) ≡ kind.MissingSubcommand ∷ [] }
 {}
 
+/// `estserve --version` is no order: the version is told, and nothing is served.
+pub fn a_wish_for_the_version_is_no_order()
+    ensures { fault_of command_line (codes "estserve" ∷ codes "--version" ∷ [])
+        ≡ kind.DisplayVersion ∷ [] }
+{}
+
 /// `estserve script` serves one connection, with no line on its end and no report.
 pub fn script_has_no_flags()
     ensures { IsOrder (codes "estserve" ∷ codes "script" ∷ []) (Script false false) }

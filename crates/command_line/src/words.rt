@@ -16,6 +16,9 @@ use clap::{Arg, ArgAction, ArgMatches, Command, Error};
 use std::alloc::{AllocError, Global};
 use std::convert::AsStr;
 
+/// The version of the program: that of the file VERSION, as scripts/version.py writes it.
+const VERSION: &str = "0.3.0";
+
 /// A flag of this name.
 fn flag<'a>(alloc: Global, name: &'a str, help: &'a str) -> Arg<'a>
     ensures { rule_of result ≡ flag_rule name.entry.now }
@@ -100,7 +103,8 @@ fn program_words<'a>(alloc: Global) -> Result<Command<'a>, AllocError>
     let script = script_words(alloc)?;
     let serve = serve_words(alloc)?;
     Command::new(alloc, "estserve")
-        .about("A Pure Esterel simulation server under role-based access control")
+        .about("Pure Esterel simulation under role-based access control, protocol version 1")
+        .version(VERSION)
         .subcommand_required(true)
         .subcommand(script)?
         .subcommand(serve)

@@ -136,6 +136,8 @@ fn words_that_are_no_order(rt: HostRuntime) -> Result<(), Fail> {
             ("estserve srcipt", "InvalidSubcommand"),
             ("estserve --help", "DisplayHelp"),
             ("estserve help", "DisplayHelp"),
+            ("estserve --version", "DisplayVersion"),
+            ("estserve script --version", "UnknownArgument"),
             ("estserve script -h", "DisplayHelp"),
             ("estserve --version", "UnknownArgument"),
         ],

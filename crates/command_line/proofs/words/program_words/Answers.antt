@@ -7,6 +7,10 @@ use Rattle.command_line.specs.Words.{script_line, serve_line}
 use Rattle.command_line.proofs.CommandLines.{is_plain_line}
 use Rattle.command_line.proofs.words.program_words.Goals as goal
 
+-- a command that has a version
+abbrev versioned : App → App
+versioned a = record a { top = record a.top { has_version = true } }
+
 -- a command that has to name a subcommand
 abbrev required : App → App
 required a = record a { top = record a.top { subcommand_required = true } }
@@ -19,8 +23,10 @@ returns c =
     let serve_local = (plain_fields serve (is_plain_line serve serve_line c.in_ok-serve.ensures refl)).globals in
     let about : app_of c.about.result ≡ new_app (codes "estserve") =
     ap app_of_fields c.about.ensures ∙ c.new.ensures.app in
-    let named : app_of c.subcommand_required.result ≡ required (new_app (codes "estserve"))
-    = ap app_of_fields c.subcommand_required.ensures ∙ ap required about in
+    let version : app_of c.version.result ≡ versioned (new_app (codes "estserve"))
+    = ap app_of_fields c.version.ensures ∙ ap versioned about in
+    let named : app_of c.subcommand_required.result ≡ required (versioned (new_app (codes "estserve")))
+    = ap app_of_fields c.subcommand_required.ensures ∙ ap required version in
     let script_is = ap (λ (a : App). a.top) c.in_ok-script.ensures in
     let serve_is = ap (λ (a : App). a.top) c.in_ok-serve.ensures in
     let first = c.in_ok-subcommand.ensures.shape script_local ∙ ap₂ with_subcommand named script_is in
