@@ -11,6 +11,7 @@ import pathlib
 import sys
 from typing import Any, Callable, Dict, Iterator, List, Optional, Union
 
+from .command_table import BACK, KEYS
 from .connection import Client, Refusal, start
 from .module_text import OFFERED, main_of
 from .policy_file import BadPolicy, Policy, Wish, read_file
@@ -22,41 +23,20 @@ from .texts import Failed, read_text
 THERE_ALREADY = {
     "UserExists", "RoleExists", "AlreadyAssigned", "AlreadyGranted", "EdgeExists", "DsdExists",
 }  # fmt: skip
-WORDS = {
-    "adduser": "adduser {user}",
-    "deluser": "deluser {user}",
-    "addrole": "addrole {role}",
-    "delrole": "delrole {role}",
-    "inherit": "inherit {senior} {junior}",
-    "disinherit": "disinherit {senior} {junior}",
-    "assign": "assign {user} {role}",
-    "deassign": "deassign {user} {role}",
-    "grant": "grant {role} {op} {object}",
-    "revoke": "revoke {role} {op} {object}",
-    "dsd": "dsd {name} {count}",
-    "undsd": "undsd {name}",
-}
-BACK = {
-    "adduser": "deluser",
-    "addrole": "delrole",
-    "inherit": "disinherit",
-    "assign": "deassign",
-    "grant": "revoke",
-    "dsd": "undsd",
-}
 Command = Dict[str, Any]
 
 
 def text_of(command: Command) -> str:
     """A command in words, as `grant driver offer 0.A`."""
-    words = WORDS[command["cmd"]].format(**command)
-    return words + "".join(f" {role}" for role in command.get("roles", ()))
+    words = [command[key] for key in KEYS[command["cmd"]]]
+    flat = [part for word in words for part in (word if isinstance(word, list) else [word])]
+    return " ".join([command["cmd"], *map(str, flat)])
 
 
 def back_of(command: Command) -> Command:
     """The command that takes another one back."""
-    kept = ("name",) if command["cmd"] == "dsd" else tuple(key for key in command if key != "cmd")
-    return {"cmd": BACK[command["cmd"]], **{key: command[key] for key in kept}}
+    back = BACK[command["cmd"]]
+    return {"cmd": back, **{key: command[key] for key in KEYS[back]}}
 
 
 @dataclasses.dataclass

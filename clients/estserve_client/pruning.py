@@ -10,9 +10,9 @@ import itertools
 import sys
 from typing import Any, Callable, Dict, List, Optional, Set, Tuple
 
+from .command_table import KEYS, OPERATIONS, SLOTS
 from .connection import Client, Refusal
-from .policy_file import SLOTS, Policy
-from .sentences import OPERATIONS
+from .policy_file import Policy
 from .texts import Failed
 
 NOT_THERE = {
@@ -33,9 +33,8 @@ def wanted_of(policy: Policy) -> Set[Tuple[str, ...]]:
     """What the file asks for, as what would be tried."""
     wanted: Set[Tuple[str, ...]] = {("root", "root"), ("root", "administer", "policy")}
     for command in (wish.command for wish in policy.wishes):
-        order = {"assign": "user role", "inherit": "senior junior", "grant": "role op object"}
-        if command["cmd"] in order:
-            wanted.add(tuple(command[key] for key in order[command["cmd"]].split()))
+        if command["cmd"] in ("assign", "inherit", "grant"):
+            wanted.add(tuple(command[key] for key in KEYS[command["cmd"]]))
     return wanted
 
 

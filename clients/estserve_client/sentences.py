@@ -1,8 +1,19 @@
 """What a refusal says, as a short sentence."""
 from __future__ import annotations
 
-import re
 from typing import TYPE_CHECKING, Any, Dict, Optional, Sequence
+
+from .command_table import (
+    IDENTIFIER,
+    IDENTIFIERS,
+    MOST,
+    MOST_ROLES,
+    NAME,
+    NAMES,
+    OBJECT,
+    OPERATION,
+    OPERATIONS,
+)
 
 if TYPE_CHECKING:
     from .connection import Refusal
@@ -62,30 +73,21 @@ SENTENCES = {
 }
 
 
-NAME = re.compile(r"[A-Za-z0-9_-]{1,24}")
-IDENTIFIER = re.compile(r"[A-Za-z][A-Za-z0-9_]{0,47}")
-OPERATIONS = ("offer", "observe", "step", "load", "administer", "audit")
-OPERATION = re.compile("|".join(OPERATIONS))
-OBJECT = re.compile(rf"policy|([0-9]|1[0-5])(\.{IDENTIFIER.pattern})?")
 A_NAME = (NAME, "a name: 1 to 24 letters, digits, _ and -")
 AN_IDENTIFIER = (IDENTIFIER, "an identifier: a letter, then letters, digits and _, at most 48")
-# The forms of docs/PROTOCOL.md, by the key: the server takes a word out of its form for no command.
+# What is said of a word that is out of its form, by the key: the server takes it for no command.
 FORMS = {
-    **dict.fromkeys(("user", "role", "senior", "junior", "name", "roles"), A_NAME),
-    **dict.fromkeys(("main", "signal"), AN_IDENTIFIER),
+    **dict.fromkeys(NAMES, A_NAME),
+    **dict.fromkeys(IDENTIFIERS, AN_IDENTIFIER),
     "op": (OPERATION, "an operation: " + " ".join(OPERATIONS)),
     "object": (OBJECT, "an object: policy, a slot from 0 to 15, or a signal of one, as 0.A"),
 }
-ROLES, NUMBERS = (
-    32,
-    2**64,
-)  # a command has at most this many roles, and numbers are under this one
 
 
 def wrong_word(key: str, word: Any) -> Optional[str]:
     """What the word of a command is not, that stands for this key; None where it is in form."""
     form, wanted = FORMS.get(key, (None, ""))
-    if isinstance(word, int) and word >= NUMBERS:
+    if isinstance(word, int) and word > MOST:
         return f"{word} is too large a number"
     if form and not (isinstance(word, str) and form.fullmatch(word)):
         return f"{word} is not {wanted}"
@@ -99,8 +101,8 @@ def out_of_form(keys: Dict[str, Any]) -> Optional[str]:
     lists = {key: value if isinstance(value, list) else [value] for key, value in keys.items()}
     pairs = [(key, word) for key, words in lists.items() for word in words]
     wrong = [told for told in (wrong_word(key, word) for key, word in pairs) if told]
-    if any(len(words) > ROLES for words in lists.values()):
-        wrong.append(f"a command has at most {ROLES} roles")
+    if any(len(words) > MOST_ROLES for words in lists.values()):
+        wrong.append(f"a command has at most {MOST_ROLES} roles")
     return wrong[0] if wrong else None
 
 

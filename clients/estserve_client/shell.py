@@ -9,6 +9,7 @@ import sys
 import time
 from typing import Any, Dict, Iterable, List, Set, Tuple
 
+from .command_table import KEYS, OPERATIONS, SLOTS
 from .connection import CannotBeSent, Client, Refusal, TimedOut
 from .drawing import waves_for, write_vcd
 from .inputs import names_of_line
@@ -19,14 +20,22 @@ from .module_text import Module, main_of
 from .pictures import KINDS, Seen, Table, present_of, table_lines
 from .scopes import scopes_of
 from .seeing import module_for, see_slot
-from .sentences import OPERATIONS, sentence
+from .sentences import sentence
 from .session import roles_of, session_of
-from .shell_words import LEGEND, PLAIN, ROLES, Usage, keys_of, number_of, without_comment
+from .shell_words import (
+    LEGEND,
+    PLAIN,
+    ROLES,
+    Usage,
+    command_keys,
+    keys_of,
+    number_of,
+    without_comment,
+)
 from .stuck_chains import chain_lines
 from .texts import Failed, Placed, read_library
 
 WATCHED = 0.1  # seconds between two questions of `watch`
-SLOTS = 16
 FAULTS_OF_TEXTS = range(70, 81)  # their codes
 
 
@@ -106,7 +115,7 @@ class Shell(cmd.Cmd):
             return True
         if name not in PLAIN:
             raise Usage(f"there is no command {name}: help lists them")
-        keys = keys_of(PLAIN[name].words, words, self.slot)
+        keys = command_keys(name, words, self.slot)
         self.client.ask(name, **keys)
         for key, word in keys.items():
             self.told.get("role" if key in ROLES else key, set()).add(str(word))
@@ -166,7 +175,7 @@ class Shell(cmd.Cmd):
         command.
         """
         if name in PLAIN:
-            words = PLAIN[name].words.upper().replace("SLOT", "[SLOT]")
+            words = " ".join(KEYS[name]).upper().replace("SLOT", "[SLOT]")
             return f"{name} {words}: {PLAIN[name].does}"
         known = name in self.commands()
         return getattr(self, f"do_{name}").__doc__.split("\n")[0] if known else ""
@@ -229,7 +238,7 @@ class Shell(cmd.Cmd):
 
     def do_quit(self, line: str) -> bool:
         """quit: logs out and ends, as Ctrl-D does"""
-        keys_of("", line)
+        keys_of((), line)
         return True
 
     # The session and the policy.
@@ -244,7 +253,7 @@ class Shell(cmd.Cmd):
 
     def do_logout(self, line: str) -> None:
         """logout: ends the session"""
-        keys_of("", line)
+        keys_of((), line)
         self.client.logout()
         print("logged out")
         self.set_prompt("")
@@ -260,14 +269,14 @@ class Shell(cmd.Cmd):
 
     def do_check(self, line: str) -> None:
         """check OP OBJECT: tells whether you may do the operation on the object"""
-        keys = keys_of("op object", line)
+        keys = command_keys("check", line)
         print("yes" if self.client.check(**keys)["allowed"] else "no")
 
     # The slots.
 
     def do_use(self, line: str) -> None:
         """use SLOT: makes the slot the one that is meant where none is named"""
-        slot = keys_of("slot", line)["slot"] if line else None
+        slot = keys_of(("slot",), line)["slot"] if line else None
         if slot is None or slot >= SLOTS:
             raise Usage(f"expected: SLOT, from 0 to {SLOTS - 1}")
         self.slot = slot
@@ -309,7 +318,7 @@ class Shell(cmd.Cmd):
 
     def do_unload(self, line: str) -> None:
         """unload [SLOT]: takes the module out of the slot, with its instants"""
-        slot = keys_of("slot", line, self.slot)["slot"]
+        slot = keys_of(("slot",), line, self.slot)["slot"]
         self.client.unload(slot)
         self.modules.pop(slot, None)
         self.texts.pop(slot, None)
@@ -317,17 +326,17 @@ class Shell(cmd.Cmd):
 
     def do_step(self, line: str) -> None:
         """step [SLOT]: makes the next instant of what is pending, and shows what came out"""
-        slot = keys_of("slot", line, self.slot)["slot"]
+        slot = keys_of(("slot",), line, self.slot)["slot"]
         print(self.instant_line(slot, self.client.instant(slot)))
 
     def do_audit(self, line: str) -> None:
         """audit [SLOT]: tells how many entries its journal has, and how many instants there were"""
-        answer = self.client.audit(keys_of("slot", line, self.slot)["slot"])
+        answer = self.client.audit(keys_of(("slot",), line, self.slot)["slot"])
         print(f"{answer['entries']} entries, {answer['instants']} instants since the load")
 
     def do_look(self, line: str) -> None:
         """look [SLOT] INSTANT: shows the signals that you may observe; A=0: A was absent"""
-        answer = self.client.look(**keys_of("slot instant", line, self.slot))
+        answer = self.client.look(**command_keys("look", line, self.slot))
         told = [name + ("" if present else "=0") for name, present in answer["signals"]]
         print(" ".join(told) or "nothing that you may observe")
 
@@ -335,7 +344,7 @@ class Shell(cmd.Cmd):
 
     def seen_of(self, line: str) -> Seen:
         """What may be seen of the instants of the slot that a line names."""
-        slot = keys_of("slot", line, self.slot)["slot"]
+        slot = keys_of(("slot",), line, self.slot)["slot"]
         return see_slot(self.client, slot, self.modules.get(slot))
 
     def do_show(self, line: str) -> None:
@@ -348,7 +357,7 @@ class Shell(cmd.Cmd):
 
     def do_vcd(self, line: str) -> None:
         """vcd [SLOT] FILE: writes all instants so far into a VCD file, for a viewer of waves"""
-        keys = keys_of("slot file", line, self.slot)
+        keys = keys_of(("slot", "file"), line, self.slot)
         seen = self.seen_of(str(keys["slot"]))
         module, library = self.modules.get(keys["slot"]), self.texts.get(keys["slot"])
         if library and module and module.name == seen.module:
@@ -358,7 +367,7 @@ class Shell(cmd.Cmd):
 
     def do_watch(self, line: str) -> None:
         """watch [SLOT]: shows new instants as they come, until Ctrl-C"""
-        slot = keys_of("slot", line, self.slot)["slot"]
+        slot = keys_of(("slot",), line, self.slot)["slot"]
         try:
             self.watch(slot)
         except KeyboardInterrupt:
