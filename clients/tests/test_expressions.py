@@ -386,7 +386,7 @@ class Words(unittest.TestCase):
         return shell, printed.getvalue()
 
     def test_the_shell_tells_the_inouts_of_a_module(self):
-        told = "BUS: inputs FRAME WANT_A WANT_B, inouts LINE, outputs A_WON A_LOST B_WON B_LOST\n"
+        told = "BUS: inputs FRAME WANT_A WANT_B, inouts LINE, outputs A_WON A_LOST B_WON\n"
         self.assertEqual(self.shell()[1], told)
 
     def test_a_step_shows_an_inout_among_what_came_out(self):
