@@ -194,7 +194,7 @@ class Runs(InAFolder):
         text.write_text("module M: emit end module\n")
         self.assertIn(" saved at ", child.stdout.readline())
         self.assertEqual(
-            child.stderr.readline(), f"{text}:1:16: Syntax: the text cannot go on so\n"
+            child.stderr.readline(), f"{text}:1:16: Syntax: a name expected\n"
         )
         text.write_text(ABRO.read_text())
         self.assertIn(" saved at ", child.stdout.readline())

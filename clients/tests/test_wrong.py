@@ -87,16 +87,17 @@ class Texts(WhatGoesWrong):
         self.assertEqual(ran.told, f"{self.folder}/m.strl:{told}\n")
 
     def test_a_fault_of_the_text_is_shown_at_its_place(self):
-        told = "3:8: Syntax: the text cannot go on so\n  emit end module\n       ^"
+        told = "3:8: Syntax: a name expected\n  emit end module\n       ^"
         self.check_fault("fault_of_a_text", "module M:\noutput O;\n  emit end module\n", told)
 
     def test_an_empty_text(self):
-        self.check_fault("empty_text", "", "1:1: Syntax: the text cannot go on so\n\n^")
+        self.check_fault("empty_text", "", "1:1: Syntax: `module` expected\n\n^")
 
     def test_a_fault_that_names_no_place_is_shown_at_its_place_too(self):
         text = "module M: loop nothing end end module\n"
         told = "1:11: InstantLoop: a loop's body can end in the instant in which it begins: the loop stands in M"
-        self.check_fault("instant_loop", text, f"{told}\n{text}          ^")
+        path = f"a path through it that takes no time:\n  {self.folder}/m.strl:1:16: nothing"
+        self.check_fault("instant_loop", text, f"{told}\n{text}          ^\n{path}")
 
     def test_a_module_that_is_not_there(self):
         words = [*run_words("abro"), "--main", "ABBA"]
