@@ -1,236 +1,24 @@
-"""The command line: its words, and what becomes of a command."""
+"""The command line: what becomes of a command, and what is told at its end."""
 from __future__ import annotations
 
-import argparse
 import contextlib
 import os
 import sys
 
-from . import __version__
-from .connection import READS, CannotBeSent, Disconnected, Refusal, TimedOut
+from .connection import CannotBeSent, Disconnected, Refusal, TimedOut
+from .options import make_parser
 from .telling import TELLER
 from .texts import Failed
 
 TYPE_CHECKING = False
 if TYPE_CHECKING:
-    from typing import Any, List, NoReturn, Optional
+    from typing import List, NoReturn, Optional
 
-# subcommands of packages beside this one, which may be there
-NEIGHBOURS = (("team", "estserve_team"),)
 STREAMS = (
     ("stdin", "r", "surrogateescape"),
     ("stdout", "w", "backslashreplace"),
     ("stderr", "w", ""),
 )
-
-
-def terminal_columns() -> int:
-    """The columns of the terminal that standard output is, or of the variable COLUMNS; else 80."""
-    try:
-        return int(os.environ.get("COLUMNS", 0)) or os.get_terminal_size(1).columns or 80
-    except (ValueError, OSError):
-        return 80
-
-
-class Layout(argparse.HelpFormatter):
-    """Lays help out as the library does. Each option that is added makes a layout; the library's
-    own imports shutil for the columns, which takes a run longer than all options.
-    """
-
-    def __init__(self, prog: str, **more: Any) -> None:
-        super().__init__(prog, width=terminal_columns() - 2, **more)
-
-
-class Parser(argparse.ArgumentParser):
-    """A parser, and those of its subcommands, whose help is laid out so."""
-
-    def __init__(self, **words: Any) -> None:
-        super().__init__(formatter_class=Layout, **words)
-
-
-# What each command does is imported when it is asked for.
-
-
-def run(arguments: argparse.Namespace) -> None:
-    from . import running
-
-    running.run(arguments)
-
-
-def test(arguments: argparse.Namespace) -> int:
-    from . import testing
-
-    return testing.test(arguments)
-
-
-def shell(arguments: argparse.Namespace) -> int:
-    from . import shell
-
-    return shell.shell(arguments)
-
-
-def apply(arguments: argparse.Namespace) -> None:
-    from . import applying
-
-    applying.apply(arguments)
-
-
-def add_program(parser: Any) -> None:
-    help = "the program to start, in place of the one that `make run` builds"
-    parser.add_argument("--program", metavar="PATH", help=help)
-
-
-def add_unproved(parser: Any) -> None:
-    help = "build the program without proof, by `rt try`: a minute, and then it is kept"
-    parser.add_argument("--unproved", action="store_true", help=help)
-
-
-def add_server(parser: Parser, roles: Any) -> None:
-    help = "the server's Unix socket; without it the program is started for you alone"
-    parser.add_argument("--socket", metavar="PATH", help=help)
-    parser.add_argument("--user", default="root", help="the user to log in as (default: root)")
-    help = "a role to activate; may be given more than once (default: root for root, else none)"
-    parser.add_argument("--role", action="extend", nargs=roles, metavar="ROLE", help=help)
-    help = "connect again after this many reads (the server ends a connection after 1,000,000)"
-    parser.add_argument("--reads", type=int, default=READS, metavar="N", help=help)
-
-
-def add_pictures(parser: Parser) -> None:
-    pictures = parser.add_mutually_exclusive_group()
-    pictures.add_argument(
-        "--table", action="store_true", help="draw a table, a row for each instant (the default)"
-    )
-    pictures.add_argument("--wave", action="store_true", help="draw waves with characters")
-    pictures.add_argument("--vcd", metavar="OUT", help="write a VCD file, for a viewer of waves")
-
-
-def add_run(commands: Any) -> None:
-    parser = commands.add_parser(
-        "run", help="run a module through a list of inputs, and draw its instants"
-    )
-    add = parser.add_argument
-    add(
-        "file",
-        nargs="+",
-        metavar="FILE",
-        help="the module text; of several files all modules make one library",
-    )
-    add("--main", metavar="MODULE", help="the module to run (default: the first that none runs)")
-    add(
-        "--inputs",
-        default="-",
-        metavar="FILE",
-        help="the list of inputs, one instant a line (default: standard input)",
-    )
-    add("--signals", action="append", metavar="A,B", help="draw these signals, and no others")
-    add_pictures(parser)
-    add(
-        "--expect",
-        metavar="FILE",
-        help="compare the table with that of the file, and show the first difference",
-    )
-    add("--update", action="store_true", help="write the file of --expect anew")
-    add("--watch", action="store_true", help="run again whenever a file is saved, until Ctrl-C")
-    programs = parser.add_mutually_exclusive_group()
-    add_program(programs)
-    add_unproved(programs)
-    add_server(parser, 1)
-    add("--slot", type=int, default=0, metavar="N", help="the server's slot to run in (default: 0)")
-    add(
-        "--loaded",
-        action="store_true",
-        help="run what is loaded in that slot; nothing is loaded or unloaded",
-    )
-    parser.set_defaults(act=run)
-
-
-def add_test(commands: Any) -> None:
-    help = "run each NAME.inputs of a folder, and compare it with NAME.expected"
-    parser = commands.add_parser("test", help=help)
-    add = parser.add_argument
-    add("folder", metavar="DIR", help="the folder")
-    help = "a module text for all of them (default: NAME.strl, or all .strl files of the folder)"
-    add("--module", action="append", metavar="FILE", help=help)
-    add("--main", metavar="MODULE", help="the module to run (default: the first that none runs)")
-    add("--update", action="store_true", help="write each NAME.expected anew")
-    programs = parser.add_mutually_exclusive_group()
-    add_program(programs)
-    add_unproved(programs)
-    parser.set_defaults(act=test)
-
-
-def add_shell(commands: Any) -> None:
-    parser = commands.add_parser(
-        "shell", help="a dialogue, or a script: one command a line, `help` lists them"
-    )
-    add_server(parser, "+")
-    add_program(parser)
-    parser.add_argument(
-        "--stop", action="store_true", help="end a script at the first line that is refused"
-    )
-    parser.set_defaults(act=shell)
-
-
-def add_apply(commands: Any) -> None:
-    parser = commands.add_parser(
-        "apply", help="make users, roles, permissions and sets from a file"
-    )
-    add = parser.add_argument
-    add("file", metavar="POLICY", help="the policy, in TOML")
-    add(
-        "--dry-run",
-        action="store_true",
-        help="try it on a program of its own, list its commands, and send nothing",
-    )
-    add("--prune", action="store_true", help="ask, and take away what the file doesn't ask for")
-    add(
-        "--before",
-        metavar="OLD",
-        help="an earlier policy file: --prune takes away its users, roles and sets too",
-    )
-    add("--yes", action="store_true", help="let --prune not ask")
-    add_server(parser, 1)
-    add_program(parser)
-    parser.set_defaults(act=apply)
-
-
-def add_neighbour(commands: Any, name: str, package: str, asked: str) -> None:
-    """Adds the subcommand of a package beside this one. The package has its HELP, and a module
-    `command` with a function `add_parser(subparsers)`, which is imported where it is asked for.
-    """
-    import importlib
-
-    if asked == name:
-        importlib.import_module(package + ".command").add_parser(commands)
-    else:
-        commands.add_parser(name, help=importlib.import_module(package).HELP)
-
-
-def add_neighbours(commands: Any, asked: str) -> None:
-    """Adds the subcommands of packages whose folders are there, unless one that is there already is
-    asked for.
-    """
-    here = os.path.dirname(os.path.dirname(os.path.realpath(__file__)))
-    for name, package in NEIGHBOURS:
-        if asked not in commands.choices and os.path.isdir(os.path.join(here, package)):
-            add_neighbour(commands, name, package, asked)
-
-
-ADDERS = {"run": add_run, "test": add_test, "shell": add_shell, "apply": add_apply}
-
-
-def make_parser(asked: str = "") -> Parser:
-    """The words of the command line, with the one command that is asked for, or else with all."""
-    parser = Parser(prog=TELLER.name, description="The client of estserve.")
-    parser.add_argument("--version", action="version", version=f"estserve-client {__version__}")
-    # Without `prog` the library words the usage anew, for which it imports more than all the rest.
-    commands = parser.add_subparsers(
-        dest="command", required=True, metavar="COMMAND", prog=parser.prog
-    )
-    for add in [ADDERS[asked]] if asked in ADDERS else ADDERS.values():
-        add(commands)
-    add_neighbours(commands, asked)
-    return parser
 
 
 def prepare_streams() -> None:

@@ -1,7 +1,7 @@
 """What a refusal says, as a short sentence."""
 from __future__ import annotations
 
-from typing import TYPE_CHECKING, Any, Dict, Optional, Sequence
+from typing import TYPE_CHECKING, Any, Dict, Optional, Sequence, Tuple
 
 from .command_table import (
     IDENTIFIER,
@@ -17,6 +17,8 @@ from .command_table import (
 
 if TYPE_CHECKING:
     from .connection import Refusal
+
+Set = Tuple[int, Sequence[str]]  # a separation set: its number, and its roles
 
 SENTENCES = {
     "TooLong": "the line is too long",
@@ -106,9 +108,22 @@ def out_of_form(keys: Dict[str, Any]) -> Optional[str]:
     return wrong[0] if wrong else None
 
 
-def sentence(refusal: Refusal, relations: Sequence[str] = ()) -> str:
+def clash(refusal: Refusal, sets: Dict[str, Set]) -> str:
+    """What is said of the roles that a separation set keeps apart: those of the set, where it is
+    known, or else those that were asked for.
+    """
+    if refusal.fields.get("set") in sets:
+        count, roles = sets[refusal.fields["set"]]
+        return f": at most {count - 1} of {' '.join(roles)} may be active"
+    asked = refusal.command.get("roles") or [refusal.command.get("role", "")]
+    return f": it asks for {' and '.join(asked)}" if any(asked) else ""
+
+
+def sentence(
+    refusal: Refusal, relations: Sequence[str] = (), sets: Optional[Dict[str, Set]] = None
+) -> str:
     """The sentence of a refusal. With the texts of the module's relations, a relation is told by
-    its text.
+    its text; with separation sets, one that would be violated by its roles.
     """
     fields: Dict[str, Any] = {"offered": refusal.command.get("signal", "it"), **refusal.fields}
     number = fields.get("relation")
@@ -118,7 +133,8 @@ def sentence(refusal: Refusal, relations: Sequence[str] = ()) -> str:
         fields["undecided"] = " ".join(fields["undecided"]) or "none that may be observed"
     if refusal.fault == "NotARequest" and out_of_form(refusal.command):
         return f"{refusal.fault}: {out_of_form(refusal.command)}"
+    more = clash(refusal, sets or {}) if refusal.fault == "DsdViolated" else ""
     try:
-        return f"{refusal.fault}: {SENTENCES[refusal.fault].format(**fields)}"
+        return f"{refusal.fault}: {SENTENCES[refusal.fault].format(**fields)}{more}"
     except (KeyError, IndexError):
         return str(refusal)

@@ -20,6 +20,7 @@ from .module_text import Module, main_of
 from .pictures import KINDS, Seen, Table, present_of, table_lines
 from .scopes import scopes_of
 from .seeing import module_for, see_slot
+from .sentences import Set as SeparationSet
 from .sentences import sentence
 from .session import roles_of, session_of
 from .shell_words import (
@@ -53,6 +54,7 @@ class Shell(cmd.Cmd):
             int, Module
         ] = {}  # the module that runs in a slot, as far as it is known here
         self.texts: Dict[int, LibraryText] = {}  # and its text
+        self.sets: Dict[str, SeparationSet] = {}  # separation sets that were made here
         self.told: Dict[str, Set[str]] = {
             "user": {"root"},
             "role": {"root"},
@@ -103,7 +105,11 @@ class Shell(cmd.Cmd):
         chain = (
             chain_lines(library, module.name, undecided) if library and module and undecided else []
         )
-        return [sentence(refusal, module.relations if module else ()), *chain]
+        relations = module.relations if module else ()
+        if refusal.command.get("cmd") == "activate":
+            asked = [*self.client.roles, refusal.command["role"]]
+            refusal.command = {**refusal.command, "roles": asked}
+        return [sentence(refusal, relations, self.sets), *chain]
 
     def emptyline(self) -> bool:
         return False
@@ -265,6 +271,7 @@ class Shell(cmd.Cmd):
             raise Usage("expected: NAME COUNT ROLE..")
         self.client.dsd(name, roles, number_of(count))
         self.told["name"].add(name)
+        self.sets[name] = number_of(count), roles
         print(f"no session may have {count} of {' '.join(roles)}")
 
     def do_check(self, line: str) -> None:

@@ -13,8 +13,9 @@ from .drawing import Progress
 from .expecting import first_difference, outcome_lines, read_expected, update
 from .module_text import main_of
 from .pictures import Seen
-from .running import counted, play, program_of
-from .stage import Scenario, Stage, fault_of_inputs
+from .programs import program_of
+from .running import counted, play
+from .stage import Scenario, Stage, check_inputs
 from .texts import Failed, read_library, read_text
 
 PASSED, FAILED, WRITTEN = "ok", "FAILED", "written"
@@ -39,11 +40,9 @@ def outcome(
     """What a list of inputs gives: what was seen, and its lines. Raises Failed."""
     library = read_library(texts_for(inputs, arguments))
     module = main_of(library.text, arguments.main)
-    scenario = Scenario(library, module, read_text(inputs, "the list of inputs"))
-    fault = fault_of_inputs(scenario)
+    scenario = Scenario(library, module, read_text(inputs, "the list of inputs"), str(inputs))
     stage.load(scenario)
-    if fault:
-        raise Failed(fault)
+    check_inputs(scenario)
     seen = Seen(module.name, module.signals, [])
     refusal = play(stage, scenario, seen.instants.extend, Progress(len(scenario.inputs), True))
     return seen, outcome_lines(seen, refusal.told if refusal else None)

@@ -109,7 +109,7 @@ class OnTheProgram(InAFolder):
             status, printed, told = self.apply("--socket", server.path)
             self.assertEqual(
                 (status, printed),
-                (1, ["p.toml:2: addrole driver: RoleExists: the role driver is there already"]),
+                (1, []),
             )
             self.assertEqual(
                 told,
@@ -163,7 +163,7 @@ class OnTheProgram(InAFolder):
         text = POLICY.replace('["offer door.OPEN", "step door", "load 4"]', permissions)
         self.path.write_text(text + '[modules]\ndoor = "door.strl"\n')
         status, printed, told = self.apply()
-        self.assertEqual((status, printed[-1]), (0, "11 made, 0 there already, 0 refused"))
+        self.assertEqual((status, printed[-1]), (0, "0 there already, 11 added"))
         self.assertEqual(
             told,
             [

@@ -25,7 +25,7 @@ from estserve_client.pictures import Seen, Table, table_lines, vcd_lines, wave_l
 from estserve_client.policy_file import read_file
 from estserve_client.scopes import scopes_of
 from estserve_client.shell import Shell
-from estserve_client.stage import Scenario, fault_of_inputs, grants_of
+from estserve_client.stage import Scenario, check_inputs, grants_of
 from estserve_client.stuck_chains import chain_lines, written
 from estserve_client.syntax_tree import KEYWORDS, parse
 from estserve_client.texts import Placed
@@ -347,11 +347,11 @@ class Words(unittest.TestCase):
         return Scenario(join_texts([("bus.strl", BUS)]), self.module, inputs)
 
     def test_a_list_of_inputs_may_have_inouts(self):
-        self.assertIsNone(fault_of_inputs(self.scenario("LINE\nFRAME WANT_A\n")))
-        self.assertEqual(
-            fault_of_inputs(self.scenario("LINE\nA_WON\n")),
-            "line 2 of the inputs: BUS has no input A_WON",
-        )
+        check_inputs(self.scenario("LINE\nFRAME WANT_A\n"))
+        with self.assertRaises(Placed) as raised:
+            check_inputs(self.scenario("LINE\nLINE; A_WON\n"))
+        told = "standard input:2:7: A_WON is an output of BUS, which nobody can offer"
+        self.assertEqual(str(raised.exception), told)
 
     def test_root_is_granted_to_offer_and_to_observe_them(self):
         told = [(grant["op"], grant["object"]) for grant in grants_of(self.module)]
@@ -502,7 +502,7 @@ class OnTheProgram(unittest.TestCase):
             inputs = pathlib.Path(name) / "inputs"
             inputs.write_text("LINE\nA_WON\n")
             ran = run_client(["run", EXAMPLES / "shared_bus/shared_bus.strl", "--inputs", inputs])
-            self.assertIn("BUS has no input A_WON", ran.told)
+            self.assertIn("A_WON is an output of BUS", ran.told)
             inputs.write_text("LINE\n")
             ran = run_client(["run", EXAMPLES / "shared_bus/shared_bus.strl", "--inputs", inputs])
             self.assertEqual(

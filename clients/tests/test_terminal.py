@@ -257,7 +257,7 @@ class InATerminal(unittest.TestCase):
             ("no", "nothing"),
         ):
             with Terminal(["apply", policy, "--prune"], {}) as terminal:
-                terminal.sees("1 made, 0 there already, 0 refused\n")
+                terminal.sees("0 there already, 1 added\n")
                 terminal.sees("sessions that need it end [y/N] ")
                 terminal.type(f"{answer}\n")
                 terminal.sees(told)
