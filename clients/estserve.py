@@ -32,7 +32,7 @@ from estserve_client import (
     connect,
     start,
 )
-from estserve_client.commands import end, installed, main
+from estserve_client.command_line import end, installed, main
 
 TYPE_CHECKING = False
 if TYPE_CHECKING:

@@ -124,6 +124,7 @@ def hold_run(
     """Runs the module that is loaded, and holds it against what is expected. Raises Failed where it
     differs.
     """
+    from .colours import Colours
     from .expecting import first_difference, outcome_lines, read_expected, update
 
     seen = Seen(scenario.module.name, chosen(scenario.module, arguments.signals), [])
@@ -131,11 +132,12 @@ def hold_run(
     lines = outcome_lines(seen, refusal.told if refusal else None)
     if arguments.update:
         written = update(arguments.expect, lines)
-        print(f"{arguments.expect} is {'written' if written else 'as it was'}: {counted(seen)}")
+        told = counted(seen) + blessed(refusal.told if refusal else "", written)
+        print(f"{arguments.expect} is {'written' if written else 'as it was'}: {told}")
         return
     found = first_difference(read_expected(arguments.expect), lines, arguments.expect)
     if found:
-        print("\n".join(found[1]), flush=True)
+        print("\n".join(map(Colours(sys.stdout).of_diff, found[1])), flush=True)
         raise Failed(f"{arguments.expect}: the first difference is at {found[0]}")
     print(f"{counted(seen)}, as expected")
 
@@ -143,6 +145,13 @@ def hold_run(
 def counted(seen: Seen) -> str:
     """How many instants were seen, in words."""
     return f"{len(seen.instants):,} instant{'' if len(seen.instants) == 1 else 's'}"
+
+
+def blessed(refusal: str, is_written: bool) -> str:
+    """What is said of a table that is written, where the run ended with a refusal."""
+    if not refusal:
+        return ""
+    return f"; WITH A REFUSAL as what is expected: {refusal}" if is_written else f"; {refusal}"
 
 
 def run_once(arguments: argparse.Namespace) -> None:

@@ -3,6 +3,7 @@ from __future__ import annotations
 
 import argparse
 import cmd
+import contextlib
 import glob
 import os
 import sys
@@ -12,6 +13,7 @@ from typing import Any, Dict, Iterable, List, Set, Tuple
 from .command_table import KEYS, OPERATIONS, SLOTS
 from .connection import CannotBeSent, Client, Refusal, TimedOut
 from .drawing import waves_for, write_vcd
+from .history import keeping_history
 from .inputs import names_of_line
 from .instants import Instant
 from .library_text import LibraryText
@@ -407,15 +409,6 @@ class Shell(cmd.Cmd):
             time.sleep(WATCHED)
 
 
-def use_readline() -> None:
-    """Lets a person's lines have history and completion, where this Python has readline."""
-    try:
-        import readline
-    except ImportError:
-        return
-    readline.set_completer_delims(" \t\n")
-
-
 def talk(dialogue: Shell, client: Client) -> None:
     """The dialogue up to its end. An interrupt of a script is raised; one of a person's line is
     not.
@@ -435,9 +428,8 @@ def shell(arguments: argparse.Namespace) -> int:
     status: 1 where a line of a script was refused. Raises Refusal, Disconnected, NotText.
     """
     is_typed = sys.stdin.isatty()
-    if is_typed:
-        use_readline()
-    with session_of(arguments) as (client, answer):
+    lines = keeping_history() if is_typed else contextlib.nullcontext()
+    with lines, session_of(arguments) as (client, answer):
         roles = " ".join(roles_of(arguments)) or "no role"
         told = f"session {answer['session']} of {arguments.user}, with {roles}"
         print(f"{told}; help lists the commands")

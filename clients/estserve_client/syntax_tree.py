@@ -8,9 +8,9 @@ from __future__ import annotations
 
 import dataclasses
 import re
-from typing import Callable, Dict, Iterator, List, Optional
+from typing import Callable, Dict, Iterator, List, Optional, Tuple
 
-TOKEN = re.compile(r"%\{.*?\}%|%[^\n]*|\s+|[A-Za-z][A-Za-z0-9_]*|[0-9]+|\|\||=>|:=|<=|.", re.DOTALL)
+TOKEN = re.compile(r"%\{.*?(?:\}%|\Z)|%[^\n]*|\s+|[A-Za-z][A-Za-z0-9_]*|[0-9]+|\|\||=>|:=|<=|.", re.DOTALL)
 KEYWORDS = frozenset(
     "module end input output inputoutput relation nothing pause halt emit sustain present then else"
     " suspend when immediate loop each every do await abort weak trap in exit signal run"
@@ -42,7 +42,7 @@ def tokens_of(text: str) -> List[Token]:
     tokens, line, begin, at, width = [], 1, 0, 0, 0
     for match in TOKEN.finditer(text):
         word, at = match.group(), match.start()
-        if not (word[0].isspace() or (word[0] == "%" and word != "%")):
+        if not (word[0].isspace() or word[0] == "%"):
             width = len(text[begin:at].encode(errors="surrogatepass"))
             tokens.append(Token(word, line, width + 1))
         if "\n" in word:
@@ -186,27 +186,33 @@ class Reader:
     def module(self) -> ModuleTree:
         self.open.append(self.take("module"))
         module = ModuleTree(self.name(), [], [], [], [], [], Node("nothing", self.take(":")))
-        while self.peek() in DECLARATIONS:
-            self.declaration(module)
-        self.wanted.append(A_DECLARATION)
+        while self.declares():
+            word, lists = self.declaration()
+            declared = {"input": module.inputs, "output": module.outputs, "relation": []}
+            declared.get(word, module.inputoutputs).extend(name for list_ in lists for name in list_)
+            if word == "relation":
+                module.relations += lists
+            else:
+                module.interface += lists[0]
         module.body = self.statement()
         self.take("end")
         self.take("module")
         self.open.pop()
         return module
 
-    def declaration(self, module: ModuleTree) -> None:
+    def declares(self) -> bool:
+        """Whether a declaration comes."""
+        self.wanted += [A_DECLARATION] * (self.peek() not in DECLARATIONS)
+        return self.peek() in DECLARATIONS
+
+    def declaration(self) -> Tuple[str, List[List[Token]]]:
+        """A declaration: its word, and its names, or those of each relation."""
         word = self.advance().text
-        if word == "relation":
-            module.relations.append(self.relation())
-            while self.takes(","):
-                module.relations.append(self.relation())
-        else:
-            names = self.names()
-            module.interface += names
-            declared = {"input": module.inputs, "output": module.outputs}
-            declared.get(word, module.inputoutputs).extend(names)
+        lists = [self.relation() if word == "relation" else self.names()]
+        while word == "relation" and self.takes(","):
+            lists.append(self.relation())
         self.take(";")
+        return word, lists
 
     def relation(self) -> List[Token]:
         members = [self.name()]
@@ -226,17 +232,13 @@ class Reader:
 
     def sequence(self) -> Node:
         parts = [self.unit()]
-        while self.takes(";") and self.peek() not in (
-            "end",
-            "]",
-            "||",
-            "then",
-            "else",
-            "when",
-            "each",
-        ):
+        while self.takes(";") and not self.ends_sequence():
             parts.append(self.unit())
         return parts[0] if len(parts) == 1 else Node("seq", parts[0].at, [], list(parts))
+
+    def ends_sequence(self) -> bool:
+        """Whether what comes can't be a further statement of a sequence."""
+        return self.peek() in ("end", "]", "||", "then", "else", "when", "each")
 
     def unit(self) -> Node:
         word = self.peek()

@@ -17,7 +17,7 @@ import unittest.mock
 
 from support import CLIENTS, ROOT
 
-from estserve_client import options as options_of
+from estserve_client import commands
 
 MANUAL = CLIENTS / "man" / "estserve-client.1"
 COMPLETIONS = CLIENTS / "completions"
@@ -45,8 +45,8 @@ echo "the program: $*"
 
 def options():
     """The long options of each of the client's own commands."""
-    with unittest.mock.patch.object(options_of, "NEIGHBOURS", ()):
-        parser = options_of.make_parser()
+    with unittest.mock.patch.object(commands, "NEIGHBOURS", ()):
+        parser = commands.make_parser()
     subparsers = next(
         action for action in parser._actions if isinstance(action, argparse._SubParsersAction)
     )
