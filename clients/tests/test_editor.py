@@ -6,13 +6,14 @@ import os
 import pathlib
 import queue
 import random
+import shutil
 import subprocess
 import sys
 import tempfile
 import threading
 import unittest
 
-from support import CLIENTS, EXAMPLES, needs_program, refusal_of
+from support import CLIENTS, EXAMPLES, ROOT, needs_program
 from test_format import texts_of_the_repository
 
 import estserve
@@ -312,6 +313,29 @@ class Places(unittest.TestCase):
             library = documents.library_of(path)
             self.assertEqual([pathlib.Path(one).stem for one in library.paths], ["A", "B", "C"])
             self.assertEqual(mains_of(library), ["A"])
+
+
+@needs_program
+class Extension(unittest.TestCase):
+    @unittest.skipUnless(shutil.which("node"), "node is not installed")
+    def test_the_extension_hands_on_between_editor_and_server(self):
+        with tempfile.TemporaryDirectory() as name:
+            client = pathlib.Path(name) / "client"
+            client.write_text(f'#!/bin/sh\nexec "{sys.executable}" -B "{CLIENTS / "estserve.py"}" "$@"\n')
+            client.chmod(0o755)
+            text = EXAMPLES / "abro" / "abro.strl"
+            stand_in = CLIENTS / "tests" / "vscode_stand_in.js"
+            words = ["node", stand_in, ROOT / "editors" / "vscode" / "extension.js", client, text]
+            ran = subprocess.run(words, capture_output=True, text=True, timeout=SECONDS)
+        self.assertEqual((ran.returncode, ran.stderr), (0, ""))
+        told = json.loads(ran.stdout)
+        self.assertEqual(told["faults"], [[], ["Syntax: a statement expected\ndid you mean `emit`?"], []])
+        self.assertIn("`O`: output of `ABRO`", told["hover"])
+        self.assertEqual((told["definition"]["startLine"], told["references"]), (3, 2))
+        uri = text.as_uri()
+        self.assertEqual(told["rename"], [[uri, 3, 7, "OUT"], [uri, 6, 7, "OUT"]])
+        self.assertEqual(told["refused"], "end is a word of the language, and no name")
+        self.assertEqual((told["symbols"], told["format"], told["messages"]), (["ABRO"], [], []))
 
 
 @needs_program
