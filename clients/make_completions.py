@@ -60,7 +60,10 @@ def command_of(parser: argparse.ArgumentParser, help: str) -> Command:
     for action in parser._actions:
         if isinstance(action, argparse._SubParsersAction):
             helps = {choice.dest: choice.help or "" for choice in action._choices_actions}
-            words = {name: command_of(inner, helps.get(name, "")) for name, inner in action.choices.items()}
+            words = {
+                name: command_of(inner, helps.get(name, ""))
+                for name, inner in action.choices.items()
+            }
         elif not action.option_strings:
             takes_files |= action.metavar in OF_FILES
         elif action.help is not argparse.SUPPRESS:
@@ -93,7 +96,9 @@ def bash(whole: Command) -> Iterator[str]:
     local word=${COMP_WORDS[COMP_CWORD]} before=${COMP_WORDS[COMP_CWORD-1]} path=${COMP_WORDS[1]} words='' files=''
     COMPREPLY=()
     if ((COMP_CWORD == 1)); then path=; fi
-    case "$path ${COMP_WORDS[2]}" in""".split("\n")
+    case "$path ${COMP_WORDS[2]}" in""".split(
+        "\n"
+    )
     inner = [path for path, _ in paths_of(whole) if " " in path]
     if inner:
         yield f"""    {' | '.join(f"'{path}'" for path in inner)})"""
@@ -103,7 +108,12 @@ def bash(whole: Command) -> Iterator[str]:
     yield '    case "$path" in'
     for path, command in [("", whole), *paths_of(whole)]:
         words = [word for option in command.options for word in option.words if word[1:2] == "-"]
-        words += [word for option in command.options for word in option.words if len(option.words) == 1 and word[1:2] != "-"]
+        words += [
+            word
+            for option in command.options
+            for word in option.words
+            if len(option.words) == 1 and word[1:2] != "-"
+        ]
         yield f"    '{path}')"
         yield f"        words='{' '.join([*command.words, *words])}'"
         if command.takes_files:
@@ -126,7 +136,9 @@ def bash(whole: Command) -> Iterator[str]:
         mapfile -t COMPREPLY < <(compgen -W "$words" -- "$word")
     fi
 }
-complete -o filenames -F _estserve_client estserve-client""".split("\n")
+complete -o filenames -F _estserve_client estserve-client""".split(
+        "\n"
+    )
 
 
 def zsh_text(text: str) -> str:
@@ -140,10 +152,16 @@ def zsh_words(command: Command) -> Iterator[str]:
     """The words of `_arguments` for a command."""
     for option in command.options:
         for word in option.words:
-            after = f":{option.takes.lower()}:{'_files' if option.is_file else ''}" if option.takes else ""
+            after = (
+                f":{option.takes.lower()}:{'_files' if option.is_file else ''}"
+                if option.takes
+                else ""
+            )
             yield f"'{'*' * option.repeats}{word}[{zsh_text(option.help)}]{after}'"
     if command.words:
-        listed = " ".join(f"{name}\\:\"{zsh_text(inner.help)}\"" for name, inner in command.words.items())
+        listed = " ".join(
+            f'{name}\\:"{zsh_text(inner.help)}"' for name, inner in command.words.items()
+        )
         yield f"'1:command:(({listed}))'"
     elif command.takes_files:
         yield "'*:file:_files'"
@@ -156,7 +174,7 @@ def zsh(whole: Command) -> Iterator[str]:
     yield "if ((CURRENT == 2)); then path=; fi"
     inner = [path for path, _ in paths_of(whole) if " " in path]
     if inner:
-        yield 'if ((CURRENT > 3)); then'
+        yield "if ((CURRENT > 3)); then"
         yield '    case "$path $words[3]" in'
         yield f"""    {' | '.join(f"'{path}'" for path in inner)}) path="$path $words[3]"; shift words; ((CURRENT--)) ;;"""
         yield "    esac"
@@ -192,7 +210,8 @@ def fish(whole: Command) -> Iterator[str]:
             yield f"complete -c {NAME}{condition} -F"
         for option in command.options:
             words = " ".join(
-                f"-l {word[2:]}" if word.startswith("--") else f"-s {word[1:]}" for word in option.words
+                f"-l {word[2:]}" if word.startswith("--") else f"-s {word[1:]}"
+                for word in option.words
             )
             takes = "" if not option.takes else " -r -F" if option.is_file else " -x"
             yield f"complete -c {NAME}{condition} {words}{takes} -d '{fish_text(option.help)}'"

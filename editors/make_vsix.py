@@ -14,7 +14,12 @@ from xml.sax.saxutils import escape, quoteattr
 
 HERE = pathlib.Path(__file__).resolve().parent
 CLIENT = HERE.parent / "clients" / "estserve_client" / "__init__.py"
-TYPES = {".json": "application/json", ".js": "application/javascript", ".vsixmanifest": "text/xml", ".md": "text/markdown"}
+TYPES = {
+    ".json": "application/json",
+    ".js": "application/javascript",
+    ".vsixmanifest": "text/xml",
+    ".md": "text/markdown",
+}
 WHEN = (1980, 1, 1, 0, 0, 0)  # the files' times
 
 
@@ -25,14 +30,19 @@ def version():
 
 def content_types():
     """What kind of content each ending has."""
-    defaults = "".join(f"<Default Extension={quoteattr(end)} ContentType={quoteattr(kind)}/>" for end, kind in TYPES.items())
+    defaults = "".join(
+        f"<Default Extension={quoteattr(end)} ContentType={quoteattr(kind)}/>"
+        for end, kind in TYPES.items()
+    )
     space = "http://schemas.openxmlformats.org/package/2006/content-types"
     return f'<?xml version="1.0" encoding="utf-8"?>\n<Types xmlns="{space}">{defaults}</Types>\n'
 
 
 def manifest(package):
     """What the extension is, as the editor's installer reads it."""
-    identity = f'Language="en-US" Id={quoteattr(package["name"])} Version={quoteattr(package["version"])}'
+    identity = (
+        f'Language="en-US" Id={quoteattr(package["name"])} Version={quoteattr(package["version"])}'
+    )
     return f"""<?xml version="1.0" encoding="utf-8"?>
 <PackageManifest Version="2.0.0" xmlns="http://schemas.microsoft.com/developer/vsx-schema/2011">
   <Metadata>

@@ -242,5 +242,3 @@ def make_parser(asked: str = "") -> Parser:
         add(commands)
     add_neighbours(commands, asked)
     return parser
-
-

@@ -73,7 +73,9 @@ def diagnose_place(refusal: Refusal, library: LibraryText) -> Diagnosis:
         or habit_at(library.text, line, column, tokens)
         or advice
     )
-    at = Token(spot.word() if spot.here and starts_at(spot.here, line, column) else " ", line, column)
+    at = Token(
+        spot.word() if spot.here and starts_at(spot.here, line, column) else " ", line, column
+    )
     mark = mark_of(library, at, "")
     return Diagnosis(
         refusal.fault, f"{refusal.fault}: {told}", [mark], remedies=[remedy] if remedy else []

@@ -19,7 +19,12 @@ from .texts import Failed, read_text, write_lines
 
 WIDTH = 100  # characters of a line, where it can be broken
 INDENT, FURTHER = 2, 4  # of what stands in a statement, and of lines that go on
-CLOSING = ("end", "]", "when", "each")  # a comment before one of these belongs to what stands before
+CLOSING = (
+    "end",
+    "]",
+    "when",
+    "each",
+)  # a comment before one of these belongs to what stands before
 NO_BLANK_BEFORE = (";", ",", ")", ":", "/")
 NO_BLANK_AFTER = ("(", "/")
 

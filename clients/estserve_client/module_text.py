@@ -12,7 +12,7 @@ TYPE_CHECKING = False
 if TYPE_CHECKING:
     from typing import Dict, List, Optional, Tuple
 
-TOKEN = re.compile(r"%\{.*?(?:\}%|\Z)|%[^\n]*|\s+|[A-Za-z][A-Za-z0-9_]*|\|\||=>|.", re.DOTALL)
+TOKEN = re.compile(r"%\{.*?\}%|%[^\n]*|\s+|[A-Za-z][A-Za-z0-9_]*|\|\||=>|.", re.DOTALL)
 KEPT = re.compile(r"[^\s%]")
 KINDS = {"input": "input", "output": "output", "inputoutput": "inout"}  # of what each word declares
 OFFERED = ("input", "inout")  # the kinds of signals that can be offered

@@ -108,7 +108,9 @@ def check_inputs(scenario: Scenario) -> None:
         for name in offers.names
         if name not in inputs
     )
-    raise Placed(f"{scenario.path}:{line}:{scenario.column_of(line, wrong)}: {told_of(scenario, wrong)}")
+    raise Placed(
+        f"{scenario.path}:{line}:{scenario.column_of(line, wrong)}: {told_of(scenario, wrong)}"
+    )
 
 
 def told_of(scenario: Scenario, wrong: str) -> str:

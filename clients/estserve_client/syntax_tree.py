@@ -10,7 +10,9 @@ import dataclasses
 import re
 from typing import Callable, Dict, Iterator, List, Optional, Tuple
 
-TOKEN = re.compile(r"%\{.*?(?:\}%|\Z)|%[^\n]*|\s+|[A-Za-z][A-Za-z0-9_]*|[0-9]+|\|\||=>|:=|<=|.", re.DOTALL)
+TOKEN = re.compile(
+    r"%\{.*?(?:\}%|\Z)|%[^\n]*|\s+|[A-Za-z][A-Za-z0-9_]*|[0-9]+|\|\||=>|:=|<=|.", re.DOTALL
+)
 KEYWORDS = frozenset(
     "module end input output inputoutput relation nothing pause halt emit sustain present then else"
     " suspend when immediate loop each every do await abort weak trap in exit signal run"
@@ -188,8 +190,11 @@ class Reader:
         module = ModuleTree(self.name(), [], [], [], [], [], Node("nothing", self.take(":")))
         while self.declares():
             word, lists = self.declaration()
-            declared = {"input": module.inputs, "output": module.outputs, "relation": []}
-            declared.get(word, module.inputoutputs).extend(name for list_ in lists for name in list_)
+            declared: Dict[str, List[Token]] = {"relation": []}
+            declared.update({"input": module.inputs, "output": module.outputs})
+            declared.get(word, module.inputoutputs).extend(
+                name for list_ in lists for name in list_
+            )
             if word == "relation":
                 module.relations += lists
             else:

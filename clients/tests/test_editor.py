@@ -182,11 +182,15 @@ class Exchange(unittest.TestCase):
             start = at(editor.text, "BLEL")
             end = {**start, "character": start["character"] + 4}
             self.assertEqual(fault["range"], {"start": start, "end": end})
-            (fault,) = editor.change(good.replace("every GO do emit LAMP end", "loop emit LAMP end"))
+            (fault,) = editor.change(
+                good.replace("every GO do emit LAMP end", "loop emit LAMP end")
+            )
             self.assertEqual(fault["code"], "InstantLoop")
             steps = [one["message"] for one in fault["relatedInformation"]]
             self.assertEqual(steps, ["emit LAMP"])
-            self.assertEqual([one["message"] for one in editor.change("")], ["Syntax: `module` expected"])
+            self.assertEqual(
+                [one["message"] for one in editor.change("")], ["Syntax: `module` expected"]
+            )
 
     def test_names(self):
         with Editor() as editor:
@@ -207,12 +211,18 @@ class Exchange(unittest.TestCase):
                 ("GO do", 1, at(RELAY, "GO")),
             ]:
                 found = editor.about("definition", word, count)
-                self.assertEqual((found["uri"], found["range"]["start"]), (editor.uri, target), word)
+                self.assertEqual(
+                    (found["uri"], found["range"]["start"]), (editor.uri, target), word
+                )
             found = editor.about("references", "S in", context={"includeDeclaration": False})
             self.assertEqual([one["range"]["start"]["line"] for one in found], [11, 15])
-            house = editor.ask("textDocument/documentSymbol", {"textDocument": {"uri": editor.uri}})[1]
+            house = editor.ask(
+                "textDocument/documentSymbol", {"textDocument": {"uri": editor.uri}}
+            )[1]
             names = [child["name"] for child in house["children"]]
-            self.assertEqual((house["name"], names), ("HOUSE", ["GO", "DAY", "LAMP", "BELL", "DONE", "S"]))
+            self.assertEqual(
+                (house["name"], names), ("HOUSE", ["GO", "DAY", "LAMP", "BELL", "DONE", "S"])
+            )
 
     def test_renamings(self):
         with Editor() as editor:
@@ -239,7 +249,11 @@ class Exchange(unittest.TestCase):
                 self.assertEqual(edited(RELAY, edits), wanted)
                 self.assertEqual(editor.change(wanted), [])
                 editor.change(RELAY)
-            for new, told in [("end", "a word of the language"), ("1A", "no name"), ("BELL", "there is a BELL already")]:
+            for new, told in [
+                ("end", "a word of the language"),
+                ("1A", "no name"),
+                ("BELL", "there is a BELL already"),
+            ]:
                 self.assertIn(told, editor.about("rename", "S in", newName=new))
             self.assertIsNone(editor.about("prepareRename", "await"))
 
@@ -251,8 +265,12 @@ class Exchange(unittest.TestCase):
             self.assertEqual(edit["range"], whole_of(editor.text))
             self.assertEqual(edit["newText"], RELAY)
             editor.change("module M: emit end module")
-            self.assertIn("1:16: Syntax: a name expected", editor.ask("textDocument/formatting", words))
-            self.assertEqual(editor.ask("textDocument/fly", {}), "there is no method textDocument/fly")
+            self.assertIn(
+                "1:16: Syntax: a name expected", editor.ask("textDocument/formatting", words)
+            )
+            self.assertEqual(
+                editor.ask("textDocument/fly", {}), "there is no method textDocument/fly"
+            )
             self.assertIn("words are missing", editor.ask("textDocument/hover", {}))
             editor.child.stdin.write(b"Content-Length: 3\r\n\r\n{]}")
             self.assertIsNone(editor.about("hover", "module"))
@@ -273,7 +291,9 @@ class Exchange(unittest.TestCase):
             cell.write_text(cell.read_text().replace("emit O", "emit"))
             self.assertEqual(editor.change(text + "\n"), [])
             words = editor.notice("textDocument/publishDiagnostics")
-            self.assertEqual((words["uri"], words["diagnostics"][0]["code"]), (cell.as_uri(), "Syntax"))
+            self.assertEqual(
+                (words["uri"], words["diagnostics"][0]["code"]), (cell.as_uri(), "Syntax")
+            )
 
     def test_the_command_and_a_text_of_the_examples(self):
         path = EXAMPLES / "arbiter" / "arbiter.strl"
@@ -287,11 +307,17 @@ class WithoutAProgram(unittest.TestCase):
     def test_faults_of_syntax_alone_are_told(self):
         with Editor(ESTSERVE="/nowhere/estserve") as editor:
             (fault,) = editor.open("/x/m.strl", "module M: emit end module")
-            self.assertEqual((fault["code"], fault["message"]), ("Syntax", "Syntax: a name expected"))
+            self.assertEqual(
+                (fault["code"], fault["message"]), ("Syntax", "Syntax: a name expected")
+            )
             told = editor.notice("window/showMessage")["message"]
-            self.assertRegex(told, "^faults of syntax alone are told: /nowhere/estserve cannot be started")
+            self.assertRegex(
+                told, "^faults of syntax alone are told: /nowhere/estserve cannot be started"
+            )
             self.assertEqual(editor.change("module M: emit A end module"), [])
-            self.assertFalse([one for one in editor.noticed if one.get("method") == "window/showMessage"])
+            self.assertFalse(
+                [one for one in editor.noticed if one.get("method") == "window/showMessage"]
+            )
 
 
 class Places(unittest.TestCase):
@@ -307,7 +333,9 @@ class Places(unittest.TestCase):
             folder = pathlib.Path(name)
             for module, runs in (("A", "run B"), ("B", "run C"), ("C", "pause"), ("D", "pause")):
                 (folder / f"{module}.strl").write_text(f"module {module}: {runs} end module\n")
-            (folder / "A2.strl").write_text("module A: pause end module module C: pause end module\n")
+            (folder / "A2.strl").write_text(
+                "module A: pause end module module C: pause end module\n"
+            )
             documents, path = Documents(), str(folder / "A.strl")
             documents.open[path] = documents.text_of(path)
             library = documents.library_of(path)
@@ -321,7 +349,9 @@ class Extension(unittest.TestCase):
     def test_the_extension_hands_on_between_editor_and_server(self):
         with tempfile.TemporaryDirectory() as name:
             client = pathlib.Path(name) / "client"
-            client.write_text(f'#!/bin/sh\nexec "{sys.executable}" -B "{CLIENTS / "estserve.py"}" "$@"\n')
+            client.write_text(
+                f'#!/bin/sh\nexec "{sys.executable}" -B "{CLIENTS / "estserve.py"}" "$@"\n'
+            )
             client.chmod(0o755)
             text = EXAMPLES / "abro" / "abro.strl"
             stand_in = CLIENTS / "tests" / "vscode_stand_in.js"
@@ -329,7 +359,9 @@ class Extension(unittest.TestCase):
             ran = subprocess.run(words, capture_output=True, text=True, timeout=SECONDS)
         self.assertEqual((ran.returncode, ran.stderr), (0, ""))
         told = json.loads(ran.stdout)
-        self.assertEqual(told["faults"], [[], ["Syntax: a statement expected\ndid you mean `emit`?"], []])
+        self.assertEqual(
+            told["faults"], [[], ["Syntax: a statement expected\ndid you mean `emit`?"], []]
+        )
         self.assertIn("`O`: output of `ABRO`", told["hover"])
         self.assertEqual((told["definition"]["startLine"], told["references"]), (3, 2))
         uri = text.as_uri()
@@ -352,10 +384,16 @@ class Renamings(unittest.TestCase):
                 if len(text) > 3_000 or self.fault_of(client, text, main):
                     continue
                 names = Names(parse(text))
-                declared = sorted({use.declared for use in names.uses if use.how == "declared"}, key=str)
+                declared = sorted(
+                    {use.declared for use in names.uses if use.how == "declared"}, key=str
+                )
                 for one in chance.sample(declared, min(2, len(declared))):
                     new = self.renamed(text, edits_of(names, one, "NEW_NAME"))
-                    main = "NEW_NAME" if (one.kind, one.name) == ("module", main_of(text).name) else main_of(text).name
+                    main = (
+                        "NEW_NAME"
+                        if (one.kind, one.name) == ("module", main_of(text).name)
+                        else main_of(text).name
+                    )
                     self.assertIsNone(self.fault_of(client, new, main), f"{one}\n{text}\n{new}")
                     again = Names(parse(new))
                     self.assertEqual(self.hows(names, one), self.hows(again, None), new)
@@ -380,7 +418,11 @@ class Renamings(unittest.TestCase):
     def hows(self, names, one):
         """What is done with what is declared, or with what is called NEW_NAME, but for what runs bind."""
         uses = [use for use in names.uses if use.how not in ("bound", "emitted")]
-        return [use.how for use in uses if use.declared == one or (one is None and use.declared.name == "NEW_NAME")]
+        return [
+            use.how
+            for use in uses
+            if use.declared == one or (one is None and use.declared.name == "NEW_NAME")
+        ]
 
     def test_a_name_that_could_be_taken_for_another_is_refused(self):
         text = "module M: input A; signal B in trap T in [emit B || await A; exit T] end end end module"

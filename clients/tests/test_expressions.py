@@ -281,7 +281,6 @@ class Reading(unittest.TestCase):
         self.assertIn(("LINE", "LINE"), one.signals)
         self.assertNotIn("SECOND", dict(one.signals))  # bound to a local signal
 
-
     def test_the_rows_of_the_document_are_read(self):
         rows = list(rows_of_instants())
         self.assertGreater(len(rows), 5)
@@ -495,7 +494,9 @@ class OnTheProgram(unittest.TestCase):
             begun = time.monotonic()
             refusal = refusal_of(self.client, module_of(f"await {test}"))
             self.assertEqual(refusal.fault, "TooLarge")
-            self.assertLess(time.monotonic() - begun, 60)  # without proof, on a busy machine; bench measures it
+            self.assertLess(
+                time.monotonic() - begun, 60
+            )  # without proof, on a busy machine; bench measures it
 
     def test_the_inouts_of_a_run(self):
         with tempfile.TemporaryDirectory() as name:

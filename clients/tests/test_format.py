@@ -14,7 +14,17 @@ from estserve_client.formatting import WIDTH, format_text
 from estserve_client.layout_tree import Words
 from estserve_client.syntax_tree import parse, tokens_of
 
-COMMENTS = ["% c\n", "%{ c }%", "\n% own line\n", "\n\n%{ two\n   lines }%\n", "\n", "\n\n\n", "   ", "\r\n", "\t"]
+COMMENTS = [
+    "% c\n",
+    "%{ c }%",
+    "\n% own line\n",
+    "\n\n%{ two\n   lines }%\n",
+    "\n",
+    "\n\n\n",
+    "   ",
+    "\r\n",
+    "\t",
+]
 UGLY = """
 
 %{ first }%
@@ -59,7 +69,9 @@ def texts_of_the_repository():
             except (ValueError, KeyError, TypeError):
                 pass
     for path in ROOT.glob("docs/*.md"):
-        texts |= set(re.findall(r"^```\n(module .*?)```", path.read_text(), re.DOTALL | re.MULTILINE))
+        texts |= set(
+            re.findall(r"^```\n(module .*?)```", path.read_text(), re.DOTALL | re.MULTILINE)
+        )
     for path in ROOT.glob("crates/language_tests/src/**/*.rt"):
         texts |= set(re.findall(r'"(module [^"\\]* end module)"', path.read_text()))
     return sorted(text for text in texts if parse(text))

@@ -88,7 +88,11 @@ class Pages(unittest.TestCase):
     def test_completions_are_those_that_the_words_give(self):
         told = "run clients/make_completions.py"
         ran = subprocess.run(
-            [sys.executable, "-c", "import json, make_completions; print(json.dumps(make_completions.files()))"],
+            [
+                sys.executable,
+                "-c",
+                "import json, make_completions; print(json.dumps(make_completions.files()))",
+            ],
             capture_output=True,
             text=True,
             cwd=CLIENTS,

@@ -22,12 +22,18 @@ LONG = "A" * 49
 SYNTAX = [
     ("present A\nemit O end", "`then` or `else` expected; the `present` of line 1 is open"),
     ("present A then emit O ] end", "`else` or `end` expected; the `present` of line 1 is open"),
-    ("present A then emit O", "this `end` closes the `present` of line 1, so that one more is missing"),
+    (
+        "present A then emit O",
+        "this `end` closes the `present` of line 1, so that one more is missing",
+    ),
     ("loop\n  pause\n  emit O\nend", "a `;` is missing before `emit`"),
     ("await A emit O", "a `;` is missing before `emit`"),
     ("every A emit O end", "`do` expected; the `every` of line 1 is open"),
     ("abort halt with A", "`when` expected; the `abort` of line 1 is open"),
-    ("loop pause end every", "this `end` closes the `loop` of line 1, and may stand alone or before `loop`"),
+    (
+        "loop pause end every",
+        "this `end` closes the `loop` of line 1, and may stand alone or before `loop`",
+    ),
     ("[emit O || emit P", "`]` expected; the `[` of line 1 is open"),
     ("await A B", "`and`, `or` or `;` expected"),
     ("trap emit O end", "a name expected"),
@@ -115,7 +121,9 @@ class OnTheProgram(unittest.TestCase):
         self.assertEqual(found["fault"], refusal.fault)
         lines = str(load_fault(refusal, library, "M")).split("\n")
         for mark in found["marks"]:
-            self.assertTrue(any(f"m.strl:{mark['line']}:{mark['column']}: " in line for line in lines))
+            self.assertTrue(
+                any(f"m.strl:{mark['line']}:{mark['column']}: " in line for line in lines)
+            )
         return lines
 
     def test_what_was_expected_and_what_is_open(self):
@@ -178,7 +186,10 @@ class Expectations(unittest.TestCase):
             self.assertTrue(is_known, f"{token.text} at {token.column}: {spot.wanted}")
             for wanted in spot.wanted:
                 more = tokens_of(self.WORDS.get(wanted, wanted))
-                longer = [*tokens[:at], *[type(token)(one.text, 9, n) for n, one in enumerate(more)]]
+                longer = [
+                    *tokens[:at],
+                    *[type(token)(one.text, 9, n) for n, one in enumerate(more)],
+                ]
                 after = spot_at([*longer, type(token)("?", 10, 1)], 10, 1)
                 self.assertTrue(after.wanted, f"{wanted} after {text[: token.column]}")
 
@@ -192,9 +203,21 @@ class Circles(unittest.TestCase):
 
 class Words(unittest.TestCase):
     def test_one_edit(self):
-        for one, other in [("STRAT", "START"), ("emit", "emmit"), ("loop", "lop"), ("end", "edn"), ("on", "one")]:
+        for one, other in [
+            ("STRAT", "START"),
+            ("emit", "emmit"),
+            ("loop", "lop"),
+            ("end", "edn"),
+            ("on", "one"),
+        ]:
             self.assertTrue(is_one_edit(one, other) and is_one_edit(other, one), (one, other))
-        for one, other in [("A", "A"), ("START", "STOP"), ("ab", "ba_"), ("abcd", "badc"), ("abc", "cab")]:
+        for one, other in [
+            ("A", "A"),
+            ("START", "STOP"),
+            ("ab", "ba_"),
+            ("abcd", "badc"),
+            ("abc", "cab"),
+        ]:
             self.assertFalse(is_one_edit(one, other) or is_one_edit(other, one), (one, other))
 
     def test_short_names_are_not_guessed(self):

@@ -59,7 +59,11 @@ class Toml(unittest.TestCase):
 
         chance, accepted = random.Random(20_261_127), 0
         for number in range(20_000):
-            text = SEEDS[number % len(SEEDS)] if number < len(SEEDS) else mutated(chance.choice(SEEDS), chance)
+            text = (
+                SEEDS[number % len(SEEDS)]
+                if number < len(SEEDS)
+                else mutated(chance.choice(SEEDS), chance)
+            )
             tables = self.reads(text)
             if tables is None:
                 continue
@@ -104,9 +108,7 @@ class Page(unittest.TestCase):
         text = PAGE.read_text()
         block = re.search(r"```toml\n(.*?)```", text, re.DOTALL)[1]
         commands = {wish.command["cmd"] for wish in read_file(block).wishes}
-        self.assertEqual(
-            commands, {"adduser", "addrole", "inherit", "assign", "grant", "dsd"}
-        )
+        self.assertEqual(commands, {"adduser", "addrole", "inherit", "assign", "grant", "dsd"})
         for table in (*TABLES, "separate.", "users", "roles"):
             self.assertIn(f"`{table}", text)
             self.assertIn(table, block)

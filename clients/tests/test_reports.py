@@ -51,7 +51,9 @@ class Folders(InAFolder):
         ran = run_client(["test", self.folder, "--junit", path])
         self.assertEqual((ran.status, ran.printed.splitlines()[-1]), (1, "1 passed, 1 failed"))
         suite = xml.etree.ElementTree.parse(path).getroot()
-        self.assertEqual((suite.tag, suite.get("tests"), suite.get("failures")), ("testsuite", "2", "1"))
+        self.assertEqual(
+            (suite.tag, suite.get("tests"), suite.get("failures")), ("testsuite", "2", "1")
+        )
         both, wrong = suite
         self.assertEqual((both.get("name"), list(both)), ("both", []))
         self.assertEqual(wrong.get("file"), f"{self.folder}/wrong.inputs")
@@ -72,7 +74,11 @@ class Folders(InAFolder):
         self.assertEqual(outcomes, [("both", "ok"), ("wrong", "failed")])
 
     def test_scenarios_by_their_names(self):
-        for words, names in [(["-k", "ro"], ["wrong"]), (["-k", "b*"], ["both"]), (["-k", "ot", "-k", "wr"], ["both", "wrong"])]:
+        for words, names in [
+            (["-k", "ro"], ["wrong"]),
+            (["-k", "b*"], ["both"]),
+            (["-k", "ot", "-k", "wr"], ["both", "wrong"]),
+        ]:
             told = json.loads(run_client(["test", self.folder, "--json", *words]).printed)
             self.assertEqual([one["name"] for one in told["scenarios"]], names)
         ran = run_client(["test", self.folder, "-k", "none"])
@@ -86,12 +92,16 @@ class Folders(InAFolder):
             self.assertEqual((ran.status, ran.printed.splitlines(True)[0]), (1, told))
 
     def test_several_files_of_modules(self):
-        main = self.file("main.txt", "module MAIN: input A; output B; run CELL [signal A/I, B/O] end module\n")
+        main = self.file(
+            "main.txt", "module MAIN: input A; output B; run CELL [signal A/I, B/O] end module\n"
+        )
         cell = self.file("cell.txt", CELL)
         self.file("cells.inputs", "A\n;\n")
         self.file("cells.expected", "instant  inputs  outputs\n      1  A       B\n      2\n")
         ran = run_client(["test", self.folder, "-k", "cells", "--module", main, cell])
-        self.assertEqual((ran.status, ran.printed), (0, "ok      cells: 2 instants\n1 passed, 0 failed\n"))
+        self.assertEqual(
+            (ran.status, ran.printed), (0, "ok      cells: 2 instants\n1 passed, 0 failed\n")
+        )
 
     def test_a_refusal_is_not_blessed_without_a_word(self):
         paradox = EXAMPLES / "paradox"
@@ -101,7 +111,9 @@ class Folders(InAFolder):
         words = ["test", self.folder, "-k", "paradox", "--update"]
         told = f"written paradox: 1 instant; WITH A REFUSAL as what is expected: {stuck}"
         self.assertEqual(run_client(words).printed.splitlines()[0], told)
-        self.assertEqual(run_client(words).printed.splitlines()[0], f"ok      paradox: 1 instant; {stuck}")
+        self.assertEqual(
+            run_client(words).printed.splitlines()[0], f"ok      paradox: 1 instant; {stuck}"
+        )
         path = self.folder / "table"
         words = ["run", self.folder / "paradox.strl", "--inputs", self.folder / "paradox.inputs"]
         ran = run_client([*words, "--expect", path, "--update"])
@@ -113,7 +125,11 @@ class Files(InAFolder):
     def test_a_file_of_junit_holds_any_text(self):
         path = self.folder / "out.xml"
         told = "\x00\x1b[31m <&\"'> é \udcff"
-        write_junit(str(path), told, [Outcome(told, FAILED, told, [told, "]]>"], told), Outcome("a", PASSED, "", [], "a")])
+        write_junit(
+            str(path),
+            told,
+            [Outcome(told, FAILED, told, [told, "]]>"], told), Outcome("a", PASSED, "", [], "a")],
+        )
         suite = xml.etree.ElementTree.parse(path).getroot()
         self.assertEqual(suite[0].get("name"), "??[31m <&\"'> é ?")
         self.assertTrue(suite[0][0].text.endswith("\n]]>"))

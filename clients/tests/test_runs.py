@@ -172,7 +172,9 @@ class Runs(InAFolder):
         told = f"{inputs}:2:8: M has no input STRAT; did you mean `START`?\n"
         self.assertEqual((ran.status, ran.printed, ran.told), (1, "", told))
         ran = run_client(["run", text], "START\nSTRAT\n")
-        self.assertEqual(ran.told, "standard input:2:1: M has no input STRAT; did you mean `START`?\n")
+        self.assertEqual(
+            ran.told, "standard input:2:1: M has no input STRAT; did you mean `START`?\n"
+        )
 
     def test_blank_lines_within_are_instants(self):
         ran = run_client(["run", ABRO, "--inputs", self.file("inputs", "\nA\n\nB\n\n\n")])
@@ -202,9 +204,7 @@ class Runs(InAFolder):
         self.assertEqual(lines[2:], ["      1\n", "      2  A\n"])
         text.write_text("module M: emit end module\n")
         self.assertIn(" saved at ", child.stdout.readline())
-        self.assertEqual(
-            child.stderr.readline(), f"{text}:1:16: Syntax: a name expected\n"
-        )
+        self.assertEqual(child.stderr.readline(), f"{text}:1:16: Syntax: a name expected\n")
         text.write_text(ABRO.read_text())
         self.assertIn(" saved at ", child.stdout.readline())
         self.assertEqual([child.stdout.readline() for _ in range(3)][2], "      2  A\n")

@@ -168,7 +168,10 @@ class InATerminal(unittest.TestCase):
         text = self.folder / "m.strl"
         text.write_text("module M: emit end module\n")
         words = ["format", text]
-        for variables, is_bold in [({"TERM": "xterm"}, True), ({"TERM": "xterm", "NO_COLOR": "1"}, False)]:
+        for variables, is_bold in [
+            ({"TERM": "xterm"}, True),
+            ({"TERM": "xterm", "NO_COLOR": "1"}, False),
+        ]:
             with Terminal(words, variables) as terminal:
                 shown, status = terminal.ends()
             self.assertEqual((status, "\x1b[1m" in shown), (1, is_bold))

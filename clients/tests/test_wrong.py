@@ -80,9 +80,7 @@ class Files(WhatGoesWrong):
 
     def test_an_empty_policy(self):
         ran = play_dialogue(DIALOGUES / "login", ["apply", self.file("p.toml", "")])
-        self.assertEqual(
-            (ran.status, ran.printed, ran.told), (0, "0 there already, 0 added\n", "")
-        )
+        self.assertEqual((ran.status, ran.printed, ran.told), (0, "0 there already, 0 added\n", ""))
 
 
 class Texts(WhatGoesWrong):
@@ -208,7 +206,6 @@ class Programs(WhatGoesWrong):
             ],
         )
 
-
     def test_building_outside_of_the_repository(self):
         with unittest.mock.patch.object(connection, "ROOT", str(self.folder)):
             for words in (run_words("abro"), ["shell"], ["apply", EXAMPLES / "team" / "team.toml"]):
@@ -260,7 +257,9 @@ class Servers(WhatGoesWrong):
                 else:
                     with self.assertRaisesRegex(Failed, "--user says who logs in at a gateway"):
                         session.user_of(arguments)
-        self.assertEqual(session.user_of(argparse.Namespace(socket="x/team.sock", user=None)), "root")
+        self.assertEqual(
+            session.user_of(argparse.Namespace(socket="x/team.sock", user=None)), "root"
+        )
         self.assertEqual(session.user_of(argparse.Namespace(socket="x", user="cho")), "cho")
 
     @contextlib.contextmanager

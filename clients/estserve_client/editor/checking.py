@@ -72,8 +72,8 @@ class Checker:
             self.close()
             raise
         except (TooLong, NotText, Refusal) as fault:
-            told = f"the text can't be checked: {fault}"
-            return [Diagnosis("", told, [Mark(library.paths[0], 1, 1, 0, "")])]
+            nowhere = Mark(library.paths[0], 1, 1, 0, "")
+            return [Diagnosis("", f"the text can't be checked: {fault}", [nowhere])]
         return list(found.values())
 
 

@@ -48,7 +48,10 @@ def place_of(lines: List[str], position: Dict[str, int]) -> Tuple[int, int]:
     number, character = position["line"], position["character"]
     shown = lines[number] if 0 <= number < len(lines) else ""
     before = shown.encode("utf-16-le", "surrogatepass")[: 2 * character]
-    return number + 1, len(before.decode("utf-16-le", "ignore").encode("utf-8", "surrogatepass")) + 1
+    return (
+        number + 1,
+        len(before.decode("utf-16-le", "ignore").encode("utf-8", "surrogatepass")) + 1,
+    )
 
 
 def range_at(lines: List[str], line: int, column: int, width: int) -> Range:
@@ -96,7 +99,9 @@ class Documents:
         known = {module.name for module in modules_of(self.open[path])}
         waiting = self.beside(path)
         while True:
-            run = {name for _, text in pieces for module in modules_of(text) for name in module.runs}
+            run = {
+                name for _, text in pieces for module in modules_of(text) for name in module.runs
+            }
             more = self.needed(waiting, run - known, known)
             if more is None:
                 return join_texts(pieces)

@@ -72,7 +72,9 @@ class Names:
         self.add(module.name, "declared", Declared("module", inside, module.name, inside), inside)
         for token in module.interface:
             declared = scope.get(token.text)
-            self.add(token, "declared", declared if declared and declared.at == token else None, inside)
+            self.add(
+                token, "declared", declared if declared and declared.at == token else None, inside
+            )
         for relation in module.relations:
             for token in relation:
                 self.add(token, "related", scope.get(token.text), inside)
@@ -126,7 +128,11 @@ class Names:
 
 def interface_of(module: ModuleTree) -> Scope:
     """The interface signals of a module, by their names."""
-    kinds = [("input", module.inputs), ("output", module.outputs), ("inputoutput", module.inputoutputs)]
+    kinds = [
+        ("input", module.inputs),
+        ("output", module.outputs),
+        ("inputoutput", module.inputoutputs),
+    ]
     found: Scope = {}
     for kind, tokens in kinds:
         for token in tokens:

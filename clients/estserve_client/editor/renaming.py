@@ -27,7 +27,9 @@ class Edit:
 def check_name(new: str, declared: Declared) -> None:
     """Raises Refused where this can't be the new name of what is declared."""
     if not IDENTIFIER.fullmatch(new):
-        raise Refused(WRONG_WORDS, f"{new} is no name: a letter, then letters, digits and _, at most 48")
+        raise Refused(
+            WRONG_WORDS, f"{new} is no name: a letter, then letters, digits and _, at most 48"
+        )
     if new in KEYWORDS:
         raise Refused(WRONG_WORDS, f"{new} is a word of the language, and no name")
     if declared.kind == "tick":
@@ -67,7 +69,12 @@ def added(bounds: List[Tuple[Bound, str]]) -> List[Edit]:
     for bound, text in bounds:
         places.setdefault(end_of_run(bound), []).append(text)
     return [
-        Edit(line, column, 0, f", {', '.join(texts)}" if has_others else f" [signal {', '.join(texts)}]")
+        Edit(
+            line,
+            column,
+            0,
+            f", {', '.join(texts)}" if has_others else f" [signal {', '.join(texts)}]",
+        )
         for (line, column, has_others), texts in places.items()
     ]
 
@@ -89,4 +96,3 @@ def edits_of(names: Names, declared: Declared, new: str) -> List[Edit]:
         and declared.kind in ("input", "output", "inputoutput")
     ]
     return sorted(edits + added(own + of_runs), key=lambda edit: (edit.line, edit.column))
-

@@ -167,8 +167,8 @@ class EditorServer:
         try:
             faults = self.checker.faults_of(library)
             self.has_program = True
-        except Disconnected as fault:
-            faults = self.own_faults(path, str(fault))
+        except Disconnected as none:
+            faults = self.own_faults(path, str(none))
         found: Dict[str, List[Message]] = {path: []}
         for fault in faults:
             where = fault.marks[0].file if fault.marks else path
@@ -341,7 +341,9 @@ def told_of(library: LibraryText, names: Names, declared: Declared) -> str:
     uses = list(names.uses_of(declared))
     kind = "local signal" if declared.kind == "signal" else declared.kind
     inside = f" of `{declared.module}`" if declared.kind != "module" else ""
-    lines = [f"`{declared.name}`: {kind}{inside}, declared in {places(library, [declared.at.line])}"]
+    lines = [
+        f"`{declared.name}`: {kind}{inside}, declared in {places(library, [declared.at.line])}"
+    ]
     bounds = [bound for bound in names.bound if bound.declared == declared]
     by_runs = [bound.run.at.line for bound in bounds if emits(names, bound.target, bound.name)]
     for how in ("emitted", "tested", "left", "run", "related"):
