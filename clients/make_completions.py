@@ -3,7 +3,8 @@
 
 usage: make_completions.py
 
-`make client` fails while a file of clients/completions isn't what this writes.
+`make client` fails while a file of clients/completions isn't what this writes. (Debian's shtab knows
+no fish.)
 """
 from __future__ import annotations
 

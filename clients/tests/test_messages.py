@@ -1,21 +1,25 @@
 """What the client says of mistakes that are often made: each text is refused by the real program,
 and the message says what was expected, what is open, what was meant.
 """
+import collections
 import os
+import random
 import re
 import unittest
 
 from support import ROOT, needs_program, refusal_of
+from test_format import texts_of_the_repository
 
 import estserve
 from estserve_client.close_words import closest, is_one_edit
+from estserve_client.command_table import IDENTIFIER
 from estserve_client.diagnosis import diagnose_load
 from estserve_client.library_text import join_texts
 from estserve_client.load_faults import load_fault
 from estserve_client.module_text import Module, main_of
 from estserve_client.stage import grants_of
 from estserve_client.syntax_faults import expected_at, spot_at
-from estserve_client.syntax_tree import tokens_of
+from estserve_client.syntax_tree import parse, tokens_of
 
 LONG = "A" * 49
 # Bodies of `module M: input A, B; output O, P; .. end module`, and what is said after the fault's name.
@@ -164,6 +168,63 @@ class OnTheProgram(unittest.TestCase):
                 spot = spot_at(tokens_of(text.replace("\\|", "|")), 1, int(column))
                 self.assertNotIn(expected_at(spot), ("", "the text cannot go on so"))
                 self.assertNotIn(spot.word(), [word for word in spot.words() if word.isalpha()])
+
+
+@needs_program
+class Mutated(unittest.TestCase):
+    """Texts of the repository with tokens taken out, put in or exchanged: whatever the program says of
+    one, the client has a message, and its own reader takes what the program takes.
+    """
+
+    MORE = "; || [ ] ( ) , / # => end then else when do in each and or not await emit X % { & 3 module signal".split()
+
+    def mutated(self, text, chance):
+        words = [token.text for token in tokens_of(text)]
+        for _ in range(chance.randint(1, 2)):
+            at, way = chance.randrange(len(words)), chance.randrange(4)
+            if way == 0:
+                del words[at : at + 1]
+            elif way == 1:
+                words.insert(at, chance.choice(self.MORE))
+            elif way == 2:
+                words[at] = chance.choice(self.MORE)
+            else:
+                other = chance.randrange(len(words))
+                words[at], words[other] = words[other], words[at]
+            if not words:
+                return ""
+        return "".join(word + chance.choice(" \n") for word in words)
+
+    def test_whatever_the_program_says_has_a_message(self):
+        chance, counts = random.Random(1_958), collections.Counter()
+        texts = [text for text in texts_of_the_repository() if len(text) < 1_500]
+        with estserve.start(os.environ["ESTSERVE"]) as client:
+            client.login("root", ["root"])
+            client.ask_all(grants_of(Module("M", [], [], [])))
+            for _ in range(600):
+                text = self.mutated(chance.choice(texts), chance)
+                fault = self.check(client, text, main_of(text).name)
+                counts[fault] += 1
+        self.assertGreater(counts["Syntax"], 200)
+        self.assertGreater(len(counts), 6)
+
+    def check(self, client, text, main):
+        try:
+            client.load(0, main if IDENTIFIER.fullmatch(main) else "M", text)
+        except estserve.Refusal as refusal:
+            told = str(load_fault(refusal, join_texts([("m.strl", text)]), main))
+            self.assertIn(refusal.fault, told)
+            if refusal.fault == "Syntax":
+                spot = spot_at(tokens_of(text), refusal.fields["line"], refusal.fields["column"])
+                self.assertTrue(spot.wanted, text)
+                self.assertNotIn(spot.word() or "the end", spot.words(), text)
+                self.assertIsNone(parse(text), text)
+            elif refusal.fault not in ("Lexical", "TooLarge"):
+                self.assertIsNotNone(parse(text), text)
+            return refusal.fault
+        client.unload(0)
+        self.assertIsNotNone(parse(text), text)
+        return "loaded"
 
 
 class Expectations(unittest.TestCase):
