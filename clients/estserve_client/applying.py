@@ -13,12 +13,13 @@ from typing import Any, Dict, Iterator, List, Optional, Union
 
 from .command_table import BACK, KEYS
 from .connection import Client, Refusal, start
+from .gateway_words import policy_at
 from .module_text import OFFERED, main_of
 from .policy_file import BadPolicy, Policy, Wish, read_file
-from .pruning import candidates, prune
+from .pruning import candidates, exact, prune
 from .programs import program_of
 from .sentences import Set, sentence
-from .session import session_of
+from .session import roles_of, session_of
 from .texts import Failed, read_text
 
 THERE_ALREADY = {
@@ -170,6 +171,22 @@ def dry_run(arguments: argparse.Namespace, policy: Policy) -> None:
     print(f"{len(policy.wishes)} commands, on a program of its own; nothing was sent to a server")
 
 
+def to_prune(
+    arguments: argparse.Namespace, policy: Policy, before: Optional[Policy]
+) -> List[Command]:
+    """The commands of --prune: at a gateway what is there and not asked for, which is listed; else
+    what may be there.
+    """
+    path, roles = arguments.socket, roles_of(arguments)
+    known = policy_at(path, arguments.user, roles) if path else None
+    if known is None:
+        return candidates(policy, before)
+    commands = exact(policy, known)
+    for command in [] if arguments.yes else commands:
+        print(f"not asked for: {text_of(command)}")
+    return commands
+
+
 def apply(arguments: argparse.Namespace) -> None:
     """Applies the policy of a file as the user that the arguments name. Raises Failed where the
     file is no policy, or a command was refused.
@@ -192,4 +209,4 @@ def apply(arguments: argparse.Namespace) -> None:
             raise Failed(end_of(applied))
         print(f"{len(applied.there)} there already, {len(applied.made)} added")
         if arguments.prune:
-            prune(client, candidates(policy, before), arguments.yes, text_of)
+            prune(client, to_prune(arguments, policy, before), arguments.yes, text_of)

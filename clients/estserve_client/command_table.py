@@ -50,6 +50,7 @@ OPERATIONS = ("offer", "observe", "step", "load", "administer", "audit")
 SLOTS = 16
 MOST_ROLES = 32  # that one command lists
 MOST = 2**64 - 1  # the largest number of a command
+OF_TEXTS = range(70, 81)  # the codes of faults of a module text
 
 NAME = re.compile(r"[A-Za-z0-9_-]{1,24}")
 IDENTIFIER = re.compile(r"[A-Za-z][A-Za-z0-9_]{0,47}")

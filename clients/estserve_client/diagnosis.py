@@ -11,7 +11,7 @@ from .fault_places import Place, StartCodes, places_of
 from .instant_paths import path_through
 from .left_out import left_out
 from .library_text import LibraryText
-from .other_habits import comment_at, habit_at
+from .other_habits import comment_at, habit_at, number_in_name
 from .sentences import sentence
 from .syntax_faults import advice_at, expected_at, spot_at
 from .syntax_tree import Token, by_name, parse, tokens_of
@@ -69,6 +69,7 @@ def diagnose_place(refusal: Refusal, library: LibraryText) -> Diagnosis:
         told, advice = expected_at(spot) or "the text cannot go on so", advice_at(spot)
     remedy = (
         comment_at(library.text, line, column, tokens)
+        or number_in_name(line, column, tokens)
         or left_out(library.text, line, column)
         or habit_at(library.text, line, column, tokens)
         or advice

@@ -9,6 +9,7 @@ import dataclasses
 from typing import Dict, List, Optional, Tuple
 
 from .fault_places import FAR, trapped
+from .stuck_chains import written
 from .syntax_tree import ModuleTree, Node, Token, by_name
 
 MOST = 12  # steps of a path that are drawn
@@ -48,6 +49,11 @@ def coded(paths: Paths, old: int, new: int) -> Paths:
     return {new if code == old else code: path for code, path in paths.items()}
 
 
+def asked(node: Node) -> str:
+    """The test of a statement, as it could stand in a text."""
+    return written(node.test, {}) if node.test else ""
+
+
 class InstantPaths:
     """The paths through statements in the instant in which they begin."""
 
@@ -77,15 +83,16 @@ class InstantPaths:
 
     def of_immediate(self, node: Node) -> Paths:
         """That of a statement whose test counts at once, where the test holds."""
-        word = "weak abort" if node.kind == "weak" else node.kind
-        step = Step(node.at, f"{word} .. immediate, whose test holds")
-        return {0: [step]} if node.immediate else {}
+        if not node.immediate:
+            return {}
+        words = {"weak": "weak abort .. when", "abort": "abort .. when"}.get(node.kind, node.kind)
+        return {0: [Step(node.at, f"{words} immediate {asked(node)}, which holds")]}
 
     def of_present(self, node: Node, traps: Tuple[str, ...]) -> Paths:
         ways = [("holds", node.parts[0]), ("doesn't hold", node.parts[1])]
         found: Paths = {}
         for how, part in ways:
-            step = Step(node.at, f"present, whose test {how}")
+            step = Step(node.at, f"present {asked(node)}, which {how}")
             for code, path in self.of(part, traps).items():
                 found.setdefault(code, [step, *path])
         return found

@@ -10,6 +10,7 @@ from .syntax_tree import KEYWORDS, Token
 
 LONGEST = 48  # bytes of a name
 A_COMMENT = "comments begin with `%`, or stand between `%{` and `}%`"
+BEGINS = "a name begins with a letter"
 SYMBOLS = {
     "&": "`and` stands between two signals of a test: `A and B`",
     "|": "`or` stands between two signals of a test, and `||` between what runs side by side",
@@ -20,7 +21,7 @@ SYMBOLS = {
     ">": "signals carry no values to compare",
     "{": "statements are kept together by `[` and `]`, or by a word and its `end`",
     "}": "statements are kept together by `[` and `]`, or by a word and its `end`",
-    "_": "a name begins with a letter",
+    "_": BEGINS,
 }
 OF_OTHERS = {
     "while": "a loop is `loop p end`, and `abort` ends it: `abort loop p end when S`",
@@ -59,6 +60,15 @@ def of_word(word: str) -> Optional[str]:
     if length > LONGEST:
         return f"a name has at most {LONGEST} bytes, and this one has {length}"
     return OF_OTHERS.get(word.lower()) if word not in KEYWORDS else None
+
+
+def number_in_name(line: int, column: int, tokens: List[Token]) -> str:
+    """What is said of a name that begins with a digit; else empty."""
+    for here, after in zip(tokens, tokens[1:]):
+        if (here.line, here.column) == (line, column) and here.text.isdigit():
+            is_joined = (after.line, after.column) == (line, column + len(here.text))
+            return BEGINS if is_joined and after.text[0].isalpha() else ""
+    return ""
 
 
 def habit_at(text: str, line: int, column: int, tokens: List[Token]) -> Optional[str]:

@@ -3,13 +3,12 @@ from __future__ import annotations
 
 import argparse
 import contextlib
-import json
-import os
 import sys
 import threading
-from typing import TYPE_CHECKING, Iterator, List, Optional, Tuple
+from typing import TYPE_CHECKING, Iterator, List, Tuple
 
-from .connection import Client, Disconnected, connect, open_socket, start
+from .connection import Client, connect, start
+from .gateway_words import ping_at
 from .programs import program_of
 from .texts import Failed
 
@@ -19,23 +18,6 @@ if TYPE_CHECKING:
 PATIENCE = 2.0  # seconds after which a person is told that the server is waited for
 
 
-def ping_at(path: str) -> Optional[Answer]:
-    """What the gateway whose socket this is says of who asks; None where it is no gateway's."""
-    beside = os.path.join(os.path.dirname(path), "gateway.sock")
-    if os.path.basename(path) != "team.sock" or not os.path.exists(beside):
-        return None
-    try:
-        reader, writer, close = open_socket(beside)
-        with contextlib.ExitStack() as held:
-            held.callback(close)
-            writer.write(b'{"word":"ping"}\n')
-            writer.flush()
-            told = json.loads(reader.readline())
-    except (Disconnected, OSError, ValueError):
-        return None
-    return told if isinstance(told, dict) and "users" in told else None
-
-
 def user_of(arguments: argparse.Namespace) -> str:
     """The user to log in as: the one that is named; at a gateway root, one's own name, or the only
     one, where one may be that; else root. Raises Failed.
@@ -43,7 +25,7 @@ def user_of(arguments: argparse.Namespace) -> str:
     told = ping_at(arguments.socket) if arguments.socket and not arguments.user else None
     if told is None:
         return arguments.user or "root"
-    users = told["users"]
+    users = told.get("users", [])
     for user in ("root", told.get("person"), *(users if len(users) == 1 else ())):
         if user in users:
             return user

@@ -10,7 +10,8 @@ import sys
 import time
 from typing import Any, Dict, Iterable, List, Set, Tuple
 
-from .command_table import KEYS, OPERATIONS, SLOTS
+from .close_words import meant
+from .command_table import KEYS, OF_TEXTS, OPERATIONS, SLOTS
 from .connection import CannotBeSent, Client, Refusal, TimedOut
 from .drawing import waves_for, write_vcd
 from .history import keeping_history
@@ -39,7 +40,6 @@ from .stuck_chains import chain_lines
 from .texts import Failed, Placed, read_library
 
 WATCHED = 0.1  # seconds between two questions of `watch`
-FAULTS_OF_TEXTS = range(70, 81)  # their codes
 
 
 class Shell(cmd.Cmd):
@@ -108,10 +108,17 @@ class Shell(cmd.Cmd):
             chain_lines(library, module.name, undecided) if library and module and undecided else []
         )
         relations = module.relations if module else ()
+        if refusal.fault == "UnknownSignal" and module:
+            chain = [meant(str(refusal.command.get("signal")), module.inputs())]
         if refusal.command.get("cmd") == "activate":
             asked = [*self.client.roles, refusal.command["role"]]
             refusal.command = {**refusal.command, "roles": asked}
-        return [sentence(refusal, relations, self.sets), *chain]
+        return [sentence(refusal, relations, self.sets), *filter(None, chain)]
+
+    def no_command(self, name: str) -> str:
+        """What is said of a word that is no command."""
+        question = meant(name, self.commands())
+        return f"there is no command {name}: {question or 'help lists them'}"
 
     def emptyline(self) -> bool:
         return False
@@ -122,7 +129,7 @@ class Shell(cmd.Cmd):
             print(end="\n" if self.prompt else "")
             return True
         if name not in PLAIN:
-            raise Usage(f"there is no command {name}: help lists them")
+            raise Usage(self.no_command(name))
         keys = command_keys(name, words, self.slot)
         self.client.ask(name, **keys)
         for key, word in keys.items():
@@ -311,7 +318,7 @@ class Shell(cmd.Cmd):
         try:
             self.client.load(slot, module.name, library.text)
         except Refusal as refusal:
-            if refusal.code in FAULTS_OF_TEXTS:
+            if refusal.code in OF_TEXTS:
                 raise load_fault(refusal, library, module.name) from refusal
             raise
         self.keep(slot, library, module)

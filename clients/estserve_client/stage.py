@@ -251,7 +251,9 @@ class SharedSlot:
         except TooLong as fault:
             raise Failed(f"{scenario.library.paths[0]}: the text is too long: {fault}") from fault
         except Refusal as refusal:
-            if 70 <= refusal.code <= 80:
+            from .command_table import OF_TEXTS
+
+            if refusal.code in OF_TEXTS:
                 raise not_loaded(refusal, scenario) from refusal
             raise
 

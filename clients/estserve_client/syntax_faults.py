@@ -121,7 +121,7 @@ def advice_at(spot: Spot) -> str:
     """What is said besides, of a mistake that is often made; empty where it is none of these."""
     here, last = spot.word(), spot.last()
     if here == ";" and last == ";":
-        return "one `;` stands between two statements: take one of the two away"
+        return "one `;` is enough: take the other one away"
     if here == "||" and "or" in spot.wanted and ("then" in spot.wanted or ")" in spot.wanted):
         return "in a test write `or`"
     if here in ("and", "or") and last == "]":

@@ -3,11 +3,13 @@ and the message says what was expected, what is open, what was meant.
 """
 import collections
 import os
+import pathlib
 import random
 import re
+import tempfile
 import unittest
 
-from support import ROOT, needs_program, refusal_of
+from support import ROOT, needs_program, refusal_of, run_client
 from test_format import texts_of_the_repository
 
 import estserve
@@ -44,7 +46,7 @@ SYNTAX = [
     ("pause;; pause", "a statement expected"),
 ]
 ADVICE = [
-    ("pause;; pause", "one `;` stands between two statements: take one of the two away"),
+    ("pause;; pause", "one `;` is enough: take the other one away"),
     ("signal await in pause end", "`await` is a word of the language, and no name"),
     ("run N [A/I]", "renamings begin with the word `signal`: `[signal I/IN]`"),
     ("present A || B then pause end", "in a test write `or`"),
@@ -57,6 +59,7 @@ ADVICE = [
     ("// it's a remark\npause", "comments begin with `%`, or stand between `%{` and `}%`"),
     ("/* a remark */ pause", "comments begin with `%`, or stand between `%{` and `}%`"),
     ("pause %{ a remark", "this comment has no end: `}%`"),
+    ("signal 1A in pause end", "a name begins with a letter"),
     (f"emit {LONG}", "a name has at most 48 bytes, and this one has 49"),
     ("if A then emit O end", "a signal is asked for by `present S then p else q end`"),
     ("while A pause end", "`abort` ends it: `abort loop p end when S`"),
@@ -83,7 +86,7 @@ PATHS = [
     ("loop\nemit O\nend", ["3:1: emit O"]),
     (
         "loop\npresent A then pause end;\nemit O\nend",
-        ["3:1: present, whose test doesn't hold", "4:1: emit O"],
+        ["3:1: present A, which doesn't hold", "4:1: emit O"],
     ),
     (
         "loop trap T in\n[exit T || emit O]\nend end",
@@ -91,15 +94,15 @@ PATHS = [
     ),
     (
         "loop\nweak abort halt when immediate A\nend",
-        ["3:1: weak abort .. immediate, whose test holds"],
+        ["3:1: weak abort .. when immediate A, which holds"],
     ),
     (
         "loop\nrun N [signal A/I]\nend end module\nmodule N: input I;\nabort pause when immediate I",
-        ["3:1: run N", "6:1: abort .. immediate, whose test holds"],
+        ["3:1: run N", "6:1: abort .. when immediate I, which holds"],
     ),
     (
         "loop\nrun N end end module module N:\nrun L end module module L:\nawait immediate tick",
-        ["3:1: run N", "4:1: run L", "5:1: await .. immediate, whose test holds"],
+        ["3:1: run N", "4:1: run L", "5:1: await immediate tick, which holds"],
     ),
 ]
 
@@ -253,6 +256,23 @@ class Expectations(unittest.TestCase):
                 ]
                 after = spot_at([*longer, type(token)("?", 10, 1)], 10, 1)
                 self.assertTrue(after.wanted, f"{wanted} after {text[: token.column]}")
+
+
+@needs_program
+class Shell(unittest.TestCase):
+    def test_what_was_meant_is_asked(self):
+        with tempfile.TemporaryDirectory() as name:
+            path = pathlib.Path(name) / "m.strl"
+            path.write_text("module M: input START; pause end module\n")
+            typed = (
+                f"gramt\ngrant root load 0\ngrant root offer 0.STRAT\nload {path}\noffer STRAT\n"
+            )
+            lines = run_client(["shell"], typed).printed.splitlines()
+        self.assertEqual(lines[1], "line 1: there is no command gramt: did you mean `grant`?")
+        self.assertEqual(
+            lines[-2:],
+            ["line 5: UnknownSignal: the module has no such signal", "did you mean `START`?"],
+        )
 
 
 class Circles(unittest.TestCase):

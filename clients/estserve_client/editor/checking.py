@@ -5,6 +5,7 @@ from __future__ import annotations
 
 from typing import Callable, Dict, List, Optional
 
+from ..command_table import IDENTIFIER, OF_TEXTS
 from ..connection import Client, Disconnected, NotText, Refusal, TooLong
 from ..diagnosis import Diagnosis, Mark, diagnose_load
 from ..library_text import LibraryText
@@ -12,7 +13,6 @@ from ..module_text import Module, main_of, modules_of
 from ..stage import grants_of
 
 OF_MAIN = ("Semantics", "TooLarge", "InstantLoop")  # faults that another main module needn't have
-OF_TEXTS = range(70, 81)
 MOST = 16  # modules of a text are tried
 
 
@@ -84,5 +84,5 @@ def mains_of(library: LibraryText) -> List[str]:
     end = library.begins[1][1] if len(library.begins) > 1 else None
     own = "\n".join(library.text.split("\n")[: end - 1 if end else None])
     names = [module.name for module in modules_of(own) if module.name not in run]
-    mains = list(dict.fromkeys(name for name in names if name.isidentifier() and len(name) <= 48))
+    mains = list(dict.fromkeys(name for name in names if IDENTIFIER.fullmatch(name)))
     return mains[:MOST] or [main_of(library.text).name]
