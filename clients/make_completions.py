@@ -91,55 +91,57 @@ def paths_of(whole: Command) -> "Iterator[tuple[str, Command]]":
             yield f"{name} {word}", inner
 
 
-def bash(whole: Command) -> Iterator[str]:
-    yield "# " + HEAD.format("bash")
-    yield from """_estserve_client() {
-    local word=${COMP_WORDS[COMP_CWORD]} before=${COMP_WORDS[COMP_CWORD-1]} path=${COMP_WORDS[1]} words='' files=''
+BASH = """_estserve_client() {
+    local word=${COMP_WORDS[COMP_CWORD]} before=${COMP_WORDS[COMP_CWORD-1]} words='' files=''
+    local path=${COMP_WORDS[1]}
     COMPREPLY=()
     if ((COMP_CWORD == 1)); then path=; fi
-    case "$path ${COMP_WORDS[2]}" in""".split(
-        "\n"
-    )
-    inner = [path for path, _ in paths_of(whole) if " " in path]
-    if inner:
-        yield f"""    {' | '.join(f"'{path}'" for path in inner)})"""
-        yield '        if ((COMP_CWORD > 2)); then path="$path ${COMP_WORDS[2]}"; fi'
-        yield "        ;;"
-    yield "    esac"
-    yield '    case "$path" in'
-    for path, command in [("", whole), *paths_of(whole)]:
-        words = [word for option in command.options for word in option.words if word[1:2] == "-"]
-        words += [
-            word
-            for option in command.options
-            for word in option.words
-            if len(option.words) == 1 and word[1:2] != "-"
-        ]
-        yield f"    '{path}')"
-        yield f"        words='{' '.join([*command.words, *words])}'"
-        if command.takes_files:
-            yield "        files=1"
-        with_words = [option for option in command.options if option.takes]
-        named = [word for option in with_words if option.is_file for word in option.words]
-        others = [word for option in with_words if not option.is_file for word in option.words]
-        if with_words:
-            yield '        case "$before" in'
-            if named:
-                yield f"        {' | '.join(named)}) words='' files=1 ;;"
-            if others:
-                yield f"        {' | '.join(others)}) return ;;"
-            yield "        esac"
-        yield "        ;;"
-    yield from """    esac
+    case "$path ${COMP_WORDS[2]}" in
+    %s)
+        if ((COMP_CWORD > 2)); then path="$path ${COMP_WORDS[2]}"; fi
+        ;;
+    esac
+    case "$path" in
+%s
+    esac
     if [[ -n $files && $word != -* ]]; then
         mapfile -t COMPREPLY < <(compgen -f -- "$word")
     else
         mapfile -t COMPREPLY < <(compgen -W "$words" -- "$word")
     fi
 }
-complete -o filenames -F _estserve_client estserve-client""".split(
-        "\n"
-    )
+complete -o filenames -F _estserve_client estserve-client"""
+
+
+def in_two_words(whole: Command) -> str:
+    """The commands of two words, as a pattern of a shell."""
+    return " | ".join(f"'{path}'" for path, _ in paths_of(whole) if " " in path) or "' '"
+
+
+def bash_case(path: str, command: Command) -> Iterator[str]:
+    """The lines for one command."""
+    words = [option.words[-1] for option in command.options]
+    yield f"    '{path}')"
+    yield f"        words='{' '.join([*command.words, *words])}'"
+    if command.takes_files:
+        yield "        files=1"
+    with_words = [option for option in command.options if option.takes]
+    named = [word for option in with_words if option.is_file for word in option.words]
+    others = [word for option in with_words if not option.is_file for word in option.words]
+    if with_words:
+        yield '        case "$before" in'
+        if named:
+            yield f"        {' | '.join(named)}) words='' files=1 ;;"
+        if others:
+            yield f"        {' | '.join(others)}) return ;;"
+        yield "        esac"
+    yield "        ;;"
+
+
+def bash(whole: Command) -> Iterator[str]:
+    yield "# " + HEAD.format("bash")
+    cases = [line for path, one in [("", whole), *paths_of(whole)] for line in bash_case(path, one)]
+    yield from (BASH % (in_two_words(whole), "\n".join(cases))).split("\n")
 
 
 def zsh_text(text: str) -> str:
@@ -173,13 +175,15 @@ def zsh(whole: Command) -> Iterator[str]:
     yield "# " + HEAD.format("zsh")
     yield "local path=$words[2]"
     yield "if ((CURRENT == 2)); then path=; fi"
-    inner = [path for path, _ in paths_of(whole) if " " in path]
-    if inner:
-        yield "if ((CURRENT > 3)); then"
-        yield '    case "$path $words[3]" in'
-        yield f"""    {' | '.join(f"'{path}'" for path in inner)}) path="$path $words[3]"; shift words; ((CURRENT--)) ;;"""
-        yield "    esac"
-        yield "fi"
+    yield "if ((CURRENT > 3)); then"
+    yield '    case "$path $words[3]" in'
+    yield f"    {in_two_words(whole)})"
+    yield '        path="$path $words[3]"'
+    yield "        shift words"
+    yield "        ((CURRENT--))"
+    yield "        ;;"
+    yield "    esac"
+    yield "fi"
     yield "if [[ -n $path ]]; then shift words; ((CURRENT--)); fi"
     yield 'case "$path" in'
     for path, command in [("", whole), *paths_of(whole)]:

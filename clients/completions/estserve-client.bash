@@ -1,6 +1,7 @@
 # Completion of estserve-client for bash, written by clients/make_completions.py.
 _estserve_client() {
-    local word=${COMP_WORDS[COMP_CWORD]} before=${COMP_WORDS[COMP_CWORD-1]} path=${COMP_WORDS[1]} words='' files=''
+    local word=${COMP_WORDS[COMP_CWORD]} before=${COMP_WORDS[COMP_CWORD-1]} words='' files=''
+    local path=${COMP_WORDS[1]}
     COMPREPLY=()
     if ((COMP_CWORD == 1)); then path=; fi
     case "$path ${COMP_WORDS[2]}" in
@@ -21,7 +22,7 @@ _estserve_client() {
         esac
         ;;
     'test')
-        words='--help --module --main --update --junit --tap --json --program --unproved -k'
+        words='--help --module --main -k --update --junit --tap --json --program --unproved'
         files=1
         case "$before" in
         --module | --junit | --program) words='' files=1 ;;

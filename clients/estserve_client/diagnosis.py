@@ -64,6 +64,7 @@ def diagnose_place(refusal: Refusal, library: LibraryText) -> Diagnosis:
     line, column = refusal.fields["line"], refusal.fields["column"]
     tokens = tokens_of(library.text)
     spot, told = spot_at(tokens, line, column), "no token stands here"
+    spot.name_line = lambda other: library.name_line(other, library.place(line)[0])
     advice = ""
     if refusal.fault == "Syntax":
         told, advice = expected_at(spot) or "the text cannot go on so", advice_at(spot)

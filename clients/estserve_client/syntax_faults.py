@@ -7,7 +7,7 @@ from __future__ import annotations
 
 import dataclasses
 import re
-from typing import List, Optional
+from typing import Callable, List, Optional
 
 from .close_words import meant
 from .syntax_tree import (
@@ -41,6 +41,7 @@ class Spot:
     open: List[Token]
     closed: Optional[Token]
     after: str  # the text of the token after its own
+    name_line: Callable[[int], str] = "line {}".format  # what a line is called
 
     def last(self) -> str:
         """The text of the token before it; empty at the beginning of the text."""
@@ -82,7 +83,7 @@ def told_of_open(spot: Spot, words: List[str]) -> str:
     if not spot.open or not set(words) & set(CLOSING):
         return ""
     first = spot.open[-1]
-    return f"; the `{first.text}` of line {first.line} is open"
+    return f"; the `{first.text}` of {spot.name_line(first.line)} is open"
 
 
 def expected_at(spot: Spot) -> str:
@@ -107,7 +108,7 @@ def wrong_end(spot: Spot) -> str:
     own = [word for word in spot.wanted if word in WITH_END]
     if not is_end or not own or not spot.closed or (is_begun and spot.word() != "module"):
         return ""
-    closed = f"this `end` closes the `{spot.closed.text}` of line {spot.closed.line}"
+    closed = f"this `end` closes the `{spot.closed.text}` of {spot.name_line(spot.closed.line)}"
     if spot.word() == "module":
         return f"{closed}, so that one more is missing"
     return f"{closed}, and may stand alone or before `{own[0]}`"

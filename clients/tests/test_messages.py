@@ -160,6 +160,26 @@ class OnTheProgram(unittest.TestCase):
         for text, last in told.items():
             self.assertEqual(self.told_of(text)[-1], last)
 
+    def test_what_is_open_is_told_by_its_file(self):
+        main = "module M: pause\n\n"
+        for text, told in [
+            ("module N:\nloop pause end module\n", "`loop` of line 2, so that one more is missing"),
+            ("module N:\nevery tick nothing\n", "`every` of line 2 is open"),
+        ]:
+            whole = f"{main}end module\n{text}"
+            library = join_texts([("m.strl", f"{main}end module\n"), ("n.strl", text)])
+            found = diagnose_load(refusal_of(self.client, whole), library, "M")
+            self.assertIn(told, found.told)
+            self.assertEqual((found.marks[0].file, found.marks[0].line), ("n.strl", 2))
+        library = join_texts([("m.strl", main), ("n.strl", "end\n")])
+        found = diagnose_load(refusal_of(self.client, f"{main}end\n"), library, "M")
+        self.assertEqual(found.told, "Syntax: `module` expected")
+        library = join_texts([("m.strl", main), ("n.strl", "each A")])
+        found = diagnose_load(refusal_of(self.client, f"{main}each A"), library, "M")
+        self.assertEqual(
+            found.told, "Syntax: `end` expected; the `module` of line 1 of m.strl is open"
+        )
+
     def test_each_text_of_the_language_page_has_its_expectation(self):
         page = (ROOT / "docs" / "LANGUAGE.md").read_text()
         rows = re.findall(r"^\| `(module M: [^`]*)` \| syntax \| 1, (\d+) \|", page, re.MULTILINE)
