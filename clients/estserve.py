@@ -1,9 +1,10 @@
 #!/usr/bin/env python3
-"""The client of estserve: run a module through inputs, test a folder, speak with a server, apply a
-policy.
+"""The client of estserve: run a module through inputs, test a folder, lay texts out, tell an editor
+of them, speak with a server, apply a policy.
 
     estserve.py run abro.strl --inputs abro.inputs --wave
     estserve.py test scenarios
+    estserve.py format abro.strl
     estserve.py shell --socket PATH --user ann --role driver
     estserve.py apply team.toml --socket PATH
 
@@ -32,7 +33,7 @@ from estserve_client import (
     connect,
     start,
 )
-from estserve_client.commands import end, installed, main
+from estserve_client.command_line import end, installed, main
 
 TYPE_CHECKING = False
 if TYPE_CHECKING:

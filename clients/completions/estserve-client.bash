@@ -1,34 +1,126 @@
-# Completion of estserve-client for bash.
+# Completion of estserve-client for bash, written by clients/make_completions.py.
 _estserve_client() {
-    local word=${COMP_WORDS[COMP_CWORD]} before=${COMP_WORDS[COMP_CWORD-1]} command=${COMP_WORDS[1]} words
+    local word=${COMP_WORDS[COMP_CWORD]} before=${COMP_WORDS[COMP_CWORD-1]} words='' files=''
+    local path=${COMP_WORDS[1]}
     COMPREPLY=()
-    case $before in
-    --inputs | --vcd | --expect | --program | --socket | --before | --module | --record)
+    if ((COMP_CWORD == 1)); then path=; fi
+    case "$path ${COMP_WORDS[2]}" in
+    'team who' | 'team slots' | 'team policy' | 'team why' | 'team log' | 'team archive' | 'team link')
+        if ((COMP_CWORD > 2)); then path="$path ${COMP_WORDS[2]}"; fi
+        ;;
+    esac
+    case "$path" in
+    '')
+        words='run test format lsp shell apply proof team --help --version'
+        ;;
+    'run')
+        words='--help --main --inputs --signals --table --wave --vcd --expect --update --watch --program --unproved --socket --user --role --reads --slot --loaded'
+        files=1
+        case "$before" in
+        --inputs | --vcd | --expect | --program | --socket) words='' files=1 ;;
+        --main | --signals | --user | --role | --reads | --slot) return ;;
+        esac
+        ;;
+    'test')
+        words='--help --module --main -k --update --junit --tap --json --program --unproved'
+        files=1
+        case "$before" in
+        --module | --junit | --program) words='' files=1 ;;
+        --main | -k) return ;;
+        esac
+        ;;
+    'format')
+        words='--help --check --diff'
+        files=1
+        ;;
+    'lsp')
+        words='--help --program --unproved'
+        case "$before" in
+        --program) words='' files=1 ;;
+        esac
+        ;;
+    'shell')
+        words='--help --socket --user --role --reads --program --unproved --stop'
+        case "$before" in
+        --socket | --program) words='' files=1 ;;
+        --user | --role | --reads) return ;;
+        esac
+        ;;
+    'apply')
+        words='--help --dry-run --prune --before --yes --socket --user --role --reads --program --unproved'
+        files=1
+        case "$before" in
+        --before | --socket | --program) words='' files=1 ;;
+        --user | --role | --reads) return ;;
+        esac
+        ;;
+    'proof')
+        words='--help --record'
+        case "$before" in
+        --record) words='' files=1 ;;
+        esac
+        ;;
+    'team')
+        words='who slots policy why log archive link --help --state --people --program --group --until --http --http-socket --origin --user-header --proxy-user'
+        case "$before" in
+        --state | --people | --program | --http-socket) words='' files=1 ;;
+        --group | --until | --http | --origin | --user-header | --proxy-user) return ;;
+        esac
+        ;;
+    'team who')
+        words='--help --state --as --role --json'
+        case "$before" in
+        --state) words='' files=1 ;;
+        --as | --role) return ;;
+        esac
+        ;;
+    'team slots')
+        words='--help --state --as --role --json --slot --text'
+        case "$before" in
+        --state) words='' files=1 ;;
+        --as | --role | --slot) return ;;
+        esac
+        ;;
+    'team policy')
+        words='--help --state --as --role --json'
+        case "$before" in
+        --state) words='' files=1 ;;
+        --as | --role) return ;;
+        esac
+        ;;
+    'team why')
+        words='--help --state --as --role --json'
+        case "$before" in
+        --state) words='' files=1 ;;
+        --as | --role) return ;;
+        esac
+        ;;
+    'team log')
+        words='--help --state --as --role --json --slot --user --instant --last --before'
+        case "$before" in
+        --state) words='' files=1 ;;
+        --as | --role | --slot | --user | --instant | --last | --before) return ;;
+        esac
+        ;;
+    'team archive')
+        words='--help --state --as --role --json --slot'
+        case "$before" in
+        --state) words='' files=1 ;;
+        --as | --role | --slot) return ;;
+        esac
+        ;;
+    'team link')
+        words='--help --state --as --role --json'
+        case "$before" in
+        --state) words='' files=1 ;;
+        --as | --role) return ;;
+        esac
+        ;;
+    esac
+    if [[ -n $files && $word != -* ]]; then
         mapfile -t COMPREPLY < <(compgen -f -- "$word")
-        return
-        ;;
-    --main | --signals | --user | --role | --slot | --reads)
-        return
-        ;;
-    esac
-    case $command in
-    run)
-        words="--main --inputs --signals --table --wave --vcd --expect --update --watch --program --unproved"
-        words+=" --socket --user --role --reads --slot --loaded --help"
-        ;;
-    test) words="--module --main --update --program --unproved --help" ;;
-    shell) words="--socket --user --role --reads --program --stop --help" ;;
-    apply) words="--dry-run --prune --before --yes --socket --user --role --reads --program --help" ;;
-    proof) words="--record --help" ;;
-    *)
-        mapfile -t COMPREPLY < <(compgen -W "run test shell apply proof --version --help" -- "$word")
-        return
-        ;;
-    esac
-    if [[ $word == -* ]]; then
-        mapfile -t COMPREPLY < <(compgen -W "$words" -- "$word")
     else
-        mapfile -t COMPREPLY < <(compgen -f -- "$word")
+        mapfile -t COMPREPLY < <(compgen -W "$words" -- "$word")
     fi
 }
 complete -o filenames -F _estserve_client estserve-client

@@ -1,4 +1,4 @@
-"""The command `apply`: makes what a policy file asks for, and tells what was there already.
+"""The command `apply`: makes what a policy file asks for, and counts what was there already.
 
 At the first command that is refused the rest is not sent, and what was made is taken back.
 """
@@ -9,54 +9,36 @@ import dataclasses
 import os
 import pathlib
 import sys
-from typing import Any, Callable, Dict, Iterator, List, Optional, Union
+from typing import Any, Dict, Iterator, List, Optional, Union
 
+from .command_table import BACK, KEYS
 from .connection import Client, Refusal, start
+from .gateway_words import policy_at
 from .module_text import OFFERED, main_of
 from .policy_file import BadPolicy, Policy, Wish, read_file
-from .pruning import candidates, prune
-from .sentences import sentence
-from .session import session_of
+from .pruning import candidates, exact, prune
+from .programs import program_of
+from .sentences import Set, sentence
+from .session import roles_of, session_of
 from .texts import Failed, read_text
 
 THERE_ALREADY = {
     "UserExists", "RoleExists", "AlreadyAssigned", "AlreadyGranted", "EdgeExists", "DsdExists",
 }  # fmt: skip
-WORDS = {
-    "adduser": "adduser {user}",
-    "deluser": "deluser {user}",
-    "addrole": "addrole {role}",
-    "delrole": "delrole {role}",
-    "inherit": "inherit {senior} {junior}",
-    "disinherit": "disinherit {senior} {junior}",
-    "assign": "assign {user} {role}",
-    "deassign": "deassign {user} {role}",
-    "grant": "grant {role} {op} {object}",
-    "revoke": "revoke {role} {op} {object}",
-    "dsd": "dsd {name} {count}",
-    "undsd": "undsd {name}",
-}
-BACK = {
-    "adduser": "deluser",
-    "addrole": "delrole",
-    "inherit": "disinherit",
-    "assign": "deassign",
-    "grant": "revoke",
-    "dsd": "undsd",
-}
 Command = Dict[str, Any]
 
 
 def text_of(command: Command) -> str:
     """A command in words, as `grant driver offer 0.A`."""
-    words = WORDS[command["cmd"]].format(**command)
-    return words + "".join(f" {role}" for role in command.get("roles", ()))
+    words = [command[key] for key in KEYS[command["cmd"]]]
+    flat = [part for word in words for part in (word if isinstance(word, list) else [word])]
+    return " ".join([command["cmd"], *map(str, flat)])
 
 
 def back_of(command: Command) -> Command:
     """The command that takes another one back."""
-    kept = ("name",) if command["cmd"] == "dsd" else tuple(key for key in command if key != "cmd")
-    return {"cmd": BACK[command["cmd"]], **{key: command[key] for key in kept}}
+    back = BACK[command["cmd"]]
+    return {"cmd": back, **{key: command[key] for key in KEYS[back]}}
 
 
 @dataclasses.dataclass
@@ -84,12 +66,10 @@ def take_back(client: Client, made: List[Wish]) -> List[Wish]:
     return left
 
 
-def apply_wishes(
-    client: Client, wishes: List[Wish], tell: Optional[Callable[[Wish, Refusal], None]] = None
-) -> Applied:
-    """Asks for each command in turn. At one that is refused it stops, and takes back what was made.
-
-    `tell(wish, refusal)` is called for each that was there already."""
+def apply_wishes(client: Client, wishes: List[Wish]) -> Applied:
+    """Asks for each command in turn. At one that is refused it stops, and takes back what was
+    made.
+    """
     applied = Applied()
     for at, wish in enumerate(wishes):
         try:
@@ -102,8 +82,6 @@ def apply_wishes(
                 applied.left = take_back(client, applied.made)
                 return applied
             applied.there.append(wish)
-            if tell:
-                tell(wish, refusal)
     return applied
 
 
@@ -149,11 +127,18 @@ def wrong_permission(op: str, signal: str, kinds: Dict[str, str]) -> Optional[st
     return None if op in ("offer", "observe") else f"knows no {op} on a signal"
 
 
-def tell_refusal(applied: Applied, path: str) -> None:
+def sets_of(policy: Policy) -> Dict[str, Set]:
+    """The separation sets of a policy, by their names."""
+    commands = [wish.command for wish in policy.wishes if wish.command["cmd"] == "dsd"]
+    return {command["name"]: (command["count"], command["roles"]) for command in commands}
+
+
+def tell_refusal(applied: Applied, path: str, policy: Policy) -> None:
     """Tells the command that was refused, and what could not be taken back."""
     wish, refusal = applied.refused, applied.refusal
     assert wish and refusal
-    print(f"{path}:{wish.line}: {text_of(wish.command)}: {sentence(refusal)}", file=sys.stderr)
+    told = sentence(refusal, (), sets_of(policy))
+    print(f"{path}:{wish.line}: {text_of(wish.command)}: {told}", file=sys.stderr)
     for left in applied.left:
         print(
             f"{path}:{left.line}: {text_of(left.command)}: could not be taken back", file=sys.stderr
@@ -173,7 +158,7 @@ def dry_run(arguments: argparse.Namespace, policy: Policy) -> None:
     refused there.
     """
     path = arguments.file
-    with start(arguments.program) as client:
+    with start(program_of(arguments)) as client:
         client.login("root", ["root"])
         applied = apply_wishes(client, policy.wishes)
     told = [(wish, "") for wish in applied.made]
@@ -181,9 +166,25 @@ def dry_run(arguments: argparse.Namespace, policy: Policy) -> None:
     for wish, more in told:
         print(f"{path}:{wish.line}: {text_of(wish.command)}{more}")
     if applied.refused:
-        tell_refusal(applied, path)
+        tell_refusal(applied, path, policy)
         raise Failed("a command would be refused on a new server; nothing was sent to yours")
     print(f"{len(policy.wishes)} commands, on a program of its own; nothing was sent to a server")
+
+
+def to_prune(
+    arguments: argparse.Namespace, policy: Policy, before: Optional[Policy]
+) -> List[Command]:
+    """The commands of --prune: at a gateway what is there and not asked for, which is listed; else
+    what may be there.
+    """
+    path, roles = arguments.socket, roles_of(arguments)
+    known = policy_at(path, arguments.user, roles) if path else None
+    if known is None:
+        return candidates(policy, before)
+    commands = exact(policy, known)
+    for command in [] if arguments.yes else commands:
+        print(f"not asked for: {text_of(command)}")
+    return commands
 
 
 def apply(arguments: argparse.Namespace) -> None:
@@ -200,15 +201,12 @@ def apply(arguments: argparse.Namespace) -> None:
         return dry_run(arguments, policy)
     before = read_policy_file(arguments.before) if arguments.before else None
 
-    def tell(wish: Wish, refusal: Refusal) -> None:
-        print(f"{path}:{wish.line}: {text_of(wish.command)}: {sentence(refusal)}")
-
     with session_of(arguments) as (client, _):
-        applied = apply_wishes(client, policy.wishes, tell)
+        applied = apply_wishes(client, policy.wishes)
         if applied.refused:
             sys.stdout.flush()
-            tell_refusal(applied, path)
+            tell_refusal(applied, path, policy)
             raise Failed(end_of(applied))
-        print(f"{len(applied.made)} made, {len(applied.there)} there already, 0 refused")
+        print(f"{len(applied.there)} there already, {len(applied.made)} added")
         if arguments.prune:
-            prune(client, candidates(policy, before), arguments.yes, text_of)
+            prune(client, to_prune(arguments, policy, before), arguments.yes, text_of)

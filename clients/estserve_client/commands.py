@@ -1,27 +1,24 @@
-"""The command line: its words, and what becomes of a command."""
+"""The words of the command line: each command with its options.
+
+A further command is a module with a function `add_NAME` here, a line in ADDERS, and a function that
+does it, in a module of its own that is imported when it is asked for. A package beside this one
+brings its commands by NEIGHBOURS.
+"""
 from __future__ import annotations
 
 import argparse
-import contextlib
 import os
-import sys
 
 from . import __version__
-from .connection import READS, CannotBeSent, Disconnected, Refusal, TimedOut
+from .connection import READS
 from .telling import TELLER
-from .texts import Failed
 
 TYPE_CHECKING = False
 if TYPE_CHECKING:
-    from typing import Any, List, NoReturn, Optional
+    from typing import Any, Callable
 
 # subcommands of packages beside this one, which may be there
 NEIGHBOURS = (("team", "estserve_team"),)
-STREAMS = (
-    ("stdin", "r", "surrogateescape"),
-    ("stdout", "w", "backslashreplace"),
-    ("stderr", "w", ""),
-)
 
 
 def terminal_columns() -> int:
@@ -48,47 +45,30 @@ class Parser(argparse.ArgumentParser):
         super().__init__(formatter_class=Layout, **words)
 
 
-# What each command does is imported when it is asked for.
+def doing(module: str, name: str) -> Callable[[argparse.Namespace], Any]:
+    """What does a command: a function of a module, which is imported when it is asked for."""
+
+    def act(arguments: argparse.Namespace) -> Any:
+        import importlib
+
+        return getattr(importlib.import_module("." + module, __package__), name)(arguments)
+
+    return act
 
 
-def run(arguments: argparse.Namespace) -> None:
-    from . import running
-
-    running.run(arguments)
-
-
-def test(arguments: argparse.Namespace) -> int:
-    from . import testing
-
-    return testing.test(arguments)
-
-
-def shell(arguments: argparse.Namespace) -> int:
-    from . import shell
-
-    return shell.shell(arguments)
-
-
-def apply(arguments: argparse.Namespace) -> None:
-    from . import applying
-
-    applying.apply(arguments)
-
-
-def add_program(parser: Any) -> None:
+def add_program(parser: Parser) -> None:
+    programs = parser.add_mutually_exclusive_group()
     help = "the program to start, in place of the one that `make run` builds"
-    parser.add_argument("--program", metavar="PATH", help=help)
-
-
-def add_unproved(parser: Any) -> None:
-    help = "build the program without proof, by `rt try`: a minute, and then it is kept"
-    parser.add_argument("--unproved", action="store_true", help=help)
+    programs.add_argument("--program", metavar="PATH", help=help)
+    help = "in the repository: build the program without proof, and keep it while no source changes"
+    programs.add_argument("--unproved", action="store_true", help=help)
 
 
 def add_server(parser: Parser, roles: Any) -> None:
     help = "the server's Unix socket; without it the program is started for you alone"
     parser.add_argument("--socket", metavar="PATH", help=help)
-    parser.add_argument("--user", default="root", help="the user to log in as (default: root)")
+    help = "the user to log in as (default: root; at a gateway whom you may be, if it is one)"
+    parser.add_argument("--user", help=help)
     help = "a role to activate; may be given more than once (default: root for root, else none)"
     parser.add_argument("--role", action="extend", nargs=roles, metavar="ROLE", help=help)
     help = "connect again after this many reads (the server ends a connection after 1,000,000)"
@@ -131,9 +111,7 @@ def add_run(commands: Any) -> None:
     )
     add("--update", action="store_true", help="write the file of --expect anew")
     add("--watch", action="store_true", help="run again whenever a file is saved, until Ctrl-C")
-    programs = parser.add_mutually_exclusive_group()
-    add_program(programs)
-    add_unproved(programs)
+    add_program(parser)
     add_server(parser, 1)
     add("--slot", type=int, default=0, metavar="N", help="the server's slot to run in (default: 0)")
     add(
@@ -141,7 +119,7 @@ def add_run(commands: Any) -> None:
         action="store_true",
         help="run what is loaded in that slot; nothing is loaded or unloaded",
     )
-    parser.set_defaults(act=run)
+    parser.set_defaults(act=doing("running", "run"))
 
 
 def add_test(commands: Any) -> None:
@@ -149,14 +127,20 @@ def add_test(commands: Any) -> None:
     parser = commands.add_parser("test", help=help)
     add = parser.add_argument
     add("folder", metavar="DIR", help="the folder")
-    help = "a module text for all of them (default: NAME.strl, or all .strl files of the folder)"
-    add("--module", action="append", metavar="FILE", help=help)
+    help = "the module texts for all of them (default: NAME.strl, or all .strl files of the folder)"
+    add("--module", action="extend", nargs="+", metavar="FILE", help=help)
     add("--main", metavar="MODULE", help="the module to run (default: the first that none runs)")
-    add("--update", action="store_true", help="write each NAME.expected anew")
-    programs = parser.add_mutually_exclusive_group()
-    add_program(programs)
-    add_unproved(programs)
-    parser.set_defaults(act=test)
+    help = "run the scenarios with this in their name, or of this pattern with `*`"
+    add("-k", action="append", default=[], metavar="NAME", help=help)
+    help = "write each NAME.expected anew, and say where that has a refusal"
+    add("--update", action="store_true", help=help)
+    add("--junit", metavar="OUT", help="write the outcomes as a file of JUnit's XML too")
+    reports = parser.add_mutually_exclusive_group()
+    reports.add_argument("--tap", action="store_true", help="print lines of TAP, version 13")
+    help = "print one object of JSON, with each outcome"
+    reports.add_argument("--json", action="store_true", help=help)
+    add_program(parser)
+    parser.set_defaults(act=doing("testing", "test"))
 
 
 def add_shell(commands: Any) -> None:
@@ -168,7 +152,7 @@ def add_shell(commands: Any) -> None:
     parser.add_argument(
         "--stop", action="store_true", help="end a script at the first line that is refused"
     )
-    parser.set_defaults(act=shell)
+    parser.set_defaults(act=doing("shell", "shell"))
 
 
 def add_apply(commands: Any) -> None:
@@ -191,13 +175,27 @@ def add_apply(commands: Any) -> None:
     add("--yes", action="store_true", help="let --prune not ask")
     add_server(parser, 1)
     add_program(parser)
-    parser.set_defaults(act=apply)
+    parser.set_defaults(act=doing("applying", "apply"))
 
 
-def proof(arguments: argparse.Namespace) -> int:
-    from . import proof
+def add_format(commands: Any) -> None:
+    help = "lay module texts out; tokens and comments stay as they are"
+    parser = commands.add_parser("format", help=help)
+    help = "a module text, or a folder with files NAME.strl; `-` is standard input"
+    parser.add_argument("file", nargs="+", metavar="FILE", help=help)
+    only = parser.add_mutually_exclusive_group()
+    help = "write nothing: name what would change, with status 1"
+    only.add_argument("--check", action="store_true", help=help)
+    help = "write nothing: show what would change, with status 1"
+    only.add_argument("--diff", action="store_true", help=help)
+    parser.set_defaults(act=doing("formatting", "format_files"))
 
-    return proof.proof(arguments)
+
+def add_lsp(commands: Any) -> None:
+    help = "a language server for editors, over standard input and output"
+    parser = commands.add_parser("lsp", help=help)
+    add_program(parser)
+    parser.set_defaults(act=doing("editor.server", "serve_editor"))
 
 
 def add_proof(commands: Any) -> None:
@@ -205,7 +203,7 @@ def add_proof(commands: Any) -> None:
     parser = commands.add_parser("proof", help=help)
     help = "the file, in place of the installed one"
     parser.add_argument("--record", metavar="FILE", help=help)
-    parser.set_defaults(act=proof)
+    parser.set_defaults(act=doing("proof", "proof"))
 
 
 class TellVersion(argparse.Action):
@@ -243,6 +241,8 @@ def add_neighbours(commands: Any, asked: str) -> None:
 ADDERS = {
     "run": add_run,
     "test": add_test,
+    "format": add_format,
+    "lsp": add_lsp,
     "shell": add_shell,
     "apply": add_apply,
     "proof": add_proof,
@@ -262,63 +262,3 @@ def make_parser(asked: str = "") -> Parser:
         add(commands)
     add_neighbours(commands, asked)
     return parser
-
-
-def prepare_streams() -> None:
-    """Opens what was closed, and lets no stream fail at a text for its letters: what is no UTF-8 is
-    told where it is used.
-    """
-    for name, mode, errors in STREAMS:
-        if getattr(sys, name) is None:
-            setattr(sys, name, open(os.devnull, mode))
-        if errors and hasattr(getattr(sys, name), "reconfigure"):
-            getattr(sys, name).reconfigure(errors=errors)
-
-
-def tell_of_output(fault: OSError) -> int:
-    """Ends since standard output cannot be written. What is still to be written is given up, or
-    Python would try it again.
-    """
-    try:
-        with open(os.devnull, "w") as nowhere:
-            os.dup2(nowhere.fileno(), sys.stdout.fileno())
-    except (OSError, ValueError):
-        pass
-    return TELLER.tell(f"standard output cannot be written: {fault.strerror or fault}")
-
-
-def main(words: Optional[List[str]] = None) -> int:
-    """Does what the words say. Answers the status: 0, or another one with one message on standard
-    error.
-    """
-    words = sys.argv[1:] if words is None else words
-    arguments = make_parser(*words[:1]).parse_args(words)
-    prepare_streams()
-    try:
-        status = arguments.act(arguments)
-        sys.stdout.flush()
-    except Failed as fault:
-        return TELLER.tell(fault, fault.status)
-    except (Disconnected, CannotBeSent, TimedOut, Refusal) as fault:
-        return TELLER.tell(fault)
-    except OSError as fault:
-        return tell_of_output(fault)
-    except KeyboardInterrupt:
-        return TELLER.tell("interrupted", 130)
-    return int(status or 0)
-
-
-def end(status: int) -> NoReturn:
-    """Ends with this status at once: the system takes all back that Python would clear up piece by
-    piece, which takes as long as hundreds of instants.
-    """
-    for stream in (sys.stdout, sys.stderr):
-        with contextlib.suppress(OSError, ValueError):
-            stream.flush()
-    os._exit(status)
-
-
-def installed() -> NoReturn:
-    """The command `estserve-client`, as pip and `make install` put it in place."""
-    TELLER.name = "estserve-client"
-    end(main())

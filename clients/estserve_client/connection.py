@@ -351,6 +351,11 @@ class Client:
             self._read_line()
 
     @property
+    def roles(self) -> List[str]:
+        """The roles that are active, by what was asked for on this connection."""
+        return list(self._login[1]) if self._login else []
+
+    @property
     def is_owed(self) -> bool:
         """Whether a command was interrupted before its answer came."""
         return self._owed > 0
@@ -682,20 +687,6 @@ def find_program(named: Optional[Path] = None) -> Path:
             "there is no program estserve: build it by `make build`, or name it by --program"
         )
     return found
-
-
-def unproved_program() -> Path:
-    """The program, built without proof by scripts/trial.py, which keeps it. Raises Disconnected."""
-    import subprocess
-
-    try:
-        words = [sys.executable, os.path.join(ROOT, "scripts", "trial.py"), "--path"]
-        ran = subprocess.run(words, stdout=subprocess.PIPE, text=True)
-    except OSError as fault:
-        raise Disconnected(f"scripts/trial.py cannot be run: {fault.strerror or fault}") from fault
-    if ran.returncode != 0:
-        raise Disconnected("the program could not be built: try `make try`")
-    return ran.stdout.strip()
 
 
 def widen(pipe: Any) -> bool:

@@ -15,6 +15,7 @@ if TYPE_CHECKING:
     from .stage import Scenario
 
 PATIENCE, RENEWED = 1.0, 0.2  # seconds until progress is shown, and between two of its lines
+WIDE = 40  # characters of its bar
 
 
 def is_plain(stream: TextIO) -> bool:
@@ -95,21 +96,35 @@ class Drawing:
             print("\n".join(waves_for(sys.stdout, self.seen)), flush=True)
 
 
+def bar(number: int, total: int, columns: int) -> str:
+    """A line of a number of columns at most, which shows how much of the whole there is."""
+    told = f" {number:,} of {total:,} instants"
+    wide = max(0, min(WIDE, columns - len(told) - 2))
+    done = wide * number // max(1, total)
+    return f"[{'#' * done}{' ' * (wide - done)}]{told}"[:columns]
+
+
 class Progress:
-    """Tells a person at a terminal how far a long run is, where no table shows it."""
+    """Tells a person at a terminal how far a run is that takes over a second, where no table shows
+    it.
+    """
 
     def __init__(self, total: int, is_shown: bool) -> None:
         self.total, self.is_shown = total, is_shown and sys.stderr.isatty()
         self.next = time.monotonic() + PATIENCE
-        self.has_told = False
+        self.shown = 0  # columns that are filled
 
     def at(self, number: int) -> None:
         """Tells that this many instants have come, from time to time."""
         if self.is_shown and time.monotonic() >= self.next:
-            self.next, self.has_told = time.monotonic() + RENEWED, True
-            print(f"\r{number:,} of {self.total:,} instants", end="", file=sys.stderr, flush=True)
+            import shutil
+
+            self.next = time.monotonic() + RENEWED
+            told = bar(number, self.total, shutil.get_terminal_size().columns - 1)
+            print("\r" + told.ljust(self.shown), end="", file=sys.stderr, flush=True)
+            self.shown = len(told)
 
     def end(self) -> None:
         """Takes the line away."""
-        if self.has_told:
-            print("\r" + " " * 40 + "\r", end="", file=sys.stderr, flush=True)
+        if self.shown:
+            print("\r" + " " * self.shown + "\r", end="", file=sys.stderr, flush=True)

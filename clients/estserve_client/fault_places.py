@@ -10,6 +10,7 @@ import dataclasses
 from typing import Callable, Dict, Iterator, List, Optional, Set, Tuple
 
 from .circles import shortest_circle
+from .close_words import meant
 from .syntax_tree import ModuleTree, Node, Token, by_name, parse
 
 TESTS = ("await", "present", "suspend", "abort", "weak", "each", "every")
@@ -18,13 +19,14 @@ EMITS = ("emit", "sustain")
 
 @dataclasses.dataclass(frozen=True)
 class Place:
-    """A place that a fault can mean: its token, the module that it stands in, and what is so
-    there.
+    """A place that a fault can mean: its token, the module that it stands in, what is so there, and
+    what could be written in its place, where that is known.
     """
 
     at: Token
     module: str
     told: str
+    remedy: str = ""
 
 
 @dataclasses.dataclass
@@ -100,9 +102,10 @@ def declared_again(token: Token) -> str:
 
 def unknown_modules(modules: List[ModuleTree], name: str, _: str) -> List[Place]:
     """Where a module of this name is run, which isn't there."""
+    remedy = meant(name, [module.name.text for module in modules])
     return in_order(
         [
-            Place(node.names[0], module.name.text, f"{name} is run")
+            Place(node.names[0], module.name.text, f"{name} is run", remedy)
             for module in modules
             for node in module.body.walk()
             if node.kind == "run" and node.names[0].text == name
@@ -141,9 +144,22 @@ def bad_renamings(modules: List[ModuleTree], name: str, _: str) -> List[Place]:
             if token.text in [before.text for before in rights[:at]]
         ]
         inside = module.name.text
-        found += [Place(at, inside, f"{target} has no signal {at.text}") for at in wrong]
+        found += [
+            Place(at, inside, f"{target} has no signal {at.text}", right_name(at, node, interface))
+            for at in wrong
+        ]
         found += [Place(at, inside, f"{at.text} is renamed again") for at in again]
     return in_order([place for place in found if place.at.text == name])
+
+
+def right_name(at: Token, run: Node, interface: List[str]) -> str:
+    """What could be written for the right name of a renaming, which is none of the module that is
+    run.
+    """
+    left = next(renaming.left.text for renaming in run.renamings if renaming.right == at)
+    if left in interface:
+        return f"the name here stands first: write `{at.text}/{left}`"
+    return meant(at.text, interface)
 
 
 def visible(module: ModuleTree, scope: Scope, name: str) -> bool:
@@ -171,12 +187,22 @@ def unknown_in(
     if node.kind == "exit":
         token = node.names[0]
         told = f"no trap {token.text} stands around this exit in {inside}"
-        return [] if token.text in scope.traps else [(token.text, Place(token, inside, told))]
+        place = Place(token, inside, told, meant(token.text, scope.traps))
+        return [] if token.text in scope.traps else [(token.text, place)]
     used = [renaming.left for renaming in node.renamings]
     used += node.names if node.kind in TESTS + EMITS else []
     hidden = [token for token in used if not visible(module, scope, token.text)]
+    seen = [*scope.signals, *module.names()]
     found = [
-        (token.text, Place(token, inside, f"{inside} sees no signal {token.text} here"))
+        (
+            token.text,
+            Place(
+                token,
+                inside,
+                f"{inside} sees no signal {token.text} here",
+                meant(token.text, seen),
+            ),
+        )
         for token in hidden
     ]
     target = known.get(node.names[0].text) if node.kind == "run" else None
@@ -256,9 +282,14 @@ def wrong_members(modules: List[ModuleTree], number: str, main: str) -> List[Pla
     module = by_name(modules).get(main)
     if module is None or not 0 < int(number) <= len(module.relations):
         return []
-    offered = {token.text for token in module.inputs + module.inputoutputs}
+    offered = [token.text for token in module.inputs + module.inputoutputs]
     return [
-        Place(token, main, f"{token.text} is neither an input nor an inputoutput of {main}")
+        Place(
+            token,
+            main,
+            f"{token.text} is neither an input nor an inputoutput of {main}",
+            meant(token.text, offered),
+        )
         for token in module.relations[int(number) - 1]
         if token.text not in offered
     ]

@@ -69,10 +69,22 @@ REPEAT = LeftOut("`repeat`", "write its body as often as it is to run")
 TRAPS = LeftOut("a list of traps (`trap A, B in`)", "nest them: `trap A in trap B in .. end end`")
 UPTO = LeftOut("`do p upto S`", "write `abort p; halt when S`")
 WATCHING = LeftOut("`do p watching S`", "write `abort p when S`")
-DO = LeftOut("a `do` part of `await` or `abort`", "write what it does after the statement")
+AFTER_AWAIT = LeftOut("a `do` part of `await`", "write `await S; p` for `await S do p end`")
+AFTER_ABORT = LeftOut(
+    "a `do` part of `abort`",
+    "write `trap T in abort p; exit T when S; q end` for `abort p when S do q end`, and so for"
+    " `weak abort`: q is done only where S ends p",
+)
+TIMEOUT = LeftOut(
+    "`do p watching S timeout q end`",
+    "write `trap T in abort p; exit T when S; q end`: q is done only where S ends p",
+)
 RENAMED = LeftOut("a new name for a module that is run (`run M/N`)", "write `run N`")
 VARIABLE = LeftOut(
-    "a variable (`var`, `:=`, `if`)", "keep states by signals and by where the program stands"
+    "a variable (`var`, `:=`)", "keep states by signals and by where the program stands"
+)
+IF = LeftOut(
+    "`if`, which asks for a variable,", "a signal is asked for by `present S then p else q end`"
 )
 HOST = LeftOut(
     "a host declaration or call (`type`, `constant`, `function`, `procedure`, `call`, `exec`)",
@@ -89,7 +101,7 @@ WORDS = {
     "handle": HANDLE,
     "case": CASE,
     "var": VARIABLE,
-    "if": VARIABLE,
+    "if": IF,
     "type": HOST,
     "constant": HOST,
     "function": HOST,
@@ -166,9 +178,7 @@ def of_word(spot: Spot) -> Optional[LeftOut]:
     """What a word is the beginning of, where it cannot stand."""
     here, first = spot.here, spot.before[0]
     if here == "do":
-        is_part = spot.tested_by() in ("await", "when")
-        until = {"upto": UPTO, "watching": WATCHING}.get(spot.comes("upto", "watching"))
-        return CASE if first == "case" else DO if is_part else until
+        return CASE if first == "case" else of_do(spot)
     if first in (
         "case",
         "pre",
@@ -183,6 +193,19 @@ def of_word(spot: Spot) -> Optional[LeftOut]:
     ):
         return WORDS[first]
     return WORDS.get(here)
+
+
+def of_do(spot: Spot) -> Optional[LeftOut]:
+    """What a `do` is the beginning of: what follows an `await` or `abort`, or a statement with
+    `upto` or `watching`.
+    """
+    asked = spot.tested_by()
+    if asked == "await":
+        return AFTER_AWAIT
+    if asked == "when":
+        return AFTER_ABORT
+    until = {"upto": UPTO, "watching": WATCHING}.get(spot.comes("upto", "watching"))
+    return TIMEOUT if until is WATCHING and spot.comes("timeout") else until
 
 
 def left_out(text: str, line: int, column: int) -> Optional[str]:

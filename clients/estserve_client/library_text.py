@@ -19,6 +19,15 @@ class LibraryText:
         path, first = [begin for begin in self.begins if begin[1] <= max(line, 1)][-1]
         return path, line - first + 1
 
+    def line_of(self, path: str, line: int) -> int:
+        """The line of the text that this line of a file is."""
+        return dict(self.begins)[path] + line - 1
+
+    def name_line(self, line: int, path: str) -> str:
+        """What a line of the text is called by who reads this file."""
+        other, inner = self.place(line)
+        return f"line {inner}" if other == path else f"line {inner} of {other}"
+
     def show(self, line: int, column: int) -> str:
         """A place as editors read it, `FILE:LINE:COL`."""
         path, inner = self.place(line)

@@ -1,52 +1,48 @@
-"""What is said of a load that is refused: the fault, and each place that it can mean, drawn."""
+"""What is printed of a load that is refused: its diagnosis, with each place drawn."""
 from __future__ import annotations
 
 from typing import List
 
 from .connection import Refusal
-from .fault_places import Place, places_of
-from .left_out import left_out
+from .diagnosis import Diagnosis, Mark, diagnose_load, shortened
 from .library_text import LibraryText
-from .sentences import sentence
 from .texts import Failed, Placed
 
-PLACED = {"Lexical": "Lexical: no token stands here", "Syntax": "Syntax: the text cannot go on so"}
 MOST = 6  # places that are drawn
 
 
-def of_place(refusal: Refusal, library: LibraryText) -> Placed:
-    """What is said of a fault whose place estserve names."""
-    line, column = refusal.fields["line"], refusal.fields["column"]
-    told = PLACED.get(refusal.fault, refusal.fault)
-    lines = [f"{library.show(line, column)}: {told}", library.draw(line, column)]
-    named = left_out(library.text, line, column)
-    return Placed("\n".join(lines + ([named] if named else [])))
+def drawn(library: LibraryText, mark: Mark, told: str) -> str:
+    """A place, what is said of it, and its line with a caret."""
+    line = library.line_of(mark.file, mark.line)
+    place = f"{mark.file}:{mark.line}:{mark.column}"
+    return f"{place}: {told}\n{library.draw(line, mark.column)}"
 
 
-def drawn(library: LibraryText, place: Place, told: str) -> str:
-    at = place.at
-    return f"{library.show(at.line, at.column)}: {told}\n{library.draw(at.line, at.column)}"
+def lines_of(found: Diagnosis, library: LibraryText) -> List[str]:
+    """What is printed of places."""
+    first, *others = found.marks
+    likely = "; here, most likely" if others and not found.is_chain else ""
+    told = f"{found.told}: {first.told}" if first.told else found.told
+    lines = [drawn(library, first, told + likely)]
+    word = "and" if found.is_chain else "or here:"
+    lines += [drawn(library, mark, f"{word} {mark.told}") for mark in others[: MOST - 1]]
+    if len(found.marks) > MOST:
+        lines.append(f"or at {len(found.marks) - MOST} further places")
+    return lines
 
 
-def of_places(refusal: Refusal, library: LibraryText, places: List[Place]) -> Placed:
-    """What is said of a fault that can mean these places, the most likely one first."""
-    first, *others = places
-    is_chain = refusal.fault == "RecursiveRun"
-    likely = "; here, most likely" if others and not is_chain else ""
-    texts = [drawn(library, first, f"{sentence(refusal)}: {first.told}{likely}")]
-    word = "and" if is_chain else "or here:"
-    texts += [drawn(library, place, f"{word} {place.told}") for place in others[: MOST - 1]]
-    if len(places) > MOST:
-        texts.append(f"or at {len(places) - MOST} further places")
-    return Placed("\n".join(texts))
+def path_lines(found: Diagnosis) -> List[str]:
+    """What is printed of the path that leads to a fault."""
+    steps, more = shortened(found.path)
+    lines = [found.path_told] if found.path_told else []
+    lines += [f"  {step.file}:{step.line}:{step.column}: {step.told}" for step in steps]
+    return lines + ([f"  and {more} more steps"] if more else [])
 
 
 def load_fault(refusal: Refusal, library: LibraryText, main: str) -> Failed:
     """What a command ends with whose load of this main module was refused."""
-    if "line" in refusal.fields:
-        return of_place(refusal, library)
-    name = refusal.fields.get("name", refusal.fields.get("relation", ""))
-    places = places_of(refusal.fault, name, library.text, main)
-    if places:
-        return of_places(refusal, library, places)
-    return Failed(f"{library.paths[0]}: {sentence(refusal)}")
+    found = diagnose_load(refusal, library, main)
+    more = path_lines(found) + found.remedies
+    if not found.marks:
+        return Failed("\n".join([f"{library.paths[0]}: {found.told}", *more]))
+    return Placed("\n".join(lines_of(found, library) + more))

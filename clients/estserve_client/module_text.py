@@ -91,12 +91,17 @@ def modules_of(text: str) -> List[Module]:
 
 
 def main_of(text: str, named: Optional[str] = None) -> Module:
-    """The module of this name, or the first one of the text that no module runs.
+    """The module of this name, or the first one of the text that no module runs; where each is run,
+    the first.
 
     Of a name that no module has, one without signals."""
     modules = modules_of(text)
     run = {name for module in modules for name in module.runs}
-    for module in modules:
-        if module.name == named or (named is None and module.name not in run):
-            return module
-    return Module(named or "main", [], [], [])
+    wanted = [
+        module
+        for module in modules
+        if module.name == named or (named is None and module.name not in run)
+    ]
+    if named is None:
+        wanted += modules[:1]
+    return wanted[0] if wanted else Module(named or "main", [], [], [])

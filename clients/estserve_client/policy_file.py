@@ -1,53 +1,14 @@
-"""Policies in files: the small part of TOML that they need, read with the line of each value.
-
-    users = ["ann", "bob"]
-    roles = ["driver", "chief"]
-
-    [inherit]                      # a senior, and the roles below it
-    chief = ["driver"]
-
-    [assign]                       # a user, and its roles
-    ann = ["driver"]
-
-    [permissions]                  # a role, and what it may do: an operation and an object
-    driver = ["offer 0.A", "step 0"]
-
-    [separate.duties]              # a separation set: no session may have `count` of the roles
-    roles = ["driver", "chief"]
-    count = 2
-
-    [slots]                        # names of slots for permissions, as "offer door.OPEN"
-    door = 3
-
-    [modules]                      # the text of a slot, against which permissions are held
-    door = "door.strl"
-
-Values are strings in double quotes without `\\`, whole numbers, and lists of strings, which may go
-over several lines. (Python has a reader of the whole of TOML from 3.11 on, which doesn't say on
-which line a value stands.)
-"""
+"""What a policy file asks for: docs/POLICY-FILE.md says its tables."""
 from __future__ import annotations
 
 import dataclasses
-import re
 from typing import Any, Dict, Iterator, List, Optional, Tuple
 
-from .sentences import OBJECT
+from .command_table import OBJECT, SLOTS
+from .toml_reader import BadPolicy, Table, tables_of
 
-NAME = r"[A-Za-z0-9_-]+"
-HEAD = re.compile(rf"\[\s*({NAME}(?:\s*\.\s*{NAME})?)\s*\]$")
-PAIR = re.compile(rf"({NAME})\s*=\s*(.*)$", re.DOTALL)
-STRING = re.compile(r'"([^"\\]*)"')
 TABLES = ("inherit", "assign", "permissions", "slots", "modules")
-SLOTS = 16
-
-
-class BadPolicy(Exception):
-    """The file is no policy: the line, from 1, and what is wrong there."""
-
-    def __init__(self, line: int, what: str) -> None:
-        self.line = line
-        super().__init__(f"line {line}: {what}")
+__all__ = ["BadPolicy", "Policy", "Table", "Wish", "lists_of", "read_file", "tables_of"]
 
 
 @dataclasses.dataclass
@@ -66,79 +27,6 @@ class Policy:
 
     wishes: List[Wish]
     modules: Dict[int, Tuple[int, str]]
-
-
-def without_comment(line: str) -> str:
-    """A line up to a `#` that stands in no string."""
-    parts = re.split(r'("[^"]*")', line)
-    for at, part in enumerate(parts):
-        if not part.startswith('"') and "#" in part:
-            return "".join(parts[:at]) + part[: part.index("#")]
-    return line
-
-
-def statements_of(text: str) -> Iterator[Tuple[int, str]]:
-    """The statements of the file, each with its first line: a list that is not closed goes on over
-    the next lines.
-    """
-    held, first = "", 0
-    for number, line in enumerate(text.split("\n"), 1):
-        line = without_comment(line).strip()
-        first, held = (first, held + "\n" + line) if held else (number, line)
-        if held and ("=" not in held or held.count("[") <= held.count("]")):
-            yield first, held
-            held = ""
-    if held:
-        raise BadPolicy(first, "this list is not closed")
-
-
-def strings_of(written: str, line: int) -> List[Tuple[str, int]]:
-    """The strings of a list, each with its line."""
-    inside, found = written[1:-1], []
-    for number, piece in enumerate(inside.split("\n")):
-        found += [(string, line + number) for string in STRING.findall(piece)]
-    left = STRING.sub("s", inside)
-    if re.fullmatch(r"\s*(s\s*(,\s*s\s*)*,?\s*)?", left) is None:
-        raise BadPolicy(line, "a list has strings in double quotes, with commas between them")
-    return found
-
-
-def value_of(written: str, line: int) -> Any:
-    """A value: a list of strings with their lines, a string, or a whole number."""
-    if written.startswith("[") and written.endswith("]"):
-        return strings_of(written, line)
-    if re.fullmatch(r"[0-9]+", written):
-        return int(written)
-    if STRING.fullmatch(written):
-        return written[1:-1]
-    raise BadPolicy(line, "a value is a list of strings, a string, or a whole number")
-
-
-@dataclasses.dataclass
-class Table:
-    """A table of the file: the line of its head, and its keys, each with its line and value."""
-
-    line: int
-    keys: Dict[str, Tuple[int, Any]]
-
-
-def tables_of(text: str) -> Dict[str, Table]:
-    """The tables of the file, by their names. The table before the first head is ``."""
-    tables, table = {"": Table(1, {})}, ""
-    for line, statement in statements_of(text):
-        head, pair = HEAD.match(statement), PAIR.match(statement)
-        if head:
-            table = re.sub(r"\s", "", head.group(1))
-            if table in tables:
-                raise BadPolicy(line, f"the table {table} stands twice")
-            tables[table] = Table(line, {})
-        elif pair is None:
-            raise BadPolicy(line, "this is neither a table's head nor `key = value`")
-        elif pair.group(1) in tables[table].keys:
-            raise BadPolicy(line, f"the key {pair.group(1)} stands twice")
-        else:
-            tables[table].keys[pair.group(1)] = line, value_of(pair.group(2).strip(), line)
-    return tables
 
 
 def lists_of(table: Optional[Table]) -> Iterator[Tuple[str, str, int]]:

@@ -1,8 +1,8 @@
 """What `apply --prune` takes away: what a policy file doesn't ask for.
 
-The protocol has no command that lists a policy. So what may be there is tried: each assignment,
-edge and permission over the names that the file has, or an earlier file. One that isn't there is
-refused, and changes nothing.
+A gateway tells the whole policy. A server has no command that lists it, so there what may be there is
+tried: each assignment, edge and permission over the names that the file has, or an earlier file. One
+that isn't there is refused, and changes nothing.
 """
 from __future__ import annotations
 
@@ -10,9 +10,9 @@ import itertools
 import sys
 from typing import Any, Callable, Dict, List, Optional, Set, Tuple
 
+from .command_table import KEYS, OPERATIONS, SLOTS
 from .connection import Client, Refusal
-from .policy_file import SLOTS, Policy
-from .sentences import OPERATIONS
+from .policy_file import Policy
 from .texts import Failed
 
 NOT_THERE = {
@@ -33,9 +33,8 @@ def wanted_of(policy: Policy) -> Set[Tuple[str, ...]]:
     """What the file asks for, as what would be tried."""
     wanted: Set[Tuple[str, ...]] = {("root", "root"), ("root", "administer", "policy")}
     for command in (wish.command for wish in policy.wishes):
-        order = {"assign": "user role", "inherit": "senior junior", "grant": "role op object"}
-        if command["cmd"] in order:
-            wanted.add(tuple(command[key] for key in order[command["cmd"]].split()))
+        if command["cmd"] in ("assign", "inherit", "grant"):
+            wanted.add(tuple(command[key] for key in KEYS[command["cmd"]]))
     return wanted
 
 
@@ -82,6 +81,28 @@ def candidates(policy: Policy, before: Optional[Policy] = None) -> List[Command]
     ]
     return found + [
         {"cmd": "delrole", "role": role} for role in roles if role not in kept_roles + ["root"]
+    ]
+
+
+def exact(policy: Policy, known: Dict[str, Any]) -> List[Command]:
+    """The commands by which all is taken away that the file doesn't ask for, of what is known to be
+    there.
+    """
+    wanted = wanted_of(policy)
+    sets, users = names_of([policy], "name"), ["root", *names_of([policy], "user")]
+    roles = ["root", *names_of([policy], "role", "senior", "junior")]
+    there = {
+        "revoke": [entry for entry in known["granted"] if tuple(entry) not in wanted],
+        "deassign": [entry for entry in known["assigned"] if tuple(entry) not in wanted],
+        "disinherit": [entry for entry in known["edges"] if tuple(entry) not in wanted],
+        "undsd": [[one["name"]] for one in known["sets"] if one["name"] not in sets],
+        "deluser": [[user] for user in known["users"] if user not in users],
+        "delrole": [[role] for role in known["roles"] if role not in roles],
+    }
+    return [
+        {"cmd": cmd, **dict(zip(KEYS[cmd], words))}
+        for cmd, found in there.items()
+        for words in found
     ]
 
 

@@ -4,11 +4,12 @@ from __future__ import annotations
 import contextlib
 import sys
 
-from .connection import Refusal, start, unproved_program
+from .connection import Refusal, start
 from .drawing import Drawing, Progress
 from .module_text import main_of
 from .pictures import Seen
-from .stage import Refused, Scenario, SharedSlot, Stage, fault_of_inputs, stopping
+from .programs import program_of
+from .stage import Refused, Scenario, SharedSlot, Stage, check_inputs, stopping
 from .texts import Failed, Interrupted, read_library, read_text
 
 TYPE_CHECKING = False
@@ -21,11 +22,6 @@ if TYPE_CHECKING:
     from .scopes import Scope
 
 
-def program_of(arguments: argparse.Namespace) -> Optional[str]:
-    """The program to start, where it is named, or built without proof. Raises Disconnected."""
-    return str(unproved_program()) if arguments.unproved else arguments.program
-
-
 def read_scenario(arguments: argparse.Namespace) -> Scenario:
     """The module and the inputs that the arguments name. Raises Failed."""
     if "-" in arguments.file and arguments.inputs == "-":
@@ -34,7 +30,8 @@ def read_scenario(arguments: argparse.Namespace) -> Scenario:
         )
     library = read_library(arguments.file)
     module = main_of(library.text, arguments.main)
-    return Scenario(library, module, read_text(arguments.inputs, "the list of inputs"))
+    listed = read_text(arguments.inputs, "the list of inputs")
+    return Scenario(library, module, listed, arguments.inputs)
 
 
 def chosen(module: Module, named: Optional[List[str]]) -> Signals:
@@ -127,6 +124,7 @@ def hold_run(
     """Runs the module that is loaded, and holds it against what is expected. Raises Failed where it
     differs.
     """
+    from .colours import Colours
     from .expecting import first_difference, outcome_lines, read_expected, update
 
     seen = Seen(scenario.module.name, chosen(scenario.module, arguments.signals), [])
@@ -134,11 +132,12 @@ def hold_run(
     lines = outcome_lines(seen, refusal.told if refusal else None)
     if arguments.update:
         written = update(arguments.expect, lines)
-        print(f"{arguments.expect} is {'written' if written else 'as it was'}: {counted(seen)}")
+        told = counted(seen) + blessed(refusal.told if refusal else "", written)
+        print(f"{arguments.expect} is {'written' if written else 'as it was'}: {told}")
         return
     found = first_difference(read_expected(arguments.expect), lines, arguments.expect)
     if found:
-        print("\n".join(found[1]), flush=True)
+        print("\n".join(map(Colours(sys.stdout).of_diff, found[1])), flush=True)
         raise Failed(f"{arguments.expect}: the first difference is at {found[0]}")
     print(f"{counted(seen)}, as expected")
 
@@ -146,6 +145,13 @@ def hold_run(
 def counted(seen: Seen) -> str:
     """How many instants were seen, in words."""
     return f"{len(seen.instants):,} instant{'' if len(seen.instants) == 1 else 's'}"
+
+
+def blessed(refusal: str, is_written: bool) -> str:
+    """What is said of a table that is written, where the run ended with a refusal."""
+    if not refusal:
+        return ""
+    return f"; WITH A REFUSAL as what is expected: {refusal}" if is_written else f"; {refusal}"
 
 
 def run_once(arguments: argparse.Namespace) -> None:
@@ -156,9 +162,7 @@ def run_once(arguments: argparse.Namespace) -> None:
     try:
         with place_to_run(arguments) as place:
             place.load(scenario)
-            fault = fault_of_inputs(scenario)
-            if fault:
-                raise Failed(fault)
+            check_inputs(scenario)
             (hold_run if arguments.expect else draw_run)(arguments, place, scenario)
     except Refusal as refusal:
         raise told_of_server(refusal, arguments) from refusal

@@ -1,11 +1,24 @@
 """What a refusal says, as a short sentence."""
 from __future__ import annotations
 
-import re
-from typing import TYPE_CHECKING, Any, Dict, Optional, Sequence
+from typing import TYPE_CHECKING, Any, Dict, Optional, Sequence, Tuple
+
+from .command_table import (
+    IDENTIFIER,
+    IDENTIFIERS,
+    MOST,
+    MOST_ROLES,
+    NAME,
+    NAMES,
+    OBJECT,
+    OPERATION,
+    OPERATIONS,
+)
 
 if TYPE_CHECKING:
     from .connection import Refusal
+
+Set = Tuple[int, Sequence[str]]  # a separation set: its number, and its roles
 
 SENTENCES = {
     "TooLong": "the line is too long",
@@ -62,30 +75,21 @@ SENTENCES = {
 }
 
 
-NAME = re.compile(r"[A-Za-z0-9_-]{1,24}")
-IDENTIFIER = re.compile(r"[A-Za-z][A-Za-z0-9_]{0,47}")
-OPERATIONS = ("offer", "observe", "step", "load", "administer", "audit")
-OPERATION = re.compile("|".join(OPERATIONS))
-OBJECT = re.compile(rf"policy|([0-9]|1[0-5])(\.{IDENTIFIER.pattern})?")
 A_NAME = (NAME, "a name: 1 to 24 letters, digits, _ and -")
 AN_IDENTIFIER = (IDENTIFIER, "an identifier: a letter, then letters, digits and _, at most 48")
-# The forms of docs/PROTOCOL.md, by the key: the server takes a word out of its form for no command.
+# What is said of a word that is out of its form, by the key: the server takes it for no command.
 FORMS = {
-    **dict.fromkeys(("user", "role", "senior", "junior", "name", "roles"), A_NAME),
-    **dict.fromkeys(("main", "signal"), AN_IDENTIFIER),
+    **dict.fromkeys(NAMES, A_NAME),
+    **dict.fromkeys(IDENTIFIERS, AN_IDENTIFIER),
     "op": (OPERATION, "an operation: " + " ".join(OPERATIONS)),
     "object": (OBJECT, "an object: policy, a slot from 0 to 15, or a signal of one, as 0.A"),
 }
-ROLES, NUMBERS = (
-    32,
-    2**64,
-)  # a command has at most this many roles, and numbers are under this one
 
 
 def wrong_word(key: str, word: Any) -> Optional[str]:
     """What the word of a command is not, that stands for this key; None where it is in form."""
     form, wanted = FORMS.get(key, (None, ""))
-    if isinstance(word, int) and word >= NUMBERS:
+    if isinstance(word, int) and word > MOST:
         return f"{word} is too large a number"
     if form and not (isinstance(word, str) and form.fullmatch(word)):
         return f"{word} is not {wanted}"
@@ -99,14 +103,27 @@ def out_of_form(keys: Dict[str, Any]) -> Optional[str]:
     lists = {key: value if isinstance(value, list) else [value] for key, value in keys.items()}
     pairs = [(key, word) for key, words in lists.items() for word in words]
     wrong = [told for told in (wrong_word(key, word) for key, word in pairs) if told]
-    if any(len(words) > ROLES for words in lists.values()):
-        wrong.append(f"a command has at most {ROLES} roles")
+    if any(len(words) > MOST_ROLES for words in lists.values()):
+        wrong.append(f"a command has at most {MOST_ROLES} roles")
     return wrong[0] if wrong else None
 
 
-def sentence(refusal: Refusal, relations: Sequence[str] = ()) -> str:
+def clash(refusal: Refusal, sets: Dict[str, Set]) -> str:
+    """What is said of the roles that a separation set keeps apart: those of the set, where it is
+    known, or else those that were asked for.
+    """
+    if refusal.fields.get("set") in sets:
+        count, roles = sets[refusal.fields["set"]]
+        return f": at most {count - 1} of {' '.join(roles)} may be active"
+    asked = refusal.command.get("roles") or [refusal.command.get("role", "")]
+    return f": it asks for {' and '.join(asked)}" if any(asked) else ""
+
+
+def sentence(
+    refusal: Refusal, relations: Sequence[str] = (), sets: Optional[Dict[str, Set]] = None
+) -> str:
     """The sentence of a refusal. With the texts of the module's relations, a relation is told by
-    its text.
+    its text; with separation sets, one that would be violated by its roles.
     """
     fields: Dict[str, Any] = {"offered": refusal.command.get("signal", "it"), **refusal.fields}
     number = fields.get("relation")
@@ -116,7 +133,8 @@ def sentence(refusal: Refusal, relations: Sequence[str] = ()) -> str:
         fields["undecided"] = " ".join(fields["undecided"]) or "none that may be observed"
     if refusal.fault == "NotARequest" and out_of_form(refusal.command):
         return f"{refusal.fault}: {out_of_form(refusal.command)}"
+    more = clash(refusal, sets or {}) if refusal.fault == "DsdViolated" else ""
     try:
-        return f"{refusal.fault}: {SENTENCES[refusal.fault].format(**fields)}"
+        return f"{refusal.fault}: {SENTENCES[refusal.fault].format(**fields)}{more}"
     except (KeyError, IndexError):
         return str(refusal)

@@ -8,11 +8,29 @@ import threading
 from typing import TYPE_CHECKING, Iterator, List, Tuple
 
 from .connection import Client, connect, start
+from .gateway_words import ping_at
+from .programs import program_of
+from .texts import Failed
 
 if TYPE_CHECKING:
     from .connection import Answer
 
 PATIENCE = 2.0  # seconds after which a person is told that the server is waited for
+
+
+def user_of(arguments: argparse.Namespace) -> str:
+    """The user to log in as: the one that is named; at a gateway root, one's own name, or the only
+    one, where one may be that; else root. Raises Failed.
+    """
+    told = ping_at(arguments.socket) if arguments.socket and not arguments.user else None
+    if told is None:
+        return arguments.user or "root"
+    users = told.get("users", [])
+    for user in ("root", told.get("person"), *(users if len(users) == 1 else ())):
+        if user in users:
+            return user
+    known = f": you may be {' '.join(users)}" if users else ", which knows you as nobody"
+    raise Failed(f"--user says who logs in at a gateway{known}")
 
 
 def roles_of(arguments: argparse.Namespace) -> List[str]:
@@ -51,14 +69,15 @@ def open_client(arguments: argparse.Namespace) -> Client:
     """A client of the server that is named, or of a program of its own. Raises Disconnected."""
     if arguments.socket:
         return connect(arguments.socket, reads=arguments.reads)
-    return start(arguments.program)
+    return start(program_of(arguments))
 
 
 @contextlib.contextmanager
 def session_of(arguments: argparse.Namespace) -> Iterator[Tuple[Client, Answer]]:
     """A client that is logged in as the arguments say, and the answer to its login.
 
-    It is closed at the end. Raises Refusal, Disconnected, NotText."""
+    It is closed at the end. Raises Refusal, Disconnected, NotText, Failed."""
+    arguments.user = user_of(arguments)
     with open_client(arguments) as client:
         client.when_renewed = lambda answer: tell_renewed(client, answer)
         with telling_of_waiting(arguments):

@@ -3,14 +3,18 @@ from __future__ import annotations
 
 import argparse
 import cmd
+import contextlib
 import glob
 import os
 import sys
 import time
 from typing import Any, Dict, Iterable, List, Set, Tuple
 
+from .close_words import meant
+from .command_table import KEYS, OF_TEXTS, OPERATIONS, SLOTS
 from .connection import CannotBeSent, Client, Refusal, TimedOut
 from .drawing import waves_for, write_vcd
+from .history import keeping_history
 from .inputs import names_of_line
 from .instants import Instant
 from .library_text import LibraryText
@@ -19,15 +23,23 @@ from .module_text import Module, main_of
 from .pictures import KINDS, Seen, Table, present_of, table_lines
 from .scopes import scopes_of
 from .seeing import module_for, see_slot
-from .sentences import OPERATIONS, sentence
+from .sentences import Set as SeparationSet
+from .sentences import sentence
 from .session import roles_of, session_of
-from .shell_words import LEGEND, PLAIN, ROLES, Usage, keys_of, number_of, without_comment
+from .shell_words import (
+    LEGEND,
+    PLAIN,
+    ROLES,
+    Usage,
+    command_keys,
+    keys_of,
+    number_of,
+    without_comment,
+)
 from .stuck_chains import chain_lines
 from .texts import Failed, Placed, read_library
 
 WATCHED = 0.1  # seconds between two questions of `watch`
-SLOTS = 16
-FAULTS_OF_TEXTS = range(70, 81)  # their codes
 
 
 class Shell(cmd.Cmd):
@@ -44,6 +56,7 @@ class Shell(cmd.Cmd):
             int, Module
         ] = {}  # the module that runs in a slot, as far as it is known here
         self.texts: Dict[int, LibraryText] = {}  # and its text
+        self.sets: Dict[str, SeparationSet] = {}  # separation sets that were made here
         self.told: Dict[str, Set[str]] = {
             "user": {"root"},
             "role": {"root"},
@@ -94,7 +107,18 @@ class Shell(cmd.Cmd):
         chain = (
             chain_lines(library, module.name, undecided) if library and module and undecided else []
         )
-        return [sentence(refusal, module.relations if module else ()), *chain]
+        relations = module.relations if module else ()
+        if refusal.fault == "UnknownSignal" and module:
+            chain = [meant(str(refusal.command.get("signal")), module.inputs())]
+        if refusal.command.get("cmd") == "activate":
+            asked = [*self.client.roles, refusal.command["role"]]
+            refusal.command = {**refusal.command, "roles": asked}
+        return [sentence(refusal, relations, self.sets), *filter(None, chain)]
+
+    def no_command(self, name: str) -> str:
+        """What is said of a word that is no command."""
+        question = meant(name, self.commands())
+        return f"there is no command {name}: {question or 'help lists them'}"
 
     def emptyline(self) -> bool:
         return False
@@ -105,8 +129,8 @@ class Shell(cmd.Cmd):
             print(end="\n" if self.prompt else "")
             return True
         if name not in PLAIN:
-            raise Usage(f"there is no command {name}: help lists them")
-        keys = keys_of(PLAIN[name].words, words, self.slot)
+            raise Usage(self.no_command(name))
+        keys = command_keys(name, words, self.slot)
         self.client.ask(name, **keys)
         for key, word in keys.items():
             self.told.get("role" if key in ROLES else key, set()).add(str(word))
@@ -166,7 +190,7 @@ class Shell(cmd.Cmd):
         command.
         """
         if name in PLAIN:
-            words = PLAIN[name].words.upper().replace("SLOT", "[SLOT]")
+            words = " ".join(KEYS[name]).upper().replace("SLOT", "[SLOT]")
             return f"{name} {words}: {PLAIN[name].does}"
         known = name in self.commands()
         return getattr(self, f"do_{name}").__doc__.split("\n")[0] if known else ""
@@ -229,7 +253,7 @@ class Shell(cmd.Cmd):
 
     def do_quit(self, line: str) -> bool:
         """quit: logs out and ends, as Ctrl-D does"""
-        keys_of("", line)
+        keys_of((), line)
         return True
 
     # The session and the policy.
@@ -244,7 +268,7 @@ class Shell(cmd.Cmd):
 
     def do_logout(self, line: str) -> None:
         """logout: ends the session"""
-        keys_of("", line)
+        keys_of((), line)
         self.client.logout()
         print("logged out")
         self.set_prompt("")
@@ -256,18 +280,19 @@ class Shell(cmd.Cmd):
             raise Usage("expected: NAME COUNT ROLE..")
         self.client.dsd(name, roles, number_of(count))
         self.told["name"].add(name)
+        self.sets[name] = number_of(count), roles
         print(f"no session may have {count} of {' '.join(roles)}")
 
     def do_check(self, line: str) -> None:
         """check OP OBJECT: tells whether you may do the operation on the object"""
-        keys = keys_of("op object", line)
+        keys = command_keys("check", line)
         print("yes" if self.client.check(**keys)["allowed"] else "no")
 
     # The slots.
 
     def do_use(self, line: str) -> None:
         """use SLOT: makes the slot the one that is meant where none is named"""
-        slot = keys_of("slot", line)["slot"] if line else None
+        slot = keys_of(("slot",), line)["slot"] if line else None
         if slot is None or slot >= SLOTS:
             raise Usage(f"expected: SLOT, from 0 to {SLOTS - 1}")
         self.slot = slot
@@ -293,7 +318,7 @@ class Shell(cmd.Cmd):
         try:
             self.client.load(slot, module.name, library.text)
         except Refusal as refusal:
-            if refusal.code in FAULTS_OF_TEXTS:
+            if refusal.code in OF_TEXTS:
                 raise load_fault(refusal, library, module.name) from refusal
             raise
         self.keep(slot, library, module)
@@ -309,7 +334,7 @@ class Shell(cmd.Cmd):
 
     def do_unload(self, line: str) -> None:
         """unload [SLOT]: takes the module out of the slot, with its instants"""
-        slot = keys_of("slot", line, self.slot)["slot"]
+        slot = keys_of(("slot",), line, self.slot)["slot"]
         self.client.unload(slot)
         self.modules.pop(slot, None)
         self.texts.pop(slot, None)
@@ -317,17 +342,17 @@ class Shell(cmd.Cmd):
 
     def do_step(self, line: str) -> None:
         """step [SLOT]: makes the next instant of what is pending, and shows what came out"""
-        slot = keys_of("slot", line, self.slot)["slot"]
+        slot = keys_of(("slot",), line, self.slot)["slot"]
         print(self.instant_line(slot, self.client.instant(slot)))
 
     def do_audit(self, line: str) -> None:
         """audit [SLOT]: tells how many entries its journal has, and how many instants there were"""
-        answer = self.client.audit(keys_of("slot", line, self.slot)["slot"])
+        answer = self.client.audit(keys_of(("slot",), line, self.slot)["slot"])
         print(f"{answer['entries']} entries, {answer['instants']} instants since the load")
 
     def do_look(self, line: str) -> None:
         """look [SLOT] INSTANT: shows the signals that you may observe; A=0: A was absent"""
-        answer = self.client.look(**keys_of("slot instant", line, self.slot))
+        answer = self.client.look(**command_keys("look", line, self.slot))
         told = [name + ("" if present else "=0") for name, present in answer["signals"]]
         print(" ".join(told) or "nothing that you may observe")
 
@@ -335,7 +360,7 @@ class Shell(cmd.Cmd):
 
     def seen_of(self, line: str) -> Seen:
         """What may be seen of the instants of the slot that a line names."""
-        slot = keys_of("slot", line, self.slot)["slot"]
+        slot = keys_of(("slot",), line, self.slot)["slot"]
         return see_slot(self.client, slot, self.modules.get(slot))
 
     def do_show(self, line: str) -> None:
@@ -348,7 +373,7 @@ class Shell(cmd.Cmd):
 
     def do_vcd(self, line: str) -> None:
         """vcd [SLOT] FILE: writes all instants so far into a VCD file, for a viewer of waves"""
-        keys = keys_of("slot file", line, self.slot)
+        keys = keys_of(("slot", "file"), line, self.slot)
         seen = self.seen_of(str(keys["slot"]))
         module, library = self.modules.get(keys["slot"]), self.texts.get(keys["slot"])
         if library and module and module.name == seen.module:
@@ -358,7 +383,7 @@ class Shell(cmd.Cmd):
 
     def do_watch(self, line: str) -> None:
         """watch [SLOT]: shows new instants as they come, until Ctrl-C"""
-        slot = keys_of("slot", line, self.slot)["slot"]
+        slot = keys_of(("slot",), line, self.slot)["slot"]
         try:
             self.watch(slot)
         except KeyboardInterrupt:
@@ -391,15 +416,6 @@ class Shell(cmd.Cmd):
             time.sleep(WATCHED)
 
 
-def use_readline() -> None:
-    """Lets a person's lines have history and completion, where this Python has readline."""
-    try:
-        import readline
-    except ImportError:
-        return
-    readline.set_completer_delims(" \t\n")
-
-
 def talk(dialogue: Shell, client: Client) -> None:
     """The dialogue up to its end. An interrupt of a script is raised; one of a person's line is
     not.
@@ -419,9 +435,8 @@ def shell(arguments: argparse.Namespace) -> int:
     status: 1 where a line of a script was refused. Raises Refusal, Disconnected, NotText.
     """
     is_typed = sys.stdin.isatty()
-    if is_typed:
-        use_readline()
-    with session_of(arguments) as (client, answer):
+    lines = keeping_history() if is_typed else contextlib.nullcontext()
+    with lines, session_of(arguments) as (client, answer):
         roles = " ".join(roles_of(arguments)) or "no role"
         told = f"session {answer['session']} of {arguments.user}, with {roles}"
         print(f"{told}; help lists the commands")

@@ -3,11 +3,10 @@ from __future__ import annotations
 
 import dataclasses
 import re
-from typing import Any, Dict
+from typing import Any, Dict, Sequence
 
-from .sentences import OPERATIONS
+from .command_table import KEYS, NUMBERS, OPERATIONS
 
-NUMBERS = ("slot", "instant", "count")
 ROLES = ("role", "senior", "junior")
 COMMENT = re.compile(r"(^|\s)[%#].*")
 LEGEND = f"""  A B;: offers A and B in the slot of `use`, steps, and shows what came out
@@ -24,63 +23,48 @@ class Usage(Exception):
 
 @dataclasses.dataclass(frozen=True)
 class Plain:
-    """A command that is sent as it is written: its words in their order, what it does, and what is
-    so afterwards.
-    """
+    """A command that is sent as it is written: what it does, and what is so afterwards."""
 
-    words: str
     does: str
     said: str
 
 
 PLAIN = {
-    "adduser": Plain("user", "adds the user, to whom no role is assigned", "{user} is a user"),
+    "adduser": Plain("adds the user, to whom no role is assigned", "{user} is a user"),
     "deluser": Plain(
-        "user",
         "deletes the user, takes its roles away and ends its sessions",
         "{user} is deleted, and its sessions have ended",
     ),
-    "addrole": Plain("role", "adds the role, which may do nothing yet", "{role} is a role"),
+    "addrole": Plain("adds the role, which may do nothing yet", "{role} is a role"),
     "delrole": Plain(
-        "role", "deletes the role, and ends the sessions in which it is active", "{role} is deleted"
+        "deletes the role, and ends the sessions in which it is active", "{role} is deleted"
     ),
-    "assign": Plain("user role", "assigns the role to the user", "{user} has the role {role}"),
+    "assign": Plain("assigns the role to the user", "{user} has the role {role}"),
     "deassign": Plain(
-        "user role",
         "takes the role from the user, and ends the sessions that need it",
         "{user} no longer has the role {role}",
     ),
-    "grant": Plain(
-        "role op object",
-        "lets the role do the operation on the object",
-        "{role} may {op} on {object}",
-    ),
+    "grant": Plain("lets the role do the operation on the object", "{role} may {op} on {object}"),
     "revoke": Plain(
-        "role op object",
         "takes the permission from the role; it keeps what it has from roles below it",
         "{role} itself no longer has {op} on {object}",
     ),
     "inherit": Plain(
-        "senior junior",
         "puts the senior above the junior: it may do what the junior may do",
         "{senior} stands above {junior}",
     ),
     "disinherit": Plain(
-        "senior junior",
         "takes away the edge by which the senior stands right above the junior",
         "{senior} no longer stands right above {junior}",
     ),
-    "undsd": Plain("name", "deletes the separation set", "the separation set {name} is deleted"),
-    "activate": Plain("role", "makes a role of yours active in this session", "{role} is active"),
-    "drop": Plain("role", "makes the role inactive in this session", "{role} is no longer active"),
+    "undsd": Plain("deletes the separation set", "the separation set {name} is deleted"),
+    "activate": Plain("makes a role of yours active in this session", "{role} is active"),
+    "drop": Plain("makes the role inactive in this session", "{role} is no longer active"),
     "offer": Plain(
-        "slot signal",
         "puts the input or inputoutput into what is pending for the next instant",
         "{signal} is pending",
     ),
-    "discard": Plain(
-        "slot", "takes away what is pending for the next instant", "nothing is pending"
-    ),
+    "discard": Plain("takes away what is pending for the next instant", "nothing is pending"),
 }
 
 
@@ -98,14 +82,19 @@ def number_of(word: str) -> int:
     return int(word)
 
 
-def keys_of(names: str, line: str, slot: int = 0) -> Dict[str, Any]:
-    """The keys of a command, from its words; where the slot is left out, it is this one. Raises
+def keys_of(wanted: Sequence[str], line: str, slot: int = 0) -> Dict[str, Any]:
+    """These keys of a command, from its words; where the slot is left out, it is this one. Raises
     Usage.
     """
-    wanted, words = names.split(), line.split()
-    if wanted[:1] == ["slot"] and len(words) == len(wanted) - 1:
+    words = line.split()
+    if wanted[:1] == ("slot",) and len(words) == len(wanted) - 1:
         words.insert(0, str(slot))
     if len(words) != len(wanted):
         raise Usage("expected: " + (" ".join(wanted).upper() or "nothing after the command"))
     keys = dict(zip(wanted, words))
     return {name: number_of(word) if name in NUMBERS else word for name, word in keys.items()}
+
+
+def command_keys(name: str, line: str, slot: int = 0) -> Dict[str, Any]:
+    """The keys of the command of this name, from its words. Raises Usage."""
+    return keys_of(KEYS[name], line, slot)

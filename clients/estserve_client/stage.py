@@ -3,13 +3,14 @@ from __future__ import annotations
 
 import contextlib
 import functools
+import re
 import signal
 import threading
 
 from .ahead import Ahead
 from .connection import Refusal, TooLong
 from .inputs import read_inputs
-from .texts import Failed
+from .texts import Failed, Placed
 
 TYPE_CHECKING = False
 if TYPE_CHECKING:
@@ -28,10 +29,11 @@ LOGIN = {"cmd": "login", "user": "root", "roles": ["root"]}
 
 
 class Scenario:
-    """A module, the text that it stands in, and the text of a list of inputs."""
+    """A module, the text that it stands in, and the text of a list of inputs with its path."""
 
-    def __init__(self, library: LibraryText, module: Module, listed: str) -> None:
+    def __init__(self, library: LibraryText, module: Module, listed: str, path: str = "-") -> None:
         self.library, self.module, self.listed = library, module, listed
+        self.path = "standard input" if path == "-" else path
 
     @functools.cached_property
     def inputs(self) -> Inputs:
@@ -41,6 +43,13 @@ class Scenario:
     def prepare(self) -> None:
         """Has the inputs read."""
         len(self.inputs)
+
+    def column_of(self, line: int, name: str) -> int:
+        """The column of a name in a line of the list, in bytes from 1."""
+        written = self.listed.split("\n")[line - 1]
+        found = re.search(rf"(?<![^\s;]){re.escape(name)}(?![^\s;%])", written)
+        before = written[: found.start()] if found else ""
+        return len(before.encode(errors="replace")) + 1
 
     def entries(self) -> int:
         """How many entries of a journal it takes."""
@@ -88,18 +97,31 @@ def grants_of(module: Module, slot: int = 0) -> List[Answer]:
     ]
 
 
-def fault_of_inputs(scenario: Scenario) -> Optional[str]:
-    """What is said of the first name that the module can't be offered; None where each can be."""
+def check_inputs(scenario: Scenario) -> None:
+    """Raises Placed at the first name of the list that the module can't be offered."""
     inputs = set(scenario.module.inputs())
     if all(map(inputs.issuperset, scenario.inputs.different())):
-        return None
+        return
     line, wrong = next(
         (offers.line, name)
         for offers in scenario.inputs
         for name in offers.names
         if name not in inputs
     )
-    return f"line {line} of the inputs: {scenario.module.name} has no input {wrong}"
+    raise Placed(
+        f"{scenario.path}:{line}:{scenario.column_of(line, wrong)}: {told_of(scenario, wrong)}"
+    )
+
+
+def told_of(scenario: Scenario, wrong: str) -> str:
+    """What is said of a name of the list that the module can't be offered."""
+    from .close_words import meant
+
+    module = scenario.module
+    if wrong in module.kinds():
+        return f"{wrong} is an output of {module.name}, which nobody can offer"
+    question = meant(wrong, module.inputs())
+    return f"{module.name} has no input {wrong}" + (f"; {question}" if question else "")
 
 
 def never() -> bool:
@@ -229,7 +251,9 @@ class SharedSlot:
         except TooLong as fault:
             raise Failed(f"{scenario.library.paths[0]}: the text is too long: {fault}") from fault
         except Refusal as refusal:
-            if 70 <= refusal.code <= 80:
+            from .command_table import OF_TEXTS
+
+            if refusal.code in OF_TEXTS:
                 raise not_loaded(refusal, scenario) from refusal
             raise
 

@@ -3,7 +3,8 @@
 estserve names the outputs and inputoutputs that stay undecided. Here the text is asked which tests
 come before each emission, in the same instant as far as the text tells, and a circle is looked for:
 an emission waits for a test, and the test for an emission of one of its signals. Where the program
-stands isn't known here, so that the circle is a possible one.
+stands isn't known here, so that the circle is a possible one. A test counts for each of its signals:
+which of them matter by its `or` and `and` would take the status of all others.
 """
 from __future__ import annotations
 

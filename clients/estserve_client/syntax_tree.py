@@ -2,21 +2,28 @@
 from.
 
 The text is one that estserve reads without a lexical or syntax fault; of any other `parse` gives
-None.
+None, and a `Reader` that has stopped knows what could have stood there.
 """
 from __future__ import annotations
 
 import dataclasses
 import re
-from typing import Callable, Dict, Iterator, List, Optional
+from typing import Callable, Dict, Iterator, List, Optional, Tuple
 
-TOKEN = re.compile(r"%\{.*?\}%|%[^\n]*|\s+|[A-Za-z][A-Za-z0-9_]*|[0-9]+|\|\||=>|:=|<=|.", re.DOTALL)
+TOKEN = re.compile(
+    r"%\{.*?(?:\}%|\Z)|%[^\n]*|\s+|[A-Za-z][A-Za-z0-9_]*|[0-9]+|\|\||=>|:=|<=|.", re.DOTALL
+)
 KEYWORDS = frozenset(
     "module end input output inputoutput relation nothing pause halt emit sustain present then else"
     " suspend when immediate loop each every do await abort weak trap in exit signal run"
     " and or not".split()
 )
 DECLARATIONS = ("input", "output", "inputoutput", "relation")
+STATEMENTS = (
+    "nothing", "pause", "halt", "emit", "sustain", "exit", "await", "present", "suspend", "abort",
+    "weak", "loop", "every", "trap", "signal", "run", "[",
+)  # fmt: skip
+A_NAME, A_STATEMENT, A_DECLARATION = "a name", "a statement", "a declaration"  # what may be wanted
 
 
 @dataclasses.dataclass(frozen=True)
@@ -37,7 +44,7 @@ def tokens_of(text: str) -> List[Token]:
     tokens, line, begin, at, width = [], 1, 0, 0, 0
     for match in TOKEN.finditer(text):
         word, at = match.group(), match.start()
-        if not (word[0].isspace() or (word[0] == "%" and word != "%")):
+        if not (word[0].isspace() or word[0] == "%"):
             width = len(text[begin:at].encode(errors="surrogatepass"))
             tokens.append(Token(word, line, width + 1))
         if "\n" in word:
@@ -127,32 +134,44 @@ class NoTree(Exception):
 class Reader:
     """Reads the tokens of a text by the grammar, one after the other."""
 
-    def __init__(self, text: str) -> None:
-        self.tokens = tokens_of(text)
+    def __init__(self, tokens: List[Token]) -> None:
+        self.tokens = tokens
         self.at = 0
+        self.wanted: List[str] = []  # what else could stand where it is now
+        self.wanted_last: List[str] = []  # and after an `end` that is the last token
+        self.open: List[Token] = []  # the first token of each part that is not closed yet
+        self.closed: Optional[Token] = None  # that of the statement that was read last
 
     def peek(self, ahead: int = 0) -> str:
         """The text of a token that comes; empty after the last one."""
         return self.tokens[self.at + ahead].text if self.at + ahead < len(self.tokens) else ""
 
-    def take(self, wanted: str = "") -> Token:
-        """The next token, which is this one where it is said. Raises NoTree."""
-        if self.at == len(self.tokens) or (wanted and self.peek() != wanted):
-            raise NoTree()
+    def advance(self) -> Token:
+        """Takes the next token."""
         self.at += 1
+        self.wanted = []
+        return self.tokens[self.at - 1]
+
+    def take(self, wanted: str) -> Token:
+        """The next token, which is this one. Raises NoTree."""
+        if not self.takes(wanted):
+            raise NoTree()
         return self.tokens[self.at - 1]
 
     def takes(self, word: str) -> bool:
         """Takes the next token if it is this one."""
-        is_next = self.peek() == word
-        self.at += is_next
-        return is_next
+        if self.peek() != word:
+            self.wanted.append(word)
+            return False
+        self.advance()
+        return True
 
     def name(self) -> Token:
-        token = self.take()
-        if not re.fullmatch(r"[A-Za-z]\w*", token.text) or token.text in KEYWORDS:
+        text = self.peek()
+        if not re.fullmatch(r"[A-Za-z]\w*", text) or text in KEYWORDS:
+            self.wanted.append(A_NAME)
             raise NoTree()
-        return token
+        return self.advance()
 
     def names(self) -> List[Token]:
         found = [self.name()]
@@ -161,33 +180,44 @@ class Reader:
         return found
 
     def library(self) -> List[ModuleTree]:
-        found = []
+        found = [self.module()] if self.tokens else []
         while self.at < len(self.tokens):
             found.append(self.module())
         return found
 
     def module(self) -> ModuleTree:
-        self.take("module")
+        self.open.append(self.take("module"))
         module = ModuleTree(self.name(), [], [], [], [], [], Node("nothing", self.take(":")))
-        while self.peek() in DECLARATIONS:
-            self.declaration(module)
+        while self.declares():
+            word, lists = self.declaration()
+            declared: Dict[str, List[Token]] = {"relation": []}
+            declared.update({"input": module.inputs, "output": module.outputs})
+            declared.get(word, module.inputoutputs).extend(
+                name for list_ in lists for name in list_
+            )
+            if word == "relation":
+                module.relations += lists
+            else:
+                module.interface += lists[0]
         module.body = self.statement()
         self.take("end")
         self.take("module")
+        self.open.pop()
         return module
 
-    def declaration(self, module: ModuleTree) -> None:
-        word = self.take().text
-        if word == "relation":
-            module.relations.append(self.relation())
-            while self.takes(","):
-                module.relations.append(self.relation())
-        else:
-            names = self.names()
-            module.interface += names
-            declared = {"input": module.inputs, "output": module.outputs}
-            declared.get(word, module.inputoutputs).extend(names)
+    def declares(self) -> bool:
+        """Whether a declaration comes."""
+        self.wanted += [A_DECLARATION] * (self.peek() not in DECLARATIONS)
+        return self.peek() in DECLARATIONS
+
+    def declaration(self) -> Tuple[str, List[List[Token]]]:
+        """A declaration: its word, and its names, or those of each relation."""
+        word = self.advance().text
+        lists = [self.relation() if word == "relation" else self.names()]
+        while word == "relation" and self.takes(","):
+            lists.append(self.relation())
         self.take(";")
+        return word, lists
 
     def relation(self) -> List[Token]:
         members = [self.name()]
@@ -207,23 +237,23 @@ class Reader:
 
     def sequence(self) -> Node:
         parts = [self.unit()]
-        while self.takes(";") and self.peek() not in (
-            "end",
-            "]",
-            "||",
-            "then",
-            "else",
-            "when",
-            "each",
-        ):
+        while self.takes(";") and not self.ends_sequence():
             parts.append(self.unit())
         return parts[0] if len(parts) == 1 else Node("seq", parts[0].at, [], list(parts))
 
+    def ends_sequence(self) -> bool:
+        """Whether what comes can't be a further statement of a sequence."""
+        return self.peek() in ("end", "]", "||", "then", "else", "when", "each")
+
     def unit(self) -> Node:
-        read = getattr(self, "unit_" + {"[": "group"}.get(self.peek(), self.peek()), None)
-        if read is None or self.peek() not in KEYWORDS | {"["}:
+        word = self.peek()
+        if word not in STATEMENTS:
+            self.wanted.append(A_STATEMENT)
             raise NoTree()
-        return read(self.take())
+        self.open.append(self.tokens[self.at])
+        unit = getattr(self, "unit_" + ("group" if word == "[" else word))(self.advance())
+        self.closed = self.open.pop()
+        return unit
 
     def unit_nothing(self, at: Token) -> Node:
         return Node(at.text, at)
@@ -237,10 +267,16 @@ class Reader:
 
     def test(self) -> Test:
         """What is asked of signals, in brackets or not."""
-        if not self.takes("["):
-            return self.disjunction()
+        return self.bracketed("[", "]") or self.disjunction()
+
+    def bracketed(self, first: str, last: str) -> Optional[Test]:
+        """A test between these two, where the first of them comes."""
+        if not self.takes(first):
+            return None
+        self.open.append(self.tokens[self.at - 1])
         test = self.disjunction()
-        self.take("]")
+        self.take(last)
+        self.open.pop()
         return test
 
     def disjunction(self) -> Test:
@@ -260,13 +296,9 @@ class Reader:
 
     def literal(self) -> Test:
         """A name, the `not` of a test, or a test in parentheses."""
-        if self.peek() == "not":
-            return Test("not", self.take(), [self.literal()])
-        if self.takes("("):
-            test = self.disjunction()
-            self.take(")")
-            return test
-        return Test("name", self.name())
+        if self.takes("not"):
+            return Test("not", self.tokens[self.at - 1], [self.literal()])
+        return self.bracketed("(", ")") or Test("name", self.name())
 
     def tested(
         self, kind: str, at: Token, parts: List[Optional[Node]], immediate: bool, test: Test
@@ -287,6 +319,8 @@ class Reader:
         test = self.test()
         then = self.statement() if self.takes("then") else None
         otherwise = self.statement() if self.takes("else") else None
+        if then is None and otherwise is None:
+            raise NoTree()
         self.take("end")
         self.takes("present")
         return self.tested("present", at, [then, otherwise], False, test)
@@ -310,16 +344,23 @@ class Reader:
     def unit_weak(self, at: Token) -> Node:
         self.take("abort")
         node = self.when("weak", at)
-        if self.peek() == "end" and self.peek(1) == "weak" and self.peek(2) == "abort":
-            self.at += 3
+        if self.peek() == "end" and self.peek(1) == "weak":
+            self.advance()
+            self.advance()
+            self.take("abort")
         else:
-            self.close("abort")
+            self.close("abort", "weak")
         return node
 
-    def close(self, word: str) -> None:
-        """Takes an `end` that has its keyword."""
+    def close(self, word: str, *others: str) -> None:
+        """Takes an `end` that has its keyword; others could stand there too."""
         if self.peek() == "end" and self.peek(1) == word:
-            self.at += 2
+            self.advance()
+            self.advance()
+        elif self.peek() == "end" and self.at + 1 == len(self.tokens):
+            self.wanted_last += [word, *others]
+        elif not self.peek():
+            self.wanted.append("end")
 
     def unit_loop(self, at: Token) -> Node:
         body = self.statement()
@@ -357,11 +398,13 @@ class Reader:
     def unit_run(self, at: Token) -> Node:
         node = Node("run", at, [self.name()])
         if self.takes("["):
+            self.open.append(self.tokens[self.at - 1])
             self.take("signal")
             node.renamings.append(self.renaming())
             while self.takes(","):
                 node.renamings.append(self.renaming())
             self.take("]")
+            self.open.pop()
         return node
 
     def renaming(self) -> Renaming:
@@ -373,7 +416,7 @@ class Reader:
 def parse(text: str) -> Optional[List[ModuleTree]]:
     """The modules of a text, in its order; None where the text is none that the grammar reads."""
     try:
-        return Reader(text).library()
+        return Reader(tokens_of(text)).library()
     except (NoTree, RecursionError):
         return None
 

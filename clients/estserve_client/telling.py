@@ -16,6 +16,15 @@ def text_of(told: object) -> str:
     return sentence(told)
 
 
+def of_place(text: str) -> str:
+    """A message that begins with a place, in colours where standard error has them."""
+    if not sys.stderr.isatty():
+        return text
+    from .colours import Colours
+
+    return Colours(sys.stderr).of_fault(text)
+
+
 class Teller:
     """Tells messages after a name."""
 
@@ -28,7 +37,7 @@ class Teller:
         """
         text = text_of(told)
         print(
-            text if isinstance(told, Placed) else f"{self.name}: {text}",
+            of_place(text) if isinstance(told, Placed) else f"{self.name}: {text}",
             file=sys.stderr,
             flush=True,
         )

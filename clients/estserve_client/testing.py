@@ -4,20 +4,25 @@ it.
 from __future__ import annotations
 
 import argparse
+import fnmatch
 import pathlib
 import sys
-from typing import List, Tuple
+import time
+from typing import List, Tuple, Union
 
+from .colours import Colours
 from .connection import start
 from .drawing import Progress
 from .expecting import first_difference, outcome_lines, read_expected, update
 from .module_text import main_of
+from .outcomes import FAILED, PASSED, WRITTEN, Json, Outcome, Plain, Tap, write_junit
 from .pictures import Seen
-from .running import counted, play, program_of
-from .stage import Scenario, Stage, fault_of_inputs
+from .programs import program_of
+from .running import blessed, counted, play
+from .stage import Scenario, Stage, check_inputs
 from .texts import Failed, read_library, read_text
 
-PASSED, FAILED, WRITTEN = "ok", "FAILED", "written"
+Report = Union[Plain, Tap, Json]
 
 
 def texts_for(inputs: pathlib.Path, arguments: argparse.Namespace) -> List[pathlib.Path]:
@@ -35,32 +40,35 @@ def texts_for(inputs: pathlib.Path, arguments: argparse.Namespace) -> List[pathl
 
 def outcome(
     stage: Stage, inputs: pathlib.Path, arguments: argparse.Namespace
-) -> Tuple[Seen, List[str]]:
-    """What a list of inputs gives: what was seen, and its lines. Raises Failed."""
+) -> Tuple[Seen, List[str], str]:
+    """What a list of inputs gives: what was seen, its lines, and the refusal that ended it, or
+    nothing. Raises Failed.
+    """
     library = read_library(texts_for(inputs, arguments))
     module = main_of(library.text, arguments.main)
-    scenario = Scenario(library, module, read_text(inputs, "the list of inputs"))
-    fault = fault_of_inputs(scenario)
+    scenario = Scenario(library, module, read_text(inputs, "the list of inputs"), str(inputs))
     stage.load(scenario)
-    if fault:
-        raise Failed(fault)
+    check_inputs(scenario)
     seen = Seen(module.name, module.signals, [])
     refusal = play(stage, scenario, seen.instants.extend, Progress(len(scenario.inputs), True))
-    return seen, outcome_lines(seen, refusal.told if refusal else None)
+    told = refusal.told if refusal else ""
+    return seen, outcome_lines(seen, told), told
 
 
 def held(
-    stage: Stage, inputs: pathlib.Path, arguments: argparse.Namespace
+    stage: Stage, path: pathlib.Path, arguments: argparse.Namespace
 ) -> Tuple[str, str, List[str]]:
-    """How a list of inputs stands: the word for it, what is said, and the lines of a difference.
-    Raises Interrupted.
+    """How the scenario of this expected table stands: the word for it, what is said, and the lines
+    of a difference. Raises Interrupted.
     """
-    path = inputs.with_suffix(".expected")
+    inputs = path.with_suffix(".inputs")
+    if not inputs.exists():
+        return FAILED, f"there is no {inputs.name}: {path.name} is held against nothing", []
     try:
-        seen, lines = outcome(stage, inputs, arguments)
+        seen, lines, refusal = outcome(stage, inputs, arguments)
         if arguments.update:
             written = update(str(path), lines)
-            return (WRITTEN if written else PASSED), counted(seen), []
+            return (WRITTEN if written else PASSED), counted(seen) + blessed(refusal, written), []
         if not path.exists():
             return FAILED, f"there is no {path.name}: --update writes it", []
         found = first_difference(read_expected(str(path)), lines, str(path))
@@ -74,22 +82,63 @@ def held(
     return PASSED, counted(seen), []
 
 
+def scenarios_of(arguments: argparse.Namespace) -> List[pathlib.Path]:
+    """The expected tables of the folder's scenarios, also of those that have none yet. Raises
+    Failed.
+    """
+    folder = pathlib.Path(arguments.folder)
+    found = {path.with_suffix(".expected") for path in folder.glob("*.inputs")}
+    if not found:
+        raise Failed(f"there is no NAME.inputs in {folder}")
+    found |= set(folder.glob("*.expected"))
+    wanted = [path for path in sorted(found) if is_chosen(path.stem, arguments.k)]
+    if not wanted:
+        raise Failed(f"no scenario in {folder} is called {' or '.join(arguments.k)}")
+    return wanted
+
+
+def is_chosen(name: str, patterns: List[str]) -> bool:
+    """Whether a scenario is run, where these are asked for: a part of its name, or a pattern with
+    `*`.
+    """
+    return not patterns or any(
+        fnmatch.fnmatchcase(name, pattern if "*" in pattern else f"*{pattern}*")
+        for pattern in patterns
+    )
+
+
+def report_of(arguments: argparse.Namespace) -> Report:
+    """How the outcomes are told."""
+    if arguments.tap:
+        return Tap()
+    return Json() if arguments.json else Plain(Colours(sys.stdout), arguments.update)
+
+
+def run_scenarios(
+    arguments: argparse.Namespace, paths: List[pathlib.Path], report: Report
+) -> List[Outcome]:
+    """Runs each scenario on one program, and tells its outcome as it comes. Raises Interrupted."""
+    program, outcomes = program_of(arguments), []
+    with Stage(lambda: start(program)) as stage:
+        for number, path in enumerate(paths, 1):
+            begun = time.monotonic()
+            word, told, lines = held(stage, path, arguments)
+            seconds = time.monotonic() - begun
+            inputs = str(path.with_suffix(".inputs"))
+            outcomes.append(Outcome(path.stem, word, told, lines, inputs, seconds))
+            report.tell(number, outcomes[-1])
+    return outcomes
+
+
 def test(arguments: argparse.Namespace) -> int:
     """Runs each list of inputs of the folder on one program, with a line for each. Answers 1 where
     one failed. Raises Failed.
     """
-    folder = pathlib.Path(arguments.folder)
-    lists = sorted(folder.glob("*.inputs"))
-    if not lists:
-        raise Failed(f"there is no NAME.inputs in {folder}")
-    program = program_of(arguments)
-    counts = {PASSED: 0, FAILED: 0, WRITTEN: 0}
-    with Stage(lambda: start(program)) as stage:
-        for inputs in lists:
-            word, told, lines = held(stage, inputs, arguments)
-            counts[word] += 1
-            print("\n".join([f"{word:<7} {inputs.stem}: {told}", *lines]), flush=True)
-    written = f", {counts[WRITTEN]} written" if arguments.update else ""
-    print(f"{counts[PASSED]} passed, {counts[FAILED]} failed{written}", flush=True)
+    paths, report = scenarios_of(arguments), report_of(arguments)
+    report.begin(len(paths))
+    outcomes = run_scenarios(arguments, paths, report)
+    report.end(outcomes)
+    if arguments.junit:
+        write_junit(arguments.junit, str(arguments.folder), outcomes)
     sys.stdout.flush()
-    return int(counts[FAILED] > 0)
+    return int(any(outcome.word == FAILED for outcome in outcomes))

@@ -8,51 +8,28 @@ NaN, a surrogate that stands alone, bytes that aren't UTF-8 and values nested ov
 no JSON.
 """
 import json
-import re
 from typing import Any, Dict, List, Optional, Tuple
 
+from estserve_client.command_table import (
+    IDENTIFIER,
+    IDENTIFIERS,
+    KEYS,
+    MOST,
+    MOST_ROLES,
+    NAME,
+    NAMES,
+    NUMBERS,
+    OBJECT,
+    OPERATIONS,
+    WITHOUT_ENTRY,
+)
+
 LINE_BYTES = 65_536
-MOST_ROLES = 32
-MOST = 18_446_744_073_709_551_615
 MOST_DEPTH = 127
 LONGEST_NUMBER = 300  # digits; longer ones are left to the program
 LARGEST_FLOAT = 1e300  # larger ones too
 CACHED_BYTES = 128  # lines of at most this many bytes are kept with what they ask for
 CACHED_LINES = 4_096
-
-NAME = re.compile(r"[A-Za-z0-9_-]{1,24}")
-IDENTIFIER = re.compile(r"[A-Za-z][A-Za-z0-9_]{0,47}")
-OBJECT = re.compile(r"policy|(?:[0-9]|1[0-5])(?:\.[A-Za-z][A-Za-z0-9_]{0,47})?")
-OPERATIONS = {"offer", "observe", "step", "load", "administer", "audit"}
-
-FORMS = {
-    "login": ("roles", "user"),
-    "logout": (),
-    "adduser": ("user",),
-    "deluser": ("user",),
-    "addrole": ("role",),
-    "delrole": ("role",),
-    "assign": ("role", "user"),
-    "deassign": ("role", "user"),
-    "grant": ("object", "op", "role"),
-    "revoke": ("object", "op", "role"),
-    "inherit": ("junior", "senior"),
-    "disinherit": ("junior", "senior"),
-    "dsd": ("count", "name", "roles"),
-    "undsd": ("name",),
-    "activate": ("role",),
-    "drop": ("role",),
-    "load": ("main", "slot", "text"),
-    "offer": ("signal", "slot"),
-    "discard": ("slot",),
-    "step": ("slot",),
-    "unload": ("slot",),
-    "look": ("instant", "slot"),
-    "audit": ("slot",),
-    "check": ("object", "op"),
-}
-SLOT_COMMANDS = {"load", "offer", "discard", "step", "unload", "look", "audit"}
-WITHOUT_ENTRY = {"look", "audit", "check"}
 
 
 class Request:
@@ -140,17 +117,10 @@ def are_roles(value: Any) -> bool:
 
 
 KINDS = {
-    "user": is_name,
-    "role": is_name,
-    "senior": is_name,
-    "junior": is_name,
-    "name": is_name,
+    **dict.fromkeys(NAMES, is_name),
+    **dict.fromkeys(IDENTIFIERS, is_identifier),
+    **dict.fromkeys(NUMBERS, is_number),
     "roles": are_roles,
-    "main": is_identifier,
-    "signal": is_identifier,
-    "slot": is_number,
-    "instant": is_number,
-    "count": is_number,
     "op": lambda value: isinstance(value, str) and value in OPERATIONS,
     "object": lambda value: isinstance(value, str) and OBJECT.fullmatch(value) is not None,
     "text": lambda value: isinstance(value, str),
@@ -161,7 +131,7 @@ def request_of(keys: Dict[str, Any]) -> Optional[Request]:
     """The request that an object is, with its line written anew; None where it is no command of the
     protocol."""
     cmd = keys.get("cmd")
-    form = FORMS.get(cmd) if isinstance(cmd, str) else None
+    form = KEYS.get(cmd) if isinstance(cmd, str) else None
     if form is None or len(keys) != len(form) + 1:
         return None
     if not all(key in keys and KINDS[key](keys[key]) for key in form):

@@ -1,9 +1,12 @@
 """The command `apply` on the real program: what is tried, warned of, taken back and taken away;
 slots by their names.
 """
+import json
 import os
 import pathlib
+import socket
 import tempfile
+import threading
 import unittest
 
 from support import needs_program, run_client, serve
@@ -109,7 +112,7 @@ class OnTheProgram(InAFolder):
             status, printed, told = self.apply("--socket", server.path)
             self.assertEqual(
                 (status, printed),
-                (1, ["p.toml:2: addrole driver: RoleExists: the role driver is there already"]),
+                (1, []),
             )
             self.assertEqual(
                 told,
@@ -163,7 +166,7 @@ class OnTheProgram(InAFolder):
         text = POLICY.replace('["offer door.OPEN", "step door", "load 4"]', permissions)
         self.path.write_text(text + '[modules]\ndoor = "door.strl"\n')
         status, printed, told = self.apply()
-        self.assertEqual((status, printed[-1]), (0, "11 made, 0 there already, 0 refused"))
+        self.assertEqual((status, printed[-1]), (0, "0 there already, 11 added"))
         self.assertEqual(
             told,
             [
@@ -210,6 +213,63 @@ class OnTheProgram(InAFolder):
             self.assertEqual(printed[-1], "7 taken away")
             self.assertEqual(self.apply(*words, "--yes")[1][-1], "0 taken away")
             root.adduser("cho")  # root may administer still
+
+
+@needs_program
+class AtAGateway(InAFolder):
+    """The real program behind a stand-in for a gateway, which tells the whole policy."""
+
+    KNOWN = {
+        "whole": True,
+        "assigned": [["root", "root"], ["ann", "chief"], ["cho", "driver"]],
+        "edges": [["chief", "driver"]],
+        "granted": [["root", "administer", "policy"], ["driver", "offer", "3.OPNE"]],
+        "roles": ["root", "driver", "chief", "guest"],
+        "sets": [{"name": "apart", "roles": ["guest", "chief"], "count": 2}],
+        "users": ["root", "ann", "bob", "cho"],
+    }
+
+    def answer(self, listening, asked):
+        """Answers what the client asks on one connection after the other."""
+        while True:
+            try:
+                connected, _ = listening.accept()
+            except OSError:
+                return
+            with connected, connected.makefile("rwb") as lines:
+                for line in lines:
+                    asked.append(json.loads(line)["word"])
+                    told = {"ok": asked[-1], "users": ["root"], "person": "x", **self.KNOWN}
+                    lines.write(json.dumps(told).encode() + b"\n")
+                    lines.flush()
+
+    def test_prune_is_exact(self):
+        asked = []
+        with serve() as server, server.root() as root, socket.socket(socket.AF_UNIX) as listening:
+            listening.bind(str(self.folder / "gateway.sock"))
+            listening.listen()
+            thread = threading.Thread(target=self.answer, args=(listening, asked))
+            thread.start()
+            path = self.folder / "team.sock"
+            path.symlink_to(server.path)
+            self.apply("--socket", path)
+            root.grant("driver", "offer", "3.OPNE")
+            root.adduser("cho")
+            root.assign("cho", "driver")
+            root.addrole("guest")
+            root.dsd("apart", ["guest", "chief"], 2)
+            status, printed, told = self.apply("--socket", path, "--prune")
+            taken = ["revoke driver offer 3.OPNE", "deassign cho driver", "undsd apart"]
+            taken += ["deluser cho", "delrole guest"]
+            self.assertEqual(
+                printed, ["9 there already, 0 added", *[f"not asked for: {one}" for one in taken]]
+            )
+            self.assertEqual((status, len(told)), (1, 1))
+            status, printed, told = self.apply("--socket", path, "--prune", "--yes")
+            self.assertEqual((status, printed[1:], told), (0, [*taken, "5 taken away"], []))
+            listening.shutdown(socket.SHUT_RDWR)
+            thread.join(60)
+        self.assertEqual(asked, ["ping", *["ping", "login", "policy", "logout"] * 2])
 
 
 class Library(InAFolder):

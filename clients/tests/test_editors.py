@@ -1,13 +1,18 @@
 """The colours for editors have each keyword of the language."""
 import json
+import pathlib
 import re
 import shutil
 import subprocess
+import sys
 import tempfile
 import unittest
+import xml.etree.ElementTree
+import zipfile
 
 from support import EXAMPLES, ROOT
 
+from estserve_client import __version__
 from estserve_client.syntax_tree import KEYWORDS
 
 EDITORS = ROOT / "editors"
@@ -87,6 +92,31 @@ class Editors(unittest.TestCase):
         whole = json.loads((VSCODE / grammar["path"]).read_text())
         self.assertEqual(whole["scopeName"], grammar["scopeName"])
         self.assertEqual(["." + kind for kind in whole["fileTypes"]], language["extensions"])
+
+    def test_the_extension_is_a_zip_with_all_its_files(self):
+        with tempfile.TemporaryDirectory() as name:
+            paths = [pathlib.Path(name) / number for number in ("1.vsix", "2.vsix")]
+            for path in paths:
+                subprocess.run([sys.executable, EDITORS / "make_vsix.py", path], check=True)
+            self.assertEqual(*[path.read_bytes() for path in paths])
+            with zipfile.ZipFile(paths[0]) as made:
+                files = {name: made.read(name) for name in made.namelist()}
+        package = json.loads(files["extension/package.json"])
+        named = [package["main"], package["contributes"]["languages"][0]["configuration"]]
+        named += [grammar["path"] for grammar in package["contributes"]["grammars"]]
+        for path in named:
+            self.assertIn(f"extension/{path[2:]}", files)
+        manifest = xml.etree.ElementTree.fromstring(files["extension.vsixmanifest"])
+        space = manifest.tag.partition("}")[0] + "}"
+        identity = manifest.find(f"{space}Metadata/{space}Identity")
+        self.assertEqual(
+            (identity.get("Version"), identity.get("Id"), package["version"]),
+            (__version__, package["name"], __version__),
+        )
+        types = xml.etree.ElementTree.fromstring(files["[Content_Types].xml"])
+        known = {kind.get("Extension") for kind in types}
+        endings = {pathlib.PurePath(name).suffix for name in files if name != "[Content_Types].xml"}
+        self.assertLessEqual(endings, known)
 
     @unittest.skipUnless(shutil.which("vim"), "vim is not installed")
     def test_vim_reads_it(self):

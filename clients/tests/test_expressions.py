@@ -25,7 +25,7 @@ from estserve_client.pictures import Seen, Table, table_lines, vcd_lines, wave_l
 from estserve_client.policy_file import read_file
 from estserve_client.scopes import scopes_of
 from estserve_client.shell import Shell
-from estserve_client.stage import Scenario, fault_of_inputs, grants_of
+from estserve_client.stage import Scenario, check_inputs, grants_of
 from estserve_client.stuck_chains import chain_lines, written
 from estserve_client.syntax_tree import KEYWORDS, parse
 from estserve_client.texts import Placed
@@ -281,7 +281,6 @@ class Reading(unittest.TestCase):
         self.assertIn(("LINE", "LINE"), one.signals)
         self.assertNotIn("SECOND", dict(one.signals))  # bound to a local signal
 
-
     def test_the_rows_of_the_document_are_read(self):
         rows = list(rows_of_instants())
         self.assertGreater(len(rows), 5)
@@ -347,11 +346,11 @@ class Words(unittest.TestCase):
         return Scenario(join_texts([("bus.strl", BUS)]), self.module, inputs)
 
     def test_a_list_of_inputs_may_have_inouts(self):
-        self.assertIsNone(fault_of_inputs(self.scenario("LINE\nFRAME WANT_A\n")))
-        self.assertEqual(
-            fault_of_inputs(self.scenario("LINE\nA_WON\n")),
-            "line 2 of the inputs: BUS has no input A_WON",
-        )
+        check_inputs(self.scenario("LINE\nFRAME WANT_A\n"))
+        with self.assertRaises(Placed) as raised:
+            check_inputs(self.scenario("LINE\nLINE; A_WON\n"))
+        told = "standard input:2:7: A_WON is an output of BUS, which nobody can offer"
+        self.assertEqual(str(raised.exception), told)
 
     def test_root_is_granted_to_offer_and_to_observe_them(self):
         told = [(grant["op"], grant["object"]) for grant in grants_of(self.module)]
@@ -386,7 +385,7 @@ class Words(unittest.TestCase):
         return shell, printed.getvalue()
 
     def test_the_shell_tells_the_inouts_of_a_module(self):
-        told = "BUS: inputs FRAME WANT_A WANT_B, inouts LINE, outputs A_WON A_LOST B_WON B_LOST\n"
+        told = "BUS: inputs FRAME WANT_A WANT_B, inouts LINE, outputs A_WON A_LOST B_WON\n"
         self.assertEqual(self.shell()[1], told)
 
     def test_a_step_shows_an_inout_among_what_came_out(self):
@@ -495,14 +494,16 @@ class OnTheProgram(unittest.TestCase):
             begun = time.monotonic()
             refusal = refusal_of(self.client, module_of(f"await {test}"))
             self.assertEqual(refusal.fault, "TooLarge")
-            self.assertLess(time.monotonic() - begun, 60)  # without proof, on a busy machine; bench measures it
+            self.assertLess(
+                time.monotonic() - begun, 60
+            )  # without proof, on a busy machine; bench measures it
 
     def test_the_inouts_of_a_run(self):
         with tempfile.TemporaryDirectory() as name:
             inputs = pathlib.Path(name) / "inputs"
             inputs.write_text("LINE\nA_WON\n")
             ran = run_client(["run", EXAMPLES / "shared_bus/shared_bus.strl", "--inputs", inputs])
-            self.assertIn("BUS has no input A_WON", ran.told)
+            self.assertIn("A_WON is an output of BUS", ran.told)
             inputs.write_text("LINE\n")
             ran = run_client(["run", EXAMPLES / "shared_bus/shared_bus.strl", "--inputs", inputs])
             self.assertEqual(

@@ -2,6 +2,7 @@
 that scripts/trial.py keeps.
 """
 import argparse
+import json
 import os
 import pathlib
 import re
@@ -70,6 +71,8 @@ class Pages(unittest.TestCase):
             self.assertIn(f".SS {name}\n", text)
             for word in words:
                 self.assertRegex(text, rf"(?m)^\.B[IR]? .*{word}\b", f"{name} {word}")
+        for name, _ in commands.NEIGHBOURS:
+            self.assertIn(f".SS {name}\n", text)
 
     def test_the_gateways_manual_has_each_word_and_option(self):
         parser = argparse.ArgumentParser()
@@ -109,6 +112,22 @@ class Pages(unittest.TestCase):
             )
             self.assertEqual((ran.returncode, ran.stderr), (0, ""), page.name)
 
+    def test_completions_are_those_that_the_words_give(self):
+        told = "run clients/make_completions.py"
+        ran = subprocess.run(
+            [
+                sys.executable,
+                "-c",
+                "import json, make_completions; print(json.dumps(make_completions.files()))",
+            ],
+            capture_output=True,
+            text=True,
+            cwd=CLIENTS,
+        )
+        self.assertEqual(ran.stderr, "")
+        written = {path.name: path.read_text() for path in COMPLETIONS.iterdir()}
+        self.assertEqual(json.loads(ran.stdout), written, told)
+
     def test_completions_have_each_command_and_option(self):
         for path in sorted(COMPLETIONS.iterdir()):
             text = path.read_text()
@@ -145,6 +164,8 @@ class Pages(unittest.TestCase):
             return ran.stdout.split()
 
         self.assertEqual(completed("estserve-client", "sh"), ["shell"])
+        self.assertEqual(completed("estserve-client", "team", "wh"), ["who", "why"])
+        self.assertIn("--json", completed("estserve-client", "test", "--j"))
         self.assertEqual(completed("estserve-client", "apply", "--d"), ["--dry-run"])
         self.assertEqual(set(completed("estserve-client", "run", "--")), options()["run"])
         self.assertEqual(

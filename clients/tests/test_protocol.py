@@ -8,6 +8,15 @@ import unittest
 
 from support import ROOT
 
+from estserve_client.command_table import (
+    BACK,
+    IDENTIFIERS,
+    KEYS,
+    NAMES,
+    NUMBERS,
+    ON_SLOTS,
+    WITHOUT_ENTRY,
+)
 from estserve_client.connection import Client, Refusal
 from estserve_client.sentences import SENTENCES, out_of_form, sentence
 from estserve_client.shell import Shell
@@ -37,6 +46,9 @@ ORDERS = {
     for names, order in rows_of("The order in which refusals are tried")[1:]
     for name in words_of(names)
 }
+
+
+ALL_KEYS = {key for keys, _ in COMMANDS.values() for key in keys}
 
 
 def refused_as(name):
@@ -73,8 +85,18 @@ class Commands(unittest.TestCase):
     def test_each_command_is_one_of_the_shell(self):
         for name in COMMANDS:
             self.assertTrue(name in PLAIN or hasattr(Shell, f"do_{name}"), name)
-        for name, plain in PLAIN.items():
-            self.assertEqual(sorted(plain.words.split()), sorted(COMMANDS[name][0]))
+        self.assertLessEqual(set(PLAIN), set(COMMANDS))
+
+    def test_the_one_table_has_the_keys_of_each_command(self):
+        self.assertEqual(
+            {name: sorted(keys) for name, keys in KEYS.items()},
+            {name: sorted(keys) for name, (keys, _) in COMMANDS.items()},
+        )
+        answers = {name for name, (_, answer) in COMMANDS.items() if "place" in answer}
+        self.assertEqual(answers, ON_SLOTS - WITHOUT_ENTRY)
+        self.assertEqual(set(NAMES + IDENTIFIERS + NUMBERS) | {"op", "object", "text"}, ALL_KEYS)
+        for name, back in BACK.items():
+            self.assertLessEqual(set(KEYS[back]), set(KEYS[name]))
 
 
 class Sentences(unittest.TestCase):

@@ -165,6 +165,17 @@ class Runs(InAFolder):
             f"estserve.py: {expected}: the first difference is at instant 2\n",
         )
 
+    def test_a_name_that_is_mistyped_is_told_at_its_place(self):
+        text = self.file("m.strl", "module M: input START; pause end module")
+        inputs = self.file("inputs", "% first\nSTART; STRAT START\n")
+        ran = run_client(["run", text, "--inputs", inputs])
+        told = f"{inputs}:2:8: M has no input STRAT; did you mean `START`?\n"
+        self.assertEqual((ran.status, ran.printed, ran.told), (1, "", told))
+        ran = run_client(["run", text], "START\nSTRAT\n")
+        self.assertEqual(
+            ran.told, "standard input:2:1: M has no input STRAT; did you mean `START`?\n"
+        )
+
     def test_blank_lines_within_are_instants(self):
         ran = run_client(["run", ABRO, "--inputs", self.file("inputs", "\nA\n\nB\n\n\n")])
         self.assertEqual(
@@ -193,9 +204,7 @@ class Runs(InAFolder):
         self.assertEqual(lines[2:], ["      1\n", "      2  A\n"])
         text.write_text("module M: emit end module\n")
         self.assertIn(" saved at ", child.stdout.readline())
-        self.assertEqual(
-            child.stderr.readline(), f"{text}:1:16: Syntax: the text cannot go on so\n"
-        )
+        self.assertEqual(child.stderr.readline(), f"{text}:1:16: Syntax: a name expected\n")
         text.write_text(ABRO.read_text())
         self.assertIn(" saved at ", child.stdout.readline())
         self.assertEqual([child.stdout.readline() for _ in range(3)][2], "      2  A\n")
@@ -298,7 +307,7 @@ class Folders(InAFolder):
             [
                 "ok      both: 2 instants",
                 "FAILED  new: there is no new.expected: --update writes it",
-                "FAILED  typo: line 1 of the inputs: ABRO has no input C",
+                f"FAILED  typo: {self.folder}/typo.inputs:1:3: ABRO has no input C",
                 "FAILED  wrong: the first difference is at instant 2",
                 f"--- {self.folder}/wrong.expected",
                 "+++ this run",

@@ -57,7 +57,8 @@ class Terminal:
 
     def __init__(self, words, variables, columns=200):
         self.words, self.columns = words, columns
-        self.variables = dict(os.environ, TERM="dumb", PYTHONIOENCODING="utf-8", **variables)
+        quiet = {"TERM": "dumb", "PYTHONIOENCODING": "utf-8", "XDG_STATE_HOME": "/dev/null/none"}
+        self.variables = {**os.environ, **quiet, **variables}
         self.shown = ""
 
     def __enter__(self):
@@ -147,6 +148,33 @@ class InATerminal(unittest.TestCase):
             self.assertEqual(terminal.ends(), ("\n", 0))
         faults = self.folder / "faults"
         self.assertFalse(faults.exists(), faults.exists() and faults.read_text())
+
+    @unittest.skipUnless(importlib.util.find_spec("readline"), "this Python has no readline")
+    def test_lines_are_kept_from_one_shell_to_the_next(self):
+        path = self.program(f"#!/bin/sh\nread line; echo '{LOGIN}'; cat > /dev/null\n")
+        words, state = ["shell", "--program", path], {"XDG_STATE_HOME": str(self.folder / "state")}
+        for typed, shown in [("use 3\n", "use 3\n"), ("\x1b[A\x1b[A\n", "use 3\n")]:
+            with Terminal(words, state) as terminal:
+                terminal.sees("root> ")
+                terminal.type(typed)
+                terminal.sees(f"{shown}slot 3\nroot 3> ")
+                terminal.type("quit\n")
+                self.assertEqual(terminal.ends()[1], 0)
+        kept = self.folder / "state" / "estserve" / "shell_history"
+        self.assertEqual(kept.read_text().splitlines(), ["use 3", "quit", "use 3", "quit"])
+        self.assertEqual(kept.stat().st_mode & 0o777, 0o600)
+
+    def test_a_fault_has_colours_in_a_terminal_unless_they_are_refused(self):
+        text = self.folder / "m.strl"
+        text.write_text("module M: emit end module\n")
+        words = ["format", text]
+        for variables, is_bold in [
+            ({"TERM": "xterm"}, True),
+            ({"TERM": "xterm", "NO_COLOR": "1"}, False),
+        ]:
+            with Terminal(words, variables) as terminal:
+                shown, status = terminal.ends()
+            self.assertEqual((status, "\x1b[1m" in shown), (1, is_bold))
 
     def test_ctrl_c_interrupts_a_command_and_not_the_program(self):
         path = self.program(SLOW)
@@ -257,7 +285,7 @@ class InATerminal(unittest.TestCase):
             ("no", "nothing"),
         ):
             with Terminal(["apply", policy, "--prune"], {}) as terminal:
-                terminal.sees("1 made, 0 there already, 0 refused\n")
+                terminal.sees("0 there already, 1 added\n")
                 terminal.sees("sessions that need it end [y/N] ")
                 terminal.type(f"{answer}\n")
                 terminal.sees(told)

@@ -276,7 +276,7 @@ class SeveralFiles(unittest.TestCase):
             self.assertEqual((ran.status, ran.printed), (1, ""))
             self.assertEqual(
                 ran.told,
-                f"{folder}/cell.strl:2:10: Syntax: the text cannot go on so\n  emit O emit\n         ^\n",
+                f"{folder}/cell.strl:2:10: Syntax: a `;` is missing before `emit`\n  emit O emit\n         ^\n",
             )
             (folder / "cell.strl").write_text(
                 "module CELL: input I; output O;\n  emit Q\nend module\n"

@@ -1,5 +1,8 @@
 """What the client says of what goes wrong: one clear line, and a status that isn't 0."""
+import argparse
+import contextlib
 import io
+import json
 import os
 import pathlib
 import signal
@@ -7,13 +10,15 @@ import socket
 import subprocess
 import sys
 import tempfile
+import threading
 import unittest
 import unittest.mock
 
 from support import CLIENTS, DIALOGUES, EXAMPLES, play_dialogue, run_client, run_words
 
 import estserve
-from estserve_client import connection
+from estserve_client import connection, session
+from estserve_client.texts import Failed
 
 LOGIN = '{"ok":"login","session":1,"version":5}'
 COMMAND = [sys.executable, "-B", str(CLIENTS / "estserve.py")]
@@ -75,9 +80,7 @@ class Files(WhatGoesWrong):
 
     def test_an_empty_policy(self):
         ran = play_dialogue(DIALOGUES / "login", ["apply", self.file("p.toml", "")])
-        self.assertEqual(
-            (ran.status, ran.printed, ran.told), (0, "0 made, 0 there already, 0 refused\n", "")
-        )
+        self.assertEqual((ran.status, ran.printed, ran.told), (0, "0 there already, 0 added\n", ""))
 
 
 class Texts(WhatGoesWrong):
@@ -87,16 +90,17 @@ class Texts(WhatGoesWrong):
         self.assertEqual(ran.told, f"{self.folder}/m.strl:{told}\n")
 
     def test_a_fault_of_the_text_is_shown_at_its_place(self):
-        told = "3:8: Syntax: the text cannot go on so\n  emit end module\n       ^"
+        told = "3:8: Syntax: a name expected\n  emit end module\n       ^"
         self.check_fault("fault_of_a_text", "module M:\noutput O;\n  emit end module\n", told)
 
     def test_an_empty_text(self):
-        self.check_fault("empty_text", "", "1:1: Syntax: the text cannot go on so\n\n^")
+        self.check_fault("empty_text", "", "1:1: Syntax: `module` expected\n\n^")
 
     def test_a_fault_that_names_no_place_is_shown_at_its_place_too(self):
         text = "module M: loop nothing end end module\n"
         told = "1:11: InstantLoop: a loop's body can end in the instant in which it begins: the loop stands in M"
-        self.check_fault("instant_loop", text, f"{told}\n{text}          ^")
+        path = f"a path through it that takes no time:\n  {self.folder}/m.strl:1:16: nothing"
+        self.check_fault("instant_loop", text, f"{told}\n{text}          ^\n{path}")
 
     def test_a_module_that_is_not_there(self):
         words = [*run_words("abro"), "--main", "ABBA"]
@@ -125,7 +129,9 @@ class Inputs(WhatGoesWrong):
             "--inputs",
             self.file("wrong", "% comment\nO\n"),
         ]
-        self.fails_over("only_loaded", words, "line 2 of the inputs: ABRO has no input O")
+        told = f"{self.folder}/wrong:2:1: O is an output of ABRO, which nobody can offer\n"
+        ran = play_dialogue(DIALOGUES / "only_loaded", words)
+        self.assertEqual((ran.status, ran.printed, ran.told), (1, "", told))
 
     def test_no_instants(self):
         words = ["run", EXAMPLES / "abro" / "abro.strl", "--inputs", self.file("none", "")]
@@ -200,6 +206,12 @@ class Programs(WhatGoesWrong):
             ],
         )
 
+    def test_building_outside_of_the_repository(self):
+        with unittest.mock.patch.object(connection, "ROOT", str(self.folder)):
+            for words in (run_words("abro"), ["shell"], ["apply", EXAMPLES / "team" / "team.toml"]):
+                told = "--unproved builds the program from the sources of the repository, and this client"
+                self.fails([*words, "--unproved"], told)
+
 
 class Servers(WhatGoesWrong):
     def test_one_that_is_not_there(self):
@@ -228,6 +240,48 @@ class Servers(WhatGoesWrong):
         self.fails_over(
             "user_out_of_form", ["shell", "--user", "a.b"], "NotARequest: a.b is not a name"
         )
+
+    def test_who_one_is_at_a_gateway(self):
+        pings = {
+            ("ann", "root"): "root",
+            ("ann", "bob"): "ann",
+            ("bob",): "bob",
+            ("bob", "cho"): None,
+            (): None,
+        }
+        for users, user in pings.items():
+            with self.subTest(users), self.gateway(users) as path:
+                arguments = argparse.Namespace(socket=path, user=None)
+                if user:
+                    self.assertEqual(session.user_of(arguments), user)
+                else:
+                    with self.assertRaisesRegex(Failed, "--user says who logs in at a gateway"):
+                        session.user_of(arguments)
+        self.assertEqual(
+            session.user_of(argparse.Namespace(socket="x/team.sock", user=None)), "root"
+        )
+        self.assertEqual(session.user_of(argparse.Namespace(socket="x", user="cho")), "cho")
+
+    @contextlib.contextmanager
+    def gateway(self, users):
+        """A stand-in for a gateway that takes the caller for ann, who may be these users: the path
+        of its team's socket.
+        """
+        with tempfile.TemporaryDirectory() as name, socket.socket(socket.AF_UNIX) as server:
+            server.bind(f"{name}/gateway.sock")
+            server.listen()
+
+            def answer():
+                connected, _ = server.accept()
+                with connected, connected.makefile("rwb") as lines:
+                    if json.loads(lines.readline()) == {"word": "ping"}:
+                        told = {"ok": "ping", "person": "ann", "users": list(users)}
+                        lines.write(json.dumps(told).encode() + b"\n")
+
+            thread = threading.Thread(target=answer)
+            thread.start()
+            yield f"{name}/team.sock"
+            thread.join()
 
     def test_a_user_that_is_no_text(self):
         path = self.program("cat > /dev/null")

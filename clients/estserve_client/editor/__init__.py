@@ -1,0 +1,1 @@
+"""The language server: what an editor is told of module texts as they are typed."""

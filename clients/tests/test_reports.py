@@ -1,0 +1,189 @@
+"""What `test` tells of a folder for machines, and of which scenarios; colours, the bar of a long run,
+and the workflows of examples/ci.
+"""
+import io
+import json
+import os
+import pathlib
+import re
+import shlex
+import tempfile
+import unittest
+import unittest.mock
+import xml.etree.ElementTree
+
+from support import EXAMPLES, needs_program, run_client
+
+from estserve_client.colours import Colours
+from estserve_client.commands import make_parser
+from estserve_client.drawing import Progress, bar
+from estserve_client.outcomes import FAILED, PASSED, Outcome, write_junit
+
+ABRO = EXAMPLES / "abro" / "abro.strl"
+CELL = "module CELL: input I; output O; loop present I then emit O end; pause end end module\n"
+CI = EXAMPLES / "ci"
+
+
+class InAFolder(unittest.TestCase):
+    def setUp(self):
+        held = tempfile.TemporaryDirectory()
+        self.addCleanup(held.cleanup)
+        self.folder = pathlib.Path(held.name)
+
+    def file(self, name, text):
+        path = self.folder / name
+        path.write_text(text)
+        return path
+
+
+@needs_program
+class Folders(InAFolder):
+    def setUp(self):
+        super().setUp()
+        self.file("abro.strl", ABRO.read_text())
+        self.file("both.inputs", ";\nA B\n")
+        self.file("both.expected", "instant  inputs  outputs\n      1\n      2  A B     O\n")
+        self.file("wrong.inputs", ";\nA\n")
+        self.file("wrong.expected", "instant  inputs  outputs\n      1\n      2  A       <O>\n")
+
+    def test_a_file_of_junit(self):
+        path = self.folder / "out.xml"
+        ran = run_client(["test", self.folder, "--junit", path])
+        self.assertEqual((ran.status, ran.printed.splitlines()[-1]), (1, "1 passed, 1 failed"))
+        suite = xml.etree.ElementTree.parse(path).getroot()
+        self.assertEqual(
+            (suite.tag, suite.get("tests"), suite.get("failures")), ("testsuite", "2", "1")
+        )
+        both, wrong = suite
+        self.assertEqual((both.get("name"), list(both)), ("both", []))
+        self.assertEqual(wrong.get("file"), f"{self.folder}/wrong.inputs")
+        self.assertEqual(wrong[0].get("message"), "the first difference is at instant 2")
+        self.assertIn("-      2  A       <O>\n+      2  A", wrong[0].text)
+        self.assertGreaterEqual(float(suite.get("time")), float(both.get("time")))
+
+    def test_lines_of_tap(self):
+        lines = run_client(["test", self.folder, "--tap"]).printed.splitlines()
+        self.assertEqual(lines[:3], ["TAP version 13", "1..2", "ok 1 - both: 2 instants"])
+        self.assertEqual(lines[3], "not ok 2 - wrong: the first difference is at instant 2")
+        self.assertEqual(lines[-1], "# +      2  A")
+
+    def test_an_object_of_json(self):
+        told = json.loads(run_client(["test", self.folder, "--json"]).printed)
+        self.assertEqual((told["passed"], told["failed"], told["written"]), (1, 1, 0))
+        outcomes = [(one["name"], one["outcome"]) for one in told["scenarios"]]
+        self.assertEqual(outcomes, [("both", "ok"), ("wrong", "failed")])
+
+    def test_scenarios_by_their_names(self):
+        for words, names in [
+            (["-k", "ro"], ["wrong"]),
+            (["-k", "b*"], ["both"]),
+            (["-k", "ot", "-k", "wr"], ["both", "wrong"]),
+        ]:
+            told = json.loads(run_client(["test", self.folder, "--json", *words]).printed)
+            self.assertEqual([one["name"] for one in told["scenarios"]], names)
+        ran = run_client(["test", self.folder, "-k", "none"])
+        self.assertEqual(ran.told, f"estserve.py: no scenario in {self.folder} is called none\n")
+
+    def test_a_table_that_is_held_against_nothing(self):
+        self.file("old.expected", "instant  inputs  outputs\n")
+        for more in ([], ["--update"]):
+            ran = run_client(["test", self.folder, "-k", "old", *more])
+            told = "FAILED  old: there is no old.inputs: old.expected is held against nothing\n"
+            self.assertEqual((ran.status, ran.printed.splitlines(True)[0]), (1, told))
+
+    def test_several_files_of_modules(self):
+        main = self.file(
+            "main.txt", "module MAIN: input A; output B; run CELL [signal A/I, B/O] end module\n"
+        )
+        cell = self.file("cell.txt", CELL)
+        self.file("cells.inputs", "A\n;\n")
+        self.file("cells.expected", "instant  inputs  outputs\n      1  A       B\n      2\n")
+        ran = run_client(["test", self.folder, "-k", "cells", "--module", main, cell])
+        self.assertEqual(
+            (ran.status, ran.printed), (0, "ok      cells: 2 instants\n1 passed, 0 failed\n")
+        )
+
+    def test_a_refusal_is_not_blessed_without_a_word(self):
+        paradox = EXAMPLES / "paradox"
+        stuck = "instant 2: Stuck: the instant has no constructive reaction; undecided: O"
+        self.file("paradox.strl", (paradox / "paradox.strl").read_text())
+        self.file("paradox.inputs", (paradox / "paradox.inputs").read_text())
+        words = ["test", self.folder, "-k", "paradox", "--update"]
+        told = f"written paradox: 1 instant; WITH A REFUSAL as what is expected: {stuck}"
+        self.assertEqual(run_client(words).printed.splitlines()[0], told)
+        self.assertEqual(
+            run_client(words).printed.splitlines()[0], f"ok      paradox: 1 instant; {stuck}"
+        )
+        path = self.folder / "table"
+        words = ["run", self.folder / "paradox.strl", "--inputs", self.folder / "paradox.inputs"]
+        ran = run_client([*words, "--expect", path, "--update"])
+        told = f"{path} is written: 1 instant; WITH A REFUSAL as what is expected: {stuck}\n"
+        self.assertEqual(ran.printed, told)
+
+
+class Files(InAFolder):
+    def test_a_file_of_junit_holds_any_text(self):
+        path = self.folder / "out.xml"
+        told = "\x00\x1b[31m <&\"'> é \udcff"
+        write_junit(
+            str(path),
+            told,
+            [Outcome(told, FAILED, told, [told, "]]>"], told), Outcome("a", PASSED, "", [], "a")],
+        )
+        suite = xml.etree.ElementTree.parse(path).getroot()
+        self.assertEqual(suite[0].get("name"), "??[31m <&\"'> é ?")
+        self.assertTrue(suite[0][0].text.endswith("\n]]>"))
+
+
+class Terminals(unittest.TestCase):
+    class Screen(io.StringIO):
+        def isatty(self):
+            return True
+
+    def colours(self, **variables):
+        with unittest.mock.patch.dict(os.environ, {"TERM": "xterm", "NO_COLOR": "", **variables}):
+            return Colours(self.Screen())
+
+    def test_colours_are_for_terminals_that_have_them(self):
+        self.assertEqual(self.colours().word("ok", True), "\033[32mok\033[0m")
+        for variables in ({"NO_COLOR": "1"}, {"TERM": "dumb"}):
+            self.assertEqual(self.colours(**variables).word("ok", True), "ok")
+        self.assertFalse(Colours(io.StringIO()).is_on)
+
+    def test_a_fault_in_colours(self):
+        text = "m.strl:2:3: Syntax: a name expected\n  emit end\n       ^\ndid you mean: this"
+        self.assertEqual(self.colours(NO_COLOR="1").of_fault(text), text)
+        lines = self.colours().of_fault(text).split("\n")
+        self.assertEqual(lines[0], "\033[1mm.strl:2:3:\033[0m Syntax: a name expected")
+        self.assertEqual(lines[1:], ["  emit end", "\033[31m       ^\033[0m", "did you mean: this"])
+
+    def test_a_bar_for_runs_that_take_over_a_second(self):
+        self.assertEqual(bar(1_000, 4_000, 200), f"[{'#' * 10}{' ' * 30}] 1,000 of 4,000 instants")
+        self.assertEqual(len(bar(10, 40, 30)), 30)
+        with unittest.mock.patch("sys.stderr", self.Screen()) as screen:
+            progress = Progress(40, True)
+            progress.at(10)
+            self.assertEqual(screen.getvalue(), "")
+            progress.next = 0
+            progress.at(20)
+            self.assertRegex(screen.getvalue(), r"^\r\[#+ +\] 20 of 40 instants$")
+            progress.end()
+            self.assertRegex(screen.getvalue(), r"\r +\r$")
+
+
+class Workflows(unittest.TestCase):
+    def test_each_call_of_the_client_is_one_that_it_knows(self):
+        for name in ("github.yml", "gitlab.yml"):
+            text = (CI / name).read_text()
+            calls = re.findall(r"^\s*(?:- |run: )*estserve-client (.*)$", text, re.MULTILINE)
+            self.assertGreaterEqual(len(calls), 2, name)
+            for call in calls:
+                words = shlex.split(call)
+                self.assertEqual(make_parser(words[0]).parse_args(words).command, words[0])
+            self.assertIn("--junit scenarios.xml", text)
+            self.assertGreaterEqual(text.count("scenarios.xml"), 2)
+            self.assertNotIn("\t", text)
+
+
+if __name__ == "__main__":
+    unittest.main()
