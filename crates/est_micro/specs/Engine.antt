@@ -1,5 +1,7 @@
 -- What the engine promises beside the contract of every engine (this project's own form).
 use Rattle.std.specs.Prelude.{◌≡◌, ℕ, Bool, List, length}
+use Rattle.est_kernel.specs.Bits.{bits}
+use Rattle.est_kernel.specs.Interfaces.{emittable}
 use Rattle.est_kernel.specs.declared.kernel.Kernel.{Kernel}
 use Rattle.est_kernel.specs.Pauses.{pauses_of}
 use Rattle.est_kernel.specs.declared.pause_set.PauseSet.{PauseSet}
@@ -18,6 +20,7 @@ use Rattle.est_micro.specs.Runs.{AreOfferedTrue, table_of}
 -- the table is that of the kernel, and so is what may be emitted
 pub record IsNetOf (net : Net) (k : Kernel) : Type 0 where
   pub size : length net.cells.items ≡ cell_count k
+  pub signals : bits net.signals ≡ emittable k.interface
   pub outputs : net.outputs ≡ output_count k.interface
   pub reach : IsReachOf net.reach k.root
 

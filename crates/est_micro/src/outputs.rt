@@ -119,15 +119,15 @@ fn exchange_all(
 /// Tells the cells of the signals what the statement emits. Answers what is then known, by the
 /// cells and by what was offered.
 pub fn exchange(net: &mut Net, kernel: &Kernel, inputs: u64, judged: &Judgement) -> Env
-    requires { output_count kernel.now.interface ≤ length net.old.cells.items }
+    requires room { output_count kernel.now.interface ≤ length net.old.cells.items }
+    requires signals { bits net.old.signals ≡ emittable kernel.now.interface }
     ensures exchanged { IsExchanged kernel.now.interface (bits inputs)
         (bits judged.now.must.signals.interface)
         (bits judged.now.can.signals.interface) net.old.cells.items net.new.cells.items result }
     ensures kept { kept net.new ≡ kept net.old }
 {
-    let interface = kernel.interface();
-    let signals = interface.emittable();
-    let read = exchange_all(net, signals, interface.len(), inputs, judged);
+    let signals = net.signals();
+    let read = exchange_all(net, signals, kernel.interface().len(), inputs, judged);
     Env {
         present: SignalSet {
             interface: mask::either(inputs, read.sure),

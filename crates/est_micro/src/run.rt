@@ -2,6 +2,7 @@
 
 ghost use Rattle.std.specs.Prelude.{◌≡◌, ◌≢◌, ◌≤◌, ◌+◌, ◌⊎◌, true, false, length};
 ghost use Rattle.est_kernel.specs.Bits.{bits};
+ghost use Rattle.est_kernel.specs.Interfaces.{emittable};
 ghost use Rattle.est_kernel.specs.Limits.{trap_depth};
 ghost use Rattle.est_kernel.specs.Masks.{FitsMasks};
 ghost use Rattle.est_kernel.specs.View.{term_of};
@@ -71,6 +72,7 @@ fn round(
     requires state { IsState kernel.now.root state.now }
     requires outputs { outputs ≡ output_count kernel.now.interface }
     requires size { length net.old.cells.items ≡ cell_count kernel.now }
+    requires signals { bits net.old.signals ≡ emittable kernel.now.interface }
     ensures made { IsRound direction kernel.now.interface
         (bits inputs) kernel.now.root state.now env.old env.new
         net.old.cells.items net.new.cells.items result }
@@ -125,6 +127,7 @@ pub fn settle(
     requires state { IsState kernel.now.root state.now }
     requires outputs { outputs ≡ output_count kernel.now.interface }
     requires size { length net.old.cells.items ≡ cell_count kernel.now }
+    requires signals { bits net.old.signals ≡ emittable kernel.now.interface }
     requires possible { HasEmissions kernel.now.root state.now (bits possible) }
     ensures settled { IsSettled kernel.now state.now (bits inputs) net.new.cells.items result }
     ensures kept { kept net.new ≡ reopened net.old }

@@ -7,16 +7,19 @@ use Rattle.est_net.specs.declared.reach.Reach.{Reach}
 -- how many cells were decided before the cells were last opened, and what never changes
 pub record Kept : Type 0 where
   pub earlier : ℕ
+  pub signals : ℕ
   pub outputs : ℕ
   pub reach : Reach
 
 abbrev pub kept : Net → Kept
-kept net = record { earlier = net.earlier; outputs = net.outputs; reach = net.reach }
+kept net =
+    record { earlier = net.earlier; signals = net.signals; outputs = net.outputs; reach = net.reach }
 
 -- what is left of it once its cells are opened: those that were decided count among the earlier ones
 abbrev pub reopened : Net → Kept
 reopened net = record {
   earlier = (net.earlier + decided net.cells.items) % 2 ^ 64;
+  signals = net.signals;
   outputs = net.outputs;
   reach = net.reach;
 }

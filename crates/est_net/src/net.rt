@@ -28,7 +28,9 @@ pub struct Net {
     left_open: usize,
     /// How many cells were decided before they were last opened, modulo 2^64.
     earlier: u64,
-    /// How many cells are of signals of the interface. They come first.
+    /// The signals of the interface that may be emitted, a bit for each.
+    signals: u64,
+    /// How many of them there are. Their cells come first.
     outputs: usize,
     /// What may be emitted in an instant.
     reach: Reach,
@@ -51,14 +53,6 @@ fn rank(signals: u64, places: usize) -> usize
     count
 }
 
-/// How many signals of an interface may be emitted.
-fn count_outputs(interface: &Interface) -> usize
-    ensures count { result ≡ output_count interface.now }
-    ensures bound { result ≤ 64 }
-{
-    rank(interface.emittable(), interface.len())
-}
-
 /// This many open cells, or memory was refused.
 fn open_cells(alloc: Global, count: usize) -> Result<Vec<Status>, AllocError>
     ensures { IfOk result (λ cells. length cells.items ≡ count) }
@@ -77,10 +71,12 @@ impl Net {
     pub fn build(alloc: Global, kernel: &Kernel) -> Result<Net, AllocError>
         ensures cells { IfOk result (λ net. net.cells.items
             ≡ replicate (cell_count kernel.now) Unknown) }
+        ensures signals { IfOk result (λ net. bits net.signals ≡ emittable kernel.now.interface) }
         ensures outputs { IfOk result (λ net. net.outputs ≡ output_count kernel.now.interface) }
         ensures reach { IfOk result (λ net. IsReachOf net.reach kernel.now.root) }
     {
-        let outputs = count_outputs(kernel.interface());
+        let signals = kernel.interface().emittable();
+        let outputs = rank(signals, kernel.interface().len());
         let mut cells = open_cells(alloc, outputs)?;
         lay(&mut cells, true, kernel.root(), 0)?;
         table::open_all(cells.as_mut_slice());
@@ -89,6 +85,7 @@ impl Net {
             left_open: cells.len(),
             cells,
             earlier: 0,
+            signals,
             outputs,
             reach,
         })
@@ -99,6 +96,13 @@ impl Net {
         ensures { result ≡ length self.now.cells.items }
     {
         self.cells.len()
+    }
+
+    /// The signals of the interface that may be emitted, a bit for each.
+    pub fn signals(&self) -> u64
+        ensures { result ≡ self.now.signals }
+    {
+        self.signals
     }
 
     /// How many of them are of signals of the interface. They come first.

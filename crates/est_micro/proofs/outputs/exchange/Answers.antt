@@ -33,13 +33,13 @@ inside i f m a b n h = subst (λ (z : ℕ). n < z) (sym b) (emittable_within i n
 pub exchange_all-read-requires-clause-within : goal.exchange_all-read-requires-clause-within
 exchange_all-read-requires-clause-within c =
     count_is c.args.kernel.now.interface _ _ _
-    (c.emittable-signals.ensures ∙ ap emittable c.interface-interface.ensures)
-    (c.len.ensures.len ∙ ap length c.interface-interface.ensures) c.requires
+    (ap bits c.signals-signals.ensures ∙ c.requires.signals)
+    (c.len.ensures.len ∙ ap length c.interface.ensures) c.requires.room
 
 pub returns-clause-exchanged : goal.returns-clause-exchanged
 returns-clause-exchanged c =
-    let f = c.emittable-signals.ensures ∙ ap emittable c.interface-interface.ensures in
-    let m = c.len.ensures.len ∙ ap length c.interface-interface.ensures in
+    let f = ap bits c.signals-signals.ensures ∙ c.requires.signals in
+    let m = c.len.ensures.len ∙ ap length c.interface.ensures in
     let r = c.exchange_all-read.ensures in
     exchanged c.args.kernel.now.interface _ _ c.args.inputs c.args.judged.now _ _ _ f m r.told
     (known_is _ _ (bits c.args.inputs) (bits c.exchange_all-read.result.sure)

@@ -1,10 +1,11 @@
-use Rattle.std.proofs.Common.{◌≡◌, ℕ, true, List, subst, arith}
+use Rattle.std.proofs.Common.{◌≡◌, ◌∙◌, ℕ, true, List, ap, subst, arith}
 use Rattle.est_kernel.specs.Bits.{bits}
 use Rattle.est_kernel.specs.declared.kernel.Kernel.{Kernel}
 use Rattle.est_kernel.specs.declared.state.State.{State}
 use Rattle.est_kernel.specs.declared.statement.Statement.{Statement}
 use Rattle.est_kernel.proofs.FitsMasks.{fits_within_limits}
 use Rattle.est_meaning.specs.declared.status.Status.{Status}
+use Rattle.est_net.specs.Kept.{Kept}
 use Rattle.est_net.specs.Layout.{output_count}
 use Rattle.est_rounds.specs.Views.{env_of}
 use Rattle.est_rounds.specs.declared.signal_set.Env.{Env as Known}
@@ -33,8 +34,12 @@ sweep-found-requires-clause-fits c =
     let k = c.args.kernel.now in
     rw c.root.ensures (fits_within_limits k.interface k.root k.closed k.within_limits)
 
-pub exchange-requires : goal.exchange-requires
-exchange-requires c =
+pub exchange-requires-clause-signals : goal.exchange-requires-clause-signals
+exchange-requires-clause-signals c =
+    ap (λ (k : Kept). bits k.signals) c.sweep-found.ensures.kept ∙ c.requires.signals
+
+pub exchange-requires-clause-room : goal.exchange-requires-clause-room
+exchange-requires-clause-room c =
     let s = c.sweep-found.ensures.swept.changes.size in
     omega (arith, s, c.requires.size)
 
