@@ -17,6 +17,7 @@ pub record Part : Type 0 where
   pub loops : ℕ
   pub traps : ℕ
 
+-- a statement as a part inside d loops and t traps
 abbrev pub part : Statement → (d t : ℕ) → Part
 part s d t = record { statement = s; loops = d; traps = t }
 
