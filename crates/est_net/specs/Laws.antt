@@ -1,14 +1,15 @@
 -- The laws of the list of owners, as the functions of the module of laws promise them (this project's own form).
-use Rattle.std.specs.Prelude.{◌≡◌, ◌<◌, ◌+◌, ◌*◌, ℕ, Bool, false, nat_eq, length, Some, slice_get}
+use Rattle.std.specs.Prelude.{◌≡◌, ◌<◌, ◌+◌, ◌*◌, ℕ, Bool, true, false, nat_eq, length, Some, slice_get}
 use Rattle.std.specs.List.{count_by}
 use Rattle.est_kernel.specs.declared.kernel.Kernel.{Kernel}
 use Rattle.est_kernel.specs.declared.statement.Statement.{Statement}
 use Rattle.est_meaning.specs.declared.status.Status.{Status}
 use Rattle.est_cells.specs.Tables.{sheet_size}
-use Rattle.est_net.specs.Layout.{cell_count, table_in}
+use Rattle.est_net.specs.Layout.{cell_count, sheet_in, table_in}
 use Rattle.est_net.specs.Owners.{statements, own_cells, owners_in, owners}
-use Rattle.est_net.specs.OwnerValues.{value_at}
+use Rattle.est_net.specs.OwnerValues.{value_in, value_at}
 use Rattle.est_net.specs.Parts.{IsOwner, part_at}
+use Rattle.est_net.specs.declared.owners.StatementCell.{StatementCell}
 use Rattle.est_net.specs.declared.owners.Owner.{Owner}
 use Rattle.est_net.specs.declared.owners.Owner.TheVariants as owner
 
@@ -37,7 +38,11 @@ pub record StatementsHaveCells : Type 0 where
       ≡ ((part_at k.root 0 0 0 n).loops + 1)
       * own_cells (part_at k.root 0 0 0 n).statement (part_at k.root 0 0 0 n).traps
 
--- in the table that is read off a list of cells, the cell of an owner is the one at the owner's place
+-- in a sheet that is read off a list of cells from place c on, and in a kernel's table, the cell of an owner is the one
+-- at the owner's place
 pub record OwnersAreRead : Type 0 where
+  pub sheet : (main : Bool) (s : Statement) (i n c t : ℕ) (cells : ℕ → Status) → (main ≡ true → i ≡ 0)
+      → (x : ℕ) (o : StatementCell) → slice_get (owners_in main s i n t) x ≡ Some o
+      → value_in main s n (sheet_in cells main s c t) o ≡ cells (c + x)
   pub value : (k : Kernel) (cells : ℕ → Status) (x : ℕ) (o : Owner) → slice_get (owners k) x ≡ Some o
       → value_at k.root (table_in k.interface k.root cells) o ≡ cells x

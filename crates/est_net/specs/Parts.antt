@@ -17,10 +17,12 @@ pub record Part : Type 0 where
   pub loops : ℕ
   pub traps : ℕ
 
+-- a statement as a part inside d loops and t traps
 abbrev pub part : Statement → (d t : ℕ) → Part
 part s d t = record { statement = s; loops = d; traps = t }
 
--- the statement of number m in one that has number n and lies inside d loops and t traps
+-- the statement of number m in one that has number n and lies inside d loops and t traps. It is asked for numbers from
+-- n on, as many as there are statements
 abbrev pub part_at : Statement → (n d t m : ℕ) → Part
 part_at Nothing n d t m = part Nothing d t
 part_at (Pause k) n d t m = part (Pause k) d t

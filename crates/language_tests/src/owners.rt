@@ -11,7 +11,7 @@ use std::process::Abort;
 /// Modules, and their cells in order: those of signals by their places, and those of each statement
 /// and incarnation by the codes that they are of, with an `s` for the status of a local signal.
 /// Statements are numbered from 0, each before its parts.
-const OWNED: [(&str, &str); 4] = [
+const OWNED: [(&str, &str); 5] = [
     (
         "output O, P; emit O; pause; emit P",
         " #0 #1 0.0:01 1.0:01 2.0:01 3.0:01 4.0:01",
@@ -33,6 +33,14 @@ const OWNED: [(&str, &str); 4] = [
     (
         "output O; loop loop emit O; pause end end",
         " #0 0.0:01 1.0:01 2.0:01 3.0:01 4.0:01 2.1:01 3.1:01 4.1:01 1.1:01 2.2:01 3.2:01 4.2:01",
+    ),
+    // a signal inside two loops and a trap: three incarnations of five cells each
+    (
+        "output O; loop trap T in loop signal S in emit O; pause; exit T end end end end",
+        " #0 0.0:01 1.0:01 2.0:012 \
+            3.0:012s 4.0:012 5.0:012 6.0:012 7.0:012 8.0:012 \
+            3.1:012s 4.1:012 5.1:012 6.1:012 7.1:012 8.1:012 \
+            1.1:01 2.1:012 3.2:012s 4.2:012 5.2:012 6.2:012 7.2:012 8.2:012",
     ),
 ];
 
