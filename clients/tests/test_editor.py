@@ -1,6 +1,7 @@
 """The language server: a scripted exchange, in which the real program tells the faults; names, places
 and renamings by themselves; and the extension for VS Code, where there is a Node to run it.
 """
+import io
 import json
 import os
 import pathlib
@@ -17,10 +18,11 @@ from support import CLIENTS, EXAMPLES, ROOT, needs_program
 from test_format import texts_of_the_repository
 
 import estserve
-from estserve_client.editor.checking import mains_of
+from estserve_client.editor.checking import Checker, mains_of
 from estserve_client.editor.documents import Documents, place_of, position_of, whole_of
 from estserve_client.editor.names import Names
 from estserve_client.editor.renaming import edits_of
+from estserve_client.editor.server import EditorServer
 from estserve_client.editor.wire import Refused, read_message, write_message
 from estserve_client.library_text import join_texts
 from estserve_client.module_text import main_of
@@ -318,6 +320,38 @@ class WithoutAProgram(unittest.TestCase):
             self.assertFalse(
                 [one for one in editor.noticed if one.get("method") == "window/showMessage"]
             )
+
+
+class AnyText(unittest.TestCase):
+    """Whatever text is open and whatever place is asked about, each request is answered."""
+
+    def test_each_request_is_answered(self):
+        chance, answered = random.Random(3), 0
+        texts = [text for text in texts_of_the_repository() if len(text) < 1_500]
+        for number in range(300):
+            text = chance.choice(texts)
+            if number % 3 == 0:
+                at = chance.randrange(len(text))
+                text = text[:at] + chance.choice(["", "é", "𝄞 ", ";", "%{", "end"]) + text[at + 3 :]
+            writer = io.BytesIO()
+            server = EditorServer(io.BytesIO(), writer, Checker(program))
+            server.keep("/x/m.strl", text)
+            lines = text.split("\n")
+            for method in server.requests:
+                line = chance.randrange(len(lines) + 1)
+                words = {
+                    "textDocument": {"uri": "file:///x/m.strl"},
+                    "position": {"line": line, "character": chance.randrange(40)},
+                    "newName": "ANOTHER",
+                }
+                server.take({"id": 1, "method": method, "params": words})
+            reader = io.BytesIO(writer.getvalue())
+            answers = [read_message(reader) for _ in server.requests]
+            told = [one["error"]["message"] for one in answers if "error" in one]
+            for one in told:
+                self.assertRegex(one, "laid out|no name|already|always present", text)
+            answered += len(answers) - len(told)
+        self.assertGreater(answered, 2_000)
 
 
 class Places(unittest.TestCase):
