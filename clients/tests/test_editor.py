@@ -151,9 +151,11 @@ class Editor:
         assert words["uri"] == self.uri, words
         return words["diagnostics"]
 
-    def about(self, what, word, count=1, **more):
+    def about(self, what, word, count=1, offset=0, **more):
         """What a request about a place of the text is answered."""
-        document = {"textDocument": {"uri": self.uri}, "position": at(self.text, word, count)}
+        place = at(self.text, word, count)
+        place["character"] += offset
+        document = {"textDocument": {"uri": self.uri}, "position": place}
         return self.ask(f"textDocument/{what}", {**document, **more})
 
 
@@ -225,6 +227,24 @@ class Exchange(unittest.TestCase):
             self.assertEqual(
                 (house["name"], names), ("HOUSE", ["GO", "DAY", "LAMP", "BELL", "DONE", "S"])
             )
+
+    def test_words_that_can_stand_there(self):
+        begun = RELAY[: RELAY.index("run RELAY\n")]
+        with Editor() as editor:
+            for typed, words in [
+                ("run ", ["RELAY", "HOUSE"]),
+                ("exit D", ["DONE"]),
+                ("emit ", ["GO", "DAY", "LAMP", "BELL", "S", "tick"]),
+                ("abort pause wh", ["when"]),
+                ("signal ", []),
+                ("loop pause ", ["each", "end"]),
+            ]:
+                editor.open(self.path, begun + typed + "?")
+                told = [
+                    one["label"]
+                    for one in editor.about("completion", typed + "?", offset=len(typed))
+                ]
+                self.assertEqual([word for word in told if word != "not"], words, typed)
 
     def test_renamings(self):
         with Editor() as editor:
@@ -400,6 +420,7 @@ class Extension(unittest.TestCase):
         self.assertEqual((told["definition"]["startLine"], told["references"]), (3, 2))
         uri = text.as_uri()
         self.assertEqual(told["rename"], [[uri, 3, 7, "OUT"], [uri, 6, 7, "OUT"]])
+        self.assertEqual(told["words"], ["A", "B", "R", "O", "tick"])
         self.assertEqual(told["refused"], "end is a word of the language, and no name")
         self.assertEqual((told["symbols"], told["format"], told["messages"]), (["ABRO"], [], []))
 
