@@ -24,7 +24,6 @@ from estserve_client.editor.names import Names
 from estserve_client.editor.renaming import edits_of
 from estserve_client.editor.server import EditorServer
 from estserve_client.editor.wire import Refused, read_message, write_message
-from estserve_client.library_text import join_texts
 from estserve_client.module_text import main_of
 from estserve_client.stage import grants_of
 from estserve_client.syntax_tree import parse
