@@ -151,6 +151,11 @@ def zsh_text(text: str) -> str:
     return text.replace("'", "'\\''")
 
 
+def plain(help: str) -> str:
+    """A help text without what a shell would run."""
+    return help.replace("`", "").replace("$", "").replace('"', "")
+
+
 def zsh_words(command: Command) -> Iterator[str]:
     """The words of `_arguments` for a command."""
     for option in command.options:
@@ -163,7 +168,7 @@ def zsh_words(command: Command) -> Iterator[str]:
             yield f"'{'*' * option.repeats}{word}[{zsh_text(option.help)}]{after}'"
     if command.words:
         listed = " ".join(
-            f'{name}\\:"{zsh_text(inner.help)}"' for name, inner in command.words.items()
+            f'{name}\\:"{zsh_text(plain(inner.help))}"' for name, inner in command.words.items()
         )
         yield f"'1:command:(({listed}))'"
     elif command.takes_files:

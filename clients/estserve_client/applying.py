@@ -11,12 +11,13 @@ import pathlib
 import sys
 from typing import Any, Dict, Iterator, List, Optional, Union
 
+from .close_words import meant
 from .command_table import BACK, KEYS
 from .connection import Client, Refusal, start
 from .gateway_words import policy_at
 from .module_text import OFFERED, main_of
 from .policy_file import BadPolicy, Policy, Wish, read_file
-from .pruning import candidates, exact, prune
+from .pruning import candidates, exact, names_of, prune
 from .programs import program_of
 from .sentences import Set, sentence
 from .session import roles_of, session_of
@@ -138,6 +139,9 @@ def tell_refusal(applied: Applied, path: str, policy: Policy) -> None:
     wish, refusal = applied.refused, applied.refusal
     assert wish and refusal
     told = sentence(refusal, (), sets_of(policy))
+    keys = {"UnknownRole": "role", "UnknownUser": "user"}.get(refusal.fault)
+    question = meant(refusal.fields[keys], names_of([policy], keys)) if keys else ""
+    told += f"; {question}" if question else ""
     print(f"{path}:{wish.line}: {text_of(wish.command)}: {told}", file=sys.stderr)
     for left in applied.left:
         print(

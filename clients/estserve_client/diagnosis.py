@@ -104,6 +104,14 @@ def diagnose_load(refusal: Refusal, library: LibraryText, main: str) -> Diagnosi
     if "line" in refusal.fields:
         return diagnose_place(refusal, library)
     name = refusal.fields.get("name", refusal.fields.get("relation", ""))
+    try:
+        return diagnose_name(refusal, library, main, name)
+    except RecursionError:  # runs in runs, deeper than Python's calls go
+        return Diagnosis(refusal.fault, sentence(refusal))
+
+
+def diagnose_name(refusal: Refusal, library: LibraryText, main: str, name: object) -> Diagnosis:
+    """What a fault means that has a name, or nothing. Raises RecursionError."""
     places: List[Place] = places_of(refusal.fault, name, library.text, main)
     marks = [mark_of(library, place.at, place.told) for place in places]
     remedies = list(dict.fromkeys(place.remedy for place in places if place.remedy))

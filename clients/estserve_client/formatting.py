@@ -191,7 +191,7 @@ class Layout:
             return
         first, end = module.whole
         body, stop = self.reader.ranges[id(module.body)]
-        cuts = [declaration for declaration in module.declarations]
+        cuts = module.declarations
         self.put((first, cuts[0][0] if cuts else body), 0)
         for declaration in cuts:
             self.page.end_line()

@@ -4,6 +4,7 @@ from __future__ import annotations
 import dataclasses
 from typing import Any, Dict, Iterator, List, Optional, Tuple
 
+from .close_words import meant
 from .command_table import OBJECT, SLOTS
 from .toml_reader import BadPolicy, Table, tables_of
 
@@ -65,6 +66,11 @@ def object_of(written: str, slots: Dict[str, int]) -> str:
     return f"{slots[slot]}{dot}{signal}" if slot in slots else written
 
 
+def asking(told: str, question: str) -> str:
+    """What is said, with a question after it where there is one."""
+    return f"{told}; {question}" if question else told
+
+
 def permissions_of(table: Optional[Table], slots: Dict[str, int]) -> Iterator[Wish]:
     """The grants of the permissions' table."""
     for role, written, line in lists_of(table):
@@ -74,9 +80,12 @@ def permissions_of(table: Optional[Table], slots: Dict[str, int]) -> Iterator[Wi
             raise BadPolicy(line, told)
         object = object_of(words[1], slots)
         if not OBJECT.fullmatch(object):
-            raise BadPolicy(
-                line, f"{words[1]} is no object: policy, a slot, or a signal of one, as 0.A"
-            )
+            told = f"{words[1]} is no object: policy, a slot, or a signal of one, as 0.A"
+            name = words[1].partition(".")[0]
+            question = meant(name, [*slots, "policy"])
+            if not question and not name.isdigit():
+                question = f"the table slots gives {name} no number"
+            raise BadPolicy(line, asking(told, question))
         yield Wish(line, {"cmd": "grant", "role": role, "op": words[0], "object": object})
 
 
@@ -112,12 +121,12 @@ def check_names(tables: Dict[str, Table]) -> None:
     """Raises BadPolicy where a table, or a key before the first head, has no meaning here."""
     for name, table in tables.items():
         if name not in ("", *TABLES) and not name.startswith("separate."):
-            raise BadPolicy(
-                table.line, f"there is no table {name}: {', '.join(TABLES)}, separate.NAME"
-            )
+            told = f"there is no table {name}: {', '.join(TABLES)}, separate.NAME"
+            raise BadPolicy(table.line, asking(told, meant(name, TABLES)))
     for key, (line, _) in tables[""].keys.items():
         if key not in ("users", "roles"):
-            raise BadPolicy(line, f"there is no key {key} here: users, roles")
+            told = f"there is no key {key} here: users, roles"
+            raise BadPolicy(line, asking(told, meant(key, ("users", "roles"))))
 
 
 def read_file(text: str) -> Policy:

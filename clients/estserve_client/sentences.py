@@ -3,6 +3,7 @@ from __future__ import annotations
 
 from typing import TYPE_CHECKING, Any, Dict, Optional, Sequence, Tuple
 
+from .close_words import meant
 from .command_table import (
     IDENTIFIER,
     IDENTIFIERS,
@@ -92,7 +93,8 @@ def wrong_word(key: str, word: Any) -> Optional[str]:
     if isinstance(word, int) and word > MOST:
         return f"{word} is too large a number"
     if form and not (isinstance(word, str) and form.fullmatch(word)):
-        return f"{word} is not {wanted}"
+        question = meant(str(word), OPERATIONS) if key == "op" else ""
+        return f"{word} is not {wanted}" + (f"; {question}" if question else "")
     return None
 
 

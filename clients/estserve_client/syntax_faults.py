@@ -63,7 +63,7 @@ def spot_at(tokens: List[Token], line: int, column: int) -> Spot:
     try:
         reader.library()
         reader.wanted = ["module"]
-    except NoTree:
+    except (NoTree, RecursionError):
         pass
     wanted = reader.wanted_last + (reader.wanted if reader.at == len(before) else [])
     here, after = [*tokens, None, None][len(before) : len(before) + 2]

@@ -18,6 +18,7 @@ HEAD = re.compile(rf"\[[ \t]*({KEY}(?:[ \t]*\.[ \t]*{KEY})*)[ \t]*\]")
 PAIR = re.compile(rf"({KEY})[ \t]*=[ \t]*")
 STRING = re.compile(rf'"([^"\\{CONTROL}]*)"')
 NUMBER = re.compile(r"0|[1-9][0-9]{0,18}(?![0-9])")
+LEADING = re.compile(r"0[0-9]")
 OF_A_LIST = "a list has strings in double quotes, with commas between them"
 Path = Tuple[str, ...]
 
@@ -120,6 +121,8 @@ class Reader:
         string = self.take(STRING)
         if string:
             return string[1]
+        if LEADING.match(self.text, self.at):
+            raise BadPolicy(self.line, "a whole number doesn't begin with 0")
         number = self.take(NUMBER)
         if number:
             return int(number[0])
@@ -132,13 +135,18 @@ class Reader:
         while not self.takes("]"):
             string = self.take(STRING)
             if string is None:
-                raise BadPolicy(self.line, OF_A_LIST)
+                raise self.bad_list(first)
             found.append((string[1], self.line))
             self.pass_lines(first)
             if not self.takes(",") and not self.text.startswith("]", self.at):
-                raise BadPolicy(self.line, OF_A_LIST)
+                raise self.bad_list(first)
             self.pass_lines(first)
         return found
+
+    def bad_list(self, first: int) -> BadPolicy:
+        """The fault of a list, which began at this line."""
+        begun = f"; this one begins on line {first}" if first != self.line else ""
+        return BadPolicy(self.line, OF_A_LIST + begun)
 
     def pass_lines(self, first: int) -> None:
         """Passes over ends of lines in a list, which began at this line."""

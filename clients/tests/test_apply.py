@@ -101,9 +101,10 @@ class OnTheProgram(InAFolder):
                 root.adduser("ann")  # she isn't there
         self.path.write_text(POLICY.replace('["chief"]', '["chef"]'))
         status, printed, told = self.apply("--dry-run")
-        self.assertEqual(
-            (status, told[0]), (1, "p.toml:8: assign ann chef: UnknownRole: there is no role chef")
+        wanted = (
+            "p.toml:8: assign ann chef: UnknownRole: there is no role chef; did you mean `chief`?"
         )
+        self.assertEqual((status, told[0]), (1, wanted))
 
     def test_a_refusal_takes_back_what_was_made(self):
         with serve() as server, server.root() as root:

@@ -1,6 +1,7 @@
 """The language server: a scripted exchange, in which the real program tells the faults; names, places
 and renamings by themselves; and the extension for VS Code, where there is a Node to run it.
 """
+import io
 import json
 import os
 import pathlib
@@ -17,12 +18,12 @@ from support import CLIENTS, EXAMPLES, ROOT, needs_program
 from test_format import texts_of_the_repository
 
 import estserve
-from estserve_client.editor.checking import mains_of
+from estserve_client.editor.checking import Checker, mains_of
 from estserve_client.editor.documents import Documents, place_of, position_of, whole_of
 from estserve_client.editor.names import Names
 from estserve_client.editor.renaming import edits_of
+from estserve_client.editor.server import EditorServer
 from estserve_client.editor.wire import Refused, read_message, write_message
-from estserve_client.library_text import join_texts
 from estserve_client.module_text import main_of
 from estserve_client.stage import grants_of
 from estserve_client.syntax_tree import parse
@@ -149,9 +150,11 @@ class Editor:
         assert words["uri"] == self.uri, words
         return words["diagnostics"]
 
-    def about(self, what, word, count=1, **more):
+    def about(self, what, word, count=1, offset=0, **more):
         """What a request about a place of the text is answered."""
-        document = {"textDocument": {"uri": self.uri}, "position": at(self.text, word, count)}
+        place = at(self.text, word, count)
+        place["character"] += offset
+        document = {"textDocument": {"uri": self.uri}, "position": place}
         return self.ask(f"textDocument/{what}", {**document, **more})
 
 
@@ -223,6 +226,24 @@ class Exchange(unittest.TestCase):
             self.assertEqual(
                 (house["name"], names), ("HOUSE", ["GO", "DAY", "LAMP", "BELL", "DONE", "S"])
             )
+
+    def test_words_that_can_stand_there(self):
+        begun = RELAY[: RELAY.index("run RELAY\n")]
+        with Editor() as editor:
+            for typed, words in [
+                ("run ", ["RELAY", "HOUSE"]),
+                ("exit D", ["DONE"]),
+                ("emit ", ["GO", "DAY", "LAMP", "BELL", "S", "tick"]),
+                ("abort pause wh", ["when"]),
+                ("signal ", []),
+                ("loop pause ", ["each", "end"]),
+            ]:
+                editor.open(self.path, begun + typed + "?")
+                told = [
+                    one["label"]
+                    for one in editor.about("completion", typed + "?", offset=len(typed))
+                ]
+                self.assertEqual([word for word in told if word != "not"], words, typed)
 
     def test_renamings(self):
         with Editor() as editor:
@@ -320,6 +341,38 @@ class WithoutAProgram(unittest.TestCase):
             )
 
 
+class AnyText(unittest.TestCase):
+    """Whatever text is open and whatever place is asked about, each request is answered."""
+
+    def test_each_request_is_answered(self):
+        chance, answered = random.Random(3), 0
+        texts = [text for text in texts_of_the_repository() if len(text) < 1_500]
+        for number in range(300):
+            text = chance.choice(texts)
+            if number % 3 == 0:
+                at = chance.randrange(len(text))
+                text = text[:at] + chance.choice(["", "é", "𝄞 ", ";", "%{", "end"]) + text[at + 3 :]
+            writer = io.BytesIO()
+            server = EditorServer(io.BytesIO(), writer, Checker(program))
+            server.keep("/x/m.strl", text)
+            lines = text.split("\n")
+            for method in server.requests:
+                line = chance.randrange(len(lines) + 1)
+                words = {
+                    "textDocument": {"uri": "file:///x/m.strl"},
+                    "position": {"line": line, "character": chance.randrange(40)},
+                    "newName": "ANOTHER",
+                }
+                server.take({"id": 1, "method": method, "params": words})
+            reader = io.BytesIO(writer.getvalue())
+            answers = [read_message(reader) for _ in server.requests]
+            told = [one["error"]["message"] for one in answers if "error" in one]
+            for one in told:
+                self.assertRegex(one, "laid out|no name|already|always present", text)
+            answered += len(answers) - len(told)
+        self.assertGreater(answered, 2_000)
+
+
 class Places(unittest.TestCase):
     def test_an_editor_counts_units_and_estserve_bytes(self):
         lines = ["%{ é𝄞 }% emit A", ""]
@@ -366,6 +419,7 @@ class Extension(unittest.TestCase):
         self.assertEqual((told["definition"]["startLine"], told["references"]), (3, 2))
         uri = text.as_uri()
         self.assertEqual(told["rename"], [[uri, 3, 7, "OUT"], [uri, 6, 7, "OUT"]])
+        self.assertEqual(told["words"], ["A", "B", "R", "O", "tick"])
         self.assertEqual(told["refused"], "end is a word of the language, and no name")
         self.assertEqual((told["symbols"], told["format"], told["messages"]), (["ABRO"], [], []))
 

@@ -124,9 +124,10 @@ class Editors(unittest.TestCase):
             asked = 'synIDattr(synID({}, 1, 1), "name")'
             script = "|".join(
                 [
+                    "filetype plugin on",
                     "syntax on",
                     f"edit {EXAMPLES / 'abro' / 'abro.strl'}",
-                    f"let names = [&filetype, {asked.format(1)}, {asked.format(2)}, {asked.format(8)}]",
+                    f"let names = [&filetype, {asked.format(1)}, {asked.format(2)}, {asked.format(8)}, &formatprg]",
                     f"call writefile(names, '{written.name}')",
                     "qall!",
                 ]
@@ -143,10 +144,11 @@ class Editors(unittest.TestCase):
                 script,
             ]
             subprocess.run(words, stdin=subprocess.DEVNULL, capture_output=True, timeout=60)
-            lines = written.read().split()
+            lines = written.read().splitlines()
         if not lines:
             self.skipTest("this vim has no syntax")
-        self.assertEqual(lines, ["esterel", "esterelComment", "esterelStructure", "esterelRepeat"])
+        names = ["esterel", "esterelComment", "esterelStructure", "esterelRepeat"]
+        self.assertEqual(lines, [*names, "estserve-client format -"])
 
 
 if __name__ == "__main__":

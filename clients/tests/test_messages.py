@@ -160,6 +160,13 @@ class OnTheProgram(unittest.TestCase):
         for text, last in told.items():
             self.assertEqual(self.told_of(text)[-1], last)
 
+    def test_texts_that_nest_deeper_than_the_calls_of_python(self):
+        runs = "".join(f"module M{n}: run M{n + 1} end module " for n in range(600))
+        text = f"module M: loop run M0 end end module {runs} module M600: nothing end module"
+        self.assertIn("InstantLoop: a loop's body can end", self.told_of(text)[0])
+        lines = self.told_of("module M: " + 5_000 * "[" + "?")
+        self.assertEqual(lines[0], "m.strl:1:5011: Lexical: no token stands here")
+
     def test_what_is_open_is_told_by_its_file(self):
         main = "module M: pause\n\n"
         for text, told in [

@@ -97,6 +97,20 @@ class Toml(unittest.TestCase):
                 tables_of(text)
             self.assertEqual(raised.exception.line, line, text)
 
+    def test_what_was_meant_is_asked(self):
+        wrong = {
+            "[permission]\na = []": "; did you mean `permissions`?",
+            "user = []": "; did you mean `users`?",
+            '[slots]\ndoor = 3\n[permissions]\na = ["step dor"]': "; did you mean `door`?",
+            '[permissions]\na = ["step door"]': "; the table slots gives door no number",
+            "[separate.s]\ncount = 02": "a whole number doesn't begin with 0",
+            'users = ["a"\nroles = []': "; this one begins on line 1",
+        }
+        for text, told in wrong.items():
+            with self.subTest(text), self.assertRaises(BadPolicy) as raised:
+                read_file(text)
+            self.assertTrue(str(raised.exception).endswith(told), str(raised.exception))
+
     def test_brackets_and_comments_in_strings(self):
         tables = tables_of('users = ["a[", "#b"]  # c "\nroles = [  # x\n"r"\n,]\n')
         self.assertEqual(plain(tables), {"users": ["a[", "#b"], "roles": ["r"]})

@@ -38,12 +38,12 @@ class WorkspaceEdit {
 const vscode = {
   Range, WorkspaceEdit, Location: plain("uri", "range"), Hover: plain("contents", "range"), MarkdownString: plain("value"),
   Diagnostic: plain("range", "message", "severity"), DiagnosticRelatedInformation: plain("location", "message"),
-  DocumentSymbol: plain("name", "detail", "kind"), DiagnosticSeverity: { Error: 0 },
+  CompletionItem: plain("label", "kind"), DocumentSymbol: plain("name", "detail", "kind"), DiagnosticSeverity: { Error: 0 },
   TextEdit: { replace: (range, text) => ({ range, text }) },
   Uri: { parse: (uri) => uri },
   languages: {
     createDiagnosticCollection: () => ({ set: (uri, list) => told.faults.push(list.map((one) => one.message)), clear() {} }),
-    registerHoverProvider: register("hover"), registerDefinitionProvider: register("definition"),
+    registerCompletionItemProvider: register("words"), registerHoverProvider: register("hover"), registerDefinitionProvider: register("definition"),
     registerReferenceProvider: register("references"), registerRenameProvider: register("rename"),
     registerDocumentSymbolProvider: register("symbols"), registerDocumentFormattingEditProvider: register("format"),
   },
@@ -67,6 +67,7 @@ async function main() {
   const place = { line: 6, character: 7 };
   told.hover = (await registered.hover.provideHover(document, place)).contents.value;
   told.definition = (await registered.definition.provideDefinition(document, place)).range;
+  told.words = (await registered.words.provideCompletionItems(document, place)).map((one) => one.label);
   told.references = (await registered.references.provideReferences(document, place, { includeDeclaration: true })).length;
   told.rename = (await registered.rename.provideRenameEdits(document, place, "OUT")).edits;
   told.refused = await registered.rename.provideRenameEdits(document, place, "end").catch((fault) => fault.message);

@@ -116,6 +116,12 @@ function providers(server) {
         return told && new vscode.Hover(new vscode.MarkdownString(told.contents.value), rangeOf(told.range));
       },
     }),
+    languages.registerCompletionItemProvider(LANGUAGE, {
+      provideCompletionItems: async (document, position) => {
+        const told = await server.ask("textDocument/completion", placeOf(document, position));
+        return told.map((one) => new vscode.CompletionItem(one.label, one.kind - 1));
+      },
+    }),
     languages.registerDefinitionProvider(LANGUAGE, {
       provideDefinition: async (document, position) => {
         const told = await server.ask("textDocument/definition", placeOf(document, position));

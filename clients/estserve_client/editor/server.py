@@ -17,6 +17,7 @@ from ..library_text import LibraryText, join_texts
 from ..programs import program_of
 from ..syntax_tree import parse
 from .checking import Checker
+from .completing import words_at
 from .documents import Documents, Range, lines_of, path_of, place_of, range_at, uri_of, whole_of
 from .names import Declared, Names, Use
 from .renaming import Edit, edits_of
@@ -25,6 +26,7 @@ from .wire import FAILED, NO_METHOD, WRONG_WORDS, Message, Refused, read_message
 CAPABILITIES = {
     "textDocumentSync": {"openClose": True, "change": 1, "save": False},
     "hoverProvider": True,
+    "completionProvider": {},
     "definitionProvider": True,
     "referencesProvider": True,
     "documentSymbolProvider": True,
@@ -57,6 +59,7 @@ class EditorServer:
             "initialize": self.initialize,
             "shutdown": self.shutdown,
             "textDocument/hover": self.hover,
+            "textDocument/completion": self.complete,
             "textDocument/definition": self.definition,
             "textDocument/references": self.references,
             "textDocument/documentSymbol": self.symbols,
@@ -263,6 +266,13 @@ class EditorServer:
         told = told_of(found.library, found.names, found.use.declared)
         shown = self.location(mark)["range"]
         return {"contents": {"kind": "markdown", "value": told}, "range": shown}
+
+    def complete(self, words: Message) -> List[Message]:
+        """The words that can stand at a place."""
+        path = path_of(words["textDocument"]["uri"])
+        line, column = place_of(self.lines_of(path), words["position"])
+        found = words_at(self.documents.open.get(path, ""), line, column)
+        return [{"label": word, "kind": kind} for word, kind in found]
 
     def definition(self, words: Message) -> Optional[Message]:
         found = self.found_at(words)
