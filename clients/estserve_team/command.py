@@ -1,17 +1,21 @@
 """The command `team`: the gateway of one team, until it is told to end."""
 import argparse
 import asyncio
+import contextlib
+import functools
 import os
 import pathlib
 import signal
-import socket
-from typing import Any, List, Set
+from typing import Any, List, NoReturn, Set
 
 from estserve_client.connection import find_program
 from estserve_client.policy_file import BadPolicy
+from estserve_client.telling import TELLER
 
 from . import HELP, web
 from .gateway import Gateway
+from .listening import Listener
+from .log import fill_standard_streams, write_now
 from .people import People, read_people
 from .places import Failed, Places, bind_socket
 from .reads.client import add_words
@@ -19,6 +23,7 @@ from .record import place_of
 from .sessions import MOST_SENDS
 from .starting import put_aside
 from .unix_clients import LineClient, TeamClient, WordClient
+from .watchdog import Watchdog, raise_descriptors
 
 
 def add_parser(subparsers: Any) -> None:
@@ -71,10 +76,26 @@ def serve_team(arguments: argparse.Namespace) -> None:
     if arguments.state is None:
         raise Failed("the team's folder is missing: --state DIR")
     people, program = people_of(arguments.people), str(find_program(arguments.program))
+    fill_standard_streams()
+    raise_descriptors()
     with Places(arguments.state, arguments.group) as places:
         if arguments.until is not None:
             tell_aside(places, arguments.until)
-        asyncio.run(run(places, people, program, arguments))
+        watchdog = Watchdog()
+        try:
+            asyncio.run(run(places, people, program, arguments, watchdog))
+        except Exception as fault:  # where no thread can be started, Python's own end fails too
+            watchdog.hurry()
+            end_with(fault)
+        watchdog.stop()
+
+
+def end_with(fault: Exception) -> NoReturn:
+    """Ends the process with status 1, whether or not the fault can be told."""
+    if not isinstance(fault, Failed) and isinstance(fault.__context__, Failed):
+        fault = fault.__context__
+    write_now(2, f"{TELLER.name}: {fault}\n".encode(errors="replace"))
+    os._exit(1)
 
 
 def tell_aside(places: Places, text: str) -> None:
@@ -89,10 +110,17 @@ def tell_aside(places: Places, text: str) -> None:
     print(f"{count} entries are kept aside, from {place} on", flush=True)
 
 
-async def run(places: Places, people: People, program: str, arguments: argparse.Namespace) -> None:
+async def run(
+    places: Places,
+    people: People,
+    program: str,
+    arguments: argparse.Namespace,
+    watchdog: Watchdog,
+) -> None:
     """One gateway, from its start to its end. Raises Failed."""
     loop = asyncio.get_running_loop()
     gateway = Gateway(places, people, program, arguments.most_sends)
+    gateway.watchdog = watchdog
     for orphan in places.orphans:
         gateway.log(f"the process {orphan} of an earlier gateway was ended")
     told_to_end = loop.create_future()
@@ -117,18 +145,13 @@ async def serve(
     gateway: Gateway, told_to_end: "asyncio.Future[None]", arguments: argparse.Namespace
 ) -> None:
     """Takes clients until the gateway is told to end, or has a fault. Raises Failed."""
-    loop = asyncio.get_running_loop()
     clients: Set[LineClient] = set()
     paths = [(gateway.places.team_socket, TeamClient), (gateway.places.gateway_socket, WordClient)]
     servers = []
     try:
         for path, kind in paths:
-            listening = bind_socket(path)
-            servers.append(
-                await loop.create_unix_server(
-                    lambda kind=kind: kind(gateway, clients), sock=listening
-                )
-            )
+            make = functools.partial(kind, gateway, clients)
+            servers.append(Listener(bind_socket(path), make, gateway.log, gateway.reserve))
         running = await web.start(gateway, arguments)
         tell_ready(gateway)
         await asyncio.wait({told_to_end, gateway.finished}, return_when=asyncio.FIRST_COMPLETED)
@@ -137,7 +160,8 @@ async def serve(
     finally:
         for server, (path, _) in zip(servers, paths):
             server.close()
-            path.unlink(missing_ok=True)
+            with contextlib.suppress(OSError):
+                path.unlink()
         if gateway.finished.done():
             gateway.close()
         else:
@@ -151,9 +175,7 @@ async def serve(
 
 def tell_ready(gateway: Gateway) -> None:
     """Tells that clients may come: on standard output, and to systemd where it waits for that."""
-    print(f"ready: {gateway.places.team_socket}", flush=True)
-    path = os.environ.get("NOTIFY_SOCKET")
-    if path:
-        with socket.socket(socket.AF_UNIX, socket.SOCK_DGRAM) as told:
-            told.connect("\0" + path[1:] if path.startswith("@") else path)
-            told.sendall(b"READY=1")
+    with contextlib.suppress(OSError, ValueError):
+        print(f"ready: {gateway.places.team_socket}", flush=True)
+    if gateway.watchdog is not None:
+        gateway.watchdog.tell(b"READY=1")

@@ -4,19 +4,18 @@ asyncio loop.
 What comes from clients goes to the server by `Session.ask`; what comes from the server goes to
 `Order`, which says what may be written and what may go out. Entries that are ready are written
 in one transaction by `_commit`, and answers that may go out then go out in `_release`. Whatever
-goes wrong between server and record ends in `fail`: the server is ended, and begun anew from the
-record.
+goes wrong between server and record ends in `fail`: from there on nothing is answered, the server
+is ended, and begun anew from the record.
 """
 import asyncio
-import sqlite3
-import sys
 import time
 from pathlib import Path
 from typing import Any, Callable, Dict, List, Optional, Set, Tuple
 
-from . import reads, web, words
+from . import moments, reads, web, words
 from .answerer import Answerer
 from .lines import Reader, Request
+from .log import Log, is_out_of_descriptors
 from .order import Asked, Order
 from .people import People, Person
 from .places import Failed, Places
@@ -34,6 +33,7 @@ from .sessions import (
     login_request,
 )
 from .starting import Begun, replace_record, restore_record, start_server
+from .watchdog import Reserve, Watchdog
 
 STARTING, SERVING, BEGINNING, ARCHIVING, STOPPING = (
     "starting",
@@ -89,13 +89,12 @@ class Gateway:
         self._beginning: "Optional[asyncio.Future[None]]" = None
         self._listeners: List[Callable[[List[Entry]], None]] = []
         self._restart_listeners: List[Callable[[], None]] = []
-        self.answerer = Answerer(program, places.children, self.stop_failed)
+        self.log = Log()
+        self.reserve = Reserve()
+        self.answerer = Answerer(program, places.children, self.stop_failed, self.reserve)
+        self.watchdog: Optional[Watchdog] = None  # where the process is the gateway's own
 
     # ---- what others ask
-
-    def log(self, text: str) -> None:
-        """Writes a line on standard error."""
-        print(f"estserve.py team: {text}", file=sys.stderr, flush=True)
 
     def listen(self, callback: Callable[[List[Entry]], None]) -> Callable[[], None]:
         """Calls back with new entries after they were recorded; the answer takes the listener away
@@ -227,6 +226,9 @@ class Gateway:
         try:
             await session.connect(self.places.inner_socket)
         except OSError as fault:
+            if is_out_of_descriptors(fault):
+                self.sessions.pop(session.number, None)
+                raise failed("the gateway has no descriptor left; try again") from None
             self.fail(f"the server takes no connection: {fault}")
         return session
 
@@ -260,6 +262,8 @@ class Gateway:
     def after_answers(self) -> None:
         """Does what answers of the server make possible: entries are written soon, in one
         transaction; other answers go out."""
+        if self._is_lost:
+            return
         if self.order.has_ready:
             self._commit_soon()
         self.release()
@@ -292,12 +296,23 @@ class Gateway:
         )
 
     def _commit(self) -> None:
-        """Writes what is ready, in one transaction, and lets go what waited for it."""
+        """Writes what is ready, in one transaction, and lets go what waited for it. After a fault
+        nothing is written, and nothing goes out."""
         self._is_commit_due = False
+        if self._is_lost:
+            return
         ready, givenup = self.order.take_ready(), self._givenup
         self._givenup = []
-        if not ready and not givenup:
+        try:
+            if ready or givenup:
+                self._write(ready, givenup)
+        except Exception as fault:  # whatever it is, it may or may not be written
+            self.fail(f"the record cannot be written: {fault}")
             return
+        self.release()
+
+    def _write(self, ready: List[Asked], givenup: List[Asked]) -> None:
+        """Writes entries, and connections that are given up. Raises what goes wrong."""
         entries = [
             self._entry_of(asked, self.entries_written + at) for at, asked in enumerate(ready, 1)
         ]
@@ -311,26 +326,31 @@ class Gateway:
             [self.order.version, *(asked.place for asked in ready if asked.request.slot is None)]
         )
         now = time.time()
-        try:
-            self._writer.append(
-                entries,
-                connections,
-                [GivenUp(asked.session.number, version, now) for asked in givenup],
-            )
-        except sqlite3.Error as fault:
-            self.fail(f"the record cannot be written: {fault}", is_record_good=False)
-            return
+        self._writer.append(
+            entries,
+            connections,
+            [GivenUp(asked.session.number, version, now) for asked in givenup],
+        )
         self.entries_written += len(entries)
         self.order.written(ready)
         for asked in givenup:
             asked.session.end()
             asked.done(asked)
-        for listener in self._listeners if entries else ():
-            listener(entries)
-        self.release()
+        for listener in list(self._listeners) if entries else ():
+            self._tell(listener, entries)
+
+    def _tell(self, listener: Callable[..., None], *told: Any) -> None:
+        """Calls a listener, whose fault is its own."""
+        try:
+            listener(*told)
+        except Exception as fault:
+            self.log(f"a listener failed: {fault!r}", "fault")
 
     def release(self) -> None:
-        """Lets the answers go out that may, of each session in its order."""
+        """Lets the answers go out that may, of each session in its order. After a fault none
+        may."""
+        if self._is_lost:
+            return
         may_go = self.order.may_go
         for session in list(self.sessions.values()):
             answered = session.answered
@@ -359,20 +379,34 @@ class Gateway:
     def flush(self) -> None:
         """Has the clients send what may go out."""
         while self.dirty:
-            self.dirty.pop().flush()
+            client = self.dirty.pop()
+            try:
+                client.flush()
+            except Exception as fault:  # it is this client's alone
+                self.log(f"a client could not be answered: {fault!r}", "fault")
+                client.close()
+        moments.reach(moments.RELEASED)
 
     # ---- start, restart, end
 
     async def start(self) -> None:
         """Starts the children, and replays the record. Raises Failed."""
+        asyncio.get_running_loop().set_exception_handler(self._note_exception)
+        self.reserve.fill()
         await self.answerer.start()
         await self._begin()
-        asyncio.ensure_future(self._watch())
+        self._watching = asyncio.ensure_future(self._watch())
+
+    def _note_exception(self, _: Any, context: Dict[str, Any]) -> None:
+        """Tells of an exception that nobody has caught."""
+        fault = context.get("exception")
+        self.log(f"{context.get('message')}: {fault!r}", "fault")
 
     async def _begin(self) -> None:
         """A server that has what the record says, with nobody logged in. Raises Failed."""
         begun = await self._start_server()
         self._is_lost = False
+        self.reserve.fill()
         self._writer, self.order = begun.writer, Order(*begun.extent)
         self.entries_written, connections = begun.writer.last_numbers()
         self._connections = max(self._connections, connections)
@@ -399,36 +433,45 @@ class Gateway:
     def _note_server(self, server: Any) -> None:
         self._server = server
 
-    def fail(self, why: str, is_record_good: bool = True) -> None:
-        """Ends the server, and begins anew from the record: an answer is lost, or an entry can't be
-        written."""
+    def fail(self, why: str) -> None:
+        """Begins anew from the record: an answer is lost, or an entry can't be written.
+
+        The first thing is a mark, after which nothing is answered or recorded. The rest takes no
+        file and no descriptor; where it does not come to its end, the watchdog ends the process."""
         if self.phase not in (SERVING, ARCHIVING, STOPPING) or self._is_lost:
             return
-        self.log(f"{why}; the server is begun anew from the record")
         self._is_lost = True
         if self.phase != STOPPING:
             self.phase = BEGINNING
             self._serving.clear()
+        self._hurry()
+        self.log(f"{why}; the server is begun anew from the record", "fault")
+        self.reserve.release()
         self._server.end()
-        if is_record_good:
-            self._commit()
         self._drop_sessions()
         self._beginning = asyncio.ensure_future(self._begin_anew())
+
+    def _hurry(self) -> None:
+        if self.watchdog is not None:
+            self.watchdog.hurry()
+
+    def _beat(self) -> None:
+        if self.watchdog is not None and not self.finished.done():
+            self.watchdog.beat()
 
     def _drop_sessions(self) -> None:
         """Gives up all sessions: whoever waits for an answer gets none."""
         lost, self._givenup = self._givenup, []
         self.order.take_ready()
-        for asked in lost:
-            asked.lose()
         sessions, self.sessions = list(self.sessions.values()), {}
-        for session in sessions:
-            session.abandon()
+        for drop in [*(asked.lose for asked in lost), *(session.abandon for session in sessions)]:
+            self._tell(drop)
         self._forget_shared()
         self.flush()
 
     async def _begin_anew(self) -> None:
         try:
+            self._beat()
             self._writer.close()
             await self._begin()
         except Exception as fault:  # whatever it is, there is no server
@@ -437,13 +480,17 @@ class Gateway:
         self._tell_restart()
 
     def stop_failed(self, why: str) -> None:
-        """Ends the gateway with a fault."""
+        """Ends the gateway with a fault, in a few seconds."""
+        self._is_lost = True
+        self._hurry()
         if not self.finished.done():
             self.finished.set_exception(Failed(why))
+            self.finished.exception()  # which is told at the end
 
     async def _watch(self) -> None:
         """Sees every second whether the server runs and answers."""
-        while self.phase != STOPPING:
+        while not self._is_closed:
+            self._beat()
             await asyncio.sleep(WATCH_SECONDS)
             if self.phase == SERVING and not self._server.is_running:
                 self.fail("the server has ended")
@@ -475,13 +522,14 @@ class Gateway:
             self.close()
 
     def close(self) -> None:
-        """Ends the children, and closes the record."""
+        """Ends the children, and closes the record. Never raises."""
         self._is_closed = True
-        self.answerer.close()
+        self.reserve.release()
+        self._tell(self.answerer.close)
         if self._server is not None:
-            self._server.end()
+            self._tell(self._server.end)
         if self._writer is not None:
-            self._writer.close()
+            self._tell(self._writer.close)
 
     async def archive(self, build: Callable[[Path, Path, str, Path], None]) -> None:
         """Logs everyone out, has `build` make a new record of the old one, and begins anew from it.
@@ -525,4 +573,4 @@ class Gateway:
 
     def _tell_restart(self) -> None:
         for callback in self._restart_listeners:
-            callback()
+            self._tell(callback)

@@ -11,12 +11,14 @@ import sqlite3
 import time
 from typing import Iterable, Iterator, List, NamedTuple, Optional, Tuple
 
+from . import moments
 from .places import Failed, digest_of
 
 POLICY = -1  # the slot of a policy entry
 OPENING = 4  # entries of the policy that each server begins with
 SLOTS = 16
 FORMAT = "1"
+LOCKED_SECONDS = 1.0  # so long a write waits for another process to end its own
 FETCHED = 500  # rows of one part of the record at a time
 
 SCHEMA = """
@@ -172,7 +174,9 @@ class RecordWriter:
 
     @staticmethod
     def _open(path: pathlib.Path) -> sqlite3.Connection:
-        database = sqlite3.connect(path, isolation_level=None, check_same_thread=False)
+        database = sqlite3.connect(
+            path, isolation_level=None, check_same_thread=False, timeout=LOCKED_SECONDS
+        )
         database.execute("PRAGMA journal_mode=WAL")
         database.execute("PRAGMA synchronous=FULL")
         return database
@@ -225,11 +229,13 @@ class RecordWriter:
                 database.executemany(INSERT_CONNECTION, connections)
             if givenup:
                 database.executemany(INSERT_GIVENUP, givenup)
+            moments.reach(moments.INSERTED)
             database.execute("COMMIT")
         except BaseException:
             if database.in_transaction:
                 database.execute("ROLLBACK")
             raise
+        moments.reach(moments.COMMITTED)
 
     def extent(self) -> Tuple[int, List[int]]:
         """The version of the policy, and how many entries each of the sixteen slots has."""

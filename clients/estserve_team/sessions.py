@@ -7,8 +7,9 @@ import time
 from collections import deque
 from typing import TYPE_CHECKING, Any, Callable, Deque, Dict, List, NamedTuple, Optional, Tuple
 
+from . import moments
 from .lines import Request, cut_lines, request_of
-from .order import Asked, Inconsistent
+from .order import Asked
 from .people import Person
 from .refusals import Refused, id_taken, interrupted, on_shared
 
@@ -99,15 +100,17 @@ class Session(asyncio.Protocol):
             self._lines = []
             self.sends += 1 + len(text) // PIECE
             self._transport.write(text)
+            moments.reach(moments.ASKED)
 
     def data_received(self, data: bytes) -> None:
         if self.is_over:
             return
-        lines, self._held = cut_lines(self._held, data)
         try:
+            lines, self._held = cut_lines(self._held, data)
+            moments.reach(moments.ANSWERED)
             for line in lines:
                 self._take(line)
-        except (ValueError, KeyError, IndexError, TypeError, Inconsistent) as fault:
+        except Exception as fault:  # an answer is lost, whatever the cause is
             self.gateway.fail(f"the server gives an answer that cannot be: {fault!r}")
             return
         self.gateway.after_answers()

@@ -5,7 +5,7 @@ import json
 from collections import deque
 from typing import Any, Deque, Dict, List, Optional
 
-from . import words
+from . import moments, words
 from .gateway import Gateway
 from .lines import LINE_BYTES, Request, cut_lines
 from .order import Asked
@@ -139,6 +139,7 @@ class TeamClient(LineClient):
             self._put(item, TOO_LONG)
             return
         request = self.gateway.reader.understand(line)
+        moments.reach(moments.TAKEN)
         if request is None or (self.session is None and request.cmd != "login"):
             self.gateway.answerer.ask(line, lambda answer: self._put(item, answer))
         elif request.cmd == "login" and not self.person.may_be(request.keys["user"]):

@@ -19,7 +19,7 @@ from estserve_team import reads
 from estserve_team.people import Person
 from estserve_team.reads.policy_model import POLICY_COMMANDS
 from estserve_team.reads.slot_model import SLOT_COMMANDS
-from estserve_team.record import SCHEMA, Entry
+from estserve_team.record import COLUMNS, SCHEMA, Entry
 from estserve_team.sessions import Holder
 from estserve_team.words import Context, act_on
 
@@ -169,7 +169,7 @@ class Desk:
     def reads_entry(self):
         """The newest entry of the record once more, which follows nothing."""
         row = self._database.execute(
-            "SELECT * FROM entries ORDER BY number DESC LIMIT 1"
+            f"SELECT {COLUMNS} FROM entries ORDER BY number DESC LIMIT 1"
         ).fetchone()
         return Entry._make(row)
 
@@ -188,7 +188,7 @@ class Desk:
 
     words = reads.WORDS
 
-    def log(self, text):
+    def log(self, text, kind="gateway"):
         """Keeps a line of the log."""
         self.told.append(text)
 

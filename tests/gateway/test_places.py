@@ -113,7 +113,9 @@ class Children(unittest.TestCase):
                 pass
             orphan, stranger = (start_child(["sleep", "600"]) for _ in range(2))
             listed = {orphan.pid: start_time_of(orphan.pid), stranger.pid: "1"}
-            (state / "private" / "children").write_text(json.dumps(listed))
+            children = state / "private" / "children"
+            of = Places(state).children._of()
+            children.write_text(json.dumps({"of": of, "processes": listed}))
             with Places(state) as places:
                 self.assertEqual(places.orphans, [orphan.pid])
             self.assertEqual(orphan.wait(teams.WAIT_SECONDS), -signal.SIGKILL)
