@@ -6,22 +6,24 @@ import functools
 import os
 import pathlib
 import signal
-from typing import Any, List, NoReturn, Set
+import socket
+from typing import Any, List, NoReturn, Set, Type
 
 from estserve_client.connection import find_program
 from estserve_client.policy_file import BadPolicy
 from estserve_client.telling import TELLER
 
-from . import HELP, web
+from . import HELP, keeping, web
 from .gateway import Gateway
+from .limits import read_limits
 from .listening import Listener
 from .log import fill_standard_streams, write_now
-from .people import People, read_people
+from .people import People, peer_uid, read_people
 from .places import Failed, Places, bind_socket
 from .reads.client import add_words
 from .record import place_of
 from .sessions import MOST_SENDS
-from .starting import put_aside
+from .starting import open_record, put_aside
 from .unix_clients import LineClient, TeamClient, WordClient
 from .watchdog import Watchdog, raise_descriptors
 
@@ -50,15 +52,27 @@ def add_parser(subparsers: Any) -> None:
         metavar="PLACE",
         help="start before this place of the record, policy:17 or 3:45, and keep the rest aside",
     )
+    parser.add_argument(
+        "--accept",
+        action="store_true",
+        help="take the record as it stands, where a start was refused since it was changed",
+    )
+    parser.add_argument(
+        "--limit",
+        action="append",
+        default=[],
+        metavar="NAME=NUMBER",
+        help="set one of the limits of docs/GATEWAY.md",
+    )
     parser.add_argument("--most-sends", type=int, default=MOST_SENDS, help=argparse.SUPPRESS)
     web.add_options(parser)
     parser.set_defaults(act=serve_team)
-    add_words(
-        parser.add_subparsers(
-            metavar="WORD",
-            help="a question to the gateway that runs on DIR; without one, serve the team",
-        )
+    subparsers = parser.add_subparsers(
+        metavar="WORD",
+        help="a question to the gateway that runs on DIR; without one, serve the team",
     )
+    add_words(subparsers)
+    keeping.add_words(subparsers)
 
 
 def people_of(path: pathlib.Path) -> People:
@@ -79,6 +93,8 @@ def serve_team(arguments: argparse.Namespace) -> None:
     fill_standard_streams()
     raise_descriptors()
     with Places(arguments.state, arguments.group) as places:
+        if arguments.accept:
+            open_record(places, program, is_accepted=True).close()
         if arguments.until is not None:
             tell_aside(places, arguments.until)
         watchdog = Watchdog()
@@ -119,7 +135,8 @@ async def run(
 ) -> None:
     """One gateway, from its start to its end. Raises Failed."""
     loop = asyncio.get_running_loop()
-    gateway = Gateway(places, people, program, arguments.most_sends)
+    limits = read_limits(arguments.limit)
+    gateway = Gateway(places, people, program, arguments.most_sends, limits)
     gateway.watchdog = watchdog
     for orphan in places.orphans:
         gateway.log(f"the process {orphan} of an earlier gateway was ended")
@@ -145,12 +162,12 @@ async def serve(
     gateway: Gateway, told_to_end: "asyncio.Future[None]", arguments: argparse.Namespace
 ) -> None:
     """Takes clients until the gateway is told to end, or has a fault. Raises Failed."""
-    clients: Set[LineClient] = set()
+    clients: Set[LineClient] = gateway.clients
     paths = [(gateway.places.team_socket, TeamClient), (gateway.places.gateway_socket, WordClient)]
     servers = []
     try:
         for path, kind in paths:
-            make = functools.partial(kind, gateway, clients)
+            make = functools.partial(admit, kind, gateway)
             servers.append(Listener(bind_socket(path), make, gateway.log, gateway.reserve))
         running = await web.start(gateway, arguments)
         tell_ready(gateway)
@@ -171,6 +188,15 @@ async def serve(
         await asyncio.sleep(0)
     if gateway.finished.done():
         gateway.finished.result()
+
+
+def admit(kind: Type[LineClient], gateway: Gateway, connection: socket.socket) -> LineClient:
+    """The client of a connection that was just made. Raises Refused, where it is one too many."""
+    uid = peer_uid(connection)
+    gateway.accounts.connect(uid)
+    client = kind(gateway, gateway.clients)
+    client.uid = uid
+    return client
 
 
 def tell_ready(gateway: Gateway) -> None:

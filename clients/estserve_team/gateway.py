@@ -14,6 +14,7 @@ from typing import Any, Callable, Dict, List, Optional, Set, Tuple
 
 from . import moments, reads, web, words
 from .answerer import Answerer
+from .limits import Accounts, Limits
 from .lines import Reader, Request
 from .log import Log, is_out_of_descriptors
 from .order import Asked, Order
@@ -60,7 +61,12 @@ class Gateway:
     """One team's gateway."""
 
     def __init__(
-        self, places: Places, people: People, program: str, most_sends: int = MOST_SENDS
+        self,
+        places: Places,
+        people: People,
+        program: str,
+        most_sends: int = MOST_SENDS,
+        limits: Limits = Limits(),
     ) -> None:
         self.places, self.people, self.program, self.most_sends = (
             places,
@@ -90,6 +96,8 @@ class Gateway:
         self._listeners: List[Callable[[List[Entry]], None]] = []
         self._restart_listeners: List[Callable[[], None]] = []
         self.log = Log()
+        self.limits, self.accounts = limits, Accounts(self, limits)
+        self.clients: Set[Any] = set()  # of the Unix sockets
         self.reserve = Reserve()
         self.answerer = Answerer(program, places.children, self.stop_failed, self.reserve)
         self.watchdog: Optional[Watchdog] = None  # where the process is the gateway's own
@@ -218,6 +226,8 @@ class Gateway:
         await self.until_serving()
         if instead is not None:
             self.sessions.pop(instead.number, None)  # which is gone already, if its server was lost
+        else:
+            self.accounts.check_login(person, user, roles, list(self.sessions.values()))
         if len(self.sessions) >= SEATS:
             raise all_taken([[holder.user, holder.person] for holder in self.holders()])
         self._connections += 1
@@ -497,6 +507,8 @@ class Gateway:
             now = time.time()
             if any(session.is_late(now) for session in self.sessions.values()):
                 self.fail("an answer is missing")
+            for client in list(self.clients):
+                self._tell(client.look_after)
 
     async def _log_all_out(self) -> None:
         """Logs out each session, which is recorded, and tells who holds it."""

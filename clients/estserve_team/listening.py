@@ -6,17 +6,11 @@ import socket
 from typing import Any, Callable, Optional
 
 from .log import Log, is_out_of_descriptors
+from .refusals import Refused
 from .watchdog import Reserve
 
 AT_ONCE = 32  # connections that are taken before others have a turn
 PAUSE_SECONDS = 0.25  # after one that could not be taken
-
-Refuse = Callable[[socket.socket], Optional[bytes]]
-
-
-def nobody(connection: socket.socket) -> Optional[bytes]:
-    """Refuses no connection."""
-    return None
 
 
 class Listener:
@@ -25,14 +19,15 @@ class Listener:
     def __init__(
         self,
         listening: socket.socket,
-        make: Callable[[], asyncio.BaseProtocol],
+        make: Callable[[socket.socket], asyncio.BaseProtocol],
         log: Log,
         reserve: Reserve,
-        refuse: Refuse = nobody,
+        told: Callable[[Refused], bytes] = lambda refused: refused.line + b"\n",
     ) -> None:
-        """`refuse` says of a connection what it is told before it is closed; None takes it."""
+        """`make` gives a connection's protocol, or raises Refused: then that is told, as `told`
+        has it, and the connection is closed."""
         self._listening, self._make, self._log = listening, make, log
-        self._reserve, self._refuse = reserve, refuse
+        self._reserve, self._told = reserve, told
         self._loop = asyncio.get_running_loop()
         self._again: Optional[asyncio.TimerHandle] = None
         self._tasks: "set[asyncio.Task[Any]]" = set()
@@ -59,23 +54,26 @@ class Listener:
         """Gives a connection its protocol, or refuses it."""
         connection.setblocking(False)
         try:
-            told = self._refuse(connection)
+            protocol = self._make(connection)
         except OSError:  # it is gone already
-            told = b""
-        if told is None:
-            task = self._loop.create_task(self._connect(connection))
-            self._tasks.add(task)
-            task.add_done_callback(self._tasks.discard)
+            connection.close()
             return
-        with contextlib.suppress(OSError):
-            connection.send(told, socket.MSG_DONTWAIT)
-        connection.close()
+        except Refused as refused:
+            self._log(f"a connection is refused: {refused.fault}", "refused")
+            with contextlib.suppress(OSError):
+                connection.send(self._told(refused), socket.MSG_DONTWAIT)
+            connection.close()
+            return
+        task = self._loop.create_task(self._connect(protocol, connection))
+        self._tasks.add(task)
+        task.add_done_callback(self._tasks.discard)
 
-    async def _connect(self, connection: socket.socket) -> None:
+    async def _connect(self, protocol: Any, connection: socket.socket) -> None:
         try:
-            await self._loop.connect_accepted_socket(self._make, connection)
+            await self._loop.connect_accepted_socket(lambda: protocol, connection)
         except OSError:
             connection.close()
+            protocol.connection_lost(None)
 
     def _wait(self, fault: OSError) -> None:
         """Takes nothing for a while. Where descriptors are missing, the one that waits longest is

@@ -8,6 +8,7 @@
     .../inner.sock      the server's socket
     .../children        the processes that were started, by id and start time
     .../record.sqlite   the record
+    .../head            how far the record has come
     .../records         older records
 """
 import contextlib
@@ -246,6 +247,7 @@ class Places:
         self.gateway_socket = self.state / "gateway.sock"
         self.inner_socket = self.private / "inner.sock"
         self.record = self.private / "record.sqlite"
+        self.head = self.private / "head"
         self.next_record = self.private / "record-next.sqlite"
         self.old_records = self.private / "records"
         self.children = Children(self.private)

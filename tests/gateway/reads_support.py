@@ -24,7 +24,7 @@ from estserve_team.sessions import Holder
 from estserve_team.words import Context, act_on
 
 __all__ = ["ABRO", "Desk", "ROOT", "load_module", "program_file"]
-INSERT = f"INSERT INTO entries VALUES ({', '.join('?' * len(Entry._fields))})"
+INSERT = f"INSERT INTO entries VALUES ({', '.join('?' * len(Entry._fields))}, x'')"
 ABRO = (ROOT / "examples" / "abro" / "abro.strl").read_text()
 
 

@@ -284,7 +284,7 @@ class ServerLost(InProcess):
         async def work(gateway):
             session = await gateway.open_session(ROOT, "root", [])
             gateway.fail("the test has it so")
-            await asyncio.gather(*(gateway.open_session(ROOT, "root", []) for _ in range(16)))
+            await asyncio.gather(*(gateway.open_session(ROOT, "root", ["root"]) for _ in range(16)))
             with self.assertRaises(Refused) as held:
                 await gateway.open_session(ROOT, "root", [], session)
             self.assertEqual(held.exception.code, 1002)

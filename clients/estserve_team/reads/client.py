@@ -26,6 +26,7 @@ SENTENCES = {
     "NotAllowed": "{why}",
     "NeedsLogin": "this needs a login: --as USER, and --role ROLE for each role",
     "Failed": "{why}",
+    "TooMany": "{what}: at most {most} may be had here now",
     "NoHttp": "the gateway serves no page: start it with --http",
 }
 
