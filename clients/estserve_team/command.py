@@ -7,13 +7,14 @@ import os
 import pathlib
 import signal
 import socket
-from typing import Any, List, NoReturn, Set, Type
+from typing import Any, Callable, List, NoReturn, Set
 
 from estserve_client.connection import find_program
 from estserve_client.policy_file import BadPolicy
 from estserve_client.telling import TELLER
 
 from . import HELP, keeping, web
+from .counts import CountsClient
 from .gateway import Gateway
 from .limits import read_limits
 from .listening import Listener
@@ -143,6 +144,8 @@ async def run(
     told_to_end = loop.create_future()
     for number in (signal.SIGTERM, signal.SIGINT):
         loop.add_signal_handler(number, lambda: told_to_end.done() or told_to_end.set_result(None))
+    with contextlib.suppress(ValueError):  # where SIGHUP can't be handled, it ends the process
+        loop.add_signal_handler(signal.SIGHUP, read_people_again, gateway, arguments.people)
     starting = asyncio.ensure_future(gateway.start())
     await asyncio.wait(
         {starting, told_to_end, gateway.finished}, return_when=asyncio.FIRST_COMPLETED
@@ -163,7 +166,11 @@ async def serve(
 ) -> None:
     """Takes clients until the gateway is told to end, or has a fault. Raises Failed."""
     clients: Set[LineClient] = gateway.clients
-    paths = [(gateway.places.team_socket, TeamClient), (gateway.places.gateway_socket, WordClient)]
+    paths = [
+        (gateway.places.team_socket, TeamClient),
+        (gateway.places.gateway_socket, WordClient),
+        (gateway.places.metrics_socket, CountsClient),
+    ]
     servers = []
     try:
         for path, kind in paths:
@@ -190,13 +197,21 @@ async def serve(
         gateway.finished.result()
 
 
-def admit(kind: Type[LineClient], gateway: Gateway, connection: socket.socket) -> LineClient:
+def admit(kind: Callable[..., Any], gateway: Gateway, connection: socket.socket) -> Any:
     """The client of a connection that was just made. Raises Refused, where it is one too many."""
     uid = peer_uid(connection)
     gateway.accounts.connect(uid)
     client = kind(gateway, gateway.clients)
     client.uid = uid
     return client
+
+
+def read_people_again(gateway: Gateway, path: pathlib.Path) -> None:
+    """Takes the file of people as it is now. One that is wrong changes nothing."""
+    try:
+        gateway.follow_people(people_of(path))
+    except Failed as fault:
+        gateway.log(f"the people stay as they were: {fault}", "people")
 
 
 def tell_ready(gateway: Gateway) -> None:

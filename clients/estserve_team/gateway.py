@@ -12,8 +12,9 @@ import time
 from pathlib import Path
 from typing import Any, Callable, Dict, List, Optional, Set, Tuple
 
-from . import moments, reads, web, words
+from . import moments, overseeing, reads, web, words
 from .answerer import Answerer
+from .counts import Counts
 from .limits import Accounts, Limits
 from .lines import Reader, Request
 from .log import Log, is_out_of_descriptors
@@ -77,7 +78,11 @@ class Gateway:
         self.state, self.private, self.record_path = places.state, places.private, places.record
         self.name = self.state.name
         self.reader = Reader()
-        self.words = {**words.WORDS, **reads.WORDS, **web.WORDS}
+        self.words = {**words.WORDS, **reads.WORDS, **web.WORDS, **overseeing.WORDS}
+        self.counts = Counts()
+        self.closed_slots: Set[int] = set()  # of which one session alone has commands under way
+        self._waiting: List[Any] = []  # clients whose next line is for such a slot
+        self._opened = asyncio.Event()
         self.phase = STARTING
         self.sessions: Dict[int, Session] = {}
         self.shared: Dict[Tuple[str, str, Tuple[str, ...]], "asyncio.Future[SharedSession]"] = {}
@@ -91,7 +96,7 @@ class Gateway:
         self._server: Any = None
         self._connections = 0
         self._givenup: List[Asked] = []  # logouts of sessions that had ended
-        self._is_commit_due = self._is_lost = self._is_closed = False
+        self._is_commit_due = self._is_lost = self._is_closed = self._is_held = False
         self._beginning: "Optional[asyncio.Future[None]]" = None
         self._listeners: List[Callable[[List[Entry]], None]] = []
         self._restart_listeners: List[Callable[[], None]] = []
@@ -163,6 +168,61 @@ class Gateway:
         """Forgets the shared sessions that are over. Logins that are under way go on, for all who
         wait for them."""
         self.shared = {key: held for key, held in self.shared.items() if not is_past(held)}
+
+    def follow_people(self, people: People) -> None:
+        """Has other people from now on. Logins that they may no more have are ended."""
+        self.people = people
+        self.log("who may be whom was read anew", "people")
+        for client in list(self.clients):
+            self._tell(client.follow_people)
+        self._tell(web.follow_people, self)
+
+    @property
+    def is_serving(self) -> bool:
+        """Whether commands are carried out now."""
+        return self.phase == SERVING and not self._is_lost
+
+    def note_refusal(self, person: str, user: str, cmd: str, fault: str) -> None:
+        """Notes that a command was refused, and to whom."""
+        self.counts.refused(fault)
+        if self.accounts.may_log_refusal(person):
+            text = f"{cmd} of {user} is refused: {fault}"
+            self.log(text, "refused", person=person, user=user, command=cmd, fault=fault)
+
+    # ---- slots of which one session alone has commands under way
+
+    def wait_for_slot(self, client: Any) -> None:
+        """Has a client go on when slots are open again."""
+        self._waiting.append(client)
+
+    async def until_open(self, slot: Optional[int]) -> None:
+        """Waits until a slot is open."""
+        while slot in self.closed_slots:
+            self._opened.clear()
+            await self._opened.wait()
+
+    def open_slot(self, slot: int) -> None:
+        """Lets others have commands on a slot again."""
+        self.closed_slots.discard(slot)
+        self._opened.set()
+        waiting, self._waiting = self._waiting, []
+        for client in waiting:
+            self._tell(client.go_on)
+
+    def hold_commits(self) -> None:
+        """Has what comes now be written in one transaction with what comes until `let_commit`."""
+        self._is_held = True
+
+    def let_commit(self) -> None:
+        """Writes what was held."""
+        self._is_held = False
+        if self._givenup or self.order.has_ready:
+            self._commit_soon()
+
+    async def until_answered(self, session: Session) -> None:
+        """Waits until the server has answered a session, or it is over."""
+        while session.flight and not session.is_over:
+            await asyncio.sleep(0.001)
 
     # ---- logins
 
@@ -309,7 +369,7 @@ class Gateway:
         """Writes what is ready, in one transaction, and lets go what waited for it. After a fault
         nothing is written, and nothing goes out."""
         self._is_commit_due = False
-        if self._is_lost:
+        if self._is_lost or self._is_held:
             return
         ready, givenup = self.order.take_ready(), self._givenup
         self._givenup = []
@@ -336,11 +396,13 @@ class Gateway:
             [self.order.version, *(asked.place for asked in ready if asked.request.slot is None)]
         )
         now = time.time()
+        began = time.monotonic()
         self._writer.append(
             entries,
             connections,
             [GivenUp(asked.session.number, version, now) for asked in givenup],
         )
+        self.counts.committed(len(entries), time.monotonic() - began, now)
         self.entries_written += len(entries)
         self.order.written(ready)
         for asked in givenup:
@@ -451,6 +513,8 @@ class Gateway:
         if self.phase not in (SERVING, ARCHIVING, STOPPING) or self._is_lost:
             return
         self._is_lost = True
+        self._is_held = False
+        self.counts.restarts += 1
         if self.phase != STOPPING:
             self.phase = BEGINNING
             self._serving.clear()

@@ -94,6 +94,7 @@ class Accounts:
         self._gateway, self.limits = gateway, limits
         self._connections: Dict[int, int] = {}
         self._entries = Hourly(limits.hour_entries)
+        self._refusals = Hourly(limits.refusals_logged)
 
     # ---- connections
 
@@ -117,6 +118,10 @@ class Accounts:
     def connected(self) -> int:
         """How many connections there are."""
         return sum(self._connections.values())
+
+    def may_log_refusal(self, person: str) -> bool:
+        """Whether another refusal of this person is told."""
+        return self._refusals.use(person)
 
     # ---- logins
 

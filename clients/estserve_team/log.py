@@ -46,8 +46,8 @@ class Log:
     def __init__(self, descriptor: int = 2, clock: Callable[[], float] = time.monotonic) -> None:
         self._clock = clock
         self._counts: Dict[str, List[float]] = {}  # of each kind: begin of its span, its lines
-        self.dropped = 0
-        self.lines = 0
+        self.dropped = 0  # lines since the last one that was written
+        self.lost = 0  # and in all
         try:
             self._descriptor = fcntl.fcntl(descriptor, fcntl.F_DUPFD_CLOEXEC, FIRST_FREE)
         except OSError:
@@ -59,7 +59,11 @@ class Log:
             if self._may(kind):
                 self._write(text, kind, fields)
             else:
-                self.dropped += 1
+                self._drop()
+
+    def _drop(self) -> None:
+        self.dropped += 1
+        self.lost += 1
 
     def _may(self, kind: str) -> bool:
         """Whether a line of this kind is not one too many."""
@@ -79,9 +83,8 @@ class Log:
         data = json.dumps(line, separators=(",", ":"), sort_keys=True).encode()
         if write_now(self._descriptor, data[: LINE_BYTES - 1] + b"\n"):
             self.dropped = 0
-            self.lines += 1
         else:
-            self.dropped += 1
+            self._drop()
 
     def close(self) -> None:
         """Gives the descriptor back."""

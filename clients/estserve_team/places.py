@@ -3,6 +3,7 @@
     DIR                 0750, of the team's group
     DIR/team.sock       0660: the program's lines
     DIR/gateway.sock    0660: the gateway's own words
+    DIR/metrics.sock    0660: counts for an operator
     DIR/private         0700: what follows
     .../lock            held while a gateway runs
     .../inner.sock      the server's socket
@@ -245,6 +246,7 @@ class Places:
         self.private = self.state / "private"
         self.team_socket = self.state / "team.sock"
         self.gateway_socket = self.state / "gateway.sock"
+        self.metrics_socket = self.state / "metrics.sock"
         self.inner_socket = self.private / "inner.sock"
         self.record = self.private / "record.sqlite"
         self.head = self.private / "head"

@@ -132,6 +132,8 @@ class Session(asyncio.Protocol):
         """Notes what an answer changes in this session."""
         cmd, keys = asked.request.cmd, asked.request.keys
         if "ok" not in asked.fields:
+            fault = str(asked.fields.get("fault"))
+            self.gateway.note_refusal(self.person.name, self.user, cmd, fault)
             return
         if cmd == "login":
             self.session = asked.fields["session"]
@@ -280,9 +282,14 @@ class SharedSession:
         async with self._room:
             if self._session.is_worn:
                 await self._renew()
-            if self._session.is_over:
-                raise interrupted()
-            return await ask_later(self._session, request, request_id)
+            await self._gateway.until_open(request.slot)
+            return await ask_later(self.own_session(), request, request_id)
+
+    def own_session(self) -> Session:
+        """The session that is shared. Raises Refused, where it is over."""
+        if self._session.is_over:
+            raise interrupted()
+        return self._session
 
     async def _renew(self) -> None:
         """Changes the connection, once for all who wait."""

@@ -138,6 +138,24 @@ class LineClient(asyncio.Protocol):
             self.gateway.accounts.disconnect(uid)
         self.leave()
 
+    def follow_people(self) -> None:
+        """Takes the person anew, after who may be whom was changed; a login that this person may no
+        more have is ended."""
+        if self.uid is not None and not self.is_gone:
+            try:
+                self.person = self.gateway.people.of_uid(self.uid)
+            except Refused:
+                self.close()
+                return
+            user = self.held_user()
+            if user is not None and not self.person.may_be(user):
+                self.close()
+
+    def held_user(self) -> Optional[str]:
+        """The user of the login that is held, if one is."""
+        session = getattr(self, "session", None)
+        return None if session is None or session.is_over else session.user
+
     def close(self) -> None:
         """Ends the connection, once what was written is sent."""
         if not self.is_gone:
@@ -194,17 +212,34 @@ class TeamClient(LineClient):
         if request is None or (self.session is None and request.cmd != "login"):
             self.gateway.answerer.ask(line, lambda answer: self._put(item, answer))
         elif request.cmd == "login" and not self.person.may_be(request.keys["user"]):
-            self._put(item, not_you(request.keys["user"]).line)
+            user = request.keys["user"]
+            self.gateway.note_refusal(self.person.name, user, "login", "NotYou")
+            self._put(item, not_you(user).line)
         elif self.session is None:
             self._begin(self._log_in(request, item))
         elif self.session.is_worn and request.cmd != "logout":
             self._begin(self._renew(line))
             self.under_way -= self.items.pop().size
+        elif request.slot in self.gateway.closed_slots:
+            self._is_busy = True
+            self._put_back(line)
+            self.gateway.wait_for_slot(self)
         elif request.cmd in CHANGES_OF_ROLES and self._is_refused(item):
             return
         else:
             self._is_busy = request.cmd == "logout"
             self.session.ask(Asked(request, self.session, self._have, item))
+
+    def _put_back(self, line: bytes) -> None:
+        """Has a line wait on, which was taken last."""
+        self.under_way -= self.items.pop().size
+        self.lines.appendleft(line)
+        self.waiting += len(line)
+
+    def go_on(self) -> None:
+        """Takes the line again for which it had to wait."""
+        self._is_busy = False
+        self.pump()
 
     def _is_refused(self, item: Item) -> bool:
         """Whether this person has changed roles too often; then that is the answer."""

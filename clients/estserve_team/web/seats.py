@@ -8,7 +8,7 @@ import contextlib
 import secrets
 import time
 import weakref
-from typing import Any, Dict, Optional, Tuple
+from typing import Any, Dict, List, Optional, Tuple
 
 from ..limits import Limits
 from ..refusals import Refused
@@ -115,6 +115,10 @@ class Seats:
         task = asyncio.get_running_loop().create_task(seat.leave())
         self._leaving.add(task)
         task.add_done_callback(self._leaving.discard)
+
+    def all(self) -> List[Seat]:
+        """All seats."""
+        return list(self._seats.values())
 
     def drop_visit(self, cookie: str) -> None:
         """Gives up all seats of a visit."""

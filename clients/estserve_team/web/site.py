@@ -8,9 +8,11 @@ from typing import Any, Awaitable, Callable, Dict, List, Optional
 
 from aiohttp import web
 
+from ..counts import health
 from ..lines import LONGEST_NUMBER
 from ..listening import Listener
 from ..people import Person
+from ..reads.who import time_text
 from ..refusals import Refused
 from ..words import Context
 from . import asking
@@ -32,6 +34,7 @@ KINDS = {
 BACKLOG = 128
 LINK_BYTES = 4_096  # of a request with a link
 LINGER_SECONDS = 2.0  # for the rest of a body that was refused
+NAME_LETTERS = 12  # of a visit's name
 LOOK_SECONDS = 1.0  # after which it is seen again which connections take too long
 BODY_BYTES = 512 * 1024  # a line of 65,536 bytes may take six times as many in a page's JSON
 AWAY = (1004, 1005)  # refusals after which the same request may be sent again
@@ -177,6 +180,39 @@ class Site:
         """A link for this person, which can be used once."""
         return f"{self.address}#link={self._links.make(person.name)}"
 
+    def visits_of(self, person: Optional[str]) -> List[Dict[str, Any]]:
+        """The visits of a person, or of all: a name, the person, and when each was used last."""
+        return [
+            {"person": one.person, "used": time_text(one.used), "visit": one.cookie[:NAME_LETTERS]}
+            for one in self._visits.all()
+            if person in (None, one.person)
+        ]
+
+    def end_visits(self, person: Optional[str], name: Optional[str]) -> int:
+        """Ends the visits of a person, or of all, or the one of this name. Answers how many."""
+        ended = [
+            one
+            for one in self._visits.all()
+            if person in (None, one.person) and name in (None, one.cookie[:NAME_LETTERS])
+        ]
+        for visit in ended:
+            self._seats.drop_visit(visit.cookie)
+            self._visits.end(visit)
+        self._wake_all()
+        return len(ended)
+
+    def follow_people(self) -> None:
+        """Ends the seats whose login their person may no more have."""
+        for seat in self._seats.all():
+            try:
+                person = self._person(seat.context.person.name)
+                is_allowed = person.may_be(seat.share.user)
+            except web.HTTPException:
+                is_allowed = False
+            if not is_allowed:
+                self._seats.drop(seat)
+        self._wake_all()
+
     def _note(self, entries: List[Any]) -> None:
         self._changes.count += sum(map(changes_permissions, entries))
         for watcher in self._watchers:
@@ -218,7 +254,10 @@ class Site:
         return web.json_response(told_of, status=503 if refused.code in AWAY else 200)
 
     async def _get(self, request: web.Request) -> web.StreamResponse:
-        """A file of the page, or what the page reads."""
+        """A file of the page, or what the page reads, or whether the gateway is well."""
+        if request.path == "/health":
+            told_of = health(self._gateway)
+            return web.json_response(told_of, status=200 if told_of["ready"] else 503)
         if request.path.startswith("/api/"):
             return await self._read(request, request.path[len("/api/") :])
         if request.path not in self._files:

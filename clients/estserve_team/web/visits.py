@@ -12,7 +12,7 @@ import os
 import pathlib
 import secrets
 import time
-from typing import Callable, Dict, Iterable, NamedTuple, Optional, Tuple
+from typing import Callable, Dict, Iterable, List, NamedTuple, Optional, Tuple
 
 from ..limits import Limits
 
@@ -142,6 +142,10 @@ class Visits:
             self._drop_old()
             self.keep()
         return visit
+
+    def all(self) -> List[Visit]:
+        """All visits."""
+        return list(self._visits.values())
 
     def end(self, visit: Visit) -> None:
         """Ends a visit: its secrets open nothing any more."""
