@@ -5,7 +5,6 @@ The head says how far the record has come. A record that has come further is who
 may have ended between the two; one that has not, or has other hashes, was cut, changed or exchanged.
 """
 import hashlib
-import json
 import os
 import pathlib
 from typing import Any, List, NamedTuple, Optional, Sequence, Tuple
@@ -31,14 +30,9 @@ def first_hash(record: str) -> bytes:
 
 
 def hash_of(before: bytes, row: Sequence[Any]) -> bytes:
-    """The hash of a row after the hash before it. Each field stands with its length, so that no
-    two rows are the same bytes."""
-    parts = [before]
-    for field in row:
-        text = field if type(field) is bytes else b"" if field is None else str(field).encode()
-        parts.append(b"%d%c" % (len(text), b"-"[0] if field is None else b":"[0]))
-        parts.append(text)
-    return hashlib.sha256(b"".join(parts)).digest()
+    """The hash of a row after the hash before it. Each field stands as Python writes it, in ASCII,
+    so that no two rows are the same bytes."""
+    return hashlib.sha256(before + ascii(tuple(row)).encode()).digest()
 
 
 class Tip(NamedTuple):
@@ -63,9 +57,12 @@ def new_tip(record: str, rest: Tuple[str, ...] = ()) -> Tip:
 
 def slot_of(tip: Tip) -> bytes:
     """A tip as one place of the head has it."""
-    text = json.dumps(tip._asdict(), separators=(",", ":"), sort_keys=True)
-    line = f"{hashlib.sha256(text.encode()).hexdigest()[:16]} {text}"
-    return line.ljust(SLOT_BYTES - 1).encode() + b"\n"
+    text = (
+        f"{tip.serial} {tip.record} {tip.entries} {tip.entry_hash} {tip.givenup} "
+        f"{tip.givenup_hash} {','.join(tip.rest)}"
+    ).encode()
+    line = hashlib.sha256(text).hexdigest()[:16].encode() + b" " + text
+    return line.ljust(SLOT_BYTES - 1) + b"\n"
 
 
 def tip_of(slot: bytes) -> Optional[Tip]:
@@ -74,9 +71,12 @@ def tip_of(slot: bytes) -> Optional[Tip]:
         check, _, text = slot.decode().strip().partition(" ")
         if hashlib.sha256(text.encode()).hexdigest()[:16] != check:
             return None
-        read = json.loads(text)
-        return Tip(**{**read, "rest": tuple(read["rest"])})
-    except (ValueError, TypeError, KeyError):
+        serial, record, entries, entry_hash, givenup, givenup_hash, *rest = text.split(" ")
+        known = tuple("".join(rest).split(",")) if rest else ()
+        return Tip(
+            record, int(entries), entry_hash, int(givenup), givenup_hash, known, int(serial)
+        )
+    except ValueError:
         return None
 
 

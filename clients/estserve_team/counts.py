@@ -1,6 +1,7 @@
 """What an operator sees: counts of what the gateway did, in Prometheus' text form, and whether it is
 well."""
 import asyncio
+import bisect
 import collections
 from typing import TYPE_CHECKING, Any, Counter, Dict, Iterator, List, Tuple
 
@@ -29,8 +30,7 @@ class Counts:
         self.entries += entries
         self.commit_seconds += seconds
         self.last_commit = now
-        at = next((at for at, most in enumerate(BUCKETS) if seconds <= most), len(BUCKETS))
-        self.commits[at] += 1
+        self.commits[bisect.bisect_left(BUCKETS, seconds)] += 1
 
     def refused(self, fault: str) -> None:
         """A command was refused."""
