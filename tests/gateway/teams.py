@@ -205,12 +205,25 @@ class Team:
             lambda: next(
                 (
                     process
-                    for process in processes_of(self.state)
+                    for process in children_of(self.process.pid)
                     if b"serve\0--socket" in command_of(process)
                 ),
                 None,
             )
         )
+
+
+def children_of(process):
+    """The children of a process, by id."""
+    found = []
+    for path in pathlib.Path("/proc").glob("[0-9]*/stat"):
+        try:
+            fields = path.read_text(errors="replace").rpartition(")")[2].split()
+        except OSError:
+            continue
+        if fields[0] not in "ZX" and int(fields[1]) == process:
+            found.append(int(path.parent.name))
+    return found
 
 
 def command_of(process):
