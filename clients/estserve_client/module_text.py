@@ -13,6 +13,8 @@ if TYPE_CHECKING:
     from typing import Dict, List, Optional, Tuple
 
 TOKEN = re.compile(r"%\{.*?\}%|%[^\n]*|\s+|[A-Za-z][A-Za-z0-9_]*|\|\||=>|.", re.DOTALL)
+OPEN_TOKEN = re.compile(TOKEN.pattern.partition("|")[2], re.DOTALL)  # no comment is closed any more
+CLOSE = "}%"
 KEPT = re.compile(r"[^\s%]")
 KINDS = {"input": "input", "output": "output", "inputoutput": "inout"}  # of what each word declares
 OFFERED = ("input", "inout")  # the kinds of signals that can be offered
@@ -47,15 +49,21 @@ class Module:
 
 def tokens_of(text: str) -> List[str]:
     """The tokens of a text, without blanks and comments."""
-    return [token for token in TOKEN.findall(text) if KEPT.match(token)]
+    closed = text.rfind(CLOSE) + len(CLOSE) if CLOSE in text else 0
+    tokens, at = [], 0
+    while at < closed:  # so that no search for the end of a comment comes to the end of the text
+        match = TOKEN.match(text, at)
+        tokens.append(match[0])
+        at = match.end()
+    return [token for token in [*tokens, *OPEN_TOKEN.findall(text, at)] if KEPT.match(token)]
 
 
-def parts_of(tokens: List[str], at: int) -> Tuple[List[List[str]], int]:
+def parts_of(tokens: List[str], at: int, end: int) -> Tuple[List[List[str]], int]:
     """The comma parts of a declaration that begins here, each a list of tokens, and the place after
-    its semicolon.
+    its semicolon; the module ends before `end`.
     """
     parts: List[List[str]] = [[]]
-    while at < len(tokens) and tokens[at] != ";":
+    while at < end and tokens[at] != ";":
         if tokens[at] == ",":
             parts.append([])
         else:
@@ -69,9 +77,9 @@ def read_module(tokens: List[str], at: int, end: int) -> Module:
     runs = [name for word, name in zip(tokens[at:end], tokens[at + 1 : end]) if word == "run"]
     module = Module(tokens[at], [], [], runs)
     at += 2
-    while at < len(tokens) and tokens[at] in (*KINDS, "relation"):
+    while at < end and tokens[at] in (*KINDS, "relation"):
         word = tokens[at]
-        parts, at = parts_of(tokens, at + 1)
+        parts, at = parts_of(tokens, at + 1, end)
         if word == "relation":
             module.relations += [" ".join(part) for part in parts]
         else:

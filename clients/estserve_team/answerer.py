@@ -13,9 +13,11 @@ from typing import Any, Callable, Deque, List, Optional, Tuple
 from .lines import cut_lines
 from .places import Children
 from .refusals import not_understood
+from .watchdog import Reserve
 
 MOST_SENDS = 900_000
 PIECE = 4_096
+DESCRIPTORS = 8  # that a start takes, at most
 MOST_FAULTS = 3  # this many ends in turn without an answer are a fault of the program
 
 Done = Callable[[bytes], None]
@@ -53,9 +55,12 @@ class Pipe(asyncio.Protocol):
 class Answerer:
     """One child after the other, and the lines that are asked."""
 
-    def __init__(self, program: str, children: Children, fail: Callable[[str], None]) -> None:
+    def __init__(
+        self, program: str, children: Children, fail: Callable[[str], None], reserve: Reserve
+    ) -> None:
         """`fail` is called with what is wrong, where no line can be answered any more."""
         self._program, self._children, self._fail = program, children, fail
+        self._reserve = reserve
         self._asked: Deque[Tuple[bytes, Done]] = deque()
         self._lines: List[bytes] = []
         self._faults = 0
@@ -113,10 +118,12 @@ class Answerer:
         asyncio.ensure_future(self._restart())
 
     async def _restart(self) -> None:
+        self._reserve.release(DESCRIPTORS)
         try:
             await self.start()
         except Exception as fault:  # whatever it is, no line can be answered any more
             self._fail(f"the second child cannot be started: {fault}")
+        self._reserve.fill()
 
     def close(self) -> None:
         """Ends the child."""

@@ -1,24 +1,32 @@
 """The command `team`: the gateway of one team, until it is told to end."""
 import argparse
 import asyncio
+import contextlib
+import functools
 import os
 import pathlib
 import signal
 import socket
-from typing import Any, List, Set
+from typing import Any, Callable, List, NoReturn, Set
 
 from estserve_client.connection import find_program
 from estserve_client.policy_file import BadPolicy
+from estserve_client.telling import TELLER
 
-from . import HELP, web
+from . import HELP, keeping, web
+from .counts import CountsClient
 from .gateway import Gateway
-from .people import People, read_people
+from .limits import read_limits
+from .listening import Listener
+from .log import fill_standard_streams, write_now
+from .people import People, peer_uid, read_people
 from .places import Failed, Places, bind_socket
 from .reads.client import add_words
 from .record import place_of
 from .sessions import MOST_SENDS
-from .starting import put_aside
+from .starting import open_record, put_aside
 from .unix_clients import LineClient, TeamClient, WordClient
+from .watchdog import Watchdog, raise_descriptors
 
 
 def add_parser(subparsers: Any) -> None:
@@ -45,15 +53,27 @@ def add_parser(subparsers: Any) -> None:
         metavar="PLACE",
         help="start before this place of the record, policy:17 or 3:45, and keep the rest aside",
     )
+    parser.add_argument(
+        "--accept",
+        action="store_true",
+        help="take the record as it stands, where a start was refused since it was changed",
+    )
+    parser.add_argument(
+        "--limit",
+        action="append",
+        default=[],
+        metavar="NAME=NUMBER",
+        help="set one of the limits of docs/GATEWAY.md",
+    )
     parser.add_argument("--most-sends", type=int, default=MOST_SENDS, help=argparse.SUPPRESS)
     web.add_options(parser)
     parser.set_defaults(act=serve_team)
-    add_words(
-        parser.add_subparsers(
-            metavar="WORD",
-            help="a question to the gateway that runs on DIR; without one, serve the team",
-        )
+    subparsers = parser.add_subparsers(
+        metavar="WORD",
+        help="a question to the gateway that runs on DIR; without one, serve the team",
     )
+    add_words(subparsers)
+    keeping.add_words(subparsers)
 
 
 def people_of(path: pathlib.Path) -> People:
@@ -71,10 +91,28 @@ def serve_team(arguments: argparse.Namespace) -> None:
     if arguments.state is None:
         raise Failed("the team's folder is missing: --state DIR")
     people, program = people_of(arguments.people), str(find_program(arguments.program))
+    fill_standard_streams()
+    raise_descriptors()
     with Places(arguments.state, arguments.group) as places:
+        if arguments.accept:
+            open_record(places, program, is_accepted=True).close()
         if arguments.until is not None:
             tell_aside(places, arguments.until)
-        asyncio.run(run(places, people, program, arguments))
+        watchdog = Watchdog()
+        try:
+            asyncio.run(run(places, people, program, arguments, watchdog))
+        except Exception as fault:  # where no thread can be started, Python's own end fails too
+            watchdog.hurry()
+            end_with(fault)
+        watchdog.stop()
+
+
+def end_with(fault: Exception) -> NoReturn:
+    """Ends the process with status 1, whether or not the fault can be told."""
+    if not isinstance(fault, Failed) and isinstance(fault.__context__, Failed):
+        fault = fault.__context__
+    write_now(2, f"{TELLER.name}: {fault}\n".encode(errors="replace"))
+    os._exit(1)
 
 
 def tell_aside(places: Places, text: str) -> None:
@@ -89,15 +127,25 @@ def tell_aside(places: Places, text: str) -> None:
     print(f"{count} entries are kept aside, from {place} on", flush=True)
 
 
-async def run(places: Places, people: People, program: str, arguments: argparse.Namespace) -> None:
+async def run(
+    places: Places,
+    people: People,
+    program: str,
+    arguments: argparse.Namespace,
+    watchdog: Watchdog,
+) -> None:
     """One gateway, from its start to its end. Raises Failed."""
     loop = asyncio.get_running_loop()
-    gateway = Gateway(places, people, program, arguments.most_sends)
+    limits = read_limits(arguments.limit)
+    gateway = Gateway(places, people, program, arguments.most_sends, limits)
+    gateway.watchdog = watchdog
     for orphan in places.orphans:
         gateway.log(f"the process {orphan} of an earlier gateway was ended")
     told_to_end = loop.create_future()
     for number in (signal.SIGTERM, signal.SIGINT):
         loop.add_signal_handler(number, lambda: told_to_end.done() or told_to_end.set_result(None))
+    with contextlib.suppress(ValueError):  # where SIGHUP can't be handled, it ends the process
+        loop.add_signal_handler(signal.SIGHUP, read_people_again, gateway, arguments.people)
     starting = asyncio.ensure_future(gateway.start())
     await asyncio.wait(
         {starting, told_to_end, gateway.finished}, return_when=asyncio.FIRST_COMPLETED
@@ -117,18 +165,17 @@ async def serve(
     gateway: Gateway, told_to_end: "asyncio.Future[None]", arguments: argparse.Namespace
 ) -> None:
     """Takes clients until the gateway is told to end, or has a fault. Raises Failed."""
-    loop = asyncio.get_running_loop()
-    clients: Set[LineClient] = set()
-    paths = [(gateway.places.team_socket, TeamClient), (gateway.places.gateway_socket, WordClient)]
+    clients: Set[LineClient] = gateway.clients
+    paths = [
+        (gateway.places.team_socket, TeamClient),
+        (gateway.places.gateway_socket, WordClient),
+        (gateway.places.metrics_socket, CountsClient),
+    ]
     servers = []
     try:
         for path, kind in paths:
-            listening = bind_socket(path)
-            servers.append(
-                await loop.create_unix_server(
-                    lambda kind=kind: kind(gateway, clients), sock=listening
-                )
-            )
+            make = functools.partial(admit, kind, gateway)
+            servers.append(Listener(bind_socket(path), make, gateway.log, gateway.reserve))
         running = await web.start(gateway, arguments)
         tell_ready(gateway)
         await asyncio.wait({told_to_end, gateway.finished}, return_when=asyncio.FIRST_COMPLETED)
@@ -137,7 +184,8 @@ async def serve(
     finally:
         for server, (path, _) in zip(servers, paths):
             server.close()
-            path.unlink(missing_ok=True)
+            with contextlib.suppress(OSError):
+                path.unlink()
         if gateway.finished.done():
             gateway.close()
         else:
@@ -149,11 +197,26 @@ async def serve(
         gateway.finished.result()
 
 
+def admit(kind: Callable[..., Any], gateway: Gateway, connection: socket.socket) -> Any:
+    """The client of a connection that was just made. Raises Refused, where it is one too many."""
+    uid = peer_uid(connection)
+    gateway.accounts.connect(uid)
+    client = kind(gateway, gateway.clients)
+    client.uid = uid
+    return client
+
+
+def read_people_again(gateway: Gateway, path: pathlib.Path) -> None:
+    """Takes the file of people as it is now. One that is wrong changes nothing."""
+    try:
+        gateway.follow_people(people_of(path))
+    except Failed as fault:
+        gateway.log(f"the people stay as they were: {fault}", "people")
+
+
 def tell_ready(gateway: Gateway) -> None:
     """Tells that clients may come: on standard output, and to systemd where it waits for that."""
-    print(f"ready: {gateway.places.team_socket}", flush=True)
-    path = os.environ.get("NOTIFY_SOCKET")
-    if path:
-        with socket.socket(socket.AF_UNIX, socket.SOCK_DGRAM) as told:
-            told.connect("\0" + path[1:] if path.startswith("@") else path)
-            told.sendall(b"READY=1")
+    with contextlib.suppress(OSError, ValueError):
+        print(f"ready: {gateway.places.team_socket}", flush=True)
+    if gateway.watchdog is not None:
+        gateway.watchdog.tell(b"READY=1")

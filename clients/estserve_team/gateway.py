@@ -4,19 +4,20 @@ asyncio loop.
 What comes from clients goes to the server by `Session.ask`; what comes from the server goes to
 `Order`, which says what may be written and what may go out. Entries that are ready are written
 in one transaction by `_commit`, and answers that may go out then go out in `_release`. Whatever
-goes wrong between server and record ends in `fail`: the server is ended, and begun anew from the
-record.
+goes wrong between server and record ends in `fail`: from there on nothing is answered, the server
+is ended, and begun anew from the record.
 """
 import asyncio
-import sqlite3
-import sys
 import time
 from pathlib import Path
 from typing import Any, Callable, Dict, List, Optional, Set, Tuple
 
-from . import reads, web, words
+from . import moments, overseeing, reads, web, words
 from .answerer import Answerer
+from .counts import Counts
+from .limits import Accounts, Limits
 from .lines import Reader, Request
+from .log import Log, is_out_of_descriptors
 from .order import Asked, Order
 from .people import People, Person
 from .places import Failed, Places
@@ -34,6 +35,7 @@ from .sessions import (
     login_request,
 )
 from .starting import Begun, replace_record, restore_record, start_server
+from .watchdog import Reserve, Watchdog
 
 STARTING, SERVING, BEGINNING, ARCHIVING, STOPPING = (
     "starting",
@@ -60,7 +62,12 @@ class Gateway:
     """One team's gateway."""
 
     def __init__(
-        self, places: Places, people: People, program: str, most_sends: int = MOST_SENDS
+        self,
+        places: Places,
+        people: People,
+        program: str,
+        most_sends: int = MOST_SENDS,
+        limits: Limits = Limits(),
     ) -> None:
         self.places, self.people, self.program, self.most_sends = (
             places,
@@ -71,7 +78,11 @@ class Gateway:
         self.state, self.private, self.record_path = places.state, places.private, places.record
         self.name = self.state.name
         self.reader = Reader()
-        self.words = {**words.WORDS, **reads.WORDS, **web.WORDS}
+        self.words = {**words.WORDS, **reads.WORDS, **web.WORDS, **overseeing.WORDS}
+        self.counts = Counts()
+        self.closed_slots: Set[int] = set()  # of which one session alone has commands under way
+        self._waiting: List[Any] = []  # clients whose next line is for such a slot
+        self._opened = asyncio.Event()
         self.phase = STARTING
         self.sessions: Dict[int, Session] = {}
         self.shared: Dict[Tuple[str, str, Tuple[str, ...]], "asyncio.Future[SharedSession]"] = {}
@@ -85,17 +96,18 @@ class Gateway:
         self._server: Any = None
         self._connections = 0
         self._givenup: List[Asked] = []  # logouts of sessions that had ended
-        self._is_commit_due = self._is_lost = self._is_closed = False
+        self._is_commit_due = self._is_lost = self._is_closed = self._is_held = False
         self._beginning: "Optional[asyncio.Future[None]]" = None
         self._listeners: List[Callable[[List[Entry]], None]] = []
         self._restart_listeners: List[Callable[[], None]] = []
-        self.answerer = Answerer(program, places.children, self.stop_failed)
+        self.log = Log()
+        self.limits, self.accounts = limits, Accounts(self, limits)
+        self.clients: Set[Any] = set()  # of the Unix sockets
+        self.reserve = Reserve()
+        self.answerer = Answerer(program, places.children, self.stop_failed, self.reserve)
+        self.watchdog: Optional[Watchdog] = None  # where the process is the gateway's own
 
     # ---- what others ask
-
-    def log(self, text: str) -> None:
-        """Writes a line on standard error."""
-        print(f"estserve.py team: {text}", file=sys.stderr, flush=True)
 
     def listen(self, callback: Callable[[List[Entry]], None]) -> Callable[[], None]:
         """Calls back with new entries after they were recorded; the answer takes the listener away
@@ -156,6 +168,61 @@ class Gateway:
         """Forgets the shared sessions that are over. Logins that are under way go on, for all who
         wait for them."""
         self.shared = {key: held for key, held in self.shared.items() if not is_past(held)}
+
+    def follow_people(self, people: People) -> None:
+        """Has other people from now on. Logins that they may no more have are ended."""
+        self.people = people
+        self.log("who may be whom was read anew", "people")
+        for client in list(self.clients):
+            self._tell(client.follow_people)
+        self._tell(web.follow_people, self)
+
+    @property
+    def is_serving(self) -> bool:
+        """Whether commands are carried out now."""
+        return self.phase == SERVING and not self._is_lost
+
+    def note_refusal(self, person: str, user: str, cmd: str, fault: str) -> None:
+        """Notes that a command was refused, and to whom."""
+        self.counts.refused(fault)
+        if self.accounts.may_log_refusal(person):
+            text = f"{cmd} of {user} is refused: {fault}"
+            self.log(text, "refused", person=person, user=user, command=cmd, fault=fault)
+
+    # ---- slots of which one session alone has commands under way
+
+    def wait_for_slot(self, client: Any) -> None:
+        """Has a client go on when slots are open again."""
+        self._waiting.append(client)
+
+    async def until_open(self, slot: Optional[int]) -> None:
+        """Waits until a slot is open."""
+        while slot in self.closed_slots:
+            self._opened.clear()
+            await self._opened.wait()
+
+    def open_slot(self, slot: int) -> None:
+        """Lets others have commands on a slot again."""
+        self.closed_slots.discard(slot)
+        self._opened.set()
+        waiting, self._waiting = self._waiting, []
+        for client in waiting:
+            self._tell(client.go_on)
+
+    def hold_commits(self) -> None:
+        """Has what comes now be written in one transaction with what comes until `let_commit`."""
+        self._is_held = True
+
+    def let_commit(self) -> None:
+        """Writes what was held."""
+        self._is_held = False
+        if self._givenup or self.order.has_ready:
+            self._commit_soon()
+
+    async def until_answered(self, session: Session) -> None:
+        """Waits until the server has answered a session, or it is over."""
+        while session.flight and not session.is_over:
+            await asyncio.sleep(0.001)
 
     # ---- logins
 
@@ -219,6 +286,8 @@ class Gateway:
         await self.until_serving()
         if instead is not None:
             self.sessions.pop(instead.number, None)  # which is gone already, if its server was lost
+        else:
+            self.accounts.check_login(person, user, roles, list(self.sessions.values()))
         if len(self.sessions) >= SEATS:
             raise all_taken([[holder.user, holder.person] for holder in self.holders()])
         self._connections += 1
@@ -227,6 +296,9 @@ class Gateway:
         try:
             await session.connect(self.places.inner_socket)
         except OSError as fault:
+            if is_out_of_descriptors(fault):
+                self.sessions.pop(session.number, None)
+                raise failed("the gateway has no descriptor left; try again") from None
             self.fail(f"the server takes no connection: {fault}")
         return session
 
@@ -260,6 +332,8 @@ class Gateway:
     def after_answers(self) -> None:
         """Does what answers of the server make possible: entries are written soon, in one
         transaction; other answers go out."""
+        if self._is_lost:
+            return
         if self.order.has_ready:
             self._commit_soon()
         self.release()
@@ -292,12 +366,23 @@ class Gateway:
         )
 
     def _commit(self) -> None:
-        """Writes what is ready, in one transaction, and lets go what waited for it."""
+        """Writes what is ready, in one transaction, and lets go what waited for it. After a fault
+        nothing is written, and nothing goes out."""
         self._is_commit_due = False
+        if self._is_lost or self._is_held:
+            return
         ready, givenup = self.order.take_ready(), self._givenup
         self._givenup = []
-        if not ready and not givenup:
+        try:
+            if ready or givenup:
+                self._write(ready, givenup)
+        except Exception as fault:  # whatever it is, it may or may not be written
+            self.fail(f"the record cannot be written: {fault}")
             return
+        self.release()
+
+    def _write(self, ready: List[Asked], givenup: List[Asked]) -> None:
+        """Writes entries, and connections that are given up. Raises what goes wrong."""
         entries = [
             self._entry_of(asked, self.entries_written + at) for at, asked in enumerate(ready, 1)
         ]
@@ -311,26 +396,33 @@ class Gateway:
             [self.order.version, *(asked.place for asked in ready if asked.request.slot is None)]
         )
         now = time.time()
-        try:
-            self._writer.append(
-                entries,
-                connections,
-                [GivenUp(asked.session.number, version, now) for asked in givenup],
-            )
-        except sqlite3.Error as fault:
-            self.fail(f"the record cannot be written: {fault}", is_record_good=False)
-            return
+        began = time.monotonic()
+        self._writer.append(
+            entries,
+            connections,
+            [GivenUp(asked.session.number, version, now) for asked in givenup],
+        )
+        self.counts.committed(len(entries), time.monotonic() - began, now)
         self.entries_written += len(entries)
         self.order.written(ready)
         for asked in givenup:
             asked.session.end()
             asked.done(asked)
-        for listener in self._listeners if entries else ():
-            listener(entries)
-        self.release()
+        for listener in list(self._listeners) if entries else ():
+            self._tell(listener, entries)
+
+    def _tell(self, listener: Callable[..., None], *told: Any) -> None:
+        """Calls a listener, whose fault is its own."""
+        try:
+            listener(*told)
+        except Exception as fault:
+            self.log(f"a listener failed: {fault!r}", "fault")
 
     def release(self) -> None:
-        """Lets the answers go out that may, of each session in its order."""
+        """Lets the answers go out that may, of each session in its order. After a fault none
+        may."""
+        if self._is_lost:
+            return
         may_go = self.order.may_go
         for session in list(self.sessions.values()):
             answered = session.answered
@@ -359,20 +451,34 @@ class Gateway:
     def flush(self) -> None:
         """Has the clients send what may go out."""
         while self.dirty:
-            self.dirty.pop().flush()
+            client = self.dirty.pop()
+            try:
+                client.flush()
+            except Exception as fault:  # it is this client's alone
+                self.log(f"a client could not be answered: {fault!r}", "fault")
+                client.close()
+        moments.reach(moments.RELEASED)
 
     # ---- start, restart, end
 
     async def start(self) -> None:
         """Starts the children, and replays the record. Raises Failed."""
+        asyncio.get_running_loop().set_exception_handler(self._note_exception)
+        self.reserve.fill()
         await self.answerer.start()
         await self._begin()
-        asyncio.ensure_future(self._watch())
+        self._watching = asyncio.ensure_future(self._watch())
+
+    def _note_exception(self, _: Any, context: Dict[str, Any]) -> None:
+        """Tells of an exception that nobody has caught."""
+        fault = context.get("exception")
+        self.log(f"{context.get('message')}: {fault!r}", "fault")
 
     async def _begin(self) -> None:
         """A server that has what the record says, with nobody logged in. Raises Failed."""
         begun = await self._start_server()
         self._is_lost = False
+        self.reserve.fill()
         self._writer, self.order = begun.writer, Order(*begun.extent)
         self.entries_written, connections = begun.writer.last_numbers()
         self._connections = max(self._connections, connections)
@@ -399,36 +505,47 @@ class Gateway:
     def _note_server(self, server: Any) -> None:
         self._server = server
 
-    def fail(self, why: str, is_record_good: bool = True) -> None:
-        """Ends the server, and begins anew from the record: an answer is lost, or an entry can't be
-        written."""
+    def fail(self, why: str) -> None:
+        """Begins anew from the record: an answer is lost, or an entry can't be written.
+
+        The first thing is a mark, after which nothing is answered or recorded. The rest takes no
+        file and no descriptor; where it does not come to its end, the watchdog ends the process."""
         if self.phase not in (SERVING, ARCHIVING, STOPPING) or self._is_lost:
             return
-        self.log(f"{why}; the server is begun anew from the record")
         self._is_lost = True
+        self._is_held = False
+        self.counts.restarts += 1
         if self.phase != STOPPING:
             self.phase = BEGINNING
             self._serving.clear()
+        self._hurry()
+        self.log(f"{why}; the server is begun anew from the record", "fault")
+        self.reserve.release()
         self._server.end()
-        if is_record_good:
-            self._commit()
         self._drop_sessions()
         self._beginning = asyncio.ensure_future(self._begin_anew())
+
+    def _hurry(self) -> None:
+        if self.watchdog is not None:
+            self.watchdog.hurry()
+
+    def _beat(self) -> None:
+        if self.watchdog is not None and not self.finished.done():
+            self.watchdog.beat()
 
     def _drop_sessions(self) -> None:
         """Gives up all sessions: whoever waits for an answer gets none."""
         lost, self._givenup = self._givenup, []
         self.order.take_ready()
-        for asked in lost:
-            asked.lose()
         sessions, self.sessions = list(self.sessions.values()), {}
-        for session in sessions:
-            session.abandon()
+        for drop in [*(asked.lose for asked in lost), *(session.abandon for session in sessions)]:
+            self._tell(drop)
         self._forget_shared()
         self.flush()
 
     async def _begin_anew(self) -> None:
         try:
+            self._beat()
             self._writer.close()
             await self._begin()
         except Exception as fault:  # whatever it is, there is no server
@@ -437,19 +554,25 @@ class Gateway:
         self._tell_restart()
 
     def stop_failed(self, why: str) -> None:
-        """Ends the gateway with a fault."""
+        """Ends the gateway with a fault, in a few seconds."""
+        self._is_lost = True
+        self._hurry()
         if not self.finished.done():
             self.finished.set_exception(Failed(why))
+            self.finished.exception()  # which is told at the end
 
     async def _watch(self) -> None:
         """Sees every second whether the server runs and answers."""
-        while self.phase != STOPPING:
+        while not self._is_closed:
+            self._beat()
             await asyncio.sleep(WATCH_SECONDS)
             if self.phase == SERVING and not self._server.is_running:
                 self.fail("the server has ended")
             now = time.time()
             if any(session.is_late(now) for session in self.sessions.values()):
                 self.fail("an answer is missing")
+            for client in list(self.clients):
+                self._tell(client.look_after)
 
     async def _log_all_out(self) -> None:
         """Logs out each session, which is recorded, and tells who holds it."""
@@ -475,13 +598,14 @@ class Gateway:
             self.close()
 
     def close(self) -> None:
-        """Ends the children, and closes the record."""
+        """Ends the children, and closes the record. Never raises."""
         self._is_closed = True
-        self.answerer.close()
+        self.reserve.release()
+        self._tell(self.answerer.close)
         if self._server is not None:
-            self._server.end()
+            self._tell(self._server.end)
         if self._writer is not None:
-            self._writer.close()
+            self._tell(self._writer.close)
 
     async def archive(self, build: Callable[[Path, Path, str, Path], None]) -> None:
         """Logs everyone out, has `build` make a new record of the old one, and begins anew from it.
@@ -525,4 +649,4 @@ class Gateway:
 
     def _tell_restart(self) -> None:
         for callback in self._restart_listeners:
-            callback()
+            self._tell(callback)

@@ -211,6 +211,10 @@ class Order:
             return False
         return domain is self._policy or asked.version <= self._policy.ready
 
+    def is_slot_settled(self, slot: int) -> bool:
+        """Whether no command on a slot is under way."""
+        return not self._domains[slot].open
+
     def leave(self, session: Any) -> None:
         """Notes that a session is closed: it adds nothing any more."""
         self._last.pop(session, None)

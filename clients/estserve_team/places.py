@@ -3,13 +3,16 @@
     DIR                 0750, of the team's group
     DIR/team.sock       0660: the program's lines
     DIR/gateway.sock    0660: the gateway's own words
+    DIR/metrics.sock    0660: counts for an operator
     DIR/private         0700: what follows
     .../lock            held while a gateway runs
     .../inner.sock      the server's socket
     .../children        the processes that were started, by id and start time
     .../record.sqlite   the record
+    .../head            how far the record has come
     .../records         older records
 """
+import contextlib
 import ctypes
 import fcntl
 import hashlib
@@ -29,6 +32,7 @@ from estserve_client.running import Failed
 PATH_BYTES = 107  # the longest path of a Unix socket
 LIST_NAME = "children"
 END_SECONDS = 10  # in this time a process that was killed is gone
+LEAVE_SECONDS = 2  # after this time it is left to the system
 SET_PARENT_DEATH_SIGNAL = 1
 C_LIBRARY = ctypes.CDLL(None, use_errno=True)
 
@@ -45,19 +49,43 @@ def digest_of(program: str) -> str:
     return found.hexdigest()
 
 
-def make_folder(path: pathlib.Path, mode: int, group: Optional[str] = None) -> None:
-    """Makes a folder with this mode, or sees that one that is there is ours and has no wider one.
+def make_folder(path: pathlib.Path, mode: int) -> None:
+    """Makes a folder with this mode, or sees that what is there is a folder of ours, and no link.
     Raises Failed."""
     try:
-        path.mkdir(mode=mode, parents=False, exist_ok=True)
-        found = path.stat()
-        if not stat.S_ISDIR(found.st_mode) or found.st_uid != os.geteuid():
-            raise Failed(f"{path} is not a folder of the user who starts the gateway")
+        with contextlib.suppress(FileExistsError):
+            path.mkdir(mode=mode, parents=False)
+        found = path.lstat()
+    except OSError as fault:
+        raise Failed(f"{path} cannot be made a folder: {fault.strerror or fault}") from fault
+    if stat.S_ISLNK(found.st_mode):
+        raise Failed(f"{path} is a link: name the folder itself")
+    if not stat.S_ISDIR(found.st_mode) or found.st_uid != os.geteuid():
+        raise Failed(f"{path} is not a folder of the user who starts the gateway")
+
+
+def narrow_folder(path: pathlib.Path, mode: int, group: Optional[str] = None) -> None:
+    """Gives a folder its mode and its group. Raises Failed."""
+    try:
         if group is not None:
             shutil.chown(path, group=group)
         path.chmod(mode)
     except (OSError, LookupError) as fault:
         raise Failed(f"{path} cannot be made a folder of mode {mode:o}: {fault}") from fault
+
+
+def take_lock(path: pathlib.Path, state: pathlib.Path) -> int:
+    """The descriptor of the lock, which one process at a time holds. Raises Failed."""
+    try:
+        found = os.open(path, os.O_RDWR | os.O_CREAT | os.O_NOFOLLOW | os.O_CLOEXEC, 0o600)
+    except OSError as fault:
+        raise Failed(f"{path} cannot be opened: {fault.strerror}") from fault
+    try:
+        fcntl.flock(found, fcntl.LOCK_EX | fcntl.LOCK_NB)
+    except OSError:
+        os.close(found)
+        raise Failed(f"another gateway runs on {state}") from None
+    return found
 
 
 def check_socket_path(path: pathlib.Path) -> None:
@@ -142,10 +170,12 @@ def start_child(command: Sequence[str], **streams: Any) -> subprocess.Popen:
 
 
 def end_child(child: subprocess.Popen) -> None:
-    """Ends a process that was started here."""
-    if child.poll() is None:
-        child.kill()
-    child.wait()
+    """Ends a process that was started here. This takes no file and no descriptor, and never
+    raises."""
+    with contextlib.suppress(OSError, subprocess.TimeoutExpired):
+        if child.poll() is None:
+            child.kill()
+        child.wait(LEAVE_SECONDS)
 
 
 class Children:
@@ -157,20 +187,32 @@ class Children:
         self._running: Dict[int, str] = {}
 
     def end_orphans(self) -> List[int]:
-        """Ends what an earlier gateway has left over. Answers their ids. Raises Failed."""
+        """Ends what an earlier gateway on this folder has left over. Answers their ids. Raises
+        Failed.
+
+        A list that can't be read, or of another folder, or of another run of the system, names
+        none: the children of a gateway die with it."""
         try:
-            listed = {
-                int(process): start for process, start in json.loads(self._path.read_text()).items()
-            }
-        except FileNotFoundError:
+            listed = json.loads(self._path.read_text())
+            if listed["of"] != self._of():
+                return []
+            started = {int(process): str(start) for process, start in listed["processes"].items()}
+        except (OSError, ValueError, AttributeError, KeyError, TypeError):
             return []
-        except (ValueError, AttributeError) as fault:
-            raise Failed(f"{self._path} is no list of processes: {fault}") from fault
-        left = [process for process, start in listed.items() if start_time_of(process) == start]
+        left = [process for process, start in started.items() if start_time_of(process) == start]
         for process in left:
-            end_process(process, listed[process])
+            end_process(process, started[process])
         self._write()
         return left
+
+    def _of(self) -> List[object]:
+        """What tells this folder from a copy of it, and this run of the system from others."""
+        found = self._path.parent.stat()
+        try:
+            boot = pathlib.Path("/proc/sys/kernel/random/boot_id").read_text().strip()
+        except OSError:
+            boot = ""
+        return [found.st_dev, found.st_ino, boot]
 
     def start(self, command: Sequence[str], **streams: Any) -> subprocess.Popen:
         """Starts a process, and lists it. Raises Failed."""
@@ -180,15 +222,18 @@ class Children:
         return child
 
     def end(self, child: subprocess.Popen) -> None:
-        """Ends a process, and takes it from the list."""
+        """Ends a process, and takes it from the list. Never raises."""
         end_child(child)
         self._running.pop(child.pid, None)
         self._write()
 
     def _write(self) -> None:
+        """Writes the list, where that can be done: it is for the case that a child outlives its
+        gateway, which the system doesn't let happen."""
         beside = self._path.with_suffix(".new")
-        beside.write_text(json.dumps(self._running))
-        beside.replace(self._path)
+        with contextlib.suppress(OSError):
+            beside.write_text(json.dumps({"of": self._of(), "processes": self._running}))
+            beside.replace(self._path)
 
 
 class Places:
@@ -201,8 +246,10 @@ class Places:
         self.private = self.state / "private"
         self.team_socket = self.state / "team.sock"
         self.gateway_socket = self.state / "gateway.sock"
+        self.metrics_socket = self.state / "metrics.sock"
         self.inner_socket = self.private / "inner.sock"
         self.record = self.private / "record.sqlite"
+        self.head = self.private / "head"
         self.next_record = self.private / "record-next.sqlite"
         self.old_records = self.private / "records"
         self.children = Children(self.private)
@@ -210,19 +257,21 @@ class Places:
     def __enter__(self) -> "Places":
         """Makes what is missing, takes the lock, and ends what an earlier gateway left over. Raises
         Failed."""
-        make_folder(self.state, 0o750, self.group)
-        make_folder(self.private, 0o700)
-        make_folder(self.old_records, 0o700)
         check_socket_path(self.inner_socket)
-        self._lock = open(self.private / "lock", "w")
-        try:
-            fcntl.flock(self._lock, fcntl.LOCK_EX | fcntl.LOCK_NB)
-        except OSError:
-            self._lock.close()
-            raise Failed(f"another gateway runs on {self.state}") from None
-        self.orphans = self.children.end_orphans()
-        self.inner_socket.unlink(missing_ok=True)
+        make_folder(self.state, 0o750)
+        make_folder(self.private, 0o700)
+        self._lock = take_lock(self.private / "lock", self.state)
+        try:  # a second gateway has changed nothing up to here
+            make_folder(self.old_records, 0o700)
+            narrow_folder(self.state, 0o750, self.group)
+            narrow_folder(self.private, 0o700)
+            narrow_folder(self.old_records, 0o700)
+            self.orphans = self.children.end_orphans()
+            self.inner_socket.unlink(missing_ok=True)
+        except BaseException:
+            os.close(self._lock)
+            raise
         return self
 
     def __exit__(self, *_: object) -> None:
-        self._lock.close()
+        os.close(self._lock)

@@ -2,21 +2,27 @@
 
 An entry is written after all that it may have seen: policy entry v after v - 1, a slot's entry
 of place p after p - 1 and after the policy entry whose version it bears. So what stands in the
-file is what some run of the program alone has made.
+file is what some run of the program alone has made. Each entry bears a hash, by `chain`.
 """
 import contextlib
 import heapq
 import pathlib
+import secrets
 import sqlite3
 import time
-from typing import Iterable, Iterator, List, NamedTuple, Optional, Tuple
+from typing import Any, Dict, Iterable, Iterator, List, NamedTuple, Optional, Tuple
 
+from . import moments
+from .chain import Head, Tip, hash_of, new_tip
 from .places import Failed, digest_of
 
 POLICY = -1  # the slot of a policy entry
 OPENING = 4  # entries of the policy that each server begins with
 SLOTS = 16
-FORMAT = "1"
+FORMAT = "2"
+FORMAT_OF_BEFORE = "1"  # without hashes
+LOCKED_SECONDS = 1.0  # so long a write waits for another process to end its own
+KEPT_ANSWERS = 10_000  # that an archive takes over, to requests with an id
 FETCHED = 500  # rows of one part of the record at a time
 
 SCHEMA = """
@@ -31,16 +37,28 @@ CREATE TABLE entries (
     version INTEGER NOT NULL, connection INTEGER NOT NULL, session INTEGER NOT NULL,
     user TEXT NOT NULL, person TEXT NOT NULL, time REAL NOT NULL, instant INTEGER,
     command TEXT NOT NULL, request BLOB NOT NULL, reply BLOB NOT NULL, request_id TEXT,
-    program INTEGER NOT NULL);
+    program INTEGER NOT NULL, hash BLOB NOT NULL);
 CREATE UNIQUE INDEX entry_places ON entries (slot, place);
 CREATE UNIQUE INDEX entry_requests ON entries (person, request_id) WHERE request_id IS NOT NULL;
 CREATE TABLE givenup (
-    connection INTEGER PRIMARY KEY, version INTEGER NOT NULL, time REAL NOT NULL);
+    number INTEGER PRIMARY KEY, connection INTEGER NOT NULL, version INTEGER NOT NULL,
+    time REAL NOT NULL, hash BLOB NOT NULL, aside_time REAL);
 CREATE TABLE aside (
-    number INTEGER, slot INTEGER, place INTEGER, version INTEGER, connection INTEGER,
+    number INTEGER PRIMARY KEY, slot INTEGER, place INTEGER, version INTEGER, connection INTEGER,
     session INTEGER, user TEXT, person TEXT, time REAL, instant INTEGER, command TEXT,
-    request BLOB, reply BLOB, request_id TEXT, program INTEGER, aside_time REAL NOT NULL,
-    aside_reason TEXT NOT NULL);
+    request BLOB, reply BLOB, request_id TEXT, program INTEGER, hash BLOB NOT NULL,
+    aside_time REAL NOT NULL, aside_reason TEXT NOT NULL);
+CREATE TABLE kept_answers (
+    person TEXT NOT NULL, request_id TEXT NOT NULL, request BLOB NOT NULL, reply BLOB NOT NULL,
+    time REAL NOT NULL, PRIMARY KEY (person, request_id));
+CREATE TRIGGER entries_have_no_hole BEFORE INSERT ON entries
+WHEN NEW.number <> 1 + max(
+    ifnull((SELECT max(number) FROM entries), 0), ifnull((SELECT max(number) FROM aside), 0))
+    AND NOT EXISTS (SELECT 1 FROM aside WHERE number = NEW.number)
+BEGIN SELECT RAISE(ABORT, 'the numbers of entries have no hole'); END;
+CREATE TRIGGER givenup_has_no_hole BEFORE INSERT ON givenup
+WHEN NEW.number <> 1 + ifnull((SELECT max(number) FROM givenup), 0)
+BEGIN SELECT RAISE(ABORT, 'the numbers of connections that are given up have no hole'); END;
 """
 
 
@@ -105,11 +123,17 @@ def place_of(text: str) -> Aside:
     return Aside(slot, place)
 
 
-ENTRY_ROW = f"({','.join('?' * len(Entry._fields))})"
-INSERT_ENTRY = f"INSERT INTO entries VALUES {ENTRY_ROW}"
+INSERT_ENTRY = f"INSERT INTO entries VALUES ({','.join('?' * len(Entry._fields))},?)"
 INSERT_CONNECTION = "INSERT INTO connections VALUES (?,?,?,?,?)"
-INSERT_GIVENUP = "INSERT INTO givenup VALUES (?,?,?)"
+INSERT_GIVENUP = "INSERT INTO givenup VALUES (?,?,?,?,?,NULL)"
 COLUMNS = ", ".join(Entry._fields)
+REST = (
+    "SELECT * FROM facts ORDER BY name",
+    "SELECT * FROM programs ORDER BY number",
+    "SELECT number, aside_time, aside_reason FROM aside ORDER BY number",
+    "SELECT number, aside_time FROM givenup WHERE aside_time IS NOT NULL ORDER BY number",
+    "SELECT * FROM kept_answers ORDER BY person, request_id",
+)
 
 
 @contextlib.contextmanager
@@ -150,41 +174,56 @@ def in_order(database: sqlite3.Connection) -> Iterator[Entry]:
         yield entry
 
 
+def rest_of(database: sqlite3.Connection) -> str:
+    """The hash of what a record has beside its entries: its facts, its programs, what was put aside,
+    and answers of before."""
+    found = b""
+    for sql in REST:
+        for row in database.execute(sql):
+            found = hash_of(found, row)
+        found = hash_of(found, (sql,))
+    return found.hex()
+
+
 class RecordWriter:
     """Writes a record. Used with `with`, it is closed at the end. One at a time may have a file
     open."""
 
-    def __init__(self, path: pathlib.Path) -> None:
-        """The record at a path. Raises Failed, where it is none."""
-        self.path = path
+    def __init__(self, path: pathlib.Path, head: Optional[Head] = None) -> None:
+        """The record at a path, and the head that follows it, if one does. Raises Failed, where it
+        is none."""
+        self.path, self.head = path, head
         try:
-            self._database = self._open(path)
+            self._database = open_writer(path)
             found = dict(self._database.execute("SELECT name, value FROM facts"))
             row = self._database.execute(
                 "SELECT number, digest FROM programs ORDER BY number DESC LIMIT 1"
             ).fetchone()
+            if found.get("format") != FORMAT or row is None:
+                raise Failed(f"the record {path} has a format that this gateway does not know")
+            self.tip = last_tip(self._database, found["id"])
         except sqlite3.Error as fault:
             raise Failed(f"the record {path} cannot be opened: {fault}") from fault
-        if found.get("format") != FORMAT or row is None:
-            raise Failed(f"the record {path} has a format that this gateway does not know")
         self.program, self.digest = row
         self.follows = found.get("follows", "")
 
-    @staticmethod
-    def _open(path: pathlib.Path) -> sqlite3.Connection:
-        database = sqlite3.connect(path, isolation_level=None, check_same_thread=False)
-        database.execute("PRAGMA journal_mode=WAL")
-        database.execute("PRAGMA synchronous=FULL")
-        return database
-
     @classmethod
-    def make(cls, path: pathlib.Path, program: str, follows: str = "") -> "RecordWriter":
+    def make(
+        cls,
+        path: pathlib.Path,
+        program: str,
+        follows: str = "",
+        head: Optional[Head] = None,
+        record: Optional[str] = None,
+    ) -> "RecordWriter":
         """Makes a new record at a path where no file is, by this program. Raises Failed."""
+        record = record or secrets.token_hex(16)
         try:
-            database = cls._open(path)
+            database = open_writer(path)
             database.executescript(f"BEGIN IMMEDIATE; {SCHEMA}")
             facts = {
                 "format": FORMAT,
+                "id": record,
                 "made": time.strftime("%Y-%m-%dT%H:%M:%SZ", time.gmtime()),
                 "follows": follows,
             }
@@ -193,11 +232,13 @@ class RecordWriter:
                 "INSERT INTO programs VALUES (1,?,?,?)",
                 (digest_of(program), str(program), time.time()),
             )
+            if head is not None:
+                head.begin(new_tip(record, (rest_of(database),)))
             database.execute("COMMIT")
             database.close()
-        except sqlite3.Error as fault:
+        except (sqlite3.Error, OSError) as fault:
             raise Failed(f"the record {path} cannot be made: {fault}") from fault
-        return cls(path)
+        return cls(path, head)
 
     def __enter__(self) -> "RecordWriter":
         return self
@@ -206,8 +247,10 @@ class RecordWriter:
         self.close()
 
     def close(self) -> None:
-        """Closes the file."""
+        """Closes the file, and the head."""
         self._database.close()
+        if self.head is not None:
+            self.head.close()
 
     def append(
         self,
@@ -215,21 +258,61 @@ class RecordWriter:
         connections: Iterable[Connection] = (),
         givenup: Iterable[GivenUp] = (),
     ) -> None:
-        """Writes these in one transaction, which is on the disk when this returns. Raises
-        sqlite3.Error, with nothing written."""
-        database = self._database
-        database.execute("BEGIN IMMEDIATE")
-        try:
-            database.executemany(INSERT_ENTRY, entries)
+        """Writes these in one transaction, and then the head. Both are on the disk when this
+        returns. Raises sqlite3.Error, with nothing written, or OSError, where the head isn't."""
+        tip, rows = self._after_entries(entries)
+        tip, given = self._after_givenup(tip, givenup)
+        with transaction(self._database) as database:
+            database.executemany(INSERT_ENTRY, rows)
             if connections:
                 database.executemany(INSERT_CONNECTION, connections)
-            if givenup:
-                database.executemany(INSERT_GIVENUP, givenup)
-            database.execute("COMMIT")
-        except BaseException:
-            if database.in_transaction:
-                database.execute("ROLLBACK")
-            raise
+            if given:
+                database.executemany(INSERT_GIVENUP, given)
+            moments.reach(moments.INSERTED)
+        moments.reach(moments.COMMITTED)
+        self._move(tip)
+
+    def _after_entries(self, entries: Iterable[Entry]) -> Tuple[Tip, List[Tuple[Any, ...]]]:
+        """The tip after these entries, and their rows."""
+        last, rows = bytes.fromhex(self.tip.entry_hash), []
+        for entry in entries:
+            last = hash_of(last, entry)
+            rows.append((*entry, last))
+        count = self.tip.entries + len(rows)
+        return self.tip._replace(entries=count, entry_hash=last.hex()), rows
+
+    @staticmethod
+    def _after_givenup(
+        tip: Tip, givenup: Iterable[GivenUp]
+    ) -> Tuple[Tip, List[Tuple[Any, ...]]]:
+        """The tip after these connections were given up, and their rows."""
+        last, rows = bytes.fromhex(tip.givenup_hash), []
+        for number, one in enumerate(givenup, tip.givenup + 1):
+            last = hash_of(last, one)
+            rows.append((number, *one, last))
+        count = tip.givenup + len(rows)
+        return tip._replace(givenup=count, givenup_hash=last.hex()), rows
+
+    def _move(self, tip: Tip) -> None:
+        """Notes how far the record has come. Raises OSError."""
+        self.tip = tip
+        if self.head is not None:
+            self.head.write(tip)
+        moments.reach(moments.SYNCED)
+
+    @contextlib.contextmanager
+    def changing_rest(self) -> Iterator[sqlite3.Connection]:
+        """A transaction that changes what the record has beside its entries. While it is under way
+        the head knows both. Raises Failed."""
+        try:
+            with transaction(self._database) as database:
+                yield database
+                rest = rest_of(database)
+                if self.head is not None:
+                    self.head.write(self.tip._replace(rest=(*self.tip.rest, rest)))
+            self._move(last_tip(self._database, self.tip.record))
+        except (sqlite3.Error, OSError) as fault:
+            raise Failed(f"the record cannot be written: {fault}") from fault
 
     def extent(self) -> Tuple[int, List[int]]:
         """The version of the policy, and how many entries each of the sixteen slots has."""
@@ -239,55 +322,162 @@ class RecordWriter:
     def last_numbers(self) -> Tuple[int, int]:
         """The last numbers of an entry and of a connection that were given, 0 where there is
         none."""
-        entry = self._database.execute(
-            "SELECT max((SELECT ifnull(max(number), 0) FROM entries), "
-            "(SELECT ifnull(max(number), 0) FROM aside))"
-        ).fetchone()[0]
         connection = self._database.execute(
             "SELECT ifnull(max(number), 0) FROM connections"
         ).fetchone()[0]
-        return entry, connection
+        return self.tip.entries, connection
 
     def answer_to(self, person: str, request_id: str) -> Optional[Tuple[bytes, bytes]]:
         """The request and the answer that are recorded under this person's id, if some are."""
-        return self._database.execute(
-            "SELECT request, reply FROM entries WHERE person = ? AND request_id = ?",
-            (person, request_id),
-        ).fetchone()
+        for table in ("entries", "kept_answers"):
+            found = self._database.execute(
+                f"SELECT request, reply FROM {table} WHERE person = ? AND request_id = ?",
+                (person, request_id),
+            ).fetchone()
+            if found is not None:
+                return found
+        return None
+
+    def keep_answers(self, old: pathlib.Path) -> None:
+        """Takes over the answers to requests with an id from the record before, the newest ones.
+        Raises Failed."""
+        with open_reader(old) as database:
+            tables = ["SELECT person, request_id, request, reply, time FROM entries"]
+            if has_table(database, "kept_answers"):
+                tables.append("SELECT person, request_id, request, reply, time FROM kept_answers")
+            rows = database.execute(
+                f"SELECT * FROM ({' UNION ALL '.join(tables)}) WHERE request_id IS NOT NULL "
+                f"ORDER BY time DESC LIMIT {KEPT_ANSWERS}"
+            ).fetchall()
+        with self.changing_rest() as database:
+            database.executemany("INSERT OR IGNORE INTO kept_answers VALUES (?,?,?,?,?)", rows)
+
+    def note_kept(self, name: str) -> None:
+        """Notes the name under which the record before this one is kept. Raises Failed."""
+        with self.changing_rest() as database:
+            database.execute("INSERT OR REPLACE INTO facts VALUES ('kept', ?)", (name,))
 
     def note_program(self, program: str) -> None:
-        """Notes that entries are made by this program from now on."""
+        """Notes that entries are made by this program from now on. Raises Failed."""
         self.program, self.digest = self.program + 1, digest_of(program)
-        self._database.execute(
-            "INSERT INTO programs VALUES (?,?,?,?)",
-            (self.program, self.digest, str(program), time.time()),
-        )
+        with self.changing_rest() as database:
+            database.execute(
+                "INSERT INTO programs VALUES (?,?,?,?)",
+                (self.program, self.digest, str(program), time.time()),
+            )
 
     def put_aside(self, place: Aside, reason: str) -> int:
         """Keeps all entries aside from this place on, in the order of replay. Answers how many.
         Raises Failed, where it is not there."""
-        database = self._database
-        row = database.execute(
+        row = self._database.execute(
             "SELECT version FROM entries WHERE slot = ? AND place = ?", place
         ).fetchone()
         if row is None:
             raise Failed(f"the record has no entry {place}")
-        cut = {
-            "version": row[0],
-            "slot": place.slot,
-            "place": place.place,
-            "time": time.time(),
-            "reason": reason,
-        }
+        cut = {"version": row[0], "slot": place.slot, "place": place.place}
         later = (
             "version > :version OR version = :version "
             "AND (slot > :slot OR slot = :slot AND place >= :place)"
         )
-        database.execute("BEGIN IMMEDIATE")
-        database.execute(
-            f"INSERT INTO aside SELECT {COLUMNS}, :time, :reason FROM entries WHERE {later}", cut
-        )
-        count = database.execute(f"DELETE FROM entries WHERE {later}", cut).rowcount
-        database.execute("DELETE FROM givenup WHERE version >= :version", cut)
+        with self.changing_rest() as database:
+            now = time.time()
+            count = move_aside(database, later, cut, now, reason)
+            database.execute(
+                "UPDATE givenup SET aside_time = :time "
+                "WHERE aside_time IS NULL AND version >= :version",
+                {"version": row[0], "time": now},
+            )
+            return count
+
+    def bring_back(self) -> Tuple[int, int]:
+        """Undoes the last `put_aside`: what was recorded since is put aside, and what was put aside
+        comes back. Answers how many of both. Raises Failed."""
+        row = self._database.execute("SELECT max(aside_time) FROM aside").fetchone()
+        if row[0] is None:
+            raise Failed("nothing was put aside")
+        then, now = {"then": row[0]}, time.time()
+        with self.changing_rest() as database:
+            aside = move_aside(database, "time > :then", then, now, "undo-until")
+            columns = f"{COLUMNS}, hash"
+            back = database.execute(
+                f"INSERT INTO entries SELECT {columns} FROM aside WHERE aside_time = :then", then
+            ).rowcount
+            database.execute("DELETE FROM aside WHERE aside_time = :then", then)
+            database.execute(
+                "UPDATE givenup SET aside_time = :now WHERE aside_time IS NULL AND time > :then",
+                {**then, "now": now},
+            )
+            database.execute(
+                "UPDATE givenup SET aside_time = NULL WHERE aside_time = :then", then
+            )
+            check_places(database)
+        return aside, back
+
+
+def open_writer(path: pathlib.Path) -> sqlite3.Connection:
+    """The file, to write: what is committed is on the disk."""
+    database = sqlite3.connect(
+        path, isolation_level=None, check_same_thread=False, timeout=LOCKED_SECONDS
+    )
+    database.execute("PRAGMA journal_mode=WAL")
+    database.execute("PRAGMA synchronous=FULL")
+    return database
+
+
+@contextlib.contextmanager
+def transaction(database: sqlite3.Connection) -> Iterator[sqlite3.Connection]:
+    """A transaction: all of it is on the disk when this ends, or, where it raises, nothing."""
+    database.execute("BEGIN IMMEDIATE")
+    try:
+        yield database
         database.execute("COMMIT")
-        return count
+    except BaseException:
+        if database.in_transaction:
+            database.execute("ROLLBACK")
+        raise
+
+
+def has_table(database: sqlite3.Connection, name: str) -> bool:
+    """Whether there is a table of this name."""
+    found = database.execute("SELECT 1 FROM sqlite_master WHERE type='table' AND name=?", (name,))
+    return found.fetchone() is not None
+
+
+def last_tip(database: sqlite3.Connection, record: str) -> Tip:
+    """How far a record has come, by its last rows alone."""
+    tip = new_tip(record, (rest_of(database),))
+    entry = database.execute(
+        "SELECT number, hash FROM entries UNION ALL SELECT number, hash FROM aside "
+        "ORDER BY number DESC LIMIT 1"
+    ).fetchone()
+    givenup = database.execute(
+        "SELECT number, hash FROM givenup ORDER BY number DESC LIMIT 1"
+    ).fetchone()
+    if entry is not None:
+        tip = tip._replace(entries=entry[0], entry_hash=entry[1].hex())
+    if givenup is not None:
+        tip = tip._replace(givenup=givenup[0], givenup_hash=givenup[1].hex())
+    return tip
+
+
+def move_aside(
+    database: sqlite3.Connection, which: str, values: Dict[str, Any], now: float, reason: str
+) -> int:
+    """Moves entries into the table `aside`. Answers how many."""
+    keys = {**values, "aside_time": now, "reason": reason}
+    database.execute(
+        f"INSERT INTO aside SELECT {COLUMNS}, hash, :aside_time, :reason "
+        f"FROM entries WHERE {which}",
+        keys,
+    )
+    return database.execute(f"DELETE FROM entries WHERE {which}", values).rowcount
+
+
+def check_places(database: sqlite3.Connection) -> None:
+    """Raises Failed, where the places of the policy or of a slot have a hole."""
+    for slot, count, first, last in database.execute(
+        "SELECT slot, count(*), min(place), max(place) FROM entries GROUP BY slot"
+    ):
+        begin = OPENING + 1 if slot == POLICY else 1
+        if (first, last) != (begin, begin + count - 1):
+            raise Failed(f"the places of {'the policy' if slot == POLICY else slot} have a hole")

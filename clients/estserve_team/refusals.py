@@ -73,6 +73,11 @@ def id_taken(request_id: str) -> Refused:
     return Refused(1015, "IdTaken", id=request_id)
 
 
+def too_many(what: str, most: int) -> Refused:
+    """There are so many of these already, or they were used up just now."""
+    return Refused(1016, "TooMany", what=what, most=most)
+
+
 class ProgramRefused(Refused):
     """A refusal of the program's: its own line, as it came."""
 

@@ -139,7 +139,8 @@ class Replay:
         """Asks for each entry of the record. Raises Difference, and Failed."""
         with open_reader(self._record) as database:
             closings = database.execute(
-                "SELECT connection, version FROM givenup ORDER BY version"
+                "SELECT connection, version FROM givenup WHERE aside_time IS NULL "
+                "ORDER BY version"
             ).fetchall()
             waiting: List[Entry] = []
             size = 0

@@ -1,4 +1,5 @@
 """The server of a team: `estserve serve`, a child that dies with the gateway."""
+import contextlib
 import pathlib
 import socket
 import subprocess
@@ -71,11 +72,12 @@ class Server:
         return self._process.pid if self._process else 0
 
     def end(self) -> None:
-        """Ends it, and takes its socket away."""
+        """Ends it, and takes its socket away. Never raises."""
         if self._process is not None:
             (self._children.end if self._children else end_child)(self._process)
         self._process = None
-        self.path.unlink(missing_ok=True)
+        with contextlib.suppress(OSError):
+            self.path.unlink()
 
     def __enter__(self) -> "Server":
         self.start()

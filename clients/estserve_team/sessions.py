@@ -7,8 +7,9 @@ import time
 from collections import deque
 from typing import TYPE_CHECKING, Any, Callable, Deque, Dict, List, NamedTuple, Optional, Tuple
 
+from . import moments
 from .lines import Request, cut_lines, request_of
-from .order import Asked, Inconsistent
+from .order import Asked
 from .people import Person
 from .refusals import Refused, id_taken, interrupted, on_shared
 
@@ -99,15 +100,17 @@ class Session(asyncio.Protocol):
             self._lines = []
             self.sends += 1 + len(text) // PIECE
             self._transport.write(text)
+            moments.reach(moments.ASKED)
 
     def data_received(self, data: bytes) -> None:
         if self.is_over:
             return
-        lines, self._held = cut_lines(self._held, data)
         try:
+            lines, self._held = cut_lines(self._held, data)
+            moments.reach(moments.ANSWERED)
             for line in lines:
                 self._take(line)
-        except (ValueError, KeyError, IndexError, TypeError, Inconsistent) as fault:
+        except Exception as fault:  # an answer is lost, whatever the cause is
             self.gateway.fail(f"the server gives an answer that cannot be: {fault!r}")
             return
         self.gateway.after_answers()
@@ -129,6 +132,8 @@ class Session(asyncio.Protocol):
         """Notes what an answer changes in this session."""
         cmd, keys = asked.request.cmd, asked.request.keys
         if "ok" not in asked.fields:
+            fault = str(asked.fields.get("fault"))
+            self.gateway.note_refusal(self.person.name, self.user, cmd, fault)
             return
         if cmd == "login":
             self.session = asked.fields["session"]
@@ -277,9 +282,14 @@ class SharedSession:
         async with self._room:
             if self._session.is_worn:
                 await self._renew()
-            if self._session.is_over:
-                raise interrupted()
-            return await ask_later(self._session, request, request_id)
+            await self._gateway.until_open(request.slot)
+            return await ask_later(self.own_session(), request, request_id)
+
+    def own_session(self) -> Session:
+        """The session that is shared. Raises Refused, where it is over."""
+        if self._session.is_over:
+            raise interrupted()
+        return self._session
 
     async def _renew(self) -> None:
         """Changes the connection, once for all who wait."""

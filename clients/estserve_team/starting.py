@@ -7,8 +7,10 @@ import sqlite3
 import time
 from typing import Callable, List, NamedTuple, Optional, Tuple
 
+from .chain import Head
 from .places import Failed, Places, digest_of
-from .record import POLICY, Aside, Entry, GivenUp, RecordWriter
+from .proving import check_record
+from .record import POLICY, Aside, Entry, GivenUp, RecordWriter, last_tip, open_reader
 from .replay import Live, Replay
 from .server import Server
 from .sessions import LOGOUT
@@ -24,20 +26,31 @@ class Begun(NamedTuple):
     logged_out: int
 
 
-def open_record(places: Places, program: str) -> RecordWriter:
-    """The team's record, which is made where there is none. Raises Failed."""
+def open_record(places: Places, program: str, is_accepted: bool = False) -> RecordWriter:
+    """The team's record, which is made where there is none; it has to be what was written, or it
+    is accepted as it stands. Raises Failed."""
     settle_records(places)
-    if places.record.exists():
-        return RecordWriter(places.record)
-    return RecordWriter.make(places.record, program)
+    head = Head(places.head)
+    try:
+        if check_record(places.record, head, is_accepted):
+            return RecordWriter(places.record, head)
+        return RecordWriter.make(places.record, program, head=head)
+    except BaseException:
+        head.close()
+        raise
 
 
-def put_aside(places: Places, place: Aside) -> int:
-    """Keeps aside what the record has from a place on. Raises Failed."""
+def open_there(places: Places, is_accepted: bool = False) -> RecordWriter:
+    """The team's record, where there is one. Raises Failed."""
     settle_records(places)
     if not places.record.exists():
         raise Failed("there is no record yet")
-    with RecordWriter(places.record) as writer:
+    return open_record(places, "", is_accepted)
+
+
+def put_aside(places: Places, place: Aside, is_accepted: bool = False) -> int:
+    """Keeps aside what the record has from a place on. Raises Failed."""
+    with open_there(places, is_accepted) as writer:
         return writer.put_aside(place, f"--until {place}")
 
 
@@ -52,26 +65,63 @@ def settle_records(places: Places) -> None:
 
 def replace_record(places: Places) -> None:
     """Keeps the record among the old ones, and puts the next one in its place. Raises Failed."""
+    name = next_name(places)
+    with RecordWriter(places.next_record) as writer:
+        writer.note_kept(name)
     for path in (places.record, places.next_record):
         database = sqlite3.connect(path, isolation_level=None)
         mode = database.execute("PRAGMA journal_mode=DELETE").fetchone()[0]
         database.close()
         if mode != "delete":
             raise Failed(f"{path} is open elsewhere")
-    count = len(list(places.old_records.glob("[0-9]*.sqlite")))
-    os.link(places.record, places.old_records / f"{count + 1:04}.sqlite")
+    prepare_head(places)
+    os.link(places.record, places.old_records / name)
     sync_folder(places.old_records)
     os.replace(places.next_record, places.record)
     sync_folder(places.private)
 
 
+def next_name(places: Places) -> str:
+    """The name of the next record that is kept, which none of those had that are there, nor the one
+    that the present record follows."""
+    names = [path.name for path in places.old_records.glob("[0-9]*.sqlite")]
+    with open_reader(places.record) as database:
+        names += [row[0] for row in database.execute("SELECT value FROM facts WHERE name = 'kept'")]
+    numbers = [int(name.partition(".")[0]) for name in names if name.partition(".")[0].isdecimal()]
+    return f"{max(numbers, default=0) + 1:04}.sqlite"
+
+
+def prepare_head(places: Places) -> None:
+    """Has the head know the next record beside the present one. Raises Failed."""
+    head = Head(places.head)
+    try:
+        for path in (places.record, places.next_record):
+            with open_reader(path) as database:
+                name = dict(database.execute("SELECT name, value FROM facts"))["id"]
+                if path == places.record:
+                    head.of(name)  # its place is left alone
+                else:
+                    head.write(last_tip(database, name))
+    except OSError as fault:
+        raise Failed(f"the head cannot be written: {fault}") from fault
+    finally:
+        head.close()
+
+
 def restore_record(places: Places) -> None:
-    """Puts the last of the old records back in the place of the present one."""
+    """Puts the last of the old records back in the place of the present one. Raises Failed."""
     last = sorted(places.old_records.glob("[0-9]*.sqlite"))[-1]
     for suffix in ("-wal", "-shm"):
         places.record.with_name(places.record.name + suffix).unlink(missing_ok=True)
     os.replace(last, places.record)
     sync_folder(places.private)
+    head = Head(places.head)
+    try:
+        with open_reader(places.record) as database:
+            name = dict(database.execute("SELECT name, value FROM facts"))["id"]
+            head.begin(last_tip(database, name))
+    finally:
+        head.close()
 
 
 def sync_folder(path: pathlib.Path) -> None:
@@ -87,7 +137,7 @@ async def start_server(places: Places, program: str, note: Callable[[Server], No
     """A server that has what the record says. `note` is told of each server that is started, before
     it is asked. Raises Failed."""
     loop = asyncio.get_running_loop()
-    writer = open_record(places, program)
+    writer = await loop.run_in_executor(None, open_record, places, program)
     try:
         if writer.digest != digest_of(program):
             await try_program(places, program, note)
@@ -144,7 +194,7 @@ def replay_and_log_out(writer: RecordWriter, server: Server) -> Tuple[int, int]:
         try:
             if entries or givenup:
                 writer.append(entries, (), givenup)
-        except sqlite3.Error as fault:
+        except (sqlite3.Error, OSError) as fault:
             raise Failed(f"the record cannot be written: {fault}") from fault
         return replay.count, len(entries)
 

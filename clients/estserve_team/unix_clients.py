@@ -2,10 +2,11 @@
 gateway's own words."""
 import asyncio
 import json
+import time
 from collections import deque
 from typing import Any, Deque, Dict, List, Optional
 
-from . import words
+from . import moments, words
 from .gateway import Gateway
 from .lines import LINE_BYTES, Request, cut_lines
 from .order import Asked
@@ -16,16 +17,18 @@ from .sessions import Session, SharedSession
 WINDOW = 128  # answers that one client may have to wait for
 MOST_LINES = 1_000  # of one client wait; beyond that no more are read
 FEW_LINES = 200
+CHANGES_OF_ROLES = ("activate", "drop")
 TOO_LONG = b'{"code":1,"fault":"TooLong"}'
 
 
 class Item:
     """One answer that a client has to get, once it may go out: its line, without LF."""
 
-    __slots__ = ("line",)
+    __slots__ = ("line", "size")
 
-    def __init__(self, line: Optional[bytes] = None) -> None:
-        self.line = line
+    def __init__(self, size: int = 0) -> None:
+        self.line: Optional[bytes] = None
+        self.size = size  # of the line that asked for it
 
 
 class LineClient(asyncio.Protocol):
@@ -37,10 +40,14 @@ class LineClient(asyncio.Protocol):
             Optional[bytes]
         ] = deque()  # None stands for a line that is too long; after it nothing counts
         self.person: Person = None  # type: ignore[assignment]
+        self.uid: Optional[int] = None  # where its connection is counted
         self.is_gone = self.is_at_end = False
+        self.waiting = 0  # bytes of the lines that wait
         self._held = b""
         self._is_paused = False
         self._transport: Any = None
+        self._heard = time.monotonic()
+        self._choked: Optional[float] = None  # since when it reads no answers
 
     def connection_made(self, transport: Any) -> None:
         self._transport = transport
@@ -57,18 +64,50 @@ class LineClient(asyncio.Protocol):
     def data_received(self, data: bytes) -> None:
         if self.is_at_end or self.is_gone:
             return
+        self._heard = time.monotonic()
         lines, self._held = cut_lines(self._held, data)
         for line in lines:
             if len(line) > LINE_BYTES:
                 self._end_lines(None)
                 break
             self.lines.append(line)
+            self.waiting += len(line)
         else:
             if len(self._held) > LINE_BYTES:
                 self._end_lines(None)
-        if len(self.lines) > MOST_LINES and not self._is_paused:
+        if self._has_enough() and not self._is_paused:
             self._is_paused = True
             self._transport.pause_reading()
+        self.pump()
+
+    def _has_enough(self) -> bool:
+        """Whether no more lines are to be read now."""
+        return len(self.lines) > MOST_LINES or self.waiting > self.gateway.limits.waiting_bytes
+
+    def next_line(self) -> Optional[bytes]:
+        """The line that waits longest, which waits no more; None for one that is too long."""
+        line = self.lines.popleft()
+        self.waiting -= len(line or b"")
+        return line
+
+    def look_after(self) -> None:
+        """Ends a connection that reads no answers, or is not used."""
+        now, limits = time.monotonic(), self.gateway.limits
+        if self._choked is not None and now - self._choked > limits.slow_seconds:
+            self.gateway.log("a client reads no answers: its connection is ended", "slow")
+            self._transport.abort()
+        elif now - self._heard > limits.idle_seconds and not self.is_busy():
+            self.close()
+
+    def is_busy(self) -> bool:
+        """Whether an answer is missing."""
+        return bool(self.lines)
+
+    def pause_writing(self) -> None:
+        self._choked = time.monotonic()
+
+    def resume_writing(self) -> None:
+        self._choked = None
         self.pump()
 
     def _end_lines(self, *last: Optional[bytes]) -> None:
@@ -79,7 +118,8 @@ class LineClient(asyncio.Protocol):
 
     def resume(self) -> None:
         """Reads on, where that was paused and few lines are left."""
-        if self._is_paused and len(self.lines) < FEW_LINES and not self.is_gone:
+        is_few = len(self.lines) < FEW_LINES and self.waiting < self.gateway.limits.waiting_bytes // 2
+        if self._is_paused and is_few and not self.is_gone:
             self._is_paused = False
             self._transport.resume_reading()
 
@@ -93,7 +133,28 @@ class LineClient(asyncio.Protocol):
         self.is_gone = self.is_at_end = True
         self.lines.clear()
         self.clients.discard(self)
+        uid, self.uid = self.uid, None
+        if uid is not None:
+            self.gateway.accounts.disconnect(uid)
         self.leave()
+
+    def follow_people(self) -> None:
+        """Takes the person anew, after who may be whom was changed; a login that this person may no
+        more have is ended."""
+        if self.uid is not None and not self.is_gone:
+            try:
+                self.person = self.gateway.people.of_uid(self.uid)
+            except Refused:
+                self.close()
+                return
+            user = self.held_user()
+            if user is not None and not self.person.may_be(user):
+                self.close()
+
+    def held_user(self) -> Optional[str]:
+        """The user of the login that is held, if one is."""
+        session = getattr(self, "session", None)
+        return None if session is None or session.is_over else session.user
 
     def close(self) -> None:
         """Ends the connection, once what was written is sent."""
@@ -119,38 +180,75 @@ class TeamClient(LineClient):
         super().__init__(gateway, clients)
         self.session: Optional[Session] = None
         self.items: Deque[Item] = deque()
+        self.under_way = 0  # bytes of the lines that these answer
         self._is_busy = False  # a login or a logout is under way
-        self._is_choked = False  # it reads no answers
 
     def pump(self) -> None:
-        while self.lines and not self._is_busy and not self._is_choked and len(self.items) < WINDOW:
-            self._take(self.lines.popleft())
+        while self.lines and not self._is_busy and self._choked is None and self._has_room():
+            self._take(self.next_line())
         if self.session is not None and not self.session.is_over:
             self.session.flush()
         self.resume()
         if self.is_at_end and not self.lines and not self.items and not self._is_busy:
             self.close()
 
+    def _has_room(self) -> bool:
+        """Whether another line may be under way."""
+        return len(self.items) < WINDOW and self.under_way <= self.gateway.limits.waiting_bytes
+
+    def is_busy(self) -> bool:
+        return bool(self.lines or self.items or self._is_busy)
+
     def _take(self, line: Optional[bytes]) -> None:
         """Has one line answered."""
-        item = Item()
+        item = Item(len(line or b""))
         self.items.append(item)
+        self.under_way += item.size
         if line is None:
             self._put(item, TOO_LONG)
             return
         request = self.gateway.reader.understand(line)
+        moments.reach(moments.TAKEN)
         if request is None or (self.session is None and request.cmd != "login"):
             self.gateway.answerer.ask(line, lambda answer: self._put(item, answer))
         elif request.cmd == "login" and not self.person.may_be(request.keys["user"]):
-            self._put(item, not_you(request.keys["user"]).line)
+            user = request.keys["user"]
+            self.gateway.note_refusal(self.person.name, user, "login", "NotYou")
+            self._put(item, not_you(user).line)
         elif self.session is None:
             self._begin(self._log_in(request, item))
         elif self.session.is_worn and request.cmd != "logout":
             self._begin(self._renew(line))
-            self.items.pop()
+            self.under_way -= self.items.pop().size
+        elif request.slot in self.gateway.closed_slots:
+            self._is_busy = True
+            self._put_back(line)
+            self.gateway.wait_for_slot(self)
+        elif request.cmd in CHANGES_OF_ROLES and self._is_refused(item):
+            return
         else:
             self._is_busy = request.cmd == "logout"
             self.session.ask(Asked(request, self.session, self._have, item))
+
+    def _put_back(self, line: bytes) -> None:
+        """Has a line wait on, which was taken last."""
+        self.under_way -= self.items.pop().size
+        self.lines.appendleft(line)
+        self.waiting += len(line)
+
+    def go_on(self) -> None:
+        """Takes the line again for which it had to wait."""
+        self._is_busy = False
+        self.pump()
+
+    def _is_refused(self, item: Item) -> bool:
+        """Whether this person has changed roles too often; then that is the answer."""
+        try:
+            self.gateway.accounts.check_entry(self.session)
+        except Refused as refused:
+            self._put(item, refused.line)
+            return True
+        return False
 
     def _begin(self, work: Any) -> None:
         """Does something before the next line is taken."""
@@ -221,6 +319,7 @@ class TeamClient(LineClient):
             self.lose()
             return
         self.lines.appendleft(line)
+        self.waiting += len(line)
         await self._take_session(renewed)
 
     def lose(self) -> None:
@@ -238,17 +337,12 @@ class TeamClient(LineClient):
         out: List[bytes] = []
         items = self.items
         while items and items[0].line is not None:
-            out.append(items.popleft().line)  # type: ignore[arg-type]
+            item = items.popleft()
+            self.under_way -= item.size
+            out.append(item.line)  # type: ignore[arg-type]
         if out and not self._transport.is_closing():
             out.append(b"")
             self._transport.write(b"\n".join(out))
-
-    def pause_writing(self) -> None:
-        self._is_choked = True
-
-    def resume_writing(self) -> None:
-        self._is_choked = False
-        self.pump()
 
     def leave(self) -> None:
         session, self.session = self.session, None
@@ -267,8 +361,10 @@ class WordClient(LineClient):
         self._task: "Optional[asyncio.Future[None]]" = None
 
     def pump(self) -> None:
+        if self._choked is not None:
+            return
         if self.lines and self._task is None:
-            self._task = asyncio.ensure_future(self._answer(self.lines.popleft()))
+            self._task = asyncio.ensure_future(self._answer(self.next_line()))
             self._task.add_done_callback(self._go_on)
         elif self.is_at_end and not self.lines and self._task is None:
             self.close()
@@ -277,6 +373,9 @@ class WordClient(LineClient):
         self._task = None
         self.resume()
         self.pump()
+
+    def is_busy(self) -> bool:
+        return bool(self.lines) or self._task is not None
 
     async def _answer(self, line: Optional[bytes]) -> None:
         """Answers one word."""

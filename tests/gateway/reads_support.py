@@ -19,12 +19,12 @@ from estserve_team import reads
 from estserve_team.people import Person
 from estserve_team.reads.policy_model import POLICY_COMMANDS
 from estserve_team.reads.slot_model import SLOT_COMMANDS
-from estserve_team.record import SCHEMA, Entry
+from estserve_team.record import COLUMNS, SCHEMA, Entry
 from estserve_team.sessions import Holder
 from estserve_team.words import Context, act_on
 
 __all__ = ["ABRO", "Desk", "ROOT", "load_module", "program_file"]
-INSERT = f"INSERT INTO entries VALUES ({', '.join('?' * len(Entry._fields))})"
+INSERT = f"INSERT INTO entries VALUES ({', '.join('?' * len(Entry._fields))}, x'')"
 ABRO = (ROOT / "examples" / "abro" / "abro.strl").read_text()
 
 
@@ -169,7 +169,7 @@ class Desk:
     def reads_entry(self):
         """The newest entry of the record once more, which follows nothing."""
         row = self._database.execute(
-            "SELECT * FROM entries ORDER BY number DESC LIMIT 1"
+            f"SELECT {COLUMNS} FROM entries ORDER BY number DESC LIMIT 1"
         ).fetchone()
         return Entry._make(row)
 
@@ -188,7 +188,7 @@ class Desk:
 
     words = reads.WORDS
 
-    def log(self, text):
+    def log(self, text, kind="gateway"):
         """Keeps a line of the log."""
         self.told.append(text)
 

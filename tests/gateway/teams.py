@@ -22,7 +22,7 @@ sys.path[:0] = [str(ROOT / "clients"), str(ROOT / "tests" / "socket")]
 sys.dont_write_bytecode = True
 import running as programs  # noqa: E402
 from estserve_client.connection import connect  # noqa: E402
-from estserve_team.record import Entry, open_reader  # noqa: E402
+from estserve_team.record import COLUMNS, Entry, open_reader  # noqa: E402
 from estserve_team.replay import Talker  # noqa: E402
 from estserve_team.server import Server  # noqa: E402
 
@@ -62,9 +62,8 @@ def login_line(user="root", roles=("root",)):
 def processes_of(state):
     """The processes that a team's gateway has listed, by id."""
     try:
-        return [
-            int(process) for process in json.loads((state / "private" / "children").read_text())
-        ]
+        told = json.loads((state / "private" / "children").read_text())
+        return [int(process) for process in told["processes"]]
     except FileNotFoundError:
         return []
 
@@ -192,7 +191,8 @@ class Team:
     def entries(self):
         """All entries of the record, in the order of their recording."""
         with open_reader(self.record) as database:
-            return list(map(Entry._make, database.execute("SELECT * FROM entries ORDER BY number")))
+            rows = database.execute(f"SELECT {COLUMNS} FROM entries ORDER BY number")
+            return list(map(Entry._make, rows))
 
     def rows(self, sql):
         """The rows of a query on the record."""
@@ -205,12 +205,25 @@ class Team:
             lambda: next(
                 (
                     process
-                    for process in processes_of(self.state)
+                    for process in children_of(self.process.pid)
                     if b"serve\0--socket" in command_of(process)
                 ),
                 None,
             )
         )
+
+
+def children_of(process):
+    """The children of a process, by id."""
+    found = []
+    for path in pathlib.Path("/proc").glob("[0-9]*/stat"):
+        try:
+            fields = path.read_text(errors="replace").rpartition(")")[2].split()
+        except OSError:
+            continue
+        if fields[0] not in "ZX" and int(fields[1]) == process:
+            found.append(int(path.parent.name))
+    return found
 
 
 def command_of(process):

@@ -3,6 +3,7 @@ may name."""
 import json
 import os
 import pathlib
+import shutil
 import signal
 import socket
 import stat
@@ -86,7 +87,35 @@ class TheFolder(unittest.TestCase):
                     pass
 
 
+    def test_a_link_is_not_followed(self):
+        with tempfile.TemporaryDirectory() as folder:
+            for name in ("team", "team/private", "team/private/lock", "team/private/records"):
+                with self.subTest(name):
+                    root = pathlib.Path(folder) / name.replace("/", "-")
+                    victim, link = root / "victim", root / name
+                    victim.mkdir(parents=True)
+                    victim.chmod(0o755)
+                    link.parent.mkdir(mode=0o750, parents=True, exist_ok=True)
+                    link.symlink_to(victim / "file" if name.endswith("lock") else victim)
+                    with self.assertRaises(Failed):
+                        with Places(root / "team"):
+                            pass
+                    self.assertEqual((mode_of(victim), list(victim.iterdir())), (0o755, []))
+
+
 class TheLock(unittest.TestCase):
+    @unittest.skipUnless(os.geteuid() == 0, "only root is in every group")
+    def test_a_second_start_that_is_refused_changes_nothing(self):
+        with Team() as team:
+            before = [(path.stat().st_gid, mode_of(path)) for path in team.state.rglob("*")]
+            team.state.chmod(0o700)
+            words = [*team.command(), "--group", "nogroup"]
+            ran = subprocess.run(words, capture_output=True, text=True, timeout=60)
+            self.assertIn("another gateway runs", ran.stderr)
+            self.assertEqual((team.state.stat().st_gid, mode_of(team.state)), (os.getegid(), 0o700))
+            after = [(path.stat().st_gid, mode_of(path)) for path in team.state.rglob("*")]
+            self.assertEqual(after, before)
+
     def test_a_second_gateway_is_refused_and_the_first_goes_on(self):
         with Team() as team:
             ran = subprocess.run(
@@ -106,6 +135,25 @@ class Children(unittest.TestCase):
             team.end(signal.SIGKILL)
             teams.wait_for(lambda: not any(map(teams.is_running, children)))
 
+    def test_a_copy_of_the_folder_leaves_the_children_of_the_first_alone(self):
+        with Team() as team, team.root() as client:
+            server = team.server()
+            copy = team.state.with_name("copy")
+            shutil.copytree(team.state, copy, ignore=shutil.ignore_patterns("*.sock", "*-shm"))
+            with Team(state=copy) as other:
+                self.assertTrue(teams.is_running(server))
+                self.assertEqual(client.addrole("one")["ok"], "addrole")
+                self.assertEqual(other.end(), 0)
+
+    def test_a_list_that_cannot_be_read_stops_nobody(self):
+        for text in ("", "{", "[]", '{"of": 1, "processes": 2}', '{"1": "2"}'):
+            with tempfile.TemporaryDirectory() as folder:
+                state = pathlib.Path(folder) / "team"
+                with Places(state):
+                    (state / "private" / "children").write_text(text)
+                with Places(state) as places:
+                    self.assertEqual(places.orphans, [], text)
+
     def test_an_orphan_is_ended_and_a_stranger_of_the_same_id_is_not(self):
         with tempfile.TemporaryDirectory() as folder:
             state = pathlib.Path(folder) / "team"
@@ -113,7 +161,9 @@ class Children(unittest.TestCase):
                 pass
             orphan, stranger = (start_child(["sleep", "600"]) for _ in range(2))
             listed = {orphan.pid: start_time_of(orphan.pid), stranger.pid: "1"}
-            (state / "private" / "children").write_text(json.dumps(listed))
+            children = state / "private" / "children"
+            of = Places(state).children._of()
+            children.write_text(json.dumps({"of": of, "processes": listed}))
             with Places(state) as places:
                 self.assertEqual(places.orphans, [orphan.pid])
             self.assertEqual(orphan.wait(teams.WAIT_SECONDS), -signal.SIGKILL)

@@ -1,4 +1,5 @@
-"""Each command of docs/GATEWAY-READS.md prints what stands there, but for times and persons."""
+"""Each command of docs/GATEWAY.md prints what stands there, but for times and persons."""
+import pathlib
 import re
 import shlex
 import subprocess
@@ -7,7 +8,7 @@ import unittest
 
 from teams import ME, ROOT, Team, wait_for
 
-DOCUMENT = ROOT / "docs" / "GATEWAY-READS.md"
+DOCUMENT = ROOT / "docs" / "GATEWAY.md"
 BLOCK = re.compile(r"```console\n(.*?)```", re.DOTALL)
 TIME = re.compile(r"\d{4}-\d\d-\d\dT\d\d:\d\d:\d\d\.\d{3}Z")
 STATE = "/srv/team"
@@ -58,14 +59,38 @@ class Document(unittest.TestCase):
             for piece in pieces:
                 self.check(piece, team)
 
-    def test_the_table_of_words_is_that_of_the_gateway(self):
-        from estserve_team.reads import WORDS
+    def test_each_promise_names_tests_that_are_there(self):
+        table = DOCUMENT.read_text().partition("## What it promises")[2].partition("It doesn't")[0]
+        rows = [line.split("|")[2] for line in table.splitlines() if line.startswith("| ")]
+        named = {name for row in rows for name in re.findall(r"`(test_\w+(?:\.py)?)`", row)}
+        files = list(pathlib.Path(__file__).parent.rglob("test_*.py"))
+        written = {path.name for path in files}
+        written |= {name for path in files for name in re.findall(r"def (test_\w+)", path.read_text())}
+        self.assertGreater(len(named), 30)
+        self.assertEqual(named - written, set())
 
-        table = DOCUMENT.read_text().partition("## Answers on")[2].splitlines()
+    def test_the_table_of_limits_is_that_of_the_gateway(self):
+        from estserve_team.limits import Limits
+
+        table = DOCUMENT.read_text().partition("## Limits")[2].partition("\n## ")[0]
+        told = {}
+        for line in table.splitlines():
+            if line.startswith("| `"):
+                names, numbers = (line.split("|")[at] for at in (1, 2))
+                values = re.findall(r"\d[\d,]*\d|\d", numbers)
+                pairs = zip(re.findall(r"`(\w+)`", names), values)
+                told.update((name, int(value.replace(",", ""))) for name, value in pairs)
+        self.assertEqual(told, Limits()._asdict())
+
+    def test_the_table_of_words_is_that_of_the_gateway(self):
+        from estserve_team import overseeing, reads
+
+        words = {**reads.WORDS, **overseeing.WORDS}
+        table = DOCUMENT.read_text().partition("## Answers on")[2].partition("\n## ")[0].splitlines()
         rows = [line.split("|")[1:3] for line in table if line.startswith("| `")]
         told = {word.strip(" `"): set(re.findall(r"`(\w+)`", keys)) for word, keys in rows}
         self.assertEqual(
-            told, {name: {*word.required, *word.optional} for name, word in WORDS.items()}
+            told, {name: {*word.required, *word.optional} for name, word in words.items()}
         )
 
 

@@ -15,6 +15,8 @@ import unittest
 
 import teams
 from teams import ROOT, Server, Talker, Team, line_of, login_line, program_file, random_of
+from estserve_team.chain import Head
+from estserve_team.proving import take_over
 from estserve_team.record import POLICY, Connection, Entry, RecordWriter
 from estserve_team.replay import Replay
 
@@ -80,11 +82,16 @@ def failed_start(team):
 
 
 def change(team, sql, *values):
-    """Changes the record while no gateway runs."""
+    """Changes the record while no gateway runs, as one does who may write all of it: hashes and head
+    are made anew."""
     database = sqlite3.connect(team.record)
     with database:
         count = database.execute(sql, values).rowcount
+        record = dict(database.execute("SELECT name, value FROM facts"))["id"]
     database.close()
+    head = Head(team.record.with_name("head"))
+    take_over(team.record, head, record, True)
+    head.close()
     return count
 
 

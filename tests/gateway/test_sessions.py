@@ -136,7 +136,7 @@ async def gateway_of(folder, most_sends=900_000):
     with Places(pathlib.Path(folder) / "team") as places:
         people = People({"root": ["admin", teams.ME]})
         gateway = Gateway(places, people, teams.program_file(), most_sends)
-        gateway.log = lambda text: None
+        gateway.log = lambda *told, **fields: None
         await gateway.start()
         try:
             yield gateway
@@ -161,7 +161,9 @@ class InProcess(unittest.TestCase):
         with teams.open_reader(gateway.record_path) as database:
             return [
                 teams.Entry._make(row)
-                for row in database.execute("SELECT * FROM entries ORDER BY number")
+                for row in database.execute(
+                    f"SELECT {teams.COLUMNS} FROM entries ORDER BY number"
+                )
             ]
 
 
@@ -282,7 +284,7 @@ class ServerLost(InProcess):
         async def work(gateway):
             session = await gateway.open_session(ROOT, "root", [])
             gateway.fail("the test has it so")
-            await asyncio.gather(*(gateway.open_session(ROOT, "root", []) for _ in range(16)))
+            await asyncio.gather(*(gateway.open_session(ROOT, "root", ["root"]) for _ in range(16)))
             with self.assertRaises(Refused) as held:
                 await gateway.open_session(ROOT, "root", [], session)
             self.assertEqual(held.exception.code, 1002)

@@ -18,6 +18,7 @@ from estserve_team.refusals import Refused  # noqa: E402
 from estserve_team.web import page_slots  # noqa: E402
 from estserve_team.web.options import Bad, Options, read_options  # noqa: E402
 from estserve_team.web.refusing import refusal_of, sentence_of  # noqa: E402
+from estserve_team.people import Person  # noqa: E402
 from estserve_team.web.seats import SILENT_SECONDS, Changes, Seat, Seats  # noqa: E402
 from estserve_team.web.visits import (
     LINK_SECONDS,
@@ -130,6 +131,15 @@ class LinksTest(unittest.TestCase):
         self.assertIsNone(self.links.use(secrets[0]))
         self.assertEqual(self.links.use(secrets[-1]), "ann")
 
+    def test_nobody_pushes_out_anothers_link(self):
+        links = Links(self.clock)
+        secret = links.make("bob")
+        for _ in range(3_000):
+            links.make("ann")
+        for at in range(1_000):
+            links.make(f"{at}")
+        self.assertEqual(links.use(secret), "bob")
+
 
 class VisitsTest(unittest.TestCase):
     def setUp(self):
@@ -176,6 +186,13 @@ class VisitsTest(unittest.TestCase):
         self.assertIsNone(self.visits.find(cookie, token))
         self.assertIsNone(Visits(self.path, self.clock).find(cookie, token))
 
+    def test_nobody_pushes_out_anothers_visit(self):
+        mine = self.visits.begin("bob")
+        own = [self.visits.begin("ann") for _ in range(40)]
+        self.assertEqual(self.visits.find(*mine).person, "bob")
+        self.assertIsNone(self.visits.find(*own[0]))
+        self.assertIsNotNone(self.visits.find(*own[-1]))
+
     def test_a_visit_that_was_ended_is_over(self):
         cookie, token = self.visits.begin("ann")
         self.visits.end(self.visits.find(cookie, token))
@@ -202,7 +219,7 @@ class Share:
 
 class SeatsTest(unittest.TestCase):
     def seat(self, seats):
-        seat = Seat("cookie", Context(None, None, Share()), Changes())
+        seat = Seat("cookie", Context(None, Person("ann", ("ann",)), Share()), Changes())
         seats.add(seat)
         return seat
 

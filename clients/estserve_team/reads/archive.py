@@ -91,6 +91,7 @@ def build(
         new, program, old.name
     ) as writer:
         make_record(NewRecord(writer, folder / "new.sock", caller.person), caller, models, emptied)
+        writer.keep_answers(old)
     made = models_of(new)
     compare_facts(models.policy, made.policy)
     compare_slots(models, made, emptied)

@@ -26,6 +26,7 @@ SENTENCES = {
     "NotAllowed": "{why}",
     "NeedsLogin": "this needs a login: --as USER, and --role ROLE for each role",
     "Failed": "{why}",
+    "TooMany": "{what}: at most {most} may be had here now",
     "NoHttp": "the gateway serves no page: start it with --http",
 }
 
@@ -163,3 +164,15 @@ def add_words(subparsers: Any) -> None:
     archive.add_argument("--slot", type=int, metavar="K", help="leave this slot empty")
     archive.set_defaults(keys=("slot",))
     add_word(subparsers, "link", "a link to the team's page, for you alone")
+    add_word(subparsers, "health", "whether the gateway is well")
+    add_word(subparsers, "visits", "the browsers that have come in by a link")
+    kick = add_word(subparsers, "kick", "end all connections and visits of a Unix user")
+    kick.add_argument("person", metavar="PERSON")
+    kick.set_defaults(keys=("person",))
+    close = add_word(subparsers, "close", "end a visit")
+    close.add_argument("visit", metavar="VISIT")
+    close.set_defaults(keys=("visit",))
+    retract = add_word(subparsers, "retract", "take one offer back, and leave the others")
+    retract.add_argument("slot", type=int, metavar="SLOT")
+    retract.add_argument("signal", metavar="SIGNAL")
+    retract.set_defaults(keys=("slot", "signal"))

@@ -178,6 +178,34 @@ def link_lines(answer: Answer) -> Iterator[str]:
     yield answer["link"]
 
 
+def health_lines(answer: Answer) -> Iterator[str]:
+    """Whether the gateway is well."""
+    yield f"{answer['phase']}, {answer['entries']} entries, {answer['full']} % full at most"
+    yield f"the server was begun anew {answer['restarts']} times"
+
+
+def visit_lines(answer: Answer) -> Iterator[str]:
+    """The visits of browsers, a line each."""
+    rows = [["visit", "person", "used"]]
+    rows += [[one["visit"], one["person"], one["used"]] for one in answer["visits"]]
+    yield from columns(rows)
+
+
+def kick_lines(answer: Answer) -> Iterator[str]:
+    """What was ended."""
+    yield f"{answer['connections']} connections and {answer['visits']} visits are ended"
+
+
+def close_lines(answer: Answer) -> Iterator[str]:
+    """What was ended."""
+    yield f"{answer['visits']} visits are ended"
+
+
+def retract_lines(answer: Answer) -> Iterator[str]:
+    """What is pending still."""
+    yield f"pending in slot {answer['slot']}: {', '.join(answer['pending']) or 'nothing'}"
+
+
 PRINTERS: Dict[str, Callable[[Answer], Iterable[str]]] = {
     "who": who_lines,
     "slots": slots_lines,
@@ -186,4 +214,9 @@ PRINTERS: Dict[str, Callable[[Answer], Iterable[str]]] = {
     "log": log_lines,
     "archive": archive_lines,
     "link": link_lines,
+    "health": health_lines,
+    "visits": visit_lines,
+    "kick": kick_lines,
+    "close": close_lines,
+    "retract": retract_lines,
 }

@@ -3,7 +3,7 @@ does, where HTTP is asked for."""
 import argparse
 import sys
 import weakref
-from typing import Any, Dict
+from typing import Any, Dict, List, Optional
 
 from ..refusals import Refused
 from ..words import Context, Word
@@ -28,6 +28,25 @@ async def link(context: Context, keys: Dict[str, Any]) -> Dict[str, Any]:
     if site is None:
         raise Refused(NO_HTTP, "NoHttp")
     return {"link": site.link_for(context.person), "seconds": LINK_SECONDS}
+
+
+def visits_of(gateway: Any, person: Optional[str]) -> List[Dict[str, Any]]:
+    """The visits of a person, or of all."""
+    site = _sites.get(gateway)
+    return site.visits_of(person) if site is not None else []
+
+
+def end_visits(gateway: Any, person: Optional[str], name: Optional[str]) -> int:
+    """Ends the visits of a person, or of all, or the one of this name. Answers how many."""
+    site = _sites.get(gateway)
+    return site.end_visits(person, name) if site is not None else 0
+
+
+def follow_people(gateway: Any) -> None:
+    """Ends the pages whose login their person may no more have."""
+    site = _sites.get(gateway)
+    if site is not None:
+        site.follow_people()
 
 
 WORDS: Dict[str, Word] = {"link": Word(link, needs_session=False)}

@@ -6,6 +6,7 @@ from estserve_client.connection import NotText, TooLong, line_of
 from estserve_client.module_text import main_of
 
 from .. import words
+from ..lines import LINE_BYTES
 from ..people import Person
 from ..refusals import Refused
 from .looks import rows_of
@@ -49,9 +50,10 @@ def completed(command: Told) -> Told:
     """A command as the program has it: a load that names no main module takes the first that no
     other runs."""
     text = command.get("text")
-    if command.get("cmd") == "load" and "main" not in command and isinstance(text, str):
-        return {**command, "main": main_of(text).name}
-    return command
+    if command.get("cmd") != "load" or "main" in command or not isinstance(text, str):
+        return command
+    is_short = len(text) <= LINE_BYTES  # a longer one is refused whatever it says
+    return {**command, "main": main_of(text).name if is_short else "main"}
 
 
 async def ask(seat: Seat, body: Told) -> Told:

@@ -1,5 +1,6 @@
 """A slot as the page shows it: what its session may see and do there, each asked of the program
 by `check`."""
+import asyncio
 from typing import Any, Dict, List
 
 from estserve_client.module_text import OFFERED, main_of
@@ -14,9 +15,10 @@ TRIES = 50  # a slot is read anew where permissions changed meanwhile, so often 
 
 def rights_of(seat: Seat) -> Rights:
     """The answers to `check` that the session got since permissions changed last."""
-    if seat.rights is None or seat.rights_at != seat.changes.count:
-        seat.rights, seat.rights_at = Rights(seat.share), seat.changes.count
-    return seat.rights
+    board = seat.board
+    if board.rights is None or board.rights_at != seat.changes.count:
+        board.rights, board.rights_at = Rights(seat.share), seat.changes.count
+    return board.rights
 
 
 async def may_of(rights: Rights, granted: set, number: int, signals: List[Any]) -> Dict[str, Any]:
@@ -72,7 +74,27 @@ async def look_at(seat: Seat, number: int) -> Dict[str, Any]:
     raise failed("permissions change too fast to be shown")
 
 
+def made_of(seat: Seat, number: int) -> Any:
+    """What a slot's news are made of: while it is the same, so are they."""
+    models = seat.context.gateway.reads.models
+    return seat.changes.count, models, models.slots[number].entries
+
+
 async def page_slot(seat: Seat, number: int) -> Dict[str, Any]:
+    """What the page is told of a slot, reckoned once for all who share a login. Raises Refused."""
+    slots, made = seat.board.slots, made_of(seat, number)
+    held = slots.get(number)
+    if held is None or held[0] != made:
+        held = slots[number] = made, asyncio.ensure_future(new_page_slot(seat, number))
+    try:
+        return await asyncio.shield(held[1])
+    except Exception:
+        if slots.get(number) is held:
+            del slots[number]
+        raise
+
+
+async def new_page_slot(seat: Seat, number: int) -> Dict[str, Any]:
     """What the page is told of a slot. Of one that may not be seen, that it is so. Raises
     Refused."""
     told = await look_at(seat, number)

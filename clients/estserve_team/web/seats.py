@@ -7,20 +7,43 @@ import asyncio
 import contextlib
 import secrets
 import time
-from typing import Any, Dict, Optional
+import weakref
+from typing import Any, Dict, List, Optional, Tuple
 
+from ..limits import Limits
 from ..refusals import Refused
 from ..words import Context
+from .visits import one_too_many
 
 SILENT_SECONDS = 30  # a page that follows no events and asks for nothing is gone after so long
 SEATS = 512  # at most this many pages at once
 
 
+class Board:
+    """What one share was told: the answers to `check`, and the slots as they may be seen. All pages
+    that share a login share it."""
+
+    def __init__(self) -> None:
+        self.rights: Any = None  # the answers to `check`,
+        self.rights_at = -1  # when permissions had changed so often
+        self.slots: Dict[int, Tuple[Any, "asyncio.Future[Any]"]] = {}  # by what they were made of
+        self.life: Tuple[int, Any] = -1, None  # whether its session lives, when they were so many
+        self.event: Tuple[Any, bytes, Any] = None, b"", None  # the last one, and what it is made of
+
+
 class Changes:
-    """How often permissions have changed, since the site began."""
+    """How often permissions have changed, since the site began; and what was told since."""
 
     def __init__(self) -> None:
         self.count = 0
+        self._boards: "weakref.WeakKeyDictionary[Any, Board]" = weakref.WeakKeyDictionary()
+
+    def board_of(self, share: Any) -> Board:
+        """What a share was told."""
+        board = self._boards.get(share)
+        if board is None:
+            board = self._boards[share] = Board()
+        return board
 
 
 class Seat:
@@ -31,11 +54,14 @@ class Seat:
         self.cookie, self.context = cookie, context
         self.share: Any = context.session
         self.changes = changes
-        self.rights: Any = None  # what the session was answered to `check`,
-        self.rights_at = -1  # when permissions had changed so often
         self.streams = 0
         self.used = time.monotonic()
         self.is_left = False
+
+    @property
+    def board(self) -> Board:
+        """What its share was told."""
+        return self.changes.board_of(self.share)
 
     @property
     def is_over(self) -> bool:
@@ -57,14 +83,19 @@ class Seat:
 class Seats:
     """All seats."""
 
-    def __init__(self) -> None:
+    def __init__(self, limits: Limits = Limits()) -> None:
+        self._most = limits.person_seats
         self._seats: Dict[str, Seat] = {}
         self._leaving: "set[asyncio.Task[None]]" = set()
 
     def add(self, seat: Seat) -> None:
-        """Adds a seat; where there are too many, the one that was used least lately goes."""
-        while len(self._seats) >= SEATS:
-            self.drop(min(self._seats.values(), key=lambda one: one.used))
+        """Adds a seat; where its person has too many, the one that was used least lately goes, and
+        where all have, one of the person who has most."""
+        owners = (one.context.person.name for one in self._seats.values())
+        too_many = one_too_many(owners, seat.context.person.name, self._most, SEATS)
+        if too_many is not None:
+            own = (one for one in self._seats.values() if one.context.person.name == too_many)
+            self.drop(min(own, key=lambda one: one.used))
         self._seats[seat.name] = seat
 
     def find(self, name: Optional[str], cookie: str) -> Optional[Seat]:
@@ -84,6 +115,10 @@ class Seats:
         task = asyncio.get_running_loop().create_task(seat.leave())
         self._leaving.add(task)
         task.add_done_callback(self._leaving.discard)
+
+    def all(self) -> List[Seat]:
+        """All seats."""
+        return list(self._seats.values())
 
     def drop_visit(self, cookie: str) -> None:
         """Gives up all seats of a visit."""

@@ -8,10 +8,15 @@ from typing import Any, Awaitable, Callable, Dict, List, Optional
 
 from aiohttp import web
 
+from ..counts import health
+from ..lines import LONGEST_NUMBER
+from ..listening import Listener
 from ..people import Person
+from ..reads.who import time_text
 from ..refusals import Refused
 from ..words import Context
 from . import asking
+from .gates import KEPT_SECONDS, Gates
 from .guard import HEADERS, TOKEN, Guard, told
 from .options import Options
 from .refusing import refusal_of
@@ -26,6 +31,11 @@ KINDS = {
     ".js": "text/javascript",
     ".svg": "image/svg+xml",
 }
+BACKLOG = 128
+LINK_BYTES = 4_096  # of a request with a link
+LINGER_SECONDS = 2.0  # for the rest of a body that was refused
+NAME_LETTERS = 12  # of a visit's name
+LOOK_SECONDS = 1.0  # after which it is seen again which connections take too long
 BODY_BYTES = 512 * 1024  # a line of 65,536 bytes may take six times as many in a page's JSON
 AWAY = (1004, 1005)  # refusals after which the same request may be sent again
 Handler = Callable[[web.Request], Awaitable[web.StreamResponse]]
@@ -48,6 +58,13 @@ def remove_socket(path: str) -> None:
         place.unlink()
 
 
+def read_int(text: str) -> int:
+    """A whole number; long ones take long to read. Raises ValueError."""
+    if len(text) > LONGEST_NUMBER:
+        raise ValueError(text)
+    return int(text)
+
+
 def refuse_constant(name: str) -> None:
     """NaN and Infinity are no JSON."""
     raise ValueError(name)
@@ -58,8 +75,10 @@ class Site:
 
     def __init__(self, gateway: Any, options: Options) -> None:
         self._gateway, self._options = gateway, options
-        self._links, self._seats, self._changes = Links(), Seats(), Changes()
-        self._visits = Visits(gateway.private / "visits.json")
+        limits = gateway.limits
+        self._links, self._seats = Links(limits=limits), Seats(limits)
+        self._changes = Changes()
+        self._visits = Visits(gateway.private / "visits.json", limits=limits)
         self._watchers: "set[Watcher]" = set()
         self._files = files()
         self._runner: Optional[web.AppRunner] = None
@@ -70,22 +89,44 @@ class Site:
     async def start(self) -> None:
         """Begins to serve. Raises OSError."""
         sockets = self._bind()
+        for one in sockets:
+            one.listen(BACKLOG)
         self.port = sockets[0].getsockname()[1] if self._options.place else None
         self._guard = Guard(self._options, self.port)
         self._cookie = self._guard.cookie_name(str(self._gateway.state))
         app = web.Application(middlewares=[self._watch_over], client_max_size=BODY_BYTES)
         app.router.add_get("/{path:.*}", self._get)
         app.router.add_post("/api/{name}", self._post)
-        self._runner = web.AppRunner(app, access_log=None, handle_signals=False)
+        self._runner = web.AppRunner(
+            app,
+            access_log=None,
+            handle_signals=False,
+            auto_decompress=False,
+            keepalive_timeout=KEPT_SECONDS,
+            lingering_time=LINGER_SECONDS,
+        )
         await self._runner.setup()
-        for one in sockets:
-            await web.SockSite(self._runner, one, shutdown_timeout=1.0).start()
+        gateway = self._gateway
+        self._gates = Gates(gateway.limits, self._runner.server)
+        self._listeners = [
+            Listener(one, self._gates.admit, gateway.log, gateway.reserve, Gates.told)
+            for one in sockets
+        ]
         self._unlisten = self._gateway.listen(self._note)
         self._gateway.on_restart(self._wake_all)
-        self._dropping = asyncio.get_running_loop().create_task(self._seats.watch())
+        self._dropping = [
+            asyncio.get_running_loop().create_task(one)
+            for one in (self._seats.watch(), self._look_after())
+        ]
         places = [f"{self._options.place[0]}:{self.port}"] if self._options.place else []
         places += [self._options.socket] if self._options.socket else []
         self._gateway.log(f"the page is at {self.address}, served on {' and '.join(places)}")
+
+    async def _look_after(self) -> None:
+        """Ends connections that take too long, again and again."""
+        while True:
+            await asyncio.sleep(LOOK_SECONDS)
+            self._gates.look_after()
 
     def _bind(self) -> List[socket.socket]:
         """The sockets that are asked for; the Unix socket is for its user and its folder's group.
@@ -115,10 +156,16 @@ class Site:
         """Ends all streams, gives up all seats, and serves no more."""
         self._is_stopping = True
         self._unlisten()
-        self._dropping.cancel()
+        for listener in self._listeners:
+            listener.close()
+        for task in self._dropping:
+            task.cancel()
         self._wake_all()
         await self._seats.drop_all()
         if self._runner:
+            await self._runner.shutdown()
+            if self._runner.server:
+                await self._runner.server.shutdown(1.0)
             await self._runner.cleanup()
         self._visits.keep()
         if self._options.socket:
@@ -132,6 +179,39 @@ class Site:
     def link_for(self, person: Person) -> str:
         """A link for this person, which can be used once."""
         return f"{self.address}#link={self._links.make(person.name)}"
+
+    def visits_of(self, person: Optional[str]) -> List[Dict[str, Any]]:
+        """The visits of a person, or of all: a name, the person, and when each was used last."""
+        return [
+            {"person": one.person, "used": time_text(one.used), "visit": one.cookie[:NAME_LETTERS]}
+            for one in self._visits.all()
+            if person in (None, one.person)
+        ]
+
+    def end_visits(self, person: Optional[str], name: Optional[str]) -> int:
+        """Ends the visits of a person, or of all, or the one of this name. Answers how many."""
+        ended = [
+            one
+            for one in self._visits.all()
+            if person in (None, one.person) and name in (None, one.cookie[:NAME_LETTERS])
+        ]
+        for visit in ended:
+            self._seats.drop_visit(visit.cookie)
+            self._visits.end(visit)
+        self._wake_all()
+        return len(ended)
+
+    def follow_people(self) -> None:
+        """Ends the seats whose login their person may no more have."""
+        for seat in self._seats.all():
+            try:
+                person = self._person(seat.context.person.name)
+                is_allowed = person.may_be(seat.share.user)
+            except web.HTTPException:
+                is_allowed = False
+            if not is_allowed:
+                self._seats.drop(seat)
+        self._wake_all()
 
     def _note(self, entries: List[Any]) -> None:
         self._changes.count += sum(map(changes_permissions, entries))
@@ -148,6 +228,9 @@ class Site:
     async def _watch_over(self, request: web.Request, handler: Handler) -> web.StreamResponse:
         """Refuses what may not be looked at, and adds the headers that each answer has."""
         answer: web.StreamResponse
+        gate = self._gates.by_transport.get(request.transport)
+        if gate is not None:
+            gate.begin()
         try:
             fault = self._guard.fault_of(request)
             answer = await handler(request) if fault is None else fault
@@ -158,6 +241,9 @@ class Site:
         except Exception as fault:  # a fault of the gateway's own: it is told, and others go on
             self._gateway.log(f"the page's request {request.path} failed: {fault!r}")
             answer = told(500, "The gateway failed at this request.")
+        finally:
+            if gate is not None:
+                gate.end()
         if not answer.prepared:
             answer.headers.update(HEADERS)
             answer.headers.setdefault("Cache-Control", "no-store")
@@ -168,7 +254,10 @@ class Site:
         return web.json_response(told_of, status=503 if refused.code in AWAY else 200)
 
     async def _get(self, request: web.Request) -> web.StreamResponse:
-        """A file of the page, or what the page reads."""
+        """A file of the page, or what the page reads, or whether the gateway is well."""
+        if request.path == "/health":
+            told_of = health(self._gateway)
+            return web.json_response(told_of, status=200 if told_of["ready"] else 503)
         if request.path.startswith("/api/"):
             return await self._read(request, request.path[len("/api/") :])
         if request.path not in self._files:
@@ -193,11 +282,12 @@ class Site:
             raise web.HTTPBadRequest(text="A number is expected.") from None
 
     async def _post(self, request: web.Request) -> web.StreamResponse:
-        """What may change something."""
-        name, body = request.match_info["name"], await self._body_of(request)
+        """What may change something. Of one who is not known no body is read but a link's."""
+        name = request.match_info["name"]
         if name == "enter":
-            return self._enter(request, body)
+            return self._enter(request, await self._body_of(request, LINK_BYTES))
         visit, person = self._visit_of(request)
+        body = await self._body_of(request, BODY_BYTES)
         if name == "login":
             return await self._login(visit, person, body)
         if name == "out":
@@ -212,12 +302,24 @@ class Site:
             return web.json_response({})
         return web.json_response(await asking.ACTS[name](seat, body))
 
-    async def _body_of(self, request: web.Request) -> Dict[str, Any]:
-        """The object that a request has. Raises HTTPBadRequest."""
-        if request.content_type != "application/json":
-            raise web.HTTPUnsupportedMediaType(text="JSON is expected.")
+    async def _body_of(self, request: web.Request, most: int) -> Dict[str, Any]:
+        """The object that a request has, of at most so many bytes of UTF-8. Raises
+        HTTPException."""
+        charset = request.headers.get("Content-Type", "").lower().partition("charset=")[2]
+        if request.content_type != "application/json" or charset.strip('" ') not in ("", "utf-8"):
+            raise web.HTTPUnsupportedMediaType(text="JSON in UTF-8 is expected.")
+        if request.headers.get("Content-Encoding", "identity").lower() != "identity":
+            raise web.HTTPUnsupportedMediaType(text="A body that is not compressed is expected.")
+        if request.content_length is None:
+            raise web.HTTPLengthRequired(text="A request tells how long its body is.")
+        if request.content_length > most:
+            raise web.HTTPRequestEntityTooLarge(most, request.content_length)
         try:
-            body = json.loads(await request.text(), parse_constant=refuse_constant)
+            raw = await asyncio.wait_for(request.read(), self._gateway.limits.body_seconds)
+        except asyncio.TimeoutError:
+            raise web.HTTPRequestTimeout(text="The body takes too long.") from None
+        try:
+            body = json.loads(raw.decode(), parse_constant=refuse_constant, parse_int=read_int)
         except (ValueError, RecursionError):
             body = None
         if not isinstance(body, dict):
@@ -265,6 +367,7 @@ class Site:
         name = self._guard.named_person(request)
         if visit is None or (name is not None and name != visit.person):
             raise web.HTTPUnauthorized(text="It is not known who you are: a link is needed.")
+        self._gates.know(request.transport, visit.person)
         return visit, self._person(visit.person)
 
     def _seat_of(self, name: Any, visit: Visit) -> Seat:

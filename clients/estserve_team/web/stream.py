@@ -1,8 +1,8 @@
 """Live events of a page: what has changed, as its own session may see it.
 
 An entry says only which slot to look at again. What the page is told is asked anew on the page's
-own session. Changes that come together are told once, and the more a telling costs, the longer the
-next one waits."""
+own session, once for all pages that share it. Changes that come together are told once, and the
+more a telling costs, the longer the next one waits, but no longer than two seconds."""
 import asyncio
 import json
 from typing import Any, AsyncIterator, List, Optional, Set, Tuple
@@ -15,6 +15,7 @@ from .seats import Seat
 
 SLOTS = 16
 PAUSE = 0.04  # seconds between two tellings
+LONGEST_PAUSE = 1.0  # after one that took long
 TURN = 2  # seconds after which it is seen whether the page has gone
 BEATS = 5  # after this many such turns a stream without news tells that it is there
 QUIET = ("login", "logout")  # policy commands after which nobody else may do more or less
@@ -74,37 +75,48 @@ class Watcher:
                 continue
             self._wake.clear()
             begun = loop.time()
-            yield b"".join(event_bytes(*event) for event in await self._news())
-            await asyncio.sleep(max(PAUSE, 3 * (loop.time() - begun)))
+            yield await self._news()
+            await asyncio.sleep(min(LONGEST_PAUSE, max(PAUSE, 3 * (loop.time() - begun))))
 
-    async def _news(self) -> List[Event]:
+    async def _news(self) -> bytes:
         """What there is to tell now."""
         slots, policy, record = sorted(self._slots), self._policy, self._record
         self._slots, self._policy, self._record = set(), False, False
         try:
             ended = await self._end_of_session() if policy else None
             if ended:
-                return [("ended", ended)]
+                await self._seat.leave()
+                return event_bytes("ended", ended)
             told = [await page_slot(self._seat, number) for number in slots]
         except Refused:  # it is told with the next news, if the seat isn't over
             self._slots.update(slots)
             self._policy, self._record = self._policy or policy, self._record or record
             self._wake.set()
-            return []
-        news: List[Event] = [("slots", told)] if told else []
-        news += [("policy", {})] * policy + [("record", {})] * record
-        return news + self._new_warnings()
+            return b""
+        news: List[Event] = [("policy", {})] * policy + [("record", {})] * record
+        news += self._new_warnings()
+        return self._slots_event(told) + b"".join(event_bytes(*event) for event in news)
+
+    def _slots_event(self, told: List[Any]) -> bytes:
+        """The news of slots, which pages that share a login mostly have in common."""
+        if not told:
+            return b""
+        board, made = self._seat.board, list(map(id, told))
+        if board.event[0] != made:
+            board.event = made, event_bytes("slots", told), told  # kept, so that no id comes again
+        return board.event[1]
 
     async def _end_of_session(self) -> Optional[str]:
-        """The sentence of a session that the policy has ended; None of one that lives.
+        """The sentence of a session that the policy has ended; None of one that lives. It is asked
+        once for all who share it.
 
         There is no slot 16, which is told only to a session that lives."""
         asked = {"cmd": "look", "slot": SLOTS, "instant": 1}
-        answer = await self._seat.share.ask_answer(asked)
-        if answer.get("code") != NO_SESSION:
-            return None
-        await self._seat.leave()
-        return sentence_of(answer, asked)
+        board, count = self._seat.board, self._seat.changes.count
+        if board.life[0] != count:
+            board.life = count, asyncio.ensure_future(self._seat.share.ask_answer(asked))
+        answer = await asyncio.shield(board.life[1])
+        return sentence_of(answer, asked) if answer.get("code") == NO_SESSION else None
 
     def _new_warnings(self) -> List[Event]:
         """The warnings, where they are others than before."""

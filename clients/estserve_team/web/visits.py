@@ -4,18 +4,31 @@ A visit has two secrets: a cookie, which no script reads, and a token, which the
 each request and which no other origin has. Either alone opens nothing. Only their digests are kept,
 in a file that only the gateway's user may read, so that a visit goes on when the gateway is started
 anew."""
+import collections
+import contextlib
 import hashlib
 import json
 import os
 import pathlib
 import secrets
 import time
-from typing import Callable, Dict, NamedTuple, Optional, Tuple
+from typing import Callable, Dict, Iterable, List, NamedTuple, Optional, Tuple
+
+from ..limits import Limits
 
 LINK_SECONDS = 300  # a link may be used for so long
 VISIT_SECONDS = 12 * 3600  # a visit ends when it was not used for so long
 KEPT_AFTER = 600  # seconds after which it is written anew that a visit was used
-LINKS, VISITS = 256, 1024  # at most, at once: then the oldest one goes
+LINKS, VISITS = 2_048, 4_096  # at most, at once: then one goes of the person who has most
+
+
+def one_too_many(persons: Iterable[str], own: str, most_own: int, most: int) -> Optional[str]:
+    """The person one of whose things has to go, so that there is place for another of `own`; None
+    where there is place."""
+    counts = collections.Counter(persons)
+    if counts[own] >= most_own:
+        return own
+    return counts.most_common(1)[0][0] if sum(counts.values()) >= most else None
 
 
 def digest_of(secret: str) -> str:
@@ -35,15 +48,21 @@ class Visit(NamedTuple):
 class Links:
     """Links that were given out and not yet used."""
 
-    def __init__(self, clock: Callable[[], float] = time.monotonic) -> None:
-        self._clock = clock
+    def __init__(
+        self, clock: Callable[[], float] = time.monotonic, limits: Limits = Limits()
+    ) -> None:
+        self._clock, self._most = clock, limits.person_links
         self._links: Dict[str, Tuple[str, float]] = {}
 
     def make(self, person: str) -> str:
         """The secret of a new link of this person."""
         secret = secrets.token_urlsafe(32)
-        while len(self._links) >= LINKS:
-            del self._links[next(iter(self._links))]
+        now = self._clock()
+        self._links = {name: link for name, link in self._links.items() if link[1] > now}
+        owners = (owner for owner, _ in self._links.values())
+        too_many = one_too_many(owners, person, self._most, LINKS)
+        if too_many is not None:
+            del self._links[next(name for name, one in self._links.items() if one[0] == too_many)]
         self._links[digest_of(secret)] = person, self._clock() + LINK_SECONDS
         return secret
 
@@ -57,8 +76,13 @@ class Links:
 class Visits:
     """The visits, in a file."""
 
-    def __init__(self, path: pathlib.Path, clock: Callable[[], float] = time.time) -> None:
-        self._path, self._clock = path, clock
+    def __init__(
+        self,
+        path: pathlib.Path,
+        clock: Callable[[], float] = time.time,
+        limits: Limits = Limits(),
+    ) -> None:
+        self._path, self._clock, self._most = path, clock, limits.person_visits
         self._visits: Dict[str, Visit] = {}
         self._kept = 0.0
         self._read()
@@ -74,12 +98,14 @@ class Visits:
         self._drop_old()
 
     def keep(self) -> None:
-        """Writes the file anew, in one piece."""
+        """Writes the file anew, in one piece. Where that can't be, the visits go on until the
+        gateway ends."""
         beside = self._path.with_suffix(".new")
-        descriptor = os.open(beside, os.O_WRONLY | os.O_CREAT | os.O_TRUNC, 0o600)
-        with open(descriptor, "w", encoding="utf-8") as file:
-            json.dump([list(visit) for visit in self._visits.values()], file)
-        os.replace(beside, self._path)
+        with contextlib.suppress(OSError):
+            descriptor = os.open(beside, os.O_WRONLY | os.O_CREAT | os.O_TRUNC, 0o600)
+            with open(descriptor, "w", encoding="utf-8") as file:
+                json.dump([list(visit) for visit in self._visits.values()], file)
+            os.replace(beside, self._path)
         self._kept = self._clock()
 
     def _drop_old(self) -> None:
@@ -87,16 +113,19 @@ class Visits:
         self._visits = {
             cookie: visit for cookie, visit in self._visits.items() if visit.used >= oldest
         }
-        while len(self._visits) > VISITS:
-            del self._visits[min(self._visits.values(), key=lambda visit: visit.used).cookie]
 
     def begin(self, person: str) -> Tuple[str, str]:
         """The cookie and the token of a new visit of this person."""
+        self._drop_old()
+        owners = (visit.person for visit in self._visits.values())
+        too_many = one_too_many(owners, person, self._most, VISITS)
+        if too_many is not None:
+            own = (visit for visit in self._visits.values() if visit.person == too_many)
+            del self._visits[min(own, key=lambda visit: visit.used).cookie]
         cookie, token = secrets.token_urlsafe(32), secrets.token_urlsafe(32)
         self._visits[digest_of(cookie)] = Visit(
             digest_of(cookie), digest_of(token), person, self._clock()
         )
-        self._drop_old()
         self.keep()
         return cookie, token
 
@@ -113,6 +142,10 @@ class Visits:
             self._drop_old()
             self.keep()
         return visit
+
+    def all(self) -> List[Visit]:
+        """All visits."""
+        return list(self._visits.values())
 
     def end(self, visit: Visit) -> None:
         """Ends a visit: its secrets open nothing any more."""

@@ -1,0 +1,180 @@
+"""The words that keep a record: `verify`, `backup`, `restore` and `undo-until`. They read and write
+the team's folder itself, so they are for the Unix user who runs the gateway."""
+import argparse
+import contextlib
+import os
+import pathlib
+import sqlite3
+import time
+from typing import Any
+
+from .chain import Head, NotProven, Tip
+from .places import Failed, Places
+from .proving import Proven, prove
+from .record import FORMAT, has_table, last_tip, open_reader
+from .starting import open_there, settle_records, sync_folder
+
+BACKUP = "CREATE TABLE backup (time REAL NOT NULL, entries INTEGER NOT NULL, hash TEXT NOT NULL)"
+
+
+def folder_of(arguments: argparse.Namespace) -> pathlib.Path:
+    """The team's folder. Raises Failed."""
+    if arguments.state is None:
+        raise Failed("the team's folder is missing: --state DIR")
+    return arguments.state
+
+
+def known_tip(state: pathlib.Path, record: str) -> Tip:
+    """The tip that the head of a folder has of a record. Raises Failed."""
+    path = state / "private" / "head"
+    if not path.exists():
+        raise Failed(f"there is no head at {path}")
+    head = Head(path)
+    try:
+        tip = head.of(record)
+    finally:
+        head.close()
+    if tip is None:
+        raise NotProven(state / "private" / "record.sqlite", "the head is another record's")
+    return tip
+
+
+def name_of(path: pathlib.Path, database: sqlite3.Connection) -> str:
+    """The name of a record that has hashes. Raises Failed."""
+    try:
+        facts = dict(database.execute("SELECT name, value FROM facts"))
+    except sqlite3.Error as fault:
+        raise Failed(f"the record {path} cannot be read: {fault}") from fault
+    if facts.get("format") != FORMAT:
+        raise Failed(f"the record {path} has no hashes yet: the next start gives it some")
+    return facts["id"]
+
+
+def told(proven: Proven) -> str:
+    """What was found right, in words."""
+    return (
+        f"{proven.entries} entries, {proven.aside} of them aside, and {proven.givenup} connections "
+        "that were given up: no number is missing, and each hash is right"
+    )
+
+
+def verify(arguments: argparse.Namespace) -> None:
+    """Says whether the record is what was written. Raises Failed, NotProven."""
+    state = folder_of(arguments)
+    path = state / "private" / "record.sqlite"
+    if not path.exists():
+        raise Failed(f"there is no record at {path}")
+    with open_reader(path) as database:
+        record = name_of(path, database)
+        tip = known_tip(state, record)
+        proven = prove(path, database, tip)
+    print(told(proven))
+    print(f"the head knows entry {tip.entries}, and its hash is that of the record")
+    print("so nothing was cut or changed since it was written, but by who could write both files")
+
+
+def backup(arguments: argparse.Namespace) -> None:
+    """Copies the record into one file, also while the gateway runs. Raises Failed."""
+    state, target = folder_of(arguments), arguments.file.absolute()
+    path = state / "private" / "record.sqlite"
+    if target.exists():
+        raise Failed(f"{target} is there already")
+    beside = target.with_name(target.name + ".part")
+    beside.unlink(missing_ok=True)
+    os.close(os.open(beside, os.O_WRONLY | os.O_CREAT | os.O_EXCL, 0o600))
+    try:
+        with open_reader(path) as source, contextlib.closing(sqlite3.connect(beside)) as copy:
+            tip = known_tip(state, name_of(path, source))  # the copy has at least as much
+            source.backup(copy)
+            copy.isolation_level = None
+            copy.execute("PRAGMA journal_mode=DELETE")
+            proven = prove(beside, copy, tip)
+            copy.execute(BACKUP)
+            last = last_tip(copy, tip.record)
+            copy.execute(
+                "INSERT INTO backup VALUES (?,?,?)", (time.time(), last.entries, last.entry_hash)
+            )
+        os.replace(beside, target)
+        sync_folder(target.parent)
+    except (sqlite3.Error, OSError) as fault:
+        raise Failed(f"{target} cannot be made: {fault}") from fault
+    finally:
+        beside.unlink(missing_ok=True)
+    print(f"{target}: {told(proven)}")
+
+
+def backed_up_tip(path: pathlib.Path, database: sqlite3.Connection) -> Tip:
+    """How far a backup has to come, by its own word. Raises Failed."""
+    if not has_table(database, "backup"):
+        raise Failed(f"{path} is no backup")
+    tip = last_tip(database, name_of(path, database))
+    (entries, entry_hash), = database.execute("SELECT entries, hash FROM backup").fetchall()
+    return tip._replace(entries=entries, entry_hash=entry_hash)
+
+
+def restore(arguments: argparse.Namespace) -> None:
+    """Puts a backup in the place of the record, which is kept. Raises Failed."""
+    with Places(folder_of(arguments)) as places:
+        settle_records(places)
+        try:
+            with open_reader(arguments.file) as source:
+                tip = backed_up_tip(arguments.file, source)
+                proven = prove(arguments.file, source, tip)
+                places.next_record.unlink(missing_ok=True)
+                with contextlib.closing(sqlite3.connect(places.next_record)) as copy:
+                    source.backup(copy)
+                    copy.execute("DROP TABLE backup")
+                    copy.commit()
+            kept = put_away(places)
+            head = Head(places.head)
+            head.begin(tip)
+            head.close()
+            os.replace(places.next_record, places.record)
+            sync_folder(places.private)
+        except (sqlite3.Error, OSError) as fault:
+            raise Failed(f"{arguments.file} cannot be restored: {fault}") from fault
+    print(f"restored: {told(proven)}")
+    if kept is not None:
+        print(f"what was there before is kept as {kept}")
+
+
+def put_away(places: Places) -> Any:
+    """Moves the record with all that belongs to it to another name. Answers where it is; None where
+    there is none."""
+    if not places.record.exists():
+        return None
+    stamp = time.strftime("%Y%m%dT%H%M%SZ", time.gmtime())
+    kept = places.old_records / f"replaced-{stamp}-{os.getpid()}.sqlite"
+    for suffix in ("-wal", "-shm", ""):
+        part = places.record.with_name(places.record.name + suffix)
+        if part.exists():
+            os.replace(part, kept.with_name(kept.name + suffix))
+    return kept
+
+
+def undo_until(arguments: argparse.Namespace) -> None:
+    """Brings back what the last `--until` has kept aside. Raises Failed."""
+    with Places(folder_of(arguments)) as places, open_there(places) as writer:
+        aside, back = writer.bring_back()
+    print(f"{back} entries are back; {aside} that were recorded since are kept aside")
+
+
+def add_words(subparsers: Any) -> None:
+    """Adds these words to the command `team`."""
+    for word, act, help in (
+        ("verify", verify, "whether the record is what was written"),
+        ("backup", backup, "copy the record into one file, also while the gateway runs"),
+        ("restore", restore, "put a backup in the place of the record, while no gateway runs"),
+        ("undo-until", undo_until, "bring back what the last --until has kept aside"),
+    ):
+        parser = subparsers.add_parser(word, help=help, description=help)
+        parser.add_argument(
+            "--state",
+            default=argparse.SUPPRESS,
+            metavar="DIR",
+            type=pathlib.Path,
+            help="the team's folder",
+        )
+        if word in ("backup", "restore"):
+            parser.add_argument("file", metavar="FILE", type=pathlib.Path)
+        parser.set_defaults(act=act)

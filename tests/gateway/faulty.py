@@ -1,0 +1,134 @@
+"""A gateway that has something fail at a moment of a command.
+
+usage: faulty.py FAULT MOMENT team --state DIR ..
+
+Once it gets SIGUSR1, the fault comes the next time that the moment is reached, and stays until
+SIGUSR2. The faults are real ones: a file fills the file system on which the folder lies, descriptors are opened
+until there is none, standard error is a pipe that nobody reads any more, another connection holds
+the record, or the system refuses to fork. Where such a fault alone hurts nobody, the server is
+killed too.
+"""
+import ctypes
+import json
+import os
+import pathlib
+import resource
+import signal
+import sqlite3
+import struct
+import sys
+
+sys.path.insert(0, str(pathlib.Path(__file__).resolve().parents[2] / "clients"))
+import estserve  # noqa: E402
+from estserve_team import moments  # noqa: E402
+
+NOBODY = 65_534
+FILLER = "filler"
+CAPABILITIES = 0x20080522  # the version of the form of `capset`
+SYS_ADMIN, SYS_RESOURCE = 21, 24
+
+
+def give_up_forking_at_will() -> None:
+    """Becomes one whom the limit of processes binds, which root is not."""
+    os.setresuid(NOBODY, 0, 0)
+    header = struct.pack("Ii", CAPABILITIES, 0)
+    low = 0xFFFFFFFF & ~(1 << SYS_ADMIN | 1 << SYS_RESOURCE)
+    mask = struct.pack("IIIIII", low, low, 0, 0x1FF, 0x1FF, 0)
+    if ctypes.CDLL(None, use_errno=True).capset(header, mask):
+        raise OSError(ctypes.get_errno(), "capset")
+
+
+class Fault:
+    """One fault, from when it is armed."""
+
+    def __init__(self, name, moment, state):
+        self.state, self.make, self.moment = state, getattr(self, name), moment
+        self.is_armed = self.is_made = False
+        self.held = []
+        self.processes = resource.getrlimit(resource.RLIMIT_NPROC)
+        signal.signal(signal.SIGUSR1, self.arm)
+        signal.signal(signal.SIGUSR2, self.take_away)
+
+    def arm(self, *_):
+        self.server = self.server_process()
+        self.is_armed = True
+
+    def take_away(self, *_):
+        """Takes the cause away."""
+        while self.held:
+            held = self.held.pop()
+            held.close() if isinstance(held, sqlite3.Connection) else os.close(held)
+        if os.getresuid()[0] == NOBODY:
+            os.setresuid(0, 0, 0)
+        resource.setrlimit(resource.RLIMIT_NPROC, self.processes)
+
+    def reach(self, moment):
+        """What happens at a moment."""
+        if self.is_armed and not self.is_made and moment == self.moment:
+            self.is_made = self.make() is not False
+
+    def full_disk(self):
+        with open(self.state.parent / FILLER, "ab", buffering=0) as filler:
+            for size in (1 << 16, 1 << 12, 1):
+                try:
+                    while filler.write(b"x" * size) == size:
+                        pass
+                except OSError:
+                    pass
+
+    def no_descriptors(self):
+        try:
+            while True:
+                self.held.append(os.open(os.devnull, os.O_RDONLY))
+        except OSError:
+            self.kill_server()
+
+    def closed_stderr(self):
+        told = os.stat(2)
+        reader, writer = os.pipe()
+        os.close(reader)
+        for number in map(int, os.listdir("/proc/self/fd")):
+            try:
+                found = os.stat(number)
+            except OSError:
+                continue
+            if (found.st_dev, found.st_ino) == (told.st_dev, told.st_ino):
+                os.dup2(writer, number)
+        self.kill_server()
+
+    def locked_record(self):
+        other = sqlite3.connect(
+            self.state / "private" / "record.sqlite", isolation_level=None, timeout=0
+        )
+        try:
+            other.execute("BEGIN IMMEDIATE")
+        except sqlite3.OperationalError:  # the gateway holds it: at the next moment
+            self.moment = moments.COMMITTED
+            return False
+        self.held.append(other)
+
+    def no_forks(self):
+        give_up_forking_at_will()
+        resource.setrlimit(resource.RLIMIT_NPROC, (0, self.processes[1]))
+        self.kill_server()
+
+    def kill_server(self):
+        os.kill(self.server, signal.SIGKILL)
+
+    def server_process(self):
+        told = json.loads((self.state / "private" / "children").read_text())
+        for process in map(int, told["processes"]):
+            if b"--socket" in pathlib.Path(f"/proc/{process}/cmdline").read_bytes():
+                return process
+        raise ValueError("there is no server")
+
+
+def main():
+    name, moment, *words = sys.argv[1:]
+    state = pathlib.Path(words[words.index("--state") + 1])
+    moments.reach = Fault(name, moment, state).reach
+    estserve.end(estserve.main(words))
+
+
+if __name__ == "__main__":
+    main()
