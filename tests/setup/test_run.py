@@ -14,12 +14,15 @@ sys.path.insert(0, str(ROOT / "scripts"))
 import run  # noqa: E402
 
 SCRIPTS = ("run.py", "crates.py")
-# tells when each crate is begun and ended; the crate `wrong` is not proved
+# tells when each crate is begun and ended, and what of the crates below is there; the crate `wrong` is not proved
 KIT = """#!/bin/sh
+if [ "$1" = version ]; then echo kit; exit; fi
 crate=$(basename "$PWD")
 echo "begun $crate" >> "$CALLS"
-echo "the long text of $crate"
+echo "the long text of $crate, beside $(ls -d ../*/out/kept 2> /dev/null | tr '\\n' ' ')"
 sleep "$SECONDS_EACH"
+mkdir -p out
+echo "$crate" > out/kept
 [ "$crate" != wrong ] || exit 1
 echo "ended $crate" >> "$CALLS"
 if [ "$1" = run ]; then shift; echo "the program: $*"; cat; fi
@@ -67,12 +70,17 @@ class Runs(unittest.TestCase):
         printed, told = (process := self.start(*words, **more)).communicate("typed\n", WAIT_SECONDS)
         return process.returncode, printed, told.splitlines()
 
+    def wait_for_calls(self, count):
+        end = time.monotonic() + WAIT_SECONDS
+        while time.monotonic() < end and not (self.calls.exists() and len(self.told_calls()) == count):
+            time.sleep(0.02)
+
     def told_calls(self):
         return self.calls.read_text().splitlines()
 
     def test_crates_are_proved_side_by_side_and_the_program_is_run(self):
         status, printed, told = self.run_to_end("top", "script")
-        self.assertEqual((status, printed), (0, "the long text of top\nthe program: -- script\ntyped\n"))
+        self.assertEqual((status, printed.splitlines()[1:]), (0, ["the program: -- script", "typed"]))
         calls = self.told_calls()
         self.assertEqual(set(calls[:2]), {"begun long", "begun short"})
         self.assertEqual(calls[-2:], ["begun top", "ended top"])
@@ -80,8 +88,32 @@ class Runs(unittest.TestCase):
         self.assertEqual(told[0], "4 crates, 2 at a time; the long texts go into crates/top/out/proofs")
         self.assertRegex(told[-2], r"^3 of 4: middle proved, \d+ s; 2 minutes left by the last table$")
         self.assertRegex(told[-1], r"^top proved, built and run, \d+ s$")
-        log = self.folder / "crates" / "top" / "out" / "proofs" / "long.log"
-        self.assertEqual(log.read_text(), "the long text of long\n")
+        texts = self.folder / "crates" / "top" / "out" / "proofs"
+        self.assertEqual((texts / "long.log").read_text(), "the long text of long, beside \n")
+        self.assertEqual((texts / "middle.log").read_text(), "the long text of middle, beside ../long/out/kept \n")
+        for crate in ("short", "long", "middle", "top"):
+            self.assertEqual((self.folder / "crates" / crate / "out" / "kept").read_text(), f"{crate}\n")
+        self.assertFalse((self.folder / "out" / "lanes").exists())
+
+    def test_what_is_proved_and_has_not_changed_is_not_proved_again(self):
+        self.write("crates/long/src/lib.rt", "old")
+        self.assertEqual(self.run_to_end("top", seconds="0")[0], 0)
+        for changed, begun in ((None, ["top"]), ("crates/short/src/lib.rt", ["short", "top"]), ("crates/long/src/lib.rt", ["long", "middle", "top"])):
+            self.calls.unlink()
+            if changed:
+                self.write(changed, "new")
+            status, _, told = self.run_to_end("top", seconds="0")
+            self.assertEqual((status, told[1]), (0, f"{4 - len(begun)} of 4 are proved already"))
+            self.assertEqual([line.split()[1] for line in self.told_calls() if line.startswith("begun")], begun)
+
+    def test_what_a_killed_run_has_kept_is_taken_back(self):
+        started = self.start("top", seconds="30")
+        self.wait_for_calls(2)
+        self.write("out/lanes/long/crates/long/out/half", "kept")
+        os.kill(started.pid, signal.SIGKILL)
+        started.communicate(timeout=WAIT_SECONDS)
+        self.assertEqual(self.run_to_end("top", seconds="0")[0], 0)
+        self.assertEqual((self.folder / "crates" / "long" / "out" / "half").read_text(), "kept")
 
     def test_the_crate_under_the_longest_chain_is_first(self):
         self.assertEqual(self.run_to_end("top", lanes=1, seconds="0")[0], 0)
@@ -97,9 +129,7 @@ class Runs(unittest.TestCase):
 
     def test_an_interrupt_ends_what_runs(self):
         started = self.start("top", seconds="30")
-        end = time.monotonic() + WAIT_SECONDS
-        while time.monotonic() < end and not (self.calls.exists() and len(self.told_calls()) == 2):
-            time.sleep(0.02)
+        self.wait_for_calls(2)
         started.send_signal(signal.SIGINT)
         started.communicate(timeout=WAIT_SECONDS / 4)
         self.assertEqual(started.returncode, 130)
