@@ -383,7 +383,8 @@ fn begin_each(net: &mut Net, at: &Place, s: &Statement, gate: Status, env: &Env)
     requires within { at.now.cell + sheet_size at.now.main s.now at.now.traps
         ≤ length net.old.cells.items }
     requires traps { at.now.traps + trap_depth (term_of s.now) ≤ 62 }
-    ensures swept { IsBegun s.now at.now gate env.now net.old.cells.items net.new.cells.items result }
+    ensures swept { IsBegun s.now at.now gate env.now net.old.cells.items net.new.cells.items
+        result }
     ensures kept { kept net.new ≡ kept net.old }
 {
     match s {
@@ -421,7 +422,8 @@ pub fn begin(net: &mut Net, at: &Place, s: &Statement, gate: Status, env: &Env) 
     requires within { at.now.cell + sheet_size at.now.main s.now at.now.traps
         ≤ length net.old.cells.items }
     requires traps { at.now.traps + trap_depth (term_of s.now) ≤ 62 }
-    ensures swept { IsBegun s.now at.now gate env.now net.old.cells.items net.new.cells.items result }
+    ensures swept { IsBegun s.now at.now gate env.now net.old.cells.items net.new.cells.items
+        result }
     ensures kept { kept net.new ≡ kept net.old }
 {
     match past_idle(net, at, s, gate) {

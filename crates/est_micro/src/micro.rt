@@ -104,8 +104,8 @@ impl Micro {
 
     /// Reacts to the inputs of an instant, for the kernel of its table. Where there is a reaction,
     /// each cell is decided, with its value in it, so `steps` is then the number of cells. Where
-    /// there is none, exactly those cells are open that the meaning leaves open. The table is opened
-    /// once, at the beginning: the writes of the run are as many as the cells that it decides.
+    /// there is none, exactly those cells are open that the meaning leaves open. The table is
+    /// opened once, at the beginning: the run writes as often as it decides a cell.
     pub fn run(&mut self, kernel: &Kernel, state: &State, inputs: &Inputs) -> Result<Outcome, Stuck>
         requires net { IsNetOf self.old.net kernel.now }
         requires state { IsState kernel.now.root state.now }

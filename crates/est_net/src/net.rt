@@ -1,7 +1,7 @@
 //! The table of cells of a kernel.
 
-ghost use Rattle.std.specs.Prelude.{◌≡◌, ◌↔◌, ◌<◌, ◌≤◌, ◌+◌, ◌%◌, ◌^◌, true, length, set, slice_get};
-ghost use Rattle.std.specs.Prelude.{Some, IfOk, option_map, replicate};
+ghost use Rattle.std.specs.Prelude.{◌≡◌, ◌↔◌, ◌<◌, ◌≤◌, ◌+◌, ◌%◌, ◌^◌, true, length, set};
+ghost use Rattle.std.specs.Prelude.{Some, IfOk, option_map, replicate, slice_get};
 ghost use Rattle.est_kernel.specs.Bits.{bits};
 ghost use Rattle.est_kernel.specs.Interfaces.{emittable};
 ghost use Rattle.est_meaning.specs.Rounds.{how_many};

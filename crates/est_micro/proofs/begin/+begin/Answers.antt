@@ -27,7 +27,8 @@ begin_suspend-returns-clause-swept t c = λ q a.
 pub begin_seq-returns-clause-swept : goal.begin_seq-returns-clause-swept
 begin_seq-returns-clause-swept t c = λ a b.
     seq_begun c.args.at.now a c.args.p.now b c.args.q.now c.args.gate _ _ c.args.env.now _ _ _ _ _ _ _ _ _ _
-    c.learn-go.ensures.learns c.learn-go.ensures.known c.ends-later.ensures c.told-inside.ensures c.begin-first.ensures.swept
+    c.learn-go.ensures.learns c.learn-go.ensures.known c.ends-later.ensures c.told-inside.ensures
+    c.begin-first.ensures.swept
     c.begin-second.ensures.swept
     c.followed-own.ensures c.leave.ensures.left
 
@@ -65,7 +66,8 @@ begin_loop-returns-clause-swept t c = λ a.
     c.args.gate _
     c.args.env.now _ _ _ _ _ _ _ _
     _
-    c.requires.main c.learn-go.ensures.learns c.learn-go.ensures.known c.begin-first.ensures.swept c.begin-again.ensures.swept
+    c.requires.main c.learn-go.ensures.learns c.learn-go.ensures.known c.begin-first.ensures.swept
+    c.begin-again.ensures.swept
     c.emitting-own.ensures c.leave.ensures.left
 
 pub begin_local-returns-clause-swept : goal.begin_local-returns-clause-swept

@@ -28,7 +28,8 @@ resume_present-returns-clause-swept t c = λ q a b asks.
     present_resumed c.args.at.now q a c.args.p.now b c.args.q.now c.args.pauses.now c.args.run c.args.asked _ _ _ _ _
     c.args.env.now
     _ _ _ _ _ _ _ _ _ asks c.has_live-is_on.ensures c.learn-go.ensures.learns c.learn-go.ensures.known c.and.ensures
-    c.opposite.ensures c.and-2.ensures c.part-first.ensures.swept c.part-second.ensures.swept c.either-own.ensures c.leave.ensures.left
+    c.opposite.ensures c.and-2.ensures c.part-first.ensures.swept c.part-second.ensures.swept c.either-own.ensures
+    c.leave.ensures.left
 
 pub resume_seq-returns-clause-swept : goal.resume_seq-returns-clause-swept
 resume_seq-returns-clause-swept t c = λ a b.
@@ -42,7 +43,8 @@ resume_par-returns-clause-swept t c = λ a b.
     par_resumed c.args.at.now a c.args.p.now b c.args.q.now c.args.pauses.now c.args.run _ _ _ c.args.env.now
     _ _ _ _ _ _ _ _ _ _ _ _ c.requires.direction c.has_live-first_on.ensures c.second_lives-second_on.ensures
     c.learn-go.ensures.learns
-    c.learn-go.ensures.known c.part-first.ensures.swept c.told-inside.ensures c.part-second.ensures.swept c.side-left.ensures
+    c.learn-go.ensures.known c.part-first.ensures.swept c.told-inside.ensures c.part-second.ensures.swept
+    c.side-left.ensures
     c.side-right.ensures
     c.beside-own.ensures c.leave.ensures.left
 
@@ -59,13 +61,15 @@ resume_par_back-returns-clause-swept t c = λ a b.
 pub resume_suspend-returns-clause-swept : goal.resume_suspend-returns-clause-swept
 resume_suspend-returns-clause-swept t c = λ q a asks.
     suspend_resumed c.args.at.now q a c.args.p.now c.args.pauses.now c.args.run c.args.asked _ _ _ c.args.env.now
-    _ _ _ _ _ _ _ _ asks c.learn.ensures.learns c.opposite.ensures c.and.ensures c.and-2.ensures c.resume-body.ensures.swept
+    _ _ _ _ _ _ _ _ asks c.learn.ensures.learns c.opposite.ensures c.and.ensures c.and-2.ensures
+    c.resume-body.ensures.swept
     c.leaf-held.ensures c.with_codes-own.ensures c.leave.ensures.left
 
 pub resume_loop-returns-clause-swept : goal.resume_loop-returns-clause-swept
 resume_loop-returns-clause-swept t c = λ a.
     loop_resumed c.args.at.now a c.args.p.now c.args.pauses.now c.args.run _ c.args.env.now _ _ _ _ _ _ _ _ _ _
-    c.learn.ensures.learns c.ends-later.ensures c.resume-first.ensures.swept c.told-inside.ensures c.begin-again.ensures.swept
+    c.learn.ensures.learns c.ends-later.ensures c.resume-first.ensures.swept c.told-inside.ensures
+    c.begin-again.ensures.swept
     c.followed-own.ensures
     c.leave.ensures.left
 

@@ -32,9 +32,11 @@ loop-found-init c =
 pub loop-found-preserved : goal.loop-found-preserved
 loop-found-preserved c =
     record {
-      settling = round_made _ c.args.kernel.now c.args.state.now (bits c.args.inputs) _ _ _ _ _ _ _ c.loop-found.invariant.settling.ready
+      settling = round_made _ c.args.kernel.now c.args.state.now (bits c.args.inputs) _ _ _ _ _ _ _
+          c.loop-found.invariant.settling.ready
           c.round-found-in-loop-found.ensures.made
-          (let counted = c.loop-found.invariant.settling.counted in omega arith) c.steps-now-in-loop-found.ensures.count;
+          (let counted = c.loop-found.invariant.settling.counted in omega arith)
+          c.steps-now-in-loop-found.ensures.count;
       once = c.round-found-in-loop-found.ensures.kept ∙ c.loop-found.invariant.once;
     }
 
