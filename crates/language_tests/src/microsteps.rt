@@ -8,6 +8,7 @@ use crate::openers::kernel_of;
 use est_kernel::kernel::Kernel;
 use est_kernel::state::State;
 use est_micro::micro::Micro;
+use est_net::net::Net;
 use est_rounds::engine::Engine;
 use std::alloc::Global;
 use std::process::Abort;
@@ -57,6 +58,8 @@ struct Told {
     decided: [usize; 3],
     /// How many writes the table counts in the instant.
     written: [u64; 3],
+    /// Whether a cell has no value after the third instant.
+    is_open: bool,
     /// How many cells there are.
     cells: usize,
 }
@@ -78,6 +81,16 @@ fn instant(engine: &mut Micro, kernel: &Kernel, state: &mut State) -> (u64, usiz
     (reached, engine.steps(), written)
 }
 
+/// Whether a cell of the table has no value.
+fn has_open_cell(net: &Net) -> bool {
+    for cell in 0..net.cells() {
+        if net.value(cell).is_none() {
+            return true;
+        }
+    }
+    false
+}
+
 /// What three instants of a kernel tell.
 fn three_instants(rt: &impl Abort, alloc: Global, kernel: &Kernel) -> Told {
     let mut engine = engine_of(rt, alloc, kernel);
@@ -89,6 +102,7 @@ fn three_instants(rt: &impl Abort, alloc: Global, kernel: &Kernel) -> Told {
         reached: [first.0, second.0, third.0],
         decided: [first.1, second.1, third.1],
         written: [first.2, second.2, third.2],
+        is_open: has_open_cell(engine.net()),
         cells: engine.net().cells(),
     }
 }
@@ -108,6 +122,7 @@ fn decided_cells(rt: HostRuntime) {
         let [first, second, third] = *decided;
         let each = [first as u64, second as u64, third as u64];
         assert_eq!(rt; told.written, each, "{body}");
+        assert_eq!(rt; told.is_open, third < *cells, "{body}");
         assert_eq!(rt; told.cells, *cells, "{body}");
     }
 }
