@@ -12,7 +12,7 @@ use Rattle.state_search.proofs.Nodes.{is_one}
 
 module _ {S L : Type 0} (is_state : S → Type 0) (does : S → L → Option S → Type 0) (apart : L → L → Type 0) where
   -- where a row leads that leads to a place
-  leads_there : (nodes : List (Node S)) (most p : ℕ) (n : Node S) (place : Option ℕ) (after : Option S) → Leads nodes most place after
+  pub leads_there : (nodes : List (Node S)) (most p : ℕ) (n : Node S) (place : Option ℕ) (after : Option S) → Leads nodes most place after
       → place ≡ Some p → Is nodes p n → after ≡ Some n.state
   leads_there nodes most p n place after nowhere e i = absurd (none_is e) where
     none_is : None ≡ Some p → ⊥

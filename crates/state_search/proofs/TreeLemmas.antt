@@ -145,6 +145,7 @@ module _ {S L : Type 0} (is_state : S → Type 0) (does : S → L → Option S �
   joined nodes rows at n done s next h may leads = record {
     found = record {
       tree = tree_row nodes rows _ h.found.tree (may_join nodes rows at n done s next h.here leads may h.froms h.mine);
+      turn = All-push (λ a. a.from ≤ at) rows r h.froms (omega arith);
       all = λ k m l i. subst (λ (ns : List (Node S)). IsDone covers ns (rows ++ r ∷ []) k m) (append-nil nodes)
           (done_stays covers nodes [] rows (r ∷ []) k m (h.found.all k m l i));
     };
@@ -185,6 +186,7 @@ module _ {S L : Type 0} (is_state : S → Type 0) (does : S → L → Option S �
               depth = refl;
             };
           });
+      turn = All-push (λ a. a.from ≤ at) rows r h.froms (omega arith);
       all = λ k o l i. done_stays covers nodes (m ∷ []) rows (r ∷ []) k o
           (h.found.all k o l (is_old nodes (m ∷ []) k o (let w = h.here.within in omega arith) i));
     };
@@ -292,6 +294,7 @@ module _ {S L : Type 0} (is_state : S → Type 0) (does : S → L → Option S �
         in_turn = λ i j d l w. absurd (omega arith);
         differ = λ i j d l w. absurd (omega arith);
       };
+      turn = λ k d w. absurd (omega arith);
       all = λ k n l i. absurd (omega arith);
     };
     froms = λ k d w. absurd (omega arith);
@@ -317,7 +320,11 @@ module _ {S L : Type 0} (is_state : S → Type 0) (does : S → L → Option S �
       → IsExpanding is_state does covers apart nodes rows at n steps → covers n.state steps
       → IsSearching is_state does covers apart nodes rows (at + 1)
   expanded nodes rows at n steps h all_of = record {
-    found = record { tree = h.found.tree; all = all_again };
+    found = record {
+      tree = h.found.tree;
+      turn = All-weaker (λ r. r.from ≤ at) (λ r. r.from ≤ at + 1) (λ r l. omega arith) rows h.froms;
+      all = all_again;
+    };
     froms = All-weaker (λ r. r.from ≤ at) (λ r. r.from < at + 1) (λ r l. omega arith) rows h.froms;
     near = λ m i. All-weaker (λ o. o.depth ≤ n.depth + 1) (λ o. o.depth ≤ m.depth + 1)
         (λ o l. let up = deeper m i in omega arith) nodes h.near;

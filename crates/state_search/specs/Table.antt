@@ -80,6 +80,7 @@ pub record IsFound {S L : Type 0} (is_state : S → Type 0) (does : S → L → 
     (covers : S → List (Step S L) → Type 0) (apart : L → L → Type 0)
     (nodes : List (Node S)) (rows : List (Row L)) (done : ℕ) : Type 0 where
   pub tree : IsTree is_state does apart nodes rows
+  pub turn : All (λ r. r.from ≤ done) rows
   pub all : (k : ℕ) (n : Node S) → k < done → Is nodes k n → IsDone covers nodes rows k n
 
 -- the search has ended: all states have all their steps, or there are more states or more rows than that
