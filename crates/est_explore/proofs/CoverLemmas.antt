@@ -1,19 +1,18 @@
 -- All steps of a state, a place at a time.
 use Rattle.std.proofs.Common.{◌≡◌, ◌≢◌, ◌∙◌, ℕ, ◌<◌, ◌≤◌, ◌+◌, ◌⊎◌, Bool, true, false}
-use Rattle.std.proofs.Common.{List, [], ◌∷◌, ◌++◌, length, Option, Some, sym, refl, ap, arith, inl, inr, subst, append-nil, append_assoc, suc}
+use Rattle.std.proofs.Common.{List, [], ◌∷◌, ◌++◌, length, Option, Some, sym, refl, ap, arith, inl, inr, append-nil, append_assoc, suc}
 use Rattle.std.specs.Bool.{MatchBool}
-use Rattle.std.specs.List.{All, AllPairs, Contains}
+use Rattle.std.specs.List.{All, AllPairs}
 use Rattle.std.proofs.lemmas.Bool.{cases_Bool, false≢true}
-use Rattle.std.proofs.lemmas.List.{length-append}
 use Rattle.std.proofs.lemmas.List.Kept.{AllPairs-cons}
-use Rattle.std.proofs.lemmas.List.Elements.{All-nil, All-cons, All-append, All-weaker, All-head, All-tail, Contains-append_left, Contains-append_right, Contains-push}
+use Rattle.std.proofs.lemmas.List.Elements.{All-nil, All-cons, All-append, All-weaker, All-head, All-tail, Contains-append_left, Contains-append_right}
 use Rattle.est_kernel.specs.Bits.{bits}
 use Rattle.est_meaning.specs.Knowledge.{IsIn}
 use Rattle.est_relations.specs.Keeping.{AreLawful}
 use Rattle.est_relations.specs.Offers.{with_place}
 use Rattle.est_relations.specs.declared.relations.Relation.{Relation}
 use Rattle.est_explore.specs.Runs.{InputSet}
-use Rattle.est_explore.specs.InputSets.{are_exclusions_kept, is_kept, IsBelow, IsPart, IsLawfulMask, IsAsked, HasInputs, IsCovered}
+use Rattle.est_explore.specs.InputSets.{are_exclusions_kept, is_kept, IsBelow, IsPart, IsAsked, HasInputs, IsCovered}
 use Rattle.est_explore.specs.declared.asked.Asked.{Asked}
 use Rattle.state_search.specs.declared.machine.Step.{Step}
 use Rattle.est_explore.proofs.PartLemmas.{whole_set, same_below, more_below, below_is_in, fewer_keep, lawful_are_exclusive, without_is_below, with_is_below, without_has_not, with_has}

@@ -1,19 +1,16 @@
 -- What the rows of a search say of a claim.
-use Rattle.std.proofs.Common.{◌≡◌, ◌≢◌, ◌∙◌, ℕ, zero, suc, ◌<◌, ◌≤◌, ◌+◌, ◌⊎◌, Bool, true, false, not, ◌&&◌, ◌||◌}
+use Rattle.std.proofs.Common.{◌≡◌, ◌≢◌, ◌∙◌, ℕ, zero, suc, ◌<◌, ◌≤◌, Bool, true, false, not}
 use Rattle.std.proofs.Common.{List, [], ◌∷◌, ◌++◌, length, map, get_or, Option, Some, None, sym, refl, ap, subst, arith, inl, inr}
-use Rattle.std.specs.List.{All, AllPairs, Contains}
+use Rattle.std.specs.List.{AllPairs}
 use Rattle.std.proofs.lemmas.Bool.{cases_lt, cases_eq, false≢true}
 use Rattle.std.proofs.lemmas.List.{length-map, get_or-map, get_or_default}
-use Rattle.std.proofs.lemmas.List.Elements.{All-nil, All-cons, All-contains, All-get_or, All-map, Contains-get_or}
+use Rattle.std.proofs.lemmas.List.Elements.{All-get_or, All-map}
 use Rattle.est_kernel.specs.Bits.{bits}
 use Rattle.est_kernel.specs.Term.{Term}
-use Rattle.est_kernel.specs.declared.statement.Test.{Test}
 use Rattle.est_kernel.specs.declared.state.State.TheVariants.{Fresh}
-use Rattle.est_meaning.specs.States.{IsState, state_term}
+use Rattle.est_meaning.specs.States.{IsState}
 use Rattle.est_explore.specs.Answers.{AnswersSo}
-use Rattle.est_explore.specs.Claims.{holds, HoldsFor, Holds}
 use Rattle.est_explore.specs.Explored.{IsExplored, fails}
-use Rattle.est_explore.specs.InputSets.{IsAsked, IsLawfulMask}
 use Rattle.est_explore.specs.Runs.{Module, IsLawful, Instant, Goes, Runs, start}
 use Rattle.est_explore.specs.Verdicts.{shown, outputs_of, FailsAt, FailsBy, IsReached, HasMoreStates, HasMoreTrials, Trial}
 use Rattle.est_explore.specs.declared.asked.Asked.{Asked}
@@ -22,7 +19,7 @@ use Rattle.est_explore.specs.declared.claim.Claim.TheVariants.{NeverStuck, Alway
 use Rattle.est_explore.specs.declared.one_module.Answer.{Answer}
 use Rattle.est_explore.specs.declared.one_module.Answer.TheVariants.{Reaction, Stuck}
 use Rattle.est_explore.specs.declared.one_module.Position.{Position}
-use Rattle.state_search.specs.Table.{Is, At, IsRow, IsFound, Came}
+use Rattle.state_search.specs.Table.{Is, IsRow, Came}
 use Rattle.state_search.specs.Words.{Path, LedTo}
 use Rattle.state_search.specs.declared.found.Found.{Found}
 use Rattle.state_search.specs.declared.found.Node.{Node}
@@ -93,7 +90,7 @@ module _ (m : Module) (f : Found Position (Asked Answer)) (e : IsExplored m f) w
 
   -- where no row fails
   pub cleared_all : (claim : Claim) → ((d : Row (Asked Answer)) (k : ℕ) → k < length f.rows.items
-          → fails claim (get_or f.rows.items k d).label.inputs (get_or f.rows.items k d).label.answer ≡ false)
+      → fails claim (get_or f.rows.items k d).label.inputs (get_or f.rows.items k d).label.answer ≡ false)
       → length f.nodes.items ≤ f.done → (d : ℕ) → IsCleared m f e claim d
   cleared_all claim pass all d = record {
     done = λ k n i l. let w = i.within in omega arith;
@@ -103,7 +100,7 @@ module _ (m : Module) (f : Found Position (Asked Answer)) (e : IsExplored m f) w
   -- before the first row that fails
   pub cleared_before : (claim : Claim) (at : ℕ) (r : Row (Asked Answer)) (n : Node Position) → at < length f.rows.items
       → ((d : Row (Asked Answer)) (k : ℕ) → k < at
-          → fails claim (get_or f.rows.items k d).label.inputs (get_or f.rows.items k d).label.answer ≡ false)
+      → fails claim (get_or f.rows.items k d).label.inputs (get_or f.rows.items k d).label.answer ≡ false)
       → get_or f.rows.items at r ≡ r → Is f.nodes.items r.from n → IsCleared m f e claim n.depth
   cleared_before claim at r n w pass is here = record {
     done = λ k o i l. elim (cases_lt k r.from) [
@@ -128,7 +125,7 @@ module _ (m : Module) (f : Found Position (Asked Answer)) (e : IsExplored m f) w
   -- a claim fails by the first row by which it fails
   pub fails_by : (claim : Claim) (at : ℕ) (r : Row (Asked Answer)) (word : List (Asked Answer)) → at < length f.rows.items
       → ((d : Row (Asked Answer)) (k : ℕ) → k < at
-          → fails claim (get_or f.rows.items k d).label.inputs (get_or f.rows.items k d).label.answer ≡ false)
+      → fails claim (get_or f.rows.items k d).label.inputs (get_or f.rows.items k d).label.answer ≡ false)
       → get_or f.rows.items at r ≡ r → fails claim r.label.inputs r.label.answer ≡ true
       → LedTo (DoesSo m) (record { state = Fresh }) f.nodes.items r word → FailsBy m claim word
   fails_by claim at r word w pass is bad led = record {
@@ -154,7 +151,7 @@ module _ (m : Module) (f : Found Position (Asked Answer)) (e : IsExplored m f) w
   pub fails_first : (claim : Claim) (at : ℕ) (word : List (Asked Answer)) → at < length f.rows.items
       → ((d : Row (Asked Answer)) → fails claim (get_or f.rows.items at d).label.inputs (get_or f.rows.items at d).label.answer ≡ true)
       → ((d : Row (Asked Answer)) (k : ℕ) → k < at
-          → fails claim (get_or f.rows.items k d).label.inputs (get_or f.rows.items k d).label.answer ≡ false)
+      → fails claim (get_or f.rows.items k d).label.inputs (get_or f.rows.items k d).label.answer ≡ false)
       → ((r : Row (Asked Answer)) → LedTo (DoesSo m) (record { state = Fresh }) f.nodes.items (get_or f.rows.items at r) word)
       → FailsBy m claim word
   fails_first claim at word w bad pass led = fails_by claim at (get_or f.rows.items at nothing) word w pass
@@ -169,16 +166,16 @@ module _ (m : Module) (f : Found Position (Asked Answer)) (e : IsExplored m f) w
         let one : n ≡ e.begins.node = is_one f.nodes.items 0 n e.begins.node (rw z at here) e.begins.is in
         let fresh : n.state ≡ record { state = Fresh } = ap (λ (o : Node Position). o.state) one ∙ e.begins.state in
         subst (λ (x : Position). IsReached m x) (sym fresh) (record { is_state = tt; run = []; runs = refl })
-      | inr d ↦ by (λ j o w i. reached_upto b j o w i) (e.found.tree.came k n (omega arith) here)
+    | inr d ↦ by (λ j o w i. reached_upto b j o w i) (e.found.tree.came k n (omega arith) here)
   ] where
     by : ((j : ℕ) (o : Node Position) → j < b → Is f.nodes.items j o → IsReached m o.state) → Came f.nodes.items f.rows.items k n
         → IsReached m n.state
     by before came =
         let row : IsRow (DoesSo m) f.nodes.items came.row = subst (λ (a : Row (Asked Answer)). IsRow (DoesSo m) f.nodes.items a)
-            (came.by came.row) (All-get_or (IsRow (DoesSo m) f.nodes.items) f.rows.items n.by came.row came.within e.found.tree.sound) in
+        (came.by came.row) (All-get_or (IsRow (DoesSo m) f.nodes.items) f.rows.items n.by came.row came.within e.found.tree.sound) in
         let to : row.after ≡ Some n.state =
-            leads_there (λ (x : Position). IsState m.kernel.root x.state) (DoesSo m) (λ (a b : Asked Answer). a.inputs ≢ b.inputs)
-            f.nodes.items _ k n came.row.next row.after row.leads came.to here in
+        leads_there (λ (x : Position). IsState m.kernel.root x.state) (DoesSo m) (λ (a b : Asked Answer). a.inputs ≢ b.inputs)
+        f.nodes.items _ k n came.row.next row.after row.leads came.to here in
         let step : DoesSo m row.before.state came.row.label (Some n.state) = rw to at row.step in
         let earlier = came.earlier in
         let old = before came.row.from row.before (omega arith) row.from in

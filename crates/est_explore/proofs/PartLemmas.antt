@@ -1,13 +1,10 @@
 -- The sets of inputs, a place at a time.
-use Rattle.std.proofs.Common.{◌≡◌, ◌≢◌, ◌∙◌, ℕ, ◌<◌, ◌≤◌, ◌+◌, ◌^◌, ◌⊎◌, Bool, true, false, ◌&&◌, ◌||◌, nat_eq, nat_lt}
-use Rattle.std.proofs.Common.{List, [], ◌∷◌, ◌++◌, length, Option, Some, sym, refl, ap, arith, inl, inr, subst, append-nil, append_assoc, get_or}
+use Rattle.std.proofs.Common.{◌≡◌, ◌∙◌, ℕ, ◌<◌, ◌≤◌, ◌+◌, ◌^◌, Bool, true, false, ◌&&◌, ◌||◌, nat_eq, nat_lt}
+use Rattle.std.proofs.Common.{List, [], ◌∷◌, sym, refl, ap, arith, inl, inr}
 use mathlib.Core.Path.{fun_ext}
-use Rattle.std.specs.Bool.{MatchBool}
-use Rattle.std.specs.List.{All, AllPairs, Contains, list_all}
+use Rattle.std.specs.List.{list_all}
 use Rattle.std.proofs.lemmas.Bool.{cases_eq, cases_lt, cases_Bool, false≢true}
 use Rattle.std.proofs.lemmas.Bool.Decides.{nat_tests}
-use Rattle.std.proofs.lemmas.List.{get_or_append_left, get_or-append-add, length-append}
-use Rattle.std.proofs.lemmas.List.Elements.{All-nil, All-cons, All-append, All-weaker, All-get_or, Contains-append_left, Contains-append_right}
 use Rattle.est_kernel.specs.Bits.{bits}
 use Rattle.est_kernel.proofs.Masks.{bits_or, bits_pow}
 use Rattle.est_meaning.specs.Knowledge.{IsIn}
@@ -17,9 +14,7 @@ use Rattle.est_relations.specs.declared.relations.Relation.{Relation}
 use Rattle.est_relations.specs.declared.relations.Relation.TheVariants.{Exclusion, Implication}
 use Rattle.est_relations.proofs.Members.{one_means, one_where, or_true, nat_same}
 use Rattle.est_explore.specs.Runs.{InputSet}
-use Rattle.est_explore.specs.InputSets.{are_exclusions_kept, is_kept, IsBelow, IsPart, IsLawfulMask, IsAsked, HasInputs, IsCovered}
-use Rattle.est_explore.specs.declared.asked.Asked.{Asked}
-use Rattle.state_search.specs.declared.machine.Step.{Step}
+use Rattle.est_explore.specs.InputSets.{are_exclusions_kept, IsBelow, IsPart}
 
 -- ---- exclusions hold of fewer inputs too
 

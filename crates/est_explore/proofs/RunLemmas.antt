@@ -1,32 +1,29 @@
 -- Runs of a module, by the rows that a search has found.
-use Rattle.std.proofs.Common.{◌≡◌, ◌≢◌, ◌∙◌, ℕ, zero, suc, ◌<◌, ◌≤◌, ◌+◌, ◌⊎◌, Bool, true, false, not, ◌&&◌, ◌||◌}
-use Rattle.std.proofs.Common.{List, [], ◌∷◌, ◌++◌, length, map, get_or, Option, Some, None, sym, refl, ap, subst, arith, inl, inr}
-use mathlib.Core.Path.{fun_ext}
-use Rattle.std.specs.List.{All, AllPairs, Contains}
-use Rattle.std.proofs.lemmas.Bool.{cases_lt, cases_eq, false≢true}
+use Rattle.std.proofs.Common.{◌≡◌, ◌∙◌, ℕ, ◌<◌, ◌≤◌, ◌+◌, Bool, true, false, not, ◌||◌}
+use Rattle.std.proofs.Common.{List, [], ◌∷◌, length, Option, sym, refl, ap, subst, arith}
+use Rattle.std.proofs.Common.{Bor}
+use Rattle.std.specs.List.{All, Contains}
+use Rattle.std.proofs.lemmas.Bool.{false≢true}
 use Rattle.std.proofs.lemmas.List.Elements.{All-nil, All-cons, All-contains}
 use Rattle.est_kernel.specs.Bits.{bits}
 use Rattle.est_kernel.specs.Term.{Term}
 use Rattle.est_kernel.specs.declared.statement.Test.{Test}
-use Rattle.est_kernel.specs.declared.state.State.TheVariants.{Fresh}
 use Rattle.est_meaning.proofs.OneReactionAtMost.{one_reaction}
 use Rattle.est_meaning.specs.Laws.{IsSameReaction}
 use Rattle.est_meaning.specs.Rounds.{judged_signals}
-use Rattle.est_meaning.specs.States.{IsState, state_term}
-use Rattle.est_rounds.specs.Contract.{IsReaction, HasNoReaction}
+use Rattle.est_meaning.specs.States.{state_term}
 use Rattle.est_explore.specs.Answers.{AnswersSo}
-use Rattle.est_explore.specs.Claims.{holds, HasReaction, HoldsFor, Holds}
+use Rattle.est_explore.specs.Claims.{holds, HasReaction, HoldsFor}
 use Rattle.est_explore.specs.Explored.{IsExplored, fails}
-use Rattle.est_explore.specs.InputSets.{IsAsked, IsLawfulMask, HaveAllInputs}
-use Rattle.est_explore.specs.Runs.{Module, InputSet, IsLawful, Instant, is_present, Goes, Runs, start, IsRun, may_offer}
-use Rattle.est_explore.specs.Verdicts.{shown, outputs_of}
+use Rattle.est_explore.specs.InputSets.{IsAsked}
+use Rattle.est_explore.specs.Runs.{Module, InputSet, IsLawful, Instant, is_present, Goes, Runs, start, may_offer}
 use Rattle.est_explore.specs.declared.asked.Asked.{Asked}
 use Rattle.est_explore.specs.declared.claim.Claim.{Claim}
 use Rattle.est_explore.specs.declared.claim.Claim.TheVariants.{NeverStuck, Always}
 use Rattle.est_explore.specs.declared.one_module.Answer.{Answer}
 use Rattle.est_explore.specs.declared.one_module.Answer.TheVariants.{Reaction, Stuck}
 use Rattle.est_explore.specs.declared.one_module.Position.{Position}
-use Rattle.state_search.specs.Table.{Is, At, Leads, nowhere, there, IsRow, HasRow, IsDone, IsFound}
+use Rattle.state_search.specs.Table.{Is, Leads, nowhere, there, IsRow, HasRow}
 use Rattle.state_search.specs.declared.found.Found.{Found}
 use Rattle.state_search.specs.declared.found.Node.{Node}
 use Rattle.state_search.specs.declared.found.Row.{Row}
@@ -135,25 +132,25 @@ module _ (m : Module) (f : Found Position (Asked Answer)) (e : IsExplored m f) w
       let g = run_goes claim d c s.place s.node s.here run t (subst (λ (v : Term). Runs m v run t) (sym s.term) runs.3) (omega arith) in
       record { place = g.place; node = g.node; here = g.here; few = let w = g.few in omega arith; term = g.term }
 
-  passes_holds : (test : Test) (i : ℕ) (answer : Answer) (emitted : ℕ) (inputs outputs : ℕ → Bool) → answer ≡ Reaction emitted
+  passes_holds : (test : Bor Test) (i : ℕ) (answer : Answer) (emitted : ℕ) (inputs outputs : ℕ → Bool) → answer ≡ Reaction emitted
       → bits i ≡ inputs → bits emitted ≡ outputs → fails (Always test) i answer ≡ false
-      → holds test (λ n. inputs n || outputs n) ≡ true
+      → holds test.now (λ n. inputs n || outputs n) ≡ true
   passes_holds test i answer emitted inputs outputs a b c h =
-      let g : not (holds test (λ n. bits i n || bits emitted n)) ≡ false = rw a at h in
+      let g : not (holds test.now (λ n. bits i n || bits emitted n)) ≡ false = rw a at h in
       at _ (rw (b, c) at g) where
         at : (x : Bool) → not x ≡ false → x ≡ true
         at true h = refl
         at false h = absurd (false≢true (sym h))
 
-  pub run_passes : (test : Test) (d : ℕ) → IsCleared (Always test) d → (k : ℕ) (n : Node Position) → Is f.nodes.items k n
+  pub run_passes : (test : Bor Test) (d : ℕ) → IsCleared (Always test) d → (k : ℕ) (n : Node Position) → Is f.nodes.items k n
       → (run : List Instant) (t : Term) → Runs m (term_of_position m n.state) run t → n.depth + length run ≤ d
-      → All (λ i. holds test (is_present i) ≡ true) run
-  run_passes test d c k n here [] t run l = All-nil (λ i. holds test (is_present i) ≡ true)
+      → All (λ i. holds test.now (is_present i) ≡ true) run
+  run_passes test d c k n here [] t run l = All-nil (λ i. holds test.now (is_present i) ≡ true)
   run_passes test d c k n here (i ∷ run) t runs l =
       let r = row_for k n i.inputs here (c.done k n here (omega arith)) runs.1 in
       let s = follows k n i.inputs r i.outputs runs.0 runs.2 in
       let few = s.few in
-      All-cons (λ j. holds test (is_present j) ≡ true) i run
+      All-cons (λ j. holds test.now (is_present j) ≡ true) i run
       (passes_holds test r.row.label.inputs r.row.label.answer s.emitted i.inputs i.outputs s.is r.is s.shows
       (c.passes r.row r.listed n (rw r.from here) (omega arith)))
       (run_passes test d c s.place s.node s.here run t (subst (λ (v : Term). Runs m v run t) (sym s.term) runs.3) (omega arith))

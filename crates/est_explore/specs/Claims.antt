@@ -1,5 +1,5 @@
 -- What is claimed of all runs of a module (this project's own form).
-use Rattle.std.specs.Prelude.{◌≡◌, ◌<◌, ◌≤◌, ℕ, Bool, true, false, not, List, length}
+use Rattle.std.specs.Prelude.{◌≡◌, ◌<◌, ◌≤◌, ℕ, Bool, true, false, List, length}
 use Rattle.std.specs.List.{All}
 use Rattle.est_kernel.specs.Term.{outer, inner, Term}
 use Rattle.est_kernel.specs.View.{query_of}
@@ -38,7 +38,7 @@ abbrev pub HoldsFor : Module → Claim → ℕ → Type 0
 HoldsFor m NeverStuck n = (run : List Instant) (t : Term) → Runs m (start m) run t → length run < n
     → (inputs : InputSet) → IsLawful m inputs → HasReaction m t inputs
 HoldsFor m (Always test) n = (run : List Instant) → IsRun m run → length run ≤ n
-    → All (λ i. holds test (is_present i) ≡ true) run
+    → All (λ i. holds test.now (is_present i) ≡ true) run
 
 -- the claim holds in every instant of every run
 abbrev pub Holds : Module → Claim → Type 0

@@ -1,5 +1,5 @@
 -- What a search has found of a module; for private clauses (this project's own form).
-use Rattle.std.specs.Prelude.{◌≢◌, ℕ, Bool, true, false, not, ◌&&◌, ◌||◌}
+use Rattle.std.specs.Prelude.{◌≢◌, ℕ, Bool, true, false, not, ◌||◌}
 use Rattle.est_kernel.specs.Bits.{bits}
 use Rattle.est_kernel.specs.declared.state.State.TheVariants.{Fresh}
 use Rattle.est_meaning.specs.States.{IsState}
@@ -29,4 +29,4 @@ abbrev pub fails : Claim → (inputs : ℕ) → Answer → Bool
 fails NeverStuck i (Stuck undecided) = true
 fails NeverStuck i (Reaction outputs) = false
 fails (Always test) i (Stuck undecided) = false
-fails (Always test) i (Reaction outputs) = not (holds test (λ n. bits i n || bits outputs n))
+fails (Always test) i (Reaction outputs) = not (holds test.now (λ n. bits i n || bits outputs n))

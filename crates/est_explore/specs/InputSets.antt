@@ -1,5 +1,5 @@
 -- The lawful sets of inputs, a place at a time; for private clauses (this project's own form).
-use Rattle.std.specs.Prelude.{◌≡◌, ◌≢◌, ◌<◌, ◌≤◌, ℕ, Bool, true, false, ◌&&◌, nat_lt, Option, Some, List, ◌++◌, length}
+use Rattle.std.specs.Prelude.{◌≡◌, ◌≢◌, ◌<◌, ◌≤◌, ℕ, Bool, ◌&&◌, nat_lt, Option, Some, List, ◌++◌, length}
 use Rattle.std.specs.Bool.{MatchBool}
 use Rattle.std.specs.List.{All, AllPairs, Contains, list_all}
 use Rattle.est_kernel.specs.Bits.{bits}

@@ -8,7 +8,7 @@ use Rattle.est_kernel.specs.declared.interface.Declaration.{Declaration}
 use Rattle.est_kernel.specs.declared.kernel.Kernel.{Kernel}
 use Rattle.est_meaning.specs.Knowledge.{IsIn}
 use Rattle.est_meaning.specs.Reaction.{Reacts}
-use Rattle.est_meaning.specs.Rounds.{JudgedSignals, judged_signals}
+use Rattle.est_meaning.specs.Rounds.{judged_signals}
 use Rattle.est_relations.specs.Keeping.{AreLawful}
 use Rattle.est_relations.specs.declared.relations.Relation.{Relation}
 

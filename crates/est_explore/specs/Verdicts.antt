@@ -1,14 +1,13 @@
 -- What is answered to a claim (this project's own form).
-use Rattle.std.specs.Prelude.{◌≡◌, ◌≢◌, ◌<◌, ◌⊎◌, ◌||◌, ℕ, Bool, true, false, List, [], ◌∷◌, ◌++◌, length, map}
+use Rattle.std.specs.Prelude.{◌≡◌, ◌≢◌, ◌<◌, ◌⊎◌, ◌||◌, ℕ, Bool, false, List, [], ◌∷◌, ◌++◌, length, map}
 use Rattle.std.specs.List.{All, AllPairs}
 use Rattle.est_kernel.specs.Bits.{bits}
 use Rattle.est_kernel.specs.Term.{Term}
-use Rattle.est_kernel.specs.declared.statement.Test.{Test}
 use Rattle.est_meaning.specs.Reaction.{CannotReact, is_undecided}
 use Rattle.est_meaning.specs.Rounds.{judged_signals}
 use Rattle.est_meaning.specs.States.{IsState, state_term}
 use Rattle.est_explore.specs.Claims.{holds, HoldsFor, Holds}
-use Rattle.est_explore.specs.Runs.{Module, InputSet, IsLawful, Instant, Goes, Runs, start}
+use Rattle.est_explore.specs.Runs.{Module, IsLawful, Instant, Goes, Runs, start}
 use Rattle.est_explore.specs.declared.asked.Asked.{Asked}
 use Rattle.est_explore.specs.declared.claim.Claim.{Claim}
 use Rattle.est_explore.specs.declared.claim.Claim.TheVariants.{NeverStuck, Always}
@@ -35,7 +34,7 @@ FailsAt m NeverStuck t i (Stuck undecided) = CannotReact (judged_signals m.kerne
 FailsAt m NeverStuck t i (Reaction outputs) = ⊥
 FailsAt m (Always test) t i (Stuck undecided) = ⊥
 FailsAt m (Always test) t i (Reaction outputs) = (u : Term) × (Goes m t (bits i) (bits outputs) u)
-    × (holds test (λ n. bits i n || bits outputs n) ≡ false)
+    × (holds test.now (λ n. bits i n || bits outputs n) ≡ false)
 
 -- a shortest word of lawful inputs after which the claim fails: all its instants but the last one are a run, with the
 -- inputs of the last one it fails, and in fewer instants it does not

@@ -13,12 +13,12 @@ use est_rounds::answer::answer_to;
 use est_rounds::signal_set::{Env, SignalSet};
 
 /// What is claimed of all runs.
-#[derive(Drop)]
-pub enum Claim {
+#[derive(Clone, Copy)]
+pub enum Claim<'a> {
     /// No instant is Stuck.
     NeverStuck,
     /// The test holds in each instant.
-    Always(Test),
+    Always(&'a Test),
 }
 
 /// Whether the test holds where these signals of the interface are present.
@@ -39,7 +39,7 @@ fn holds(test: &Test, present: u64) -> bool
     }
 }
 
-impl Claim {
+impl<'a> Claim<'a> {
     /// Whether the claim fails by what was answered.
     pub fn fails(&self, asked: &Asked<Answer>) -> bool
         ensures { result ≡ fails self.now asked.now.inputs asked.now.answer }

@@ -5,8 +5,8 @@ ghost use Rattle.est_kernel.specs.Interfaces.{offerable};
 ghost use Rattle.est_meaning.specs.Knowledge.{IsIn};
 ghost use Rattle.est_explore.specs.InputSets.{IsCovered, IsPart};
 
-use crate::input_sets::{InputSets, Part};
 use crate::asked::Asked;
+use crate::input_sets::{InputSets, Part};
 use crate::reactive::Reactive;
 use state_search::machine::Step;
 use std::alloc::AllocError;

@@ -14,6 +14,7 @@ use state_search::machine::{Machine, Step};
 use std::alloc::AllocError;
 
 /// What something does with the sets of inputs that somebody may offer and that keep the relations.
+#[derive(Drop)]
 pub struct Every<'a, R> {
     pub reactive: &'a R,
     pub relations: &'a Relations,
@@ -22,7 +23,9 @@ pub struct Every<'a, R> {
 
 impl<'a, R: Reactive> Machine for Every<'a, R> {
     type State = R::State;
+
     type Label = Asked<R::Answer>;
+
     type Scratch = R::Scratch;
 
     ghost fits = { λ s x. R.fits s.reactive.now x };

@@ -21,7 +21,7 @@ use state_search::word::word_to;
 use std::alloc::{AllocError, Global};
 
 /// The place of the first row by which the claim fails.
-fn first_failure(rows: &[Row<Asked<Answer>>], claim: &Claim) -> Option<usize>
+fn first_failure(rows: &[Row<Asked<Answer>>], claim: &Claim<'_>) -> Option<usize>
     ensures { MatchOption result
         ((d : RowValue (AskedValue AnswerValue)) (k : ℕ) → k < length rows.now → fails claim.now (slice_index_or rows.now k d).label.inputs (slice_index_or rows.now k d).label.answer ≡ false)
         (λ at. (at < length rows.now)
@@ -61,7 +61,7 @@ pub fn judge<E: Engine>(
     alloc: Global,
     subject: &Every<'_, OneModule<'_, E>>,
     found: &Found<Position, Asked<Answer>>,
-    claim: &Claim,
+    claim: &Claim<'_>,
 ) -> Result<Verdict, AllocError>
     requires explored { IsExplored (module_of subject.now.reactive.now.kernel.now subject.now.relations.now subject.now.among) found.now }
     ensures { (states steps : ℕ) → HasEnded states steps found.now.nodes.items found.now.rows.items found.now.done

@@ -1,4 +1,4 @@
-use Rattle.std.proofs.Common.{◌≡◌, ◌<◌, ◌+◌, ◌∙◌, sym, ap, refl, arith, length, rules}
+use Rattle.std.proofs.Common.{◌<◌, ◌+◌, rules}
 use Rattle.std.proofs.lemmas.Result.{IfOk-weaker}
 use Rattle.est_kernel.specs.Bits.{bits}
 use Rattle.est_explore.specs.InputSets.{IsPart}

@@ -1,4 +1,4 @@
-use Rattle.std.proofs.Common.{◌≡◌, ◌<◌, ◌∙◌, sym, ap, refl, arith, length, true, false}
+use Rattle.std.proofs.Common.{◌<◌, ◌∙◌, sym, refl, arith, length, true, false}
 use Rattle.est_explore.proofs.CoverLemmas.{covers_none, covers_one}
 use Rattle.est_explore.proofs.cover.add_step.Goals as goal
 

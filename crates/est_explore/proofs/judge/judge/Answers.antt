@@ -1,4 +1,4 @@
-use Rattle.std.proofs.Common.{◌≡◌, ◌∙◌, ◌<◌, ◌≤◌, refl, sym, arith, inl, inr, length, get_or}
+use Rattle.std.proofs.Common.{arith, inl, inr}
 use Rattle.est_explore.proofs.JudgeLemmas.{cleared_all, fails_first, more_states, more_trials}
 use Rattle.est_explore.proofs.RunLemmas.{holds_for}
 use Rattle.est_explore.proofs.judge.judge.Goals as goal
