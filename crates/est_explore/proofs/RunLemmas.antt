@@ -12,10 +12,10 @@ use Rattle.est_meaning.proofs.OneReactionAtMost.{one_reaction}
 use Rattle.est_meaning.specs.Laws.{IsSameReaction}
 use Rattle.est_meaning.specs.Rounds.{judged_signals}
 use Rattle.est_meaning.specs.States.{state_term}
-use Rattle.est_explore.specs.Answers.{AnswersSo}
+use Rattle.est_explore.specs.Inner.Answers.{AnswersSo}
 use Rattle.est_explore.specs.Claims.{holds, HasReaction, HoldsFor}
-use Rattle.est_explore.specs.Explored.{IsExplored, fails}
-use Rattle.est_explore.specs.InputSets.{IsAsked}
+use Rattle.est_explore.specs.Inner.Explored.{IsExplored, fails}
+use Rattle.est_explore.specs.Inner.InputSets.{IsAsked}
 use Rattle.est_explore.specs.Runs.{Module, InputSet, IsLawful, Instant, is_present, Goes, Runs, start, may_offer}
 use Rattle.est_explore.specs.declared.asked.Asked.{Asked}
 use Rattle.est_explore.specs.declared.claim.Claim.{Claim}
@@ -67,7 +67,8 @@ module _ (m : Module) (f : Found Position (Asked Answer)) (e : IsExplored m f) w
       let one = all.all_of inputs lawful.offered lawful.kept in
       let has : HasRow f.nodes.items f.rows.items k n one.step =
       All-contains (HasRow f.nodes.items f.rows.items k n) all.steps one.step all.listed one.listed in
-      let row : IsRow Does f.nodes.items has.row = All-contains (IsRow Does f.nodes.items) f.rows.items has.row e.found.tree.sound has.listed in
+      let row : IsRow Does f.nodes.items has.row = All-contains (IsRow Does f.nodes.items) f.rows.items has.row
+          e.found.tree.sound has.listed in
       let same_node : row.before ≡ n = is_one f.nodes.items k row.before n (rw has.from at row.from) here in
       record {
         row = has.row;
@@ -90,26 +91,32 @@ module _ (m : Module) (f : Found Position (Asked Answer)) (e : IsExplored m f) w
     pub few : node.depth ≤ most
     pub term : term_of_position m node.state ≡ v
 
-  follow_by : (x : Position) (most : ℕ) (inputs : InputSet) (i : ℕ) → bits i ≡ inputs → (answer : Answer) (place : Option ℕ)
+  follow_by : (x : Position) (most : ℕ) (inputs : InputSet) (i : ℕ) → bits i ≡ inputs → (answer : Answer)
+      (place : Option ℕ)
       (after : Option Position) → Leads f.nodes.items most place after → AnswersSo m.kernel x i answer after
-      → (outputs : ℕ → Bool) (v : Term) → Goes m (term_of_position m x) inputs outputs v → FollowsBy answer most outputs v
+      → (outputs : ℕ → Bool) (v : Term) → Goes m (term_of_position m x) inputs outputs v → FollowsBy answer most outputs
+          v
   follow_by x most inputs i is (Reaction o) place after nowhere a outputs v goes = absurd a
   follow_by x most inputs i is (Stuck u) place after (there p n here few) a outputs v goes = absurd a
   follow_by x most inputs i is (Stuck u) place after nowhere a outputs v goes =
-      let g : Goes m (term_of_position m x) (bits i) outputs v = rw is goes in absurd (a.cannot g.signals g.code v g.gives)
+      let g : Goes m (term_of_position m x) (bits i) outputs v = rw is goes in absurd
+          (a.cannot g.signals g.code v g.gives)
   follow_by x most inputs i is (Reaction o) place after (there p n here few) a outputs v goes =
-      let one = same m (term_of_position m x) inputs (bits o) (term_of_position m n.state) outputs v (rw is at a.reacts) goes in
+      let one = same m (term_of_position m x) inputs (bits o) (term_of_position m n.state) outputs v (rw is at a.reacts)
+          goes in
       record { emitted = o; is = refl; shows = one.shown; place = p; node = n; here = here; few = few; term = one.next }
 
   pub follows : (k : ℕ) (n : Node Position) (inputs : InputSet) (r : RowFor k n inputs) (outputs : ℕ → Bool) (v : Term)
       → Goes m (term_of_position m n.state) inputs outputs v → FollowsBy r.row.label.answer (n.depth + 1) outputs v
-  follows k n inputs r outputs v goes = follow_by n.state (n.depth + 1) inputs r.row.label.inputs r.is r.row.label.answer r.row.next r.after
+  follows k n inputs r outputs v goes = follow_by n.state (n.depth + 1) inputs r.row.label.inputs r.is
+      r.row.label.answer r.row.next r.after
       r.leads r.answer outputs v goes
 
   -- all nodes of fewer steps than d have all their rows, and the claim fails in none of these
   pub record IsCleared (claim : Claim) (d : ℕ) : Type 0 where
     pub done : (k : ℕ) (n : Node Position) → Is f.nodes.items k n → n.depth < d → k < f.done
-    pub passes : (row : Row (Asked Answer)) → Contains f.rows.items row → (n : Node Position) → Is f.nodes.items row.from n
+    pub passes : (row : Row (Asked Answer)) → Contains f.rows.items row → (n : Node Position) → Is f.nodes.items
+        row.from n
         → n.depth < d → fails claim row.label.inputs row.label.answer ≡ false
 
   -- the term is that of a node of so many steps at most
@@ -129,10 +136,12 @@ module _ (m : Module) (f : Found Position (Asked Answer)) (e : IsExplored m f) w
       let r = row_for k n i.inputs here (c.done k n here (omega arith)) runs.1 in
       let s = follows k n i.inputs r i.outputs runs.0 runs.2 in
       let few = s.few in
-      let g = run_goes claim d c s.place s.node s.here run t (subst (λ (v : Term). Runs m v run t) (sym s.term) runs.3) (omega arith) in
+      let g = run_goes claim d c s.place s.node s.here run t (subst (λ (v : Term). Runs m v run t) (sym s.term) runs.3)
+          (omega arith) in
       record { place = g.place; node = g.node; here = g.here; few = let w = g.few in omega arith; term = g.term }
 
-  passes_holds : (test : Bor Test) (i : ℕ) (answer : Answer) (emitted : ℕ) (inputs outputs : ℕ → Bool) → answer ≡ Reaction emitted
+  passes_holds : (test : Bor Test) (i : ℕ) (answer : Answer) (emitted : ℕ) (inputs outputs : ℕ → Bool) → answer ≡
+      Reaction emitted
       → bits i ≡ inputs → bits emitted ≡ outputs → fails (Always test) i answer ≡ false
       → holds test.now (λ n. inputs n || outputs n) ≡ true
   passes_holds test i answer emitted inputs outputs a b c h =
@@ -142,7 +151,8 @@ module _ (m : Module) (f : Found Position (Asked Answer)) (e : IsExplored m f) w
         at true h = refl
         at false h = absurd (false≢true (sym h))
 
-  pub run_passes : (test : Bor Test) (d : ℕ) → IsCleared (Always test) d → (k : ℕ) (n : Node Position) → Is f.nodes.items k n
+  pub run_passes : (test : Bor Test) (d : ℕ) → IsCleared (Always test) d → (k : ℕ) (n : Node Position) → Is
+      f.nodes.items k n
       → (run : List Instant) (t : Term) → Runs m (term_of_position m n.state) run t → n.depth + length run ≤ d
       → All (λ i. holds test.now (is_present i) ≡ true) run
   run_passes test d c k n here [] t run l = All-nil (λ i. holds test.now (is_present i) ≡ true)
@@ -153,9 +163,11 @@ module _ (m : Module) (f : Found Position (Asked Answer)) (e : IsExplored m f) w
       All-cons (λ j. holds test.now (is_present j) ≡ true) i run
       (passes_holds test r.row.label.inputs r.row.label.answer s.emitted i.inputs i.outputs s.is r.is s.shows
       (c.passes r.row r.listed n (rw r.from here) (omega arith)))
-      (run_passes test d c s.place s.node s.here run t (subst (λ (v : Term). Runs m v run t) (sym s.term) runs.3) (omega arith))
+      (run_passes test d c s.place s.node s.here run t (subst (λ (v : Term). Runs m v run t) (sym s.term) runs.3)
+          (omega arith))
 
-  reacts_by : (x : Position) (most : ℕ) (inputs : InputSet) (i : ℕ) → bits i ≡ inputs → (answer : Answer) (place : Option ℕ)
+  reacts_by : (x : Position) (most : ℕ) (inputs : InputSet) (i : ℕ) → bits i ≡ inputs → (answer : Answer)
+      (place : Option ℕ)
       (after : Option Position) → Leads f.nodes.items most place after → AnswersSo m.kernel x i answer after
       → fails NeverStuck i answer ≡ false → HasReaction m (term_of_position m x) inputs
   reacts_by x most inputs i is (Reaction o) place after nowhere a h = absurd a
@@ -169,7 +181,8 @@ module _ (m : Module) (f : Found Position (Asked Answer)) (e : IsExplored m f) w
   first_term = ap (λ (x : Position). term_of_position m x) e.begins.state
 
   first_depth : e.begins.node.depth ≡ 0
-  first_depth = ap (λ (n : Node Position). n.depth) (is_one f.nodes.items 0 e.begins.node e.found.tree.first e.begins.is e.found.tree.begins)
+  first_depth = ap (λ (n : Node Position). n.depth) (is_one f.nodes.items 0 e.begins.node e.found.tree.first e.begins.is
+      e.found.tree.begins)
       ∙ e.found.tree.none
 
   pub holds_for : (claim : Claim) (d : ℕ) → IsCleared claim d → HoldsFor m claim d
@@ -180,7 +193,8 @@ module _ (m : Module) (f : Found Position (Asked Answer)) (e : IsExplored m f) w
       let few = g.few in
       let r = row_for g.place g.node inputs g.here (c.done g.place g.node g.here (omega arith)) lawful in
       subst (λ (v : Term). HasReaction m v inputs) g.term
-      (reacts_by g.node.state (g.node.depth + 1) inputs r.row.label.inputs r.is r.row.label.answer r.row.next r.after r.leads r.answer
+      (reacts_by g.node.state (g.node.depth + 1) inputs r.row.label.inputs r.is r.row.label.answer r.row.next r.after
+          r.leads r.answer
       (c.passes r.row r.listed g.node (rw r.from g.here) (omega arith)))
   holds_for (Always test) d c = λ run is l.
       let none = first_depth in

@@ -32,7 +32,8 @@ pub record HasReaction (m : Module) (t : Term) (inputs : InputSet) : Type 0 wher
   pub next : Term
   pub goes : Goes m t inputs outputs next
 
--- the claim holds in the first n instants of every run: that it is never Stuck, when after each run of fewer instants it
+-- the claim holds in the first n instants of every run: that it is never Stuck, when after each run of fewer instants
+-- it
 -- reacts to each lawful set of inputs; that a test always holds, when it holds in each instant of each run of so many
 abbrev pub HoldsFor : Module → Claim → ℕ → Type 0
 HoldsFor m NeverStuck n = (run : List Instant) (t : Term) → Runs m (start m) run t → length run < n

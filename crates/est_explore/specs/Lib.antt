@@ -1,7 +1,5 @@
-pub mod Answers
 pub mod Claims
-pub mod Explored
-pub mod InputSets
+pub mod Inner
 pub mod Runs
 pub mod Verdicts
 pub mod Views

@@ -1,4 +1,5 @@
--- Runs of a module: what it does, instant after instant, with lawful inputs (this project's own form, over the reactions
+-- Runs of a module: what it does, instant after instant, with lawful inputs (this project's own form, over the
+-- reactions
 -- of est_meaning and the relations of est_relations).
 use Rattle.std.specs.Prelude.{◌≡◌, ◌&&◌, ◌||◌, ℕ, Bool, List, [], ◌∷◌}
 use Rattle.est_kernel.specs.Interfaces.{offerable}

@@ -1,7 +1,7 @@
 //! All that something does with lawful inputs.
 ghost use Rattle.std.specs.Prelude.{◌≡◌, ◌≢◌, ◌<◌, ◌≤◌};
 ghost use Rattle.est_kernel.specs.Bits.{bits};
-ghost use Rattle.est_explore.specs.InputSets.{HaveAllInputs, IsAsked};
+ghost use Rattle.est_explore.specs.Inner.InputSets.{HaveAllInputs, IsAsked};
 ghost use Rattle.est_explore.specs.Runs.{may_offer};
 
 use crate::asked::Asked;

@@ -2,7 +2,7 @@
 ghost use Rattle.std.specs.Prelude.{◌≡◌};
 ghost use Rattle.std.proofs.Common.{rules};
 ghost use Rattle.est_meaning.specs.States.{IsState};
-ghost use Rattle.est_explore.specs.Answers.{AnswersSo};
+ghost use Rattle.est_explore.specs.Inner.Answers.{AnswersSo};
 
 use crate::reactive::Reactive;
 use est_kernel::interface::Interface;

@@ -18,7 +18,8 @@ use std::process::Abort;
 /// Every signal may be offered.
 const ALL: u64 = u64::MAX;
 
-/// How the instants of a counterexample are told: the inputs of each, and what is emitted or `?` and
+/// How the instants of a counterexample are told: the inputs of each, and what is emitted or `?`
+/// and
 /// what is undecided, as masks.
 fn word_told(rt: &impl Abort, alloc: Global, word: &[Asked<Answer>]) -> String {
     let mut told = String::new(alloc);

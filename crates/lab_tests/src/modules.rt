@@ -10,7 +10,9 @@ use std::process::Abort;
 
 /// The inputs A and B, and the output O.
 pub const A: InterfaceSignal = InterfaceSignal { index: 0 };
+
 pub const B: InterfaceSignal = InterfaceSignal { index: 1 };
+
 pub const O: InterfaceSignal = InterfaceSignal { index: 2 };
 
 /// Whether the signal is present.

@@ -1,5 +1,6 @@
 -- What a search has found of a machine, a node at a time (this project's own form).
-use Rattle.std.specs.Prelude.{◌≡◌, ◌≢◌, ℕ, ◌<◌, ◌≤◌, ◌+◌, Bool, true, ◌⊎◌, Option, None, Some, List, length, slice_index_or}
+use Rattle.std.specs.Prelude.{◌≡◌, ◌≢◌, ℕ, ◌<◌, ◌≤◌, ◌+◌, Bool, true, ◌⊎◌, Option, None, Some, List, length}
+use Rattle.std.specs.Prelude.{slice_index_or}
 use Rattle.std.specs.List.{All, AllPairs, Contains}
 use Rattle.state_search.specs.declared.found.Node.{Node}
 use Rattle.state_search.specs.declared.found.Row.{Row}
@@ -35,7 +36,8 @@ module _ {S L : Type 0} (does : S → L → Option S → Type 0) where
     pub step : does before.state r.label after
 
 -- some row is this step, from the node at the place
-pub record HasRow {S L : Type 0} (nodes : List (Node S)) (rows : List (Row L)) (p : ℕ) (n : Node S) (s : Step S L) : Type 0 where
+pub record HasRow {S L : Type 0} (nodes : List (Node S)) (rows : List (Row L)) (p : ℕ) (n : Node S) (s : Step S L) :
+    Type 0 where
   pub row : Row L
   pub listed : Contains rows row
   pub from : row.from ≡ p

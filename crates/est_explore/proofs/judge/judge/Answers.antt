@@ -11,7 +11,8 @@ returns-in-Some g c = λ states steps ended.
 
 pub returns-then-found-len : goal.returns-then-found-len
 returns-then-found-len g c = λ states steps ended. elim ended [
-  | inl all ↦ absurd (let w = c.if-found-len.true in let e = c.len.ensures in let o = c.args.found.now.nodes.ok.0 in omega arith)
+  | inl all ↦ absurd (let w = c.if-found-len.true in let e = c.len.ensures in let o = c.args.found.now.nodes.ok.0 in
+      omega arith)
   | inr more ↦ elim more [
     | inl s ↦ inl (more_states _ _ c.requires.explored states s)
     | inr t ↦ inr (more_trials _ _ c.requires.explored steps t)
@@ -24,4 +25,5 @@ returns g c = λ states steps ended n.
     let e = c.len.ensures in
     let o = c.args.found.now.nodes.ok.0 in
     holds_for _ _ c.requires.explored c.args.claim.now n
-    (cleared_all _ _ c.requires.explored c.args.claim.now (rw c.deref.ensures.value at c.in_default.ensures) (omega arith) n)
+    (cleared_all _ _ c.requires.explored c.args.claim.now (rw c.deref.ensures.value at c.in_default.ensures)
+        (omega arith) n)

@@ -3,9 +3,9 @@ use Rattle.std.specs.Prelude.{◌≢◌, ℕ, Bool, true, false, not, ◌||◌}
 use Rattle.est_kernel.specs.Bits.{bits}
 use Rattle.est_kernel.specs.declared.state.State.TheVariants.{Fresh}
 use Rattle.est_meaning.specs.States.{IsState}
-use Rattle.est_explore.specs.Answers.{AnswersSo}
+use Rattle.est_explore.specs.Inner.Answers.{AnswersSo}
 use Rattle.est_explore.specs.Claims.{holds}
-use Rattle.est_explore.specs.InputSets.{IsAsked, HaveAllInputs}
+use Rattle.est_explore.specs.Inner.InputSets.{IsAsked, HaveAllInputs}
 use Rattle.est_explore.specs.Runs.{Module, may_offer}
 use Rattle.est_explore.specs.declared.asked.Asked.{Asked}
 use Rattle.est_explore.specs.declared.claim.Claim.{Claim}
