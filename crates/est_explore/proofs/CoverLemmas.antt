@@ -1,22 +1,26 @@
 -- All steps of a state, a place at a time.
 use Rattle.std.proofs.Common.{◌≡◌, ◌≢◌, ◌∙◌, ℕ, ◌<◌, ◌≤◌, ◌+◌, ◌⊎◌, Bool, true, false}
-use Rattle.std.proofs.Common.{List, [], ◌∷◌, ◌++◌, length, Option, Some, sym, refl, ap, arith, inl, inr, subst, append-nil, append_assoc, suc}
+use Rattle.std.proofs.Common.{List, [], ◌∷◌, ◌++◌, length, Option, Some, sym, refl, ap, arith, inl, inr, append-nil}
+use Rattle.std.proofs.Common.{append_assoc, suc}
 use Rattle.std.specs.Bool.{MatchBool}
-use Rattle.std.specs.List.{All, AllPairs, Contains}
+use Rattle.std.specs.List.{All, AllPairs}
 use Rattle.std.proofs.lemmas.Bool.{cases_Bool, false≢true}
-use Rattle.std.proofs.lemmas.List.{length-append}
 use Rattle.std.proofs.lemmas.List.Kept.{AllPairs-cons}
-use Rattle.std.proofs.lemmas.List.Elements.{All-nil, All-cons, All-append, All-weaker, All-head, All-tail, Contains-append_left, Contains-append_right, Contains-push}
+use Rattle.std.proofs.lemmas.List.Elements.{All-nil, All-cons, All-append, All-weaker, All-head, All-tail}
+use Rattle.std.proofs.lemmas.List.Elements.{Contains-append_left, Contains-append_right}
 use Rattle.est_kernel.specs.Bits.{bits}
 use Rattle.est_meaning.specs.Knowledge.{IsIn}
 use Rattle.est_relations.specs.Keeping.{AreLawful}
 use Rattle.est_relations.specs.Offers.{with_place}
 use Rattle.est_relations.specs.declared.relations.Relation.{Relation}
 use Rattle.est_explore.specs.Runs.{InputSet}
-use Rattle.est_explore.specs.InputSets.{are_exclusions_kept, is_kept, IsBelow, IsPart, IsLawfulMask, IsAsked, HasInputs, IsCovered}
+use Rattle.est_explore.specs.Inner.InputSets.{are_exclusions_kept, is_kept, IsBelow, IsPart, IsAsked, HasInputs}
+use Rattle.est_explore.specs.Inner.InputSets.{IsCovered}
 use Rattle.est_explore.specs.declared.asked.Asked.{Asked}
 use Rattle.state_search.specs.declared.machine.Step.{Step}
-use Rattle.est_explore.proofs.PartLemmas.{whole_set, same_below, more_below, below_is_in, fewer_keep, lawful_are_exclusive, without_is_below, with_is_below, without_has_not, with_has}
+use Rattle.est_explore.proofs.PartLemmas.{whole_set, same_below, more_below, below_is_in, fewer_keep}
+use Rattle.est_explore.proofs.PartLemmas.{lawful_are_exclusive, without_is_below, with_is_below, without_has_not}
+use Rattle.est_explore.proofs.PartLemmas.{with_has}
 
 -- pairs of two lists
 pairs_joined : {X : Type 0} (P : X → X → Type 0) (xs ys : List X) → AllPairs P xs → AllPairs P ys
@@ -24,12 +28,14 @@ pairs_joined : {X : Type 0} (P : X → X → Type 0) (xs ys : List X) → AllPai
 pairs_joined P [] ys a b c = b
 pairs_joined P (x ∷ xs) ys a b c = AllPairs-cons P x (xs ++ ys)
     (All-append (P x) xs ys (λ k d w. a 0 (suc k) d (omega arith) (omega arith)) (All-head (λ y. All (P y) ys) x xs c))
-    (pairs_joined P xs ys (λ i j d l w. a (suc i) (suc j) d (omega arith) (omega arith)) b (All-tail (λ y. All (P y) ys) x xs c))
+    (pairs_joined P xs ys (λ i j d l w. a (suc i) (suc j) d (omega arith) (omega arith)) b
+        (All-tail (λ y. All (P y) ys) x xs c))
 
 module _ {S A : Type 0} (answers : ℕ → A → Option S → Type 0) (is_state : S → Type 0) (may : ℕ → Bool)
     (relations : List Relation) (places most : ℕ) where
   -- what is below the last place is all
-  whole_inputs : ((n : ℕ) → may n ≡ true → n < places) → (m : ℕ) (inputs : InputSet) → IsIn inputs may → IsBelow places inputs m
+  whole_inputs : ((n : ℕ) → may n ≡ true → n < places) → (m : ℕ) (inputs : InputSet) → IsIn inputs may → IsBelow places
+      inputs m
       → bits m ≡ inputs
   whole_inputs beyond m inputs offered below = whole_set may places none inputs m offered below where
     none : (n : ℕ) → places ≤ n → may n ≡ false
@@ -65,10 +71,12 @@ module _ {S A : Type 0} (answers : ℕ → A → Option S → Type 0) (is_state 
     all = at whole w;
   } where
     has : (inputs : InputSet) → IsIn inputs may → IsBelow places inputs m → HasInputs (s ∷ []) inputs
-    has inputs offered below = record { step = s; listed = (0, (omega arith), refl); is = rw is (whole_inputs beyond m inputs offered below) }
+    has inputs offered below = record { step = s; listed = (0, (omega arith), refl); is = rw is
+        (whole_inputs beyond m inputs offered below) }
 
     at : (b : Bool) → MatchBool b (Unit {0}) (most < length (old ++ s ∷ [])) → MatchBool b
-        ((inputs : InputSet) → IsIn inputs may → AreLawful relations inputs → IsBelow places inputs m → HasInputs (s ∷ []) inputs)
+        ((inputs : InputSet) → IsIn inputs may → AreLawful relations inputs → IsBelow places inputs m → HasInputs
+            (s ∷ []) inputs)
         (most < length (old ++ s ∷ []))
     at true u = λ inputs offered lawful below. has inputs offered below
     at false l = l
@@ -127,18 +135,24 @@ module _ {S A : Type 0} (answers : ℕ → A → Option S → Type 0) (is_state 
     within = All-append (λ s. IsBelow p (bits s.label.inputs) m) a.more b.more
         (All-weaker (λ s. IsBelow (p + 1) (bits s.label.inputs) m) (λ s. IsBelow p (bits s.label.inputs) m)
         (λ s. without_is_below may places p m part (bits s.label.inputs)) a.more a.within)
-        (All-weaker (λ s. IsBelow (p + 1) (bits s.label.inputs) (with_place m p)) (λ s. IsBelow p (bits s.label.inputs) m)
+        (All-weaker (λ s. IsBelow (p + 1) (bits s.label.inputs) (with_place m p))
+            (λ s. IsBelow p (bits s.label.inputs) m)
         (λ s. with_is_below may places p m part (bits s.label.inputs)) b.more b.within);
     differ = pairs_joined (λ s t. s.label.inputs ≢ t.label.inputs) a.more b.more a.differ b.differ
-        (All-weaker (λ s. IsBelow (p + 1) (bits s.label.inputs) m) (λ s. All (λ t. s.label.inputs ≢ t.label.inputs) b.more)
-        (λ s i. All-weaker (λ t. IsBelow (p + 1) (bits t.label.inputs) (with_place m p)) (λ t. s.label.inputs ≢ t.label.inputs)
-        (λ t j e. false≢true (sym (without_has_not p m part.low s.label.inputs i) ∙ (ap (λ k. bits k p) e ∙ with_has p m t.label.inputs j)))
+        (All-weaker (λ s. IsBelow (p + 1) (bits s.label.inputs) m)
+            (λ s. All (λ t. s.label.inputs ≢ t.label.inputs) b.more)
+        (λ s i. All-weaker (λ t. IsBelow (p + 1) (bits t.label.inputs) (with_place m p))
+            (λ t. s.label.inputs ≢ t.label.inputs)
+        (λ t j e. false≢true (sym (without_has_not p m part.low s.label.inputs i) ∙
+            (ap (λ k. bits k p) e ∙ with_has p m t.label.inputs j)))
         b.more b.within) a.more a.within);
     all = at whole b.all;
   } where
     at : (w : Bool)
-        → MatchBool w ((inputs : InputSet) → IsIn inputs may → AreLawful relations inputs → IsBelow (p + 1) inputs (with_place m p) → HasInputs b.more inputs) (most < length new)
-        → MatchBool w ((inputs : InputSet) → IsIn inputs may → AreLawful relations inputs → IsBelow p inputs m → HasInputs (a.more ++ b.more) inputs) (most < length new)
+        → MatchBool w ((inputs : InputSet) → IsIn inputs may → AreLawful relations inputs → IsBelow (p + 1) inputs
+            (with_place m p) → HasInputs b.more inputs) (most < length new)
+        → MatchBool w ((inputs : InputSet) → IsIn inputs may → AreLawful relations inputs → IsBelow p inputs m →
+            HasInputs (a.more ++ b.more) inputs) (most < length new)
     at true h = λ inputs offered lawful below. elim (cases_Bool (inputs p)) [
       | inl t ↦ let one = h inputs offered lawful (more_below p inputs m t below) in
           record { step = one.step; listed = Contains-append_right a.more b.more one.step one.listed; is = one.is }

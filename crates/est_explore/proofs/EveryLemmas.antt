@@ -1,5 +1,5 @@
 -- All lawful sets of inputs, from the first place on.
-use Rattle.std.proofs.Common.{◌≡◌, ◌∙◌, ℕ, ◌<◌, ◌≤◌, Bool, true, false, ◌&&◌, nat_lt, List, [], ◌++◌, length, Option, sym, refl, ap, arith, inl, inr, subst}
+use Rattle.std.proofs.Common.{◌≡◌, ◌∙◌, ℕ, ◌<◌, Bool, true, false, ◌&&◌, List, [], length, Option, sym, arith, inl, inr}
 use Rattle.std.specs.Prelude.{Result, Ok, Err, IfOk, OnOk}
 use mathlib.Core.Path.{fun_ext}
 use Rattle.std.specs.Bool.{MatchBool}
@@ -15,7 +15,7 @@ use Rattle.est_meaning.specs.Knowledge.{IsIn}
 use Rattle.est_relations.specs.Keeping.{AreLawful}
 use Rattle.est_relations.specs.declared.relations.Relation.{Relation}
 use Rattle.est_explore.specs.Runs.{may_offer, InputSet}
-use Rattle.est_explore.specs.InputSets.{IsPart, IsAsked, IsCovered, IsBelow, HasInputs, HaveAllInputs}
+use Rattle.est_explore.specs.Inner.InputSets.{IsPart, IsAsked, IsCovered, IsBelow, HasInputs, HaveAllInputs}
 use Rattle.est_explore.specs.declared.asked.Asked.{Asked}
 use Rattle.state_search.specs.declared.machine.Step.{Step}
 
@@ -54,6 +54,9 @@ module _ {S A : Type 0} (answers : ℕ → A → Option S → Type 0) (is_state 
   pub all_whole : may ≡ also → IsCovered answers is_state may relations 0 0 most whole [] new
       → MatchBool whole (HaveAllInputs also relations new) (most < length new)
   all_whole e h = rw (← e) (at whole h.all) where
-    at : (w : Bool) → MatchBool w ((inputs : InputSet) → IsIn inputs may → AreLawful relations inputs → IsBelow 0 inputs 0 → HasInputs h.more inputs) (most < length new) → MatchBool w (HaveAllInputs may relations new) (most < length new)
-    at true f = λ inputs offered lawful. rw h.split (f inputs offered lawful (λ n. bits_zero n ∙ grind (arith, nat_tests)))
+    at : (w : Bool) → MatchBool w ((inputs : InputSet) → IsIn inputs may → AreLawful relations inputs → IsBelow 0 inputs
+        0 → HasInputs h.more inputs) (most < length new) → MatchBool w (HaveAllInputs may relations new)
+        (most < length new)
+    at true f = λ inputs offered lawful. rw h.split (f inputs offered lawful
+        (λ n. bits_zero n ∙ grind (arith, nat_tests)))
     at false l = l

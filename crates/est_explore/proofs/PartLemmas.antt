@@ -1,13 +1,10 @@
 -- The sets of inputs, a place at a time.
-use Rattle.std.proofs.Common.{◌≡◌, ◌≢◌, ◌∙◌, ℕ, ◌<◌, ◌≤◌, ◌+◌, ◌^◌, ◌⊎◌, Bool, true, false, ◌&&◌, ◌||◌, nat_eq, nat_lt}
-use Rattle.std.proofs.Common.{List, [], ◌∷◌, ◌++◌, length, Option, Some, sym, refl, ap, arith, inl, inr, subst, append-nil, append_assoc, get_or}
+use Rattle.std.proofs.Common.{◌≡◌, ◌∙◌, ℕ, ◌<◌, ◌≤◌, ◌+◌, ◌^◌, Bool, true, false, ◌&&◌, ◌||◌, nat_eq, nat_lt}
+use Rattle.std.proofs.Common.{List, [], ◌∷◌, sym, refl, ap, arith, inl, inr}
 use mathlib.Core.Path.{fun_ext}
-use Rattle.std.specs.Bool.{MatchBool}
-use Rattle.std.specs.List.{All, AllPairs, Contains, list_all}
+use Rattle.std.specs.List.{list_all}
 use Rattle.std.proofs.lemmas.Bool.{cases_eq, cases_lt, cases_Bool, false≢true}
 use Rattle.std.proofs.lemmas.Bool.Decides.{nat_tests}
-use Rattle.std.proofs.lemmas.List.{get_or_append_left, get_or-append-add, length-append}
-use Rattle.std.proofs.lemmas.List.Elements.{All-nil, All-cons, All-append, All-weaker, All-get_or, Contains-append_left, Contains-append_right}
 use Rattle.est_kernel.specs.Bits.{bits}
 use Rattle.est_kernel.proofs.Masks.{bits_or, bits_pow}
 use Rattle.est_meaning.specs.Knowledge.{IsIn}
@@ -17,21 +14,21 @@ use Rattle.est_relations.specs.declared.relations.Relation.{Relation}
 use Rattle.est_relations.specs.declared.relations.Relation.TheVariants.{Exclusion, Implication}
 use Rattle.est_relations.proofs.Members.{one_means, one_where, or_true, nat_same}
 use Rattle.est_explore.specs.Runs.{InputSet}
-use Rattle.est_explore.specs.InputSets.{are_exclusions_kept, is_kept, IsBelow, IsPart, IsLawfulMask, IsAsked, HasInputs, IsCovered}
-use Rattle.est_explore.specs.declared.asked.Asked.{Asked}
-use Rattle.state_search.specs.declared.machine.Step.{Step}
+use Rattle.est_explore.specs.Inner.InputSets.{are_exclusions_kept, IsBelow, IsPart}
 
 -- ---- exclusions hold of fewer inputs too
 
 fewer_keep_one : (f g : InputSet) → IsIn f g → (r : Relation) → keeps_exclusion g r ≡ true → keeps_exclusion f r ≡ true
-fewer_keep_one f g fewer (Exclusion ms) h = one_where f ms (λ a b p q x y. one_means g ms h a b p q (fewer a x) (fewer b y))
+fewer_keep_one f g fewer (Exclusion ms) h = one_where f ms (λ a b p q x y. one_means g ms h a b p q (fewer a x)
+    (fewer b y))
 fewer_keep_one f g fewer (Implication a b) h = refl
 
 -- what each test of a list implies
 all_imply : (p q : Relation → Bool) → ((r : Relation) → p r ≡ true → q r ≡ true) → (rs : List Relation)
     → list_all p rs ≡ true → list_all q rs ≡ true
 all_imply p q imply [] h = refl
-all_imply p q imply (r ∷ rs) h = joined (p r) (q r) (list_all p rs) (list_all q rs) (imply r) (all_imply p q imply rs) h where
+all_imply p q imply (r ∷ rs) h = joined (p r) (q r) (list_all p rs) (list_all q rs) (imply r) (all_imply p q imply rs) h
+    where
   joined : (a b c d : Bool) → (a ≡ true → b ≡ true) → (c ≡ true → d ≡ true) → (a && c) ≡ true → (b && d) ≡ true
   joined true b c d f g h = rw (f refl) (g h)
   joined false b c d f g h = absurd (false≢true h)
@@ -106,7 +103,8 @@ part_with may places p m h l here = record {
   upto = omega arith;
   low = λ n. elim (cases_lt n (p + 1)) [
     | inl lt ↦ grind (arith, nat_tests)
-    | inr ge ↦ let out : bits (with_place m p) n ≡ false = rw (with_place_bits m p n, low_out p m h.low n (omega arith)) (grind (arith, nat_tests)) in
+    | inr ge ↦ let out : bits (with_place m p) n ≡ false = rw (with_place_bits m p n, low_out p m h.low n (omega arith))
+        (grind (arith, nat_tests)) in
         rw out (grind (arith, nat_tests))
   ];
   offered = λ n k. elim (or_true (bits m n) (nat_eq p n) (sym (with_place_bits m p n) ∙ k)) [
@@ -127,7 +125,8 @@ pub with_is_below : (may : ℕ → Bool) (places p m : ℕ) → IsPart may place
     → IsBelow (p + 1) inputs (with_place m p) → IsBelow p inputs m
 with_is_below may places p m h inputs b n = elim (cases_eq n p) [
   | inl e ↦ rw e (low_out p m h.low p (omega arith) ∙ grind (arith, nat_tests))
-  | inr d ↦ let same : bits (with_place m p) n ≡ bits m n = rw (with_place_bits m p n) (at (bits m n) (nat_eq p n) (grind (arith, nat_tests))) in
+  | inr d ↦ let same : bits (with_place m p) n ≡ bits m n = rw (with_place_bits m p n)
+      (at (bits m n) (nat_eq p n) (grind (arith, nat_tests))) in
       sym same ∙ (b n ∙ grind (arith, nat_tests))
 ] where
   at : (x y : Bool) → y ≡ false → (x || y) ≡ x
@@ -144,7 +143,8 @@ without_has_not p m low k b = elim (cases_Bool (bits k p)) [
 pub with_has : (p m k : ℕ) → IsBelow (p + 1) (bits k) (with_place m p) → bits k p ≡ true
 with_has p m k b = elim (cases_Bool (bits k p)) [
   | inl t ↦ t
-  | inr f ↦ absurd (false≢true (sym (b p ∙ rw f (grind (arith, nat_tests))) ∙ (with_place_bits m p p ∙ at (bits m p) (nat_eq p p) (grind (arith, nat_tests)))))
+  | inr f ↦ absurd (false≢true (sym (b p ∙ rw f (grind (arith, nat_tests))) ∙
+      (with_place_bits m p p ∙ at (bits m p) (nat_eq p p) (grind (arith, nat_tests)))))
 ] where
   at : (x y : Bool) → y ≡ true → (x || y) ≡ true
   at true y e = refl

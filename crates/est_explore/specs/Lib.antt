@@ -1,3 +1,5 @@
-pub mod Answers
-pub mod InputSets
+pub mod Claims
+pub mod Inner
 pub mod Runs
+pub mod Verdicts
+pub mod Views

@@ -1,4 +1,5 @@
--- Runs of a module: what it does, instant after instant, with lawful inputs (this project's own form, over the reactions
+-- Runs of a module: what it does, instant after instant, with lawful inputs (this project's own form, over the
+-- reactions
 -- of est_meaning and the relations of est_relations).
 use Rattle.std.specs.Prelude.{◌≡◌, ◌&&◌, ◌||◌, ℕ, Bool, List, [], ◌∷◌}
 use Rattle.est_kernel.specs.Interfaces.{offerable}
@@ -8,7 +9,7 @@ use Rattle.est_kernel.specs.declared.interface.Declaration.{Declaration}
 use Rattle.est_kernel.specs.declared.kernel.Kernel.{Kernel}
 use Rattle.est_meaning.specs.Knowledge.{IsIn}
 use Rattle.est_meaning.specs.Reaction.{Reacts}
-use Rattle.est_meaning.specs.Rounds.{JudgedSignals, judged_signals}
+use Rattle.est_meaning.specs.Rounds.{judged_signals}
 use Rattle.est_relations.specs.Keeping.{AreLawful}
 use Rattle.est_relations.specs.declared.relations.Relation.{Relation}
 

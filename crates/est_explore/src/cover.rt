@@ -3,10 +3,10 @@ ghost use Rattle.std.specs.Prelude.{◌≡◌, ℕ, ◌<◌, ◌≤◌, IfOk, tr
 ghost use Rattle.est_kernel.specs.Bits.{bits};
 ghost use Rattle.est_kernel.specs.Interfaces.{offerable};
 ghost use Rattle.est_meaning.specs.Knowledge.{IsIn};
-ghost use Rattle.est_explore.specs.InputSets.{IsCovered, IsPart};
+ghost use Rattle.est_explore.specs.Inner.InputSets.{IsCovered, IsPart};
 
-use crate::input_sets::{InputSets, Part};
 use crate::asked::Asked;
+use crate::input_sets::{InputSets, Part};
 use crate::reactive::Reactive;
 use state_search::machine::Step;
 use std::alloc::AllocError;
@@ -28,8 +28,10 @@ fn add_step<R: Reactive>(
     requires places { (n : ℕ) → bits sets.now.may n ≡ true → n < sets.now.places }
     requires part { IsPart (bits sets.now.may) sets.now.places sets.now.places inputs }
     ensures fits { R.fits reactive.now scratch.new }
-    ensures covered { IfOk result (λ whole. IsCovered (R.answers reactive.now state.now) (R.is_state reactive.now)
-        (bits sets.now.may) sets.now.relations.now sets.now.places inputs most whole steps.old.items steps.new.items) }
+    ensures covered { IfOk result (λ whole. IsCovered (R.answers reactive.now state.now)
+        (R.is_state reactive.now)
+        (bits sets.now.may) sets.now.relations.now sets.now.places inputs most whole steps.old.items
+            steps.new.items) }
 {
     if !sets.keep(inputs) {
         return Ok(true);
@@ -66,8 +68,10 @@ pub fn cover<R: Reactive>(
     requires few { sets.now.places ≤ 64 }
     requires part { IsPart (bits sets.now.may) sets.now.places part.place part.inputs }
     ensures fits { R.fits reactive.now scratch.new }
-    ensures covered { IfOk result (λ whole. IsCovered (R.answers reactive.now state.now) (R.is_state reactive.now)
-        (bits sets.now.may) sets.now.relations.now part.place part.inputs most whole steps.old.items steps.new.items) }
+    ensures covered { IfOk result (λ whole. IsCovered (R.answers reactive.now state.now)
+        (R.is_state reactive.now)
+        (bits sets.now.may) sets.now.relations.now part.place part.inputs most whole steps.old.items
+            steps.new.items) }
 {
     if part.place >= sets.places {
         return add_step(reactive, sets, scratch, state, most, part.inputs, steps);

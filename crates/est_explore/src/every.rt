@@ -1,7 +1,7 @@
 //! All that something does with lawful inputs.
 ghost use Rattle.std.specs.Prelude.{◌≡◌, ◌≢◌, ◌<◌, ◌≤◌};
 ghost use Rattle.est_kernel.specs.Bits.{bits};
-ghost use Rattle.est_explore.specs.InputSets.{HaveAllInputs, IsAsked};
+ghost use Rattle.est_explore.specs.Inner.InputSets.{HaveAllInputs, IsAsked};
 ghost use Rattle.est_explore.specs.Runs.{may_offer};
 
 use crate::asked::Asked;
@@ -14,6 +14,7 @@ use state_search::machine::{Machine, Step};
 use std::alloc::AllocError;
 
 /// What something does with the sets of inputs that somebody may offer and that keep the relations.
+#[derive(Drop)]
 pub struct Every<'a, R> {
     pub reactive: &'a R,
     pub relations: &'a Relations,
@@ -22,7 +23,9 @@ pub struct Every<'a, R> {
 
 impl<'a, R: Reactive> Machine for Every<'a, R> {
     type State = R::State;
+
     type Label = Asked<R::Answer>;
+
     type Scratch = R::Scratch;
 
     ghost fits = { λ s x. R.fits s.reactive.now x };

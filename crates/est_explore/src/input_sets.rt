@@ -4,7 +4,7 @@ ghost use Rattle.std.specs.List.{list_all};
 ghost use Rattle.est_kernel.specs.Bits.{bits};
 ghost use Rattle.est_relations.specs.Keeping.{has_one_at_most, keeps, keeps_exclusion};
 ghost use Rattle.est_relations.specs.Offers.{with_place};
-ghost use Rattle.est_explore.specs.InputSets.{are_exclusions_kept, is_kept};
+ghost use Rattle.est_explore.specs.Inner.InputSets.{are_exclusions_kept, is_kept};
 
 use est_kernel::mask;
 use est_relations::relations::{Members, Relation};
@@ -100,8 +100,10 @@ impl<'a> InputSets<'a> {
         requires { part.place < 64 }
         ensures { MatchOption result
             ((bits self.now.may part.place ≡ false)
-            ⊎ (are_exclusions_kept self.now.relations.now (bits (with_place part.inputs part.place)) ≡ false))
-            (λ more. (more ≡ with_place part.inputs part.place) × (bits self.now.may part.place ≡ true)) }
+            ⊎ (are_exclusions_kept self.now.relations.now (bits (with_place part.inputs part.place))
+                ≡ false))
+            (λ more. (more ≡ with_place part.inputs part.place) ×
+                (bits self.now.may part.place ≡ true)) }
     {
         if !mask::has(self.may, part.place) {
             return None;

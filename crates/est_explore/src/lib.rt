@@ -3,8 +3,11 @@
 #![tactic(auto)]
 
 pub mod asked;
+pub mod claim;
 mod cover;
 pub mod every;
 mod input_sets;
+pub mod judge;
 pub mod one_module;
 pub mod reactive;
+pub mod verdict;

@@ -2,7 +2,7 @@
 ghost use Rattle.std.specs.Prelude.{◌≡◌};
 ghost use Rattle.std.proofs.Common.{rules};
 ghost use Rattle.est_meaning.specs.States.{IsState};
-ghost use Rattle.est_explore.specs.Answers.{AnswersSo};
+ghost use Rattle.est_explore.specs.Inner.Answers.{AnswersSo};
 
 use crate::reactive::Reactive;
 use est_kernel::interface::Interface;
@@ -32,6 +32,7 @@ impl Standing for Position {
 }
 
 /// A module that reacts by an engine.
+#[derive(Drop)]
 pub struct OneModule<'a, E> {
     pub kernel: &'a Kernel,
     pub engine: PhantomData<E>,
@@ -39,7 +40,9 @@ pub struct OneModule<'a, E> {
 
 impl<'a, E: Engine> Reactive for OneModule<'a, E> {
     type State = Position;
+
     type Answer = Answer;
+
     type Scratch = E;
 
     ghost fits = { λ s e. E.is_for e s.kernel.now };

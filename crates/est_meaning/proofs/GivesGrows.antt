@@ -6,7 +6,8 @@ use Rattle.est_meaning.proofs.KnowledgeIsMonotone.{monotone, must_can, local_bel
 use Rattle.est_meaning.specs.Environments.{Env, with_local}
 use Rattle.est_meaning.specs.Knowledge.{IsBelow, KnowsLess}
 use Rattle.est_meaning.specs.MustCan.{must, can, sure, status_within, env_within}
-use Rattle.est_meaning.specs.Rules.{Gives, Behaviour, Inside, takes_first, takes_second, is_held, is_resumed, goes_on, ends_then}
+use Rattle.est_meaning.specs.Rules.{Gives, Behaviour, Inside, takes_first, takes_second, is_held, is_resumed, goes_on}
+use Rattle.est_meaning.specs.Rules.{ends_then}
 use Rattle.est_meaning.specs.Signals.{Signals}
 use Rattle.est_meaning.specs.declared.status.Status.{Status}
 use Rattle.est_meaning.specs.declared.status.Status.TheVariants.{Present, Absent, Unknown}
@@ -28,7 +29,8 @@ absent_stays v w (inl u) e = absurd (no (sym u ∙ e)) where
   no h = cc
 absent_stays v w (inr s) e = sym s ∙ e
 
-status_grows : (s : ℕ) (p : Term) (e f : Env) → KnowsLess e f → IsBelow (status_within sure s p e) (status_within sure s p f)
+status_grows : (s : ℕ) (p : Term) (e f : Env) → KnowsLess e f → IsBelow (status_within sure s p e)
+    (status_within sure s p f)
 status_grows s p e f k =
     let kk = local_below e f s Unknown Unknown k (inr refl) in
     verdict_below _ _ _ _
@@ -44,7 +46,8 @@ inside_grows : (body other : Behaviour) (around : Term → Term)
     → Inside body around o k u → Inside other around o k u
 inside_grows body other around f o k u g = record { left = g.left; gives = f o k g.left g.gives; rest = g.rest }
 
-pub gives_grows : (t : Term) (e f : Env) → KnowsLess e f → (o : Signals) (k : ℕ) (u : Term) → Gives t e o k u → Gives t f o k u
+pub gives_grows : (t : Term) (e f : Env) → KnowsLess e f → (o : Signals) (k : ℕ) (u : Term) → Gives t e o k u → Gives t
+    f o k u
 gives_grows nothing e f l o k u g = g
 gives_grows pause e f l o k u g = g
 gives_grows (emit s) e f l o k u g = g
@@ -56,7 +59,8 @@ gives_grows (present s p q) e f l o k u (takes_second v g) =
 gives_grows (suspend s p) e f l o k u g = inside_grows (Gives p e) (Gives p f) _ (gives_grows p e f l) o k u g
 gives_grows (held s p) e f l o k u (is_held v g) = is_held (present_stays _ _ (query_below e f s l) v) g
 gives_grows (held s p) e f l o k u (is_resumed v g) =
-    is_resumed (absent_stays _ _ (query_below e f s l) v) (inside_grows (Gives p e) (Gives p f) _ (gives_grows p e f l) o k u g)
+    is_resumed (absent_stays _ _ (query_below e f s l) v) (inside_grows (Gives p e) (Gives p f) _ (gives_grows p e f l)
+        o k u g)
 gives_grows (seq p q) e f l o k u (goes_on d g) =
     goes_on d (inside_grows (Gives p e) (Gives p f) _ (gives_grows p e f l) o k u g)
 gives_grows (seq p q) e f l o k u (ends_then a b v x y z) =
@@ -89,7 +93,8 @@ gives_grows (signal s p) e f l o k u g = record {
   decided = λ h. g.decided (stays _ _ (status_grows s p e f l) g.decided ∙ h);
   body_signals = g.body_signals;
   left = g.left;
-  gives = gives_grows p (env_within sure s p e) (env_within sure s p f) (env_grows s p e f l) g.body_signals k g.left g.gives;
+  gives = gives_grows p (env_within sure s p e) (env_within sure s p f) (env_grows s p e f l) g.body_signals k g.left
+      g.gives;
   signals = g.signals;
   rest = g.rest;
 }

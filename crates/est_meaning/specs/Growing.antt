@@ -7,7 +7,8 @@ use Rattle.est_meaning.specs.Rules.{Gives}
 use Rattle.est_meaning.specs.Signals.{Signals}
 
 -- Reactions stay. Why care: what a term does where some inputs are still unknown is what it does whatever they turn out
--- to be, so one look answers for all of them. Where the rules give a term signals, a code and a next term, they give the
+-- to be, so one look answers for all of them. Where the rules give a term signals, a code and a next term, they give
+-- the
 -- same in each environment in which more is known
 abbrev pub ReactionsStay : Type 0
 ReactionsStay = (t : Term) (e f : Env) → KnowsLess e f → (o : Signals) (k : ℕ) (u : Term)

@@ -3,7 +3,7 @@ use Rattle.std.proofs.Common.{◌≡◌, ◌∙◌, ℕ, ◌<◌, ◌⊎◌, inl
 use Rattle.std.proofs.Common.{Option}
 use Rattle.std.proofs.lemmas.Bool.{cases_lt}
 use Rattle.std.proofs.lemmas.List.{get_or_append_left, get_or_push, length_push, get_or_default, length-append}
-use Rattle.state_search.specs.Places.{Puts, had, comes}
+use Rattle.state_search.specs.Inner.Places.{Puts, had, comes}
 use Rattle.state_search.specs.Table.{Is, At, Leads, nowhere, there}
 use Rattle.state_search.specs.declared.found.Node.{Node}
 
@@ -26,7 +26,8 @@ module _ {S : Type 0} where
   pub is_there : (nodes : List (Node S)) (p : ℕ) (d : Node S) → p < length nodes → Is nodes p (get_or nodes p d)
   is_there nodes p d h = record { within = h; is = λ e. get_or_default nodes p e d h }
 
-  pub is_old : (nodes more : List (Node S)) (p : ℕ) (n : Node S) → p < length nodes → Is (nodes ++ more) p n → Is nodes p n
+  pub is_old : (nodes more : List (Node S)) (p : ℕ) (n : Node S) → p < length nodes → Is (nodes ++ more) p n → Is nodes
+      p n
   is_old nodes more p n h i = record {
     within = h;
     is = λ d. sym (get_or_append_left nodes more d p h) ∙ i.is d;

@@ -1,16 +1,18 @@
 -- The places of states.
-use Rattle.std.proofs.Common.{◌≡◌, ◌≢◌, ◌∙◌, ℕ, Bool, true, cond, inl, inr, List, [], ◌∷◌, ◌++◌, length, sym, ap, subst, arith}
+use Rattle.std.proofs.Common.{◌≡◌, ◌≢◌, ◌∙◌, ℕ, Bool, true, cond, inl, inr, List, [], ◌∷◌, ◌++◌, length, sym, ap, subst}
+use Rattle.std.proofs.Common.{arith}
 use Rattle.std.proofs.Common.{Some, None}
 use Rattle.std.proofs.lemmas.Bool.{cases_Bool, false≢true}
 use Rattle.std.proofs.lemmas.List.Elements.{All-push}
 use Rattle.std.specs.HashMap.{HashMap, get}
-use Rattle.state_search.specs.Places.{Places}
+use Rattle.state_search.specs.Inner.Places.{Places}
 use Rattle.state_search.specs.Table.{IsExact}
 use Rattle.state_search.specs.declared.found.Node.{Node}
 use Rattle.state_search.proofs.Nodes.{is_last, at_stays}
 
 -- one more state
-pub one_more_place : {S H : Type 0} (eq : S → S → Bool) → IsExact eq → ((x : S) → eq x x ≡ true) → (old new : HashMap S ℕ H)
+pub one_more_place : {S H : Type 0} (eq : S → S → Bool) → IsExact eq → ((x : S) → eq x x ≡ true) →
+    (old new : HashMap S ℕ H)
     (nodes : List (Node S)) (n : Node S) (p : ℕ) → p ≡ length nodes
     → ((q : S) → get eq new q ≡ cond (eq n.state q) (Some p) (get eq old q))
     → Places eq old nodes → Places eq new (nodes ++ n ∷ [])

@@ -1,13 +1,15 @@
 -- A tree, a row at a time.
-use Rattle.std.proofs.Common.{◌≡◌, ◌≢◌, ◌∙◌, ℕ, ◌<◌, ◌≤◌, ◌+◌, inl, inr, List, [], ◌∷◌, ◌++◌, length, get_or, sym, refl, subst, arith, take}
+use Rattle.std.proofs.Common.{◌≡◌, ◌≢◌, ◌∙◌, ℕ, ◌<◌, ◌≤◌, ◌+◌, inl, inr, List, [], ◌∷◌, ◌++◌, length, get_or, sym, refl}
+use Rattle.std.proofs.Common.{subst, arith, take}
 use Rattle.std.proofs.Common.{Option, Some, None, append-nil}
 use Rattle.std.proofs.lemmas.Bool.{cases_eq}
 use Rattle.std.proofs.lemmas.List.{get_or_push, length_push, get_or-take, get_or_default, take_more, length-take}
-use Rattle.std.proofs.lemmas.List.Elements.{All-push, All-weaker, All-get_or, All-contains, Contains-push, Contains-append_left}
+use Rattle.std.proofs.lemmas.List.Elements.{All-push, All-weaker, All-get_or, All-contains, Contains-push}
+use Rattle.std.proofs.lemmas.List.Elements.{Contains-append_left}
 use Rattle.std.proofs.lemmas.List.Quantifiers.{all_pairs_push}
 use Rattle.std.specs.List.{All, AllPairs}
-use Rattle.state_search.specs.Places.{had, comes}
-use Rattle.state_search.specs.Searching.{Adds, stops, goes, HasLabel, IsExpanding, IsSearching}
+use Rattle.state_search.specs.Inner.Places.{had, comes}
+use Rattle.state_search.specs.Inner.Searching.{Adds, stops, goes, HasLabel, IsExpanding, IsSearching}
 use Rattle.state_search.specs.Table.{Is, At, Leads, nowhere, there, IsRow, HasRow, IsDone, Came, IsTree}
 use Rattle.state_search.specs.declared.found.Node.{Node}
 use Rattle.state_search.specs.declared.found.Row.{Row}
@@ -15,7 +17,8 @@ use Rattle.state_search.specs.declared.machine.Step.{Step}
 use Rattle.state_search.proofs.Growth.{row_stays, has_stays, done_stays, came_stays}
 use Rattle.state_search.proofs.Nodes.{is_stays, at_stays, is_last, is_one, is_old, is_cases}
 
-module _ {S L : Type 0} (is_state : S → Type 0) (does : S → L → Option S → Type 0) (covers : S → List (Step S L) → Type 0)
+module _ {S L : Type 0} (is_state : S → Type 0) (does : S → L → Option S → Type 0)
+    (covers : S → List (Step S L) → Type 0)
     (apart : L → L → Type 0) where
   -- what a new row needs
   pub record MayJoin (nodes : List (Node S)) (rows : List (Row L)) (r : Row L) : Type 0 where
@@ -84,7 +87,8 @@ module _ {S L : Type 0} (is_state : S → Type 0) (does : S → L → Option S �
       | inr new ↦ rw (new.1, new.0) c.came
     ];
     sound = All-push (IsRow does (nodes ++ m ∷ [])) rows r
-        (All-weaker (IsRow does nodes) (IsRow does (nodes ++ m ∷ [])) (row_stays does nodes (m ∷ [])) rows t.sound) j.row;
+        (All-weaker (IsRow does nodes) (IsRow does (nodes ++ m ∷ [])) (row_stays does nodes (m ∷ [])) rows t.sound)
+            j.row;
     in_turn = all_before (λ a b. a.from ≤ b.from) rows r t.in_turn j.in_turn;
     differ = all_before (λ a b. a.from ≡ b.from → apart a.label b.label) rows r t.differ j.differs;
   }
@@ -103,7 +107,8 @@ module _ {S L : Type 0} (is_state : S → Type 0) (does : S → L → Option S �
       All-weaker (λ r. r.from ≡ at → HasLabel done r.label) (λ r. r.from ≡ at → apart r.label s.label)
       (λ r h e. of_done r.label (h e)) rows mine where
         of_done : (l : L) → HasLabel done l → apart l s.label
-        of_done l c = subst (λ (k : L). apart k s.label) c.label (All-contains (λ t. apart t.label s.label) done c.step d c.listed)
+        of_done l c = subst (λ (k : L). apart k s.label) c.label
+            (All-contains (λ t. apart t.label s.label) done c.step d c.listed)
 
   mine_again : (rows : List (Row L)) (at : ℕ) (done : List (Step S L)) (s : Step S L) (r : Row L) → r.label ≡ s.label
       → All (λ a. a.from ≡ at → HasLabel done a.label) rows
@@ -111,7 +116,8 @@ module _ {S L : Type 0} (is_state : S → Type 0) (does : S → L → Option S �
   mine_again rows at done s r e mine = All-push (λ a. a.from ≡ at → HasLabel (done ++ s ∷ []) a.label) rows r
       (All-weaker (λ a. a.from ≡ at → HasLabel done a.label) (λ a. a.from ≡ at → HasLabel (done ++ s ∷ []) a.label)
       (λ a h i. let old = h i in
-      record { step = old.step; listed = Contains-append_left done (s ∷ []) old.step old.listed; label = old.label }) rows mine)
+      record { step = old.step; listed = Contains-append_left done (s ∷ []) old.step old.listed; label = old.label })
+          rows mine)
       (λ i. record { step = s; listed = Contains-push done s; label = sym e })
 
   -- the new row is this step
@@ -137,14 +143,17 @@ module _ {S L : Type 0} (is_state : S → Type 0) (does : S → L → Option S �
   }
 
   -- a step that leads to no new state
-  pub joined : (nodes : List (Node S)) (rows : List (Row L)) (at : ℕ) (n : Node S) (done : List (Step S L)) (s : Step S L)
+  pub joined : (nodes : List (Node S)) (rows : List (Row L)) (at : ℕ) (n : Node S) (done : List (Step S L))
+      (s : Step S L)
       (next : Option ℕ) → IsExpanding is_state does covers apart nodes rows at n done → MayAdd n done s
       → Leads nodes (n.depth + 1) next s.next
-      → IsExpanding is_state does covers apart nodes (rows ++ record { from = at; label = s.label; next = next } ∷ []) at n
+      → IsExpanding is_state does covers apart nodes (rows ++ record { from = at; label = s.label; next = next } ∷ [])
+          at n
       (done ++ s ∷ [])
   joined nodes rows at n done s next h may leads = record {
     found = record {
       tree = tree_row nodes rows _ h.found.tree (may_join nodes rows at n done s next h.here leads may h.froms h.mine);
+      turn = All-push (λ a. a.from ≤ at) rows r h.froms (omega arith);
       all = λ k m l i. subst (λ (ns : List (Node S)). IsDone covers ns (rows ++ r ∷ []) k m) (append-nil nodes)
           (done_stays covers nodes [] rows (r ∷ []) k m (h.found.all k m l i));
     };
@@ -162,14 +171,17 @@ module _ {S L : Type 0} (is_state : S → Type 0) (does : S → L → Option S �
     r = record { from = at; label = s.label; next = next }
 
   -- a step that leads to a new state
-  pub grown : (nodes : List (Node S)) (rows : List (Row L)) (at : ℕ) (n : Node S) (done : List (Step S L)) (s : Step S L)
+  pub grown : (nodes : List (Node S)) (rows : List (Row L)) (at : ℕ) (n : Node S) (done : List (Step S L))
+      (s : Step S L)
       (y : S) → IsExpanding is_state does covers apart nodes rows at n done → MayAdd n done s → s.next ≡ Some y
       → All (λ m. m.state ≢ y) nodes
-      → IsExpanding is_state does covers apart (nodes ++ record { state = y; by = length rows; depth = n.depth + 1 } ∷ [])
+      → IsExpanding is_state does covers apart (nodes ++ record { state = y; by = length rows; depth = n.depth + 1 } ∷
+          [])
       (rows ++ record { from = at; label = s.label; next = Some (length nodes) } ∷ []) at n (done ++ s ∷ [])
   grown nodes rows at n done s y h may to fresh = record {
     found = record {
-      tree = tree_node nodes rows r m h.found.tree (may_join more rows at n done s (Some (length nodes)) here leads may h.froms h.mine)
+      tree = tree_node nodes rows r m h.found.tree (may_join more rows at n done s (Some (length nodes)) here leads may
+          h.froms h.mine)
           (record {
             state = may.state y to;
             fresh = fresh;
@@ -185,6 +197,7 @@ module _ {S L : Type 0} (is_state : S → Type 0) (does : S → L → Option S �
               depth = refl;
             };
           });
+      turn = All-push (λ a. a.from ≤ at) rows r h.froms (omega arith);
       all = λ k o l i. done_stays covers nodes (m ∷ []) rows (r ∷ []) k o
           (h.found.all k o l (is_old nodes (m ∷ []) k o (let w = h.here.within in omega arith) i));
     };
@@ -213,19 +226,22 @@ module _ {S L : Type 0} (is_state : S → Type 0) (does : S → L → Option S �
     leads = subst (λ (x : Option S). Leads more (n.depth + 1) (Some (length nodes)) x) (sym to)
         (there (length nodes) m (is_last nodes m (length nodes) refl) (omega arith))
 
-  old_leads : (nodes : List (Node S)) (n : Node S) (y : S) (p : ℕ) → All (λ m. m.depth ≤ n.depth + 1) nodes → At nodes p y
+  old_leads : (nodes : List (Node S)) (n : Node S) (y : S) (p : ℕ) → All (λ m. m.depth ≤ n.depth + 1) nodes → At nodes p
+      y
       → Leads nodes (n.depth + 1) (Some p) (Some y)
   old_leads nodes n y p near a = subst (λ (x : S). Leads nodes (n.depth + 1) (Some p) (Some x)) a.state
       (there p a.node a.is (subst (λ (o : Node S). o.depth ≤ n.depth + 1) (a.is.is n) (near p n a.is.within)))
 
   -- any step
-  pub added : (nodes : List (Node S)) (rows : List (Row L)) (at : ℕ) (n : Node S) (done : List (Step S L)) (s : Step S L)
+  pub added : (nodes : List (Node S)) (rows : List (Row L)) (at : ℕ) (n : Node S) (done : List (Step S L))
+      (s : Step S L)
       (nodes' : List (Node S)) (rows' : List (Row L)) → IsExpanding is_state does covers apart nodes rows at n done
       → MayAdd n done s → Adds nodes rows at n.depth s nodes' rows'
       → IsExpanding is_state does covers apart nodes' rows' at n (done ++ s ∷ [])
   added nodes rows at n done s nodes' rows' h may (stops e f g) = rw (f, g) (joined nodes rows at n done s None h may
       (subst (λ (x : Option S). Leads nodes (n.depth + 1) None x) (sym e) nowhere))
-  added nodes rows at n done s nodes' rows' h may (goes y p e (had a f) g) = rw (f, g) (joined nodes rows at n done s (Some p) h may
+  added nodes rows at n done s nodes' rows' h may (goes y p e (had a f) g) = rw (f, g)
+      (joined nodes rows at n done s (Some p) h may
       (subst (λ (x : Option S). Leads nodes (n.depth + 1) (Some p) x) (sym e) (old_leads nodes n y p h.near a)))
   added nodes rows at n done s nodes' rows' h may (goes y p e (comes fresh i f) g) = rw (f, g, i)
       (grown nodes rows at n done s y h may e fresh)
@@ -292,6 +308,7 @@ module _ {S L : Type 0} (is_state : S → Type 0) (does : S → L → Option S �
         in_turn = λ i j d l w. absurd (omega arith);
         differ = λ i j d l w. absurd (omega arith);
       };
+      turn = λ k d w. absurd (omega arith);
       all = λ k n l i. absurd (omega arith);
     };
     froms = λ k d w. absurd (omega arith);
@@ -310,14 +327,19 @@ module _ {S L : Type 0} (is_state : S → Type 0) (does : S → L → Option S �
     near = h.near n here;
     froms = All-weaker (λ r. r.from < at) (λ r. r.from ≤ at) (λ r l. omega arith) rows h.froms;
     listed = λ k d w. absurd (omega arith);
-    mine = All-weaker (λ r. r.from < at) (λ r. r.from ≡ at → HasLabel {S = S} [] r.label) (λ r l e. absurd (omega arith)) rows h.froms;
+    mine = All-weaker (λ r. r.from < at) (λ r. r.from ≡ at → HasLabel {S = S} [] r.label)
+        (λ r l e. absurd (omega arith)) rows h.froms;
   }
 
   pub expanded : (nodes : List (Node S)) (rows : List (Row L)) (at : ℕ) (n : Node S) (steps : List (Step S L))
       → IsExpanding is_state does covers apart nodes rows at n steps → covers n.state steps
       → IsSearching is_state does covers apart nodes rows (at + 1)
   expanded nodes rows at n steps h all_of = record {
-    found = record { tree = h.found.tree; all = all_again };
+    found = record {
+      tree = h.found.tree;
+      turn = All-weaker (λ r. r.from ≤ at) (λ r. r.from ≤ at + 1) (λ r l. omega arith) rows h.froms;
+      all = all_again;
+    };
     froms = All-weaker (λ r. r.from ≤ at) (λ r. r.from < at + 1) (λ r l. omega arith) rows h.froms;
     near = λ m i. All-weaker (λ o. o.depth ≤ n.depth + 1) (λ o. o.depth ≤ m.depth + 1)
         (λ o l. let up = deeper m i in omega arith) nodes h.near;

@@ -1,5 +1,3 @@
-pub mod Back
-pub mod Places
-pub mod Searching
+pub mod Inner
 pub mod Table
 pub mod Words

@@ -1,5 +1,6 @@
 -- What a search has found of a machine, a node at a time (this project's own form).
-use Rattle.std.specs.Prelude.{◌≡◌, ◌≢◌, ℕ, ◌<◌, ◌≤◌, ◌+◌, Bool, true, ◌⊎◌, Option, None, Some, List, length, slice_index_or}
+use Rattle.std.specs.Prelude.{◌≡◌, ◌≢◌, ℕ, ◌<◌, ◌≤◌, ◌+◌, Bool, true, ◌⊎◌, Option, None, Some, List, length}
+use Rattle.std.specs.Prelude.{slice_index_or}
 use Rattle.std.specs.List.{All, AllPairs, Contains}
 use Rattle.state_search.specs.declared.found.Node.{Node}
 use Rattle.state_search.specs.declared.found.Row.{Row}
@@ -35,7 +36,8 @@ module _ {S L : Type 0} (does : S → L → Option S → Type 0) where
     pub step : does before.state r.label after
 
 -- some row is this step, from the node at the place
-pub record HasRow {S L : Type 0} (nodes : List (Node S)) (rows : List (Row L)) (p : ℕ) (n : Node S) (s : Step S L) : Type 0 where
+pub record HasRow {S L : Type 0} (nodes : List (Node S)) (rows : List (Row L)) (p : ℕ) (n : Node S) (s : Step S L) :
+    Type 0 where
   pub row : Row L
   pub listed : Contains rows row
   pub from : row.from ≡ p
@@ -80,6 +82,7 @@ pub record IsFound {S L : Type 0} (is_state : S → Type 0) (does : S → L → 
     (covers : S → List (Step S L) → Type 0) (apart : L → L → Type 0)
     (nodes : List (Node S)) (rows : List (Row L)) (done : ℕ) : Type 0 where
   pub tree : IsTree is_state does apart nodes rows
+  pub turn : All (λ r. r.from ≤ done) rows
   pub all : (k : ℕ) (n : Node S) → k < done → Is nodes k n → IsDone covers nodes rows k n
 
 -- the search has ended: all states have all their steps, or there are more states or more rows than that

@@ -59,9 +59,12 @@ pub trait Machine {
         requires state { is_state self.now state.now }
         requires empty { steps.old.items ≡ [] }
         ensures fits { fits self.now scratch.new }
-        ensures sound { OnOk result (All (λ s. does self.now state.now s.label s.next) steps.new.items) }
-        ensures states { OnOk result (All (λ s. (y : Self.State) → s.next ≡ Some y → is_state self.now y) steps.new.items) }
-        ensures apart { OnOk result (AllPairs (λ a b. apart self.now a.label b.label) steps.new.items) }
+        ensures sound { OnOk result (All (λ s. does self.now state.now s.label s.next)
+            steps.new.items) }
+        ensures states { OnOk result (All (λ s. (y : Self.State) → s.next ≡ Some y → is_state
+            self.now y) steps.new.items) }
+        ensures apart { OnOk result (AllPairs (λ a b. apart self.now a.label b.label)
+            steps.new.items) }
         ensures whole { IfOk result (λ whole. MatchBool whole
             (covers self.now state.now steps.new.items)
             (most < length steps.new.items)) };

@@ -1,6 +1,6 @@
 //! Which place a state has.
 ghost use Rattle.std.specs.Prelude.{◌≡◌, ◌++◌, ◌∷◌, [], IfOk, OnOk};
-ghost use Rattle.state_search.specs.Places.{Places, Puts};
+ghost use Rattle.state_search.specs.Inner.Places.{Places, Puts};
 
 use crate::found::Node;
 use crate::machine::Standing;

@@ -1,8 +1,8 @@
 //! The search.
 ghost use Rattle.std.specs.Prelude.{◌≡◌, ◌<◌, ◌+◌, IfOk, OnOk, length};
 ghost use Rattle.std.specs.Bool.{MatchBool};
-ghost use Rattle.state_search.specs.Places.{Places};
-ghost use Rattle.state_search.specs.Searching.{Adds, IsSearching};
+ghost use Rattle.state_search.specs.Inner.Places.{Places};
+ghost use Rattle.state_search.specs.Inner.Searching.{Adds, IsSearching};
 ghost use Rattle.state_search.specs.Table.{At, IsFound, HasEnded};
 
 use crate::found::{Found, Node, Row};
@@ -67,17 +67,21 @@ fn expand<M: Machine>(
     requires fits { M.fits machine.now scratch.old }
     requires places { Places M.State.eq places.old found.old.nodes.items }
     requires within { found.old.done < length found.old.nodes.items }
-    requires search { IsSearching (M.is_state machine.now) (M.does machine.now) (M.covers machine.now)
+    requires search { IsSearching (M.is_state machine.now) (M.does machine.now)
+        (M.covers machine.now)
         (M.apart machine.now) found.old.nodes.items found.old.rows.items found.old.done }
     ensures fits { M.fits machine.now scratch.new }
     ensures places { OnOk result (Places M.State.eq places.new found.new.nodes.items) }
-    ensures first { OnOk result ((x : M.State) → At found.old.nodes.items 0 x → At found.new.nodes.items 0 x) }
+    ensures first { OnOk result ((x : M.State) → At found.old.nodes.items 0 x → At
+        found.new.nodes.items 0 x) }
     ensures search { IfOk result (λ whole. MatchBool whole
         ((found.new.done ≡ found.old.done + 1)
-        × IsSearching (M.is_state machine.now) (M.does machine.now) (M.covers machine.now) (M.apart machine.now)
+        × IsSearching (M.is_state machine.now) (M.does machine.now) (M.covers machine.now)
+            (M.apart machine.now)
         found.new.nodes.items found.new.rows.items found.new.done)
         ((most + length found.old.rows.items < length found.new.rows.items)
-        × IsFound (M.is_state machine.now) (M.does machine.now) (M.covers machine.now) (M.apart machine.now)
+        × IsFound (M.is_state machine.now) (M.does machine.now) (M.covers machine.now)
+            (M.apart machine.now)
         found.new.nodes.items found.new.rows.items found.new.done)) }
 {
     let from = found.done;
@@ -113,9 +117,11 @@ pub fn search<M: Machine>(
     requires state { M.is_state machine.now start }
     ensures fits { M.fits machine.now scratch.new }
     ensures first { IfOk result (λ f. At f.nodes.items 0 start) }
-    ensures found { IfOk result (λ f. IsFound (M.is_state machine.now) (M.does machine.now) (M.covers machine.now)
+    ensures found { IfOk result (λ f. IsFound (M.is_state machine.now) (M.does machine.now)
+        (M.covers machine.now)
         (M.apart machine.now) f.nodes.items f.rows.items f.done) }
-    ensures ended { IfOk result (λ f. HasEnded limits.states limits.steps f.nodes.items f.rows.items f.done) }
+    ensures ended { IfOk result (λ f. HasEnded limits.states limits.steps f.nodes.items f.rows.items
+        f.done) }
 {
     let mut found = Found {
         nodes: Vec::new(alloc),

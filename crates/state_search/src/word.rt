@@ -27,7 +27,8 @@ pub fn word_to<M: Machine>(
     requires tree { IsTree (M.is_state machine.now) (M.does machine.now) (M.apart machine.now)
         found.now.nodes.items found.now.rows.items }
     ensures { IfOk result (λ word. (start : M.State) → At found.now.nodes.items 0 start
-        → (r : RowValue M.Label) → LedTo (M.does machine.now) start found.now.nodes.items (slice_index_or found.now.rows.items at r) word.items) }
+        → (r : RowValue M.Label) → LedTo (M.does machine.now) start found.now.nodes.items
+            (slice_index_or found.now.rows.items at r) word.items) }
 {
     let row = found.rows[at];
     let mut back = Vec::new(alloc);

@@ -1,7 +1,7 @@
-use Rattle.std.proofs.Common.{◌≡◌, ◌<◌, ◌+◌, ◌∙◌, sym, ap, refl, arith, length, rules}
+use Rattle.std.proofs.Common.{◌<◌, ◌+◌, rules}
 use Rattle.std.proofs.lemmas.Result.{IfOk-weaker}
 use Rattle.est_kernel.specs.Bits.{bits}
-use Rattle.est_explore.specs.InputSets.{IsPart}
+use Rattle.est_explore.specs.Inner.InputSets.{IsPart}
 use Rattle.est_explore.proofs.CoverLemmas.{covers_stops, covers_without, covers_both}
 use Rattle.est_explore.proofs.PartLemmas.{part_with}
 use Rattle.est_explore.proofs.cover.+cover.Goals as goal
@@ -25,4 +25,5 @@ returns-in-Some-clause-covered g t c =
 
 pub returns-in-None-clause-covered : goal.returns-in-None-clause-covered
 returns-in-None-clause-covered g t c =
-    covers_without _ _ _ _ _ _ _ _ _ _ c.requires.part c.in-None.ensures (rw c.if-not-branch.false at c.in_ok-cover.ensures.covered)
+    covers_without _ _ _ _ _ _ _ _ _ _ c.requires.part c.in-None.ensures
+        (rw c.if-not-branch.false at c.in_ok-cover.ensures.covered)

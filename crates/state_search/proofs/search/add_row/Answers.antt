@@ -1,5 +1,5 @@
 use Rattle.std.proofs.Common.{◌∙◌, refl}
-use Rattle.state_search.specs.Searching.{stops, goes}
+use Rattle.state_search.specs.Inner.Searching.{stops, goes}
 use Rattle.state_search.proofs.search.add_row.Goals.{in-Some+in_ok-place_of-in-Some, in-None}
 use Rattle.state_search.proofs.search.add_row.Goals as goal
 

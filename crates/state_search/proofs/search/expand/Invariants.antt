@@ -1,6 +1,6 @@
 use Rattle.std.proofs.Common.{◌≡◌, ◌<◌, ◌+◌, length, take}
-use Rattle.state_search.specs.Places.{Places}
-use Rattle.state_search.specs.Searching.{IsExpanding}
+use Rattle.state_search.specs.Inner.Places.{Places}
+use Rattle.state_search.specs.Inner.Searching.{IsExpanding}
 use Rattle.state_search.specs.Table.{At}
 use Rattle.state_search.proofs.search.expand.Given as goal
 
@@ -12,5 +12,6 @@ invariant-loop-step g l = record {
   within : l.from < length l.found.nodes.items;
   count : length l.found.rows.items ≡ length l.fn.found.rows.items + l.step-index;
   expanding : IsExpanding (g.M.Machine.is_state l.machine) (g.M.Machine.does l.machine) (g.M.Machine.covers l.machine)
-      (g.M.Machine.apart l.machine) l.found.nodes.items l.found.rows.items l.from l.node (take l.step-index l.step-items);
+      (g.M.Machine.apart l.machine) l.found.nodes.items l.found.rows.items l.from l.node
+          (take l.step-index l.step-items);
 }

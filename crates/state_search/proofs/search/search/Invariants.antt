@@ -1,6 +1,6 @@
 use Rattle.std.proofs.Common.{◌-◌, ◌+◌}
-use Rattle.state_search.specs.Places.{Places}
-use Rattle.state_search.specs.Searching.{IsSearching}
+use Rattle.state_search.specs.Inner.Places.{Places}
+use Rattle.state_search.specs.Inner.Searching.{IsSearching}
 use Rattle.state_search.specs.Table.{At}
 use Rattle.state_search.proofs.search.search.Given as goal
 

@@ -1,5 +1,5 @@
 -- The lawful sets of inputs, a place at a time; for private clauses (this project's own form).
-use Rattle.std.specs.Prelude.{◌≡◌, ◌≢◌, ◌<◌, ◌≤◌, ℕ, Bool, true, false, ◌&&◌, nat_lt, Option, Some, List, ◌++◌, length}
+use Rattle.std.specs.Prelude.{◌≡◌, ◌≢◌, ◌<◌, ◌≤◌, ℕ, Bool, ◌&&◌, nat_lt, Option, Some, List, ◌++◌, length}
 use Rattle.std.specs.Bool.{MatchBool}
 use Rattle.std.specs.List.{All, AllPairs, Contains, list_all}
 use Rattle.est_kernel.specs.Bits.{bits}
@@ -47,7 +47,8 @@ pub record HasInputs {S A : Type 0} (steps : List (Step S (Asked A))) (inputs : 
 
 -- for each lawful set of inputs there is a step
 abbrev pub HaveAllInputs : {S A : Type 0} → (may : ℕ → Bool) → List Relation → List (Step S (Asked A)) → Type 0
-HaveAllInputs may relations steps = (inputs : InputSet) → IsIn inputs may → AreLawful relations inputs → HasInputs steps inputs
+HaveAllInputs may relations steps = (inputs : InputSet) → IsIn inputs may → AreLawful relations inputs → HasInputs steps
+    inputs
 
 -- the steps with the sets of inputs that have this part are added; or there are more steps than `most` before all are
 pub record IsCovered {S A : Type 0} (answers : ℕ → A → Option S → Type 0) (is_state : S → Type 0) (may : ℕ → Bool)

@@ -1,7 +1,7 @@
 -- Where a search stands while it goes on; for private clauses (this project's own form).
 use Rattle.std.specs.Prelude.{◌≡◌, ℕ, ◌<◌, ◌≤◌, ◌+◌, Option, None, Some, List, [], ◌∷◌, ◌++◌, length}
 use Rattle.std.specs.List.{All, Contains}
-use Rattle.state_search.specs.Places.{Puts}
+use Rattle.state_search.specs.Inner.Places.{Puts}
 use Rattle.state_search.specs.Table.{Is, HasRow, IsFound}
 use Rattle.state_search.specs.declared.found.Node.{Node}
 use Rattle.state_search.specs.declared.found.Row.{Row}
@@ -24,7 +24,8 @@ pub record HasLabel {S L : Type 0} (steps : List (Step S L)) (l : L) : Type 0 wh
   pub listed : Contains steps step
   pub label : step.label ≡ l
 
-module _ {S L : Type 0} (is_state : S → Type 0) (does : S → L → Option S → Type 0) (covers : S → List (Step S L) → Type 0)
+module _ {S L : Type 0} (is_state : S → Type 0) (does : S → L → Option S → Type 0)
+    (covers : S → List (Step S L) → Type 0)
     (apart : L → L → Type 0) where
   -- between two states
   pub record IsSearching (nodes : List (Node S)) (rows : List (Row L)) (at : ℕ) : Type 0 where

@@ -12,4 +12,5 @@ AnswersSo k x inputs (Reaction outputs) (Some y) =
     IsReaction k x.state (record { signals = inputs }) (record { outputs = outputs; next = y.state })
 AnswersSo k x inputs (Reaction outputs) None = ⊥
 AnswersSo k x inputs (Stuck undecided) (Some y) = ⊥
-AnswersSo k x inputs (Stuck undecided) None = HasNoReaction k x.state (record { signals = inputs }) (record { undecided = undecided })
+AnswersSo k x inputs (Stuck undecided) None = HasNoReaction k x.state (record { signals = inputs })
+    (record { undecided = undecided })

@@ -1,0 +1,202 @@
+-- Runs of a module, by the rows that a search has found.
+use Rattle.std.proofs.Common.{◌≡◌, ◌∙◌, ℕ, ◌<◌, ◌≤◌, ◌+◌, Bool, true, false, not, ◌||◌}
+use Rattle.std.proofs.Common.{List, [], ◌∷◌, length, Option, sym, refl, ap, subst, arith}
+use Rattle.std.proofs.Common.{Bor}
+use Rattle.std.specs.List.{All, Contains}
+use Rattle.std.proofs.lemmas.Bool.{false≢true}
+use Rattle.std.proofs.lemmas.List.Elements.{All-nil, All-cons, All-contains}
+use Rattle.est_kernel.specs.Bits.{bits}
+use Rattle.est_kernel.specs.Term.{Term}
+use Rattle.est_kernel.specs.declared.statement.Test.{Test}
+use Rattle.est_meaning.proofs.OneReactionAtMost.{one_reaction}
+use Rattle.est_meaning.specs.Laws.{IsSameReaction}
+use Rattle.est_meaning.specs.Rounds.{judged_signals}
+use Rattle.est_meaning.specs.States.{state_term}
+use Rattle.est_explore.specs.Inner.Answers.{AnswersSo}
+use Rattle.est_explore.specs.Claims.{holds, HasReaction, HoldsFor}
+use Rattle.est_explore.specs.Inner.Explored.{IsExplored, fails}
+use Rattle.est_explore.specs.Inner.InputSets.{IsAsked}
+use Rattle.est_explore.specs.Runs.{Module, InputSet, IsLawful, Instant, is_present, Goes, Runs, start, may_offer}
+use Rattle.est_explore.specs.declared.asked.Asked.{Asked}
+use Rattle.est_explore.specs.declared.claim.Claim.{Claim}
+use Rattle.est_explore.specs.declared.claim.Claim.TheVariants.{NeverStuck, Always}
+use Rattle.est_explore.specs.declared.one_module.Answer.{Answer}
+use Rattle.est_explore.specs.declared.one_module.Answer.TheVariants.{Reaction, Stuck}
+use Rattle.est_explore.specs.declared.one_module.Position.{Position}
+use Rattle.state_search.specs.Table.{Is, Leads, nowhere, there, IsRow, HasRow}
+use Rattle.state_search.specs.declared.found.Found.{Found}
+use Rattle.state_search.specs.declared.found.Node.{Node}
+use Rattle.state_search.specs.declared.found.Row.{Row}
+use Rattle.state_search.proofs.Nodes.{is_one}
+
+-- two reactions to the same inputs are one
+pub same : (m : Module) (t : Term) (inputs : InputSet) (o : ℕ → Bool) (u : Term) (p : ℕ → Bool) (v : Term)
+    → Goes m t inputs o u → Goes m t inputs p v → IsSameReaction o u p v
+same m t inputs o u p v r s = one_reaction (judged_signals m.kernel.interface inputs) inputs t o u p v r s
+
+-- the term of a position
+abbrev pub term_of_position : Module → Position → Term
+term_of_position m x = state_term m.kernel.root x.state
+
+-- what a search takes for a step
+abbrev pub DoesSo : Module → Position → Asked Answer → Option Position → Type 0
+DoesSo m x i next = IsAsked (AnswersSo m.kernel x) (may_offer m.kernel.interface m.among) m.relations i next
+
+-- what a row answers
+abbrev pub AnswersAt : Module → Position → Asked Answer → Option Position → Type 0
+AnswersAt m x i next = AnswersSo m.kernel x i.inputs i.answer next
+
+module _ (m : Module) (f : Found Position (Asked Answer)) (e : IsExplored m f) where
+  abbrev Does : Position → Asked Answer → Option Position → Type 0
+  Does = DoesSo m
+
+  -- the row for these inputs at a node all of whose rows are there
+  pub record RowFor (k : ℕ) (n : Node Position) (inputs : InputSet) : Type 0 where
+    pub row : Row (Asked Answer)
+    pub listed : Contains f.rows.items row
+    pub from : row.from ≡ k
+    pub is : bits row.label.inputs ≡ inputs
+    pub after : Option Position
+    pub leads : Leads f.nodes.items (n.depth + 1) row.next after
+    pub answer : AnswersAt m n.state row.label after
+
+  pub row_for : (k : ℕ) (n : Node Position) (inputs : InputSet) → Is f.nodes.items k n → k < f.done → IsLawful m inputs
+      → RowFor k n inputs
+  row_for k n inputs here l lawful =
+      let all = e.found.all k n l here in
+      let one = all.all_of inputs lawful.offered lawful.kept in
+      let has : HasRow f.nodes.items f.rows.items k n one.step =
+      All-contains (HasRow f.nodes.items f.rows.items k n) all.steps one.step all.listed one.listed in
+      let row : IsRow Does f.nodes.items has.row = All-contains (IsRow Does f.nodes.items) f.rows.items has.row
+          e.found.tree.sound has.listed in
+      let same_node : row.before ≡ n = is_one f.nodes.items k row.before n (rw has.from at row.from) here in
+      record {
+        row = has.row;
+        listed = has.listed;
+        from = has.from;
+        is = ap (λ (a : Asked Answer). bits a.inputs) has.label ∙ one.is;
+        after = row.after;
+        leads = rw same_node at row.leads;
+        answer = rw same_node at row.step.answer;
+      }
+
+  -- what follows by an answer, where the term goes on
+  pub record FollowsBy (answer : Answer) (most : ℕ) (outputs : ℕ → Bool) (v : Term) : Type 0 where
+    pub emitted : ℕ
+    pub is : answer ≡ Reaction emitted
+    pub shows : bits emitted ≡ outputs
+    pub place : ℕ
+    pub node : Node Position
+    pub here : Is f.nodes.items place node
+    pub few : node.depth ≤ most
+    pub term : term_of_position m node.state ≡ v
+
+  follow_by : (x : Position) (most : ℕ) (inputs : InputSet) (i : ℕ) → bits i ≡ inputs → (answer : Answer)
+      (place : Option ℕ)
+      (after : Option Position) → Leads f.nodes.items most place after → AnswersSo m.kernel x i answer after
+      → (outputs : ℕ → Bool) (v : Term) → Goes m (term_of_position m x) inputs outputs v → FollowsBy answer most outputs
+          v
+  follow_by x most inputs i is (Reaction o) place after nowhere a outputs v goes = absurd a
+  follow_by x most inputs i is (Stuck u) place after (there p n here few) a outputs v goes = absurd a
+  follow_by x most inputs i is (Stuck u) place after nowhere a outputs v goes =
+      let g : Goes m (term_of_position m x) (bits i) outputs v = rw is goes in absurd
+          (a.cannot g.signals g.code v g.gives)
+  follow_by x most inputs i is (Reaction o) place after (there p n here few) a outputs v goes =
+      let one = same m (term_of_position m x) inputs (bits o) (term_of_position m n.state) outputs v (rw is at a.reacts)
+          goes in
+      record { emitted = o; is = refl; shows = one.shown; place = p; node = n; here = here; few = few; term = one.next }
+
+  pub follows : (k : ℕ) (n : Node Position) (inputs : InputSet) (r : RowFor k n inputs) (outputs : ℕ → Bool) (v : Term)
+      → Goes m (term_of_position m n.state) inputs outputs v → FollowsBy r.row.label.answer (n.depth + 1) outputs v
+  follows k n inputs r outputs v goes = follow_by n.state (n.depth + 1) inputs r.row.label.inputs r.is
+      r.row.label.answer r.row.next r.after
+      r.leads r.answer outputs v goes
+
+  -- all nodes of fewer steps than d have all their rows, and the claim fails in none of these
+  pub record IsCleared (claim : Claim) (d : ℕ) : Type 0 where
+    pub done : (k : ℕ) (n : Node Position) → Is f.nodes.items k n → n.depth < d → k < f.done
+    pub passes : (row : Row (Asked Answer)) → Contains f.rows.items row → (n : Node Position) → Is f.nodes.items
+        row.from n
+        → n.depth < d → fails claim row.label.inputs row.label.answer ≡ false
+
+  -- the term is that of a node of so many steps at most
+  pub record GoneTo (most : ℕ) (t : Term) : Type 0 where
+    pub place : ℕ
+    pub node : Node Position
+    pub here : Is f.nodes.items place node
+    pub few : node.depth ≤ most
+    pub term : term_of_position m node.state ≡ t
+
+  pub run_goes : (claim : Claim) (d : ℕ) → IsCleared claim d → (k : ℕ) (n : Node Position) → Is f.nodes.items k n
+      → (run : List Instant) (t : Term) → Runs m (term_of_position m n.state) run t → n.depth + length run ≤ d
+      → GoneTo (n.depth + length run) t
+  run_goes claim d c k n here [] t run l =
+      record { place = k; node = n; here = here; few = omega arith; term = run }
+  run_goes claim d c k n here (i ∷ run) t runs l =
+      let r = row_for k n i.inputs here (c.done k n here (omega arith)) runs.1 in
+      let s = follows k n i.inputs r i.outputs runs.0 runs.2 in
+      let few = s.few in
+      let g = run_goes claim d c s.place s.node s.here run t (subst (λ (v : Term). Runs m v run t) (sym s.term) runs.3)
+          (omega arith) in
+      record { place = g.place; node = g.node; here = g.here; few = let w = g.few in omega arith; term = g.term }
+
+  passes_holds : (test : Bor Test) (i : ℕ) (answer : Answer) (emitted : ℕ) (inputs outputs : ℕ → Bool) → answer ≡
+      Reaction emitted
+      → bits i ≡ inputs → bits emitted ≡ outputs → fails (Always test) i answer ≡ false
+      → holds test.now (λ n. inputs n || outputs n) ≡ true
+  passes_holds test i answer emitted inputs outputs a b c h =
+      let g : not (holds test.now (λ n. bits i n || bits emitted n)) ≡ false = rw a at h in
+      at _ (rw (b, c) at g) where
+        at : (x : Bool) → not x ≡ false → x ≡ true
+        at true h = refl
+        at false h = absurd (false≢true (sym h))
+
+  pub run_passes : (test : Bor Test) (d : ℕ) → IsCleared (Always test) d → (k : ℕ) (n : Node Position) → Is
+      f.nodes.items k n
+      → (run : List Instant) (t : Term) → Runs m (term_of_position m n.state) run t → n.depth + length run ≤ d
+      → All (λ i. holds test.now (is_present i) ≡ true) run
+  run_passes test d c k n here [] t run l = All-nil (λ i. holds test.now (is_present i) ≡ true)
+  run_passes test d c k n here (i ∷ run) t runs l =
+      let r = row_for k n i.inputs here (c.done k n here (omega arith)) runs.1 in
+      let s = follows k n i.inputs r i.outputs runs.0 runs.2 in
+      let few = s.few in
+      All-cons (λ j. holds test.now (is_present j) ≡ true) i run
+      (passes_holds test r.row.label.inputs r.row.label.answer s.emitted i.inputs i.outputs s.is r.is s.shows
+      (c.passes r.row r.listed n (rw r.from here) (omega arith)))
+      (run_passes test d c s.place s.node s.here run t (subst (λ (v : Term). Runs m v run t) (sym s.term) runs.3)
+          (omega arith))
+
+  reacts_by : (x : Position) (most : ℕ) (inputs : InputSet) (i : ℕ) → bits i ≡ inputs → (answer : Answer)
+      (place : Option ℕ)
+      (after : Option Position) → Leads f.nodes.items most place after → AnswersSo m.kernel x i answer after
+      → fails NeverStuck i answer ≡ false → HasReaction m (term_of_position m x) inputs
+  reacts_by x most inputs i is (Reaction o) place after nowhere a h = absurd a
+  reacts_by x most inputs i is (Stuck u) place after leads a h = absurd (false≢true (sym h))
+  reacts_by x most inputs i is (Reaction o) place after (there p n here few) a h =
+      record { outputs = bits o; next = term_of_position m n.state; goes = rw is at a.reacts }
+
+  -- ---- from the first node on
+
+  first_term : term_of_position m e.begins.node.state ≡ start m
+  first_term = ap (λ (x : Position). term_of_position m x) e.begins.state
+
+  first_depth : e.begins.node.depth ≡ 0
+  first_depth = ap (λ (n : Node Position). n.depth) (is_one f.nodes.items 0 e.begins.node e.found.tree.first e.begins.is
+      e.found.tree.begins)
+      ∙ e.found.tree.none
+
+  pub holds_for : (claim : Claim) (d : ℕ) → IsCleared claim d → HoldsFor m claim d
+  holds_for NeverStuck d c = λ run t runs l inputs lawful.
+      let none = first_depth in
+      let g = run_goes NeverStuck d c 0 e.begins.node e.begins.is run t
+      (subst (λ (v : Term). Runs m v run t) (sym first_term) runs) (omega arith) in
+      let few = g.few in
+      let r = row_for g.place g.node inputs g.here (c.done g.place g.node g.here (omega arith)) lawful in
+      subst (λ (v : Term). HasReaction m v inputs) g.term
+      (reacts_by g.node.state (g.node.depth + 1) inputs r.row.label.inputs r.is r.row.label.answer r.row.next r.after
+          r.leads r.answer
+      (c.passes r.row r.listed g.node (rw r.from g.here) (omega arith)))
+  holds_for (Always test) d c = λ run is l.
+      let none = first_depth in
+      run_passes test d c 0 e.begins.node e.begins.is run is.left
+      (subst (λ (v : Term). Runs m v run is.left) (sym first_term) is.runs) (omega arith)

@@ -1,0 +1,8 @@
+//! The worked examples of proved exploration: modules, claims, and what is answered, through public
+//! calls alone. This crate has tests and nothing else, and stands above the crates that it calls.
+#![tactic(auto)]
+
+#[cfg(test)]
+mod claims;
+#[cfg(test)]
+mod modules;
