@@ -90,17 +90,23 @@ def starts_at(token: Token, line: int, column: int) -> bool:
     return (token.line, token.column) == (line, column)
 
 
+def modules_at(path: str) -> List[str]:
+    """The modules of a file; none where it can't be read."""
+    try:
+        with open(path, encoding="utf-8", errors="replace") as file:
+            return [module.name for module in modules_of(file.read())]
+    except OSError:
+        return []
+
+
 def file_beside(library: LibraryText, name: str) -> List[str]:
     """What is said of a module that none of the files has, where one beside the first has it."""
-    first = library.paths[0]
-    folder = os.path.dirname(os.path.abspath(first))
-    files = sorted(os.listdir(folder)) if os.path.isfile(first) else []
-    for path in (os.path.join(os.path.dirname(first), file) for file in files):
-        if path.endswith(".strl") and path not in library.paths:
-            with open(path, encoding="utf-8", errors="replace") as file:
-                if any(module.name == name for module in modules_of(file.read())):
-                    return [f"{path} has a module {name}: name that file too"]
-    return []
+    folder = os.path.dirname(library.paths[0])
+    is_file = os.path.isfile(library.paths[0])
+    files = sorted(os.listdir(folder or ".")) if is_file else []
+    paths = [os.path.join(folder, file) for file in files if file.endswith(".strl")]
+    found = [path for path in paths if path not in library.paths and name in modules_at(path)]
+    return [f"{path} has a module {name}: name that file too" for path in found[:1]]
 
 
 def path_of(library: LibraryText, main: str) -> List[Mark]:
