@@ -304,6 +304,8 @@ class Exchange(unittest.TestCase):
                 editor.ask("textDocument/fly", {}), "there is no method textDocument/fly"
             )
             self.assertIn("words are missing", editor.ask("textDocument/hover", {}))
+            editor.tell("textDocument/didOpen", {})
+            editor.tell("textDocument/didChange", {"textDocument": 1, "contentChanges": [1]})
             editor.child.stdin.write(b"Content-Length: 3\r\n\r\n{]}")
             self.assertIsNone(editor.about("hover", "module"))
             self.assertIn("this is no JSON", editor.noticed[-1]["error"]["message"])

@@ -10,7 +10,7 @@ import threading
 from typing import Any, BinaryIO, Callable, Dict, List, Optional, Union
 
 from .. import __version__
-from ..connection import Disconnected, start
+from ..connection import Disconnected, TimedOut, start
 from ..diagnosis import Diagnosis, Mark, shortened
 from ..formatting import fault_of, format_text
 from ..library_text import LibraryText, join_texts
@@ -35,6 +35,7 @@ CAPABILITIES = {
 }
 KINDS = {"module": 2, "input": 8, "output": 8, "inputoutput": 8, "signal": 13, "trap": 24}
 ERROR = 1  # how severe a fault is
+WRONG = (KeyError, TypeError, AttributeError, IndexError)  # raised where words are missing
 Came = Union[Message, Refused, None]  # a message, what is none, or the end
 
 
@@ -110,9 +111,8 @@ class EditorServer:
         """Does what a message asks for."""
         name, words = message.get("method"), message.get("params") or {}
         if "id" not in message:
-            act = self.notices.get(str(name))
-            if act:
-                act(words)
+            with contextlib.suppress(*WRONG):
+                self.notices.get(str(name), lambda _: None)(words)
             return
         try:
             if name not in self.requests:
@@ -120,7 +120,7 @@ class EditorServer:
             self.answer(message["id"], result=self.requests[str(name)](words))
         except Refused as fault:
             self.answer(message["id"], error=fault)
-        except (KeyError, TypeError, AttributeError) as fault:
+        except WRONG as fault:
             self.answer(message["id"], error=Refused(WRONG_WORDS, f"words are missing: {fault}"))
 
     def answer(self, number: Any, result: Any = None, error: Optional[Refused] = None) -> None:
@@ -171,7 +171,7 @@ class EditorServer:
         try:
             faults = self.checker.faults_of(library)
             self.has_program = True
-        except Disconnected as none:
+        except (Disconnected, TimedOut) as none:
             faults = self.own_faults(path, str(none))
         found: Dict[str, List[Message]] = {path: []}
         for fault in faults:
