@@ -21,7 +21,7 @@ from .pruning import candidates, exact, names_of, prune
 from .programs import program_of
 from .sentences import Set, sentence
 from .session import roles_of, session_of
-from .texts import Failed, read_text
+from .texts import Failed, Placed, read_text
 
 THERE_ALREADY = {
     "UserExists", "RoleExists", "AlreadyAssigned", "AlreadyGranted", "EdgeExists", "DsdExists",
@@ -91,7 +91,7 @@ def read_policy_file(path: Union[str, "os.PathLike[str]"]) -> Policy:
     try:
         return read_file(read_text(pathlib.Path(path) if str(path) != "-" else "-", "the policy"))
     except BadPolicy as fault:
-        raise Failed(f"{path}: {fault}") from fault
+        raise Placed(f"{path}:{fault.line}: {fault.what}") from fault
 
 
 def apply_file(client: Client, path: Union[str, "os.PathLike[str]"]) -> Applied:

@@ -46,5 +46,5 @@ class Colours:
         if line.strip() == "^":
             return self.put(RED, line)
         place, colon, told = line.partition(": ")
-        is_place = place.count(":") >= 2 and place.rpartition(":")[2].isdigit()
+        is_place = place.rpartition(":")[2].isdigit()
         return self.put(BOLD, place + ":") + " " + told if colon and is_place else line

@@ -4,6 +4,7 @@ in their place. Made once, for whatever shows it: the command line, an editor, a
 from __future__ import annotations
 
 import dataclasses
+import os
 from typing import Any, Dict, List, Tuple
 
 from .connection import Refusal
@@ -11,6 +12,7 @@ from .fault_places import Place, StartCodes, places_of
 from .instant_paths import path_through
 from .left_out import left_out
 from .library_text import LibraryText
+from .module_text import modules_of
 from .other_habits import comment_at, habit_at, number_in_name
 from .sentences import sentence
 from .syntax_faults import advice_at, expected_at, spot_at
@@ -88,6 +90,25 @@ def starts_at(token: Token, line: int, column: int) -> bool:
     return (token.line, token.column) == (line, column)
 
 
+def modules_at(path: str) -> List[str]:
+    """The modules of a file; none where it can't be read."""
+    try:
+        with open(path, encoding="utf-8", errors="replace") as file:
+            return [module.name for module in modules_of(file.read())]
+    except OSError:
+        return []
+
+
+def file_beside(library: LibraryText, name: str) -> List[str]:
+    """What is said of a module that none of the files has, where one beside the first has it."""
+    folder = os.path.dirname(library.paths[0])
+    is_file = os.path.isfile(library.paths[0])
+    files = sorted(os.listdir(folder or ".")) if is_file else []
+    paths = [os.path.join(folder, file) for file in files if file.endswith(".strl")]
+    found = [path for path in paths if path not in library.paths and name in modules_at(path)]
+    return [f"{path} has a module {name}: name that file too" for path in found[:1]]
+
+
 def path_of(library: LibraryText, main: str) -> List[Mark]:
     """A path that takes no time through the first loop that has one."""
     modules = parse(library.text) or []
@@ -115,6 +136,8 @@ def diagnose_name(refusal: Refusal, library: LibraryText, main: str, name: objec
     places: List[Place] = places_of(refusal.fault, name, library.text, main)
     marks = [mark_of(library, place.at, place.told) for place in places]
     remedies = list(dict.fromkeys(place.remedy for place in places if place.remedy))
+    if refusal.fault == "UnknownModule" and not remedies:
+        remedies = file_beside(library, str(name))
     found = Diagnosis(refusal.fault, sentence(refusal), marks, remedies=remedies)
     found.is_chain = refusal.fault == "RecursiveRun"
     if refusal.fault == "InstantLoop":

@@ -11,6 +11,7 @@ import time
 from typing import Any, Dict, Iterable, List, Set, Tuple
 
 from .close_words import meant
+from .colours import Colours
 from .command_table import KEYS, OF_TEXTS, OPERATIONS, SLOTS
 from .connection import CannotBeSent, Client, Refusal, TimedOut
 from .drawing import waves_for, write_vcd
@@ -95,8 +96,10 @@ class Shell(cmd.Cmd):
         """
         self.refused += 1
         if self.is_typed:
-            text = placed.rstrip("\n") or text
-        print(text if self.is_typed else f"{placed}line {self.line}: {text}", flush=True)
+            colours, place = Colours(sys.stdout), placed.rstrip("\n")
+            print(colours.of_fault(place) or colours.word(text, False), flush=True)
+        else:
+            print(f"{placed}line {self.line}: {text}", flush=True)
         return self.stops and not self.is_typed
 
     def refusal_lines(self, refusal: Refusal) -> List[str]:

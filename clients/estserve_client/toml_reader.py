@@ -27,7 +27,7 @@ class BadPolicy(Exception):
     """The file is no policy: the line, from 1, and what is wrong there."""
 
     def __init__(self, line: int, what: str) -> None:
-        self.line = line
+        self.line, self.what = line, what
         super().__init__(f"line {line}: {what}")
 
 

@@ -133,7 +133,8 @@ class Editor:
 
     def open(self, path, text):
         """Opens a text, and gives the faults that are told of it."""
-        self.uri, self.text = pathlib.Path(path).as_uri(), text
+        is_uri = str(path).startswith("untitled:")
+        self.uri, self.text = path if is_uri else pathlib.Path(path).as_uri(), text
         document = {"uri": self.uri, "languageId": "esterel", "version": 1, "text": text}
         self.tell("textDocument/didOpen", {"textDocument": document})
         return self.faults()
@@ -227,6 +228,16 @@ class Exchange(unittest.TestCase):
                 (house["name"], names), ("HOUSE", ["GO", "DAY", "LAMP", "BELL", "DONE", "S"])
             )
 
+    def test_a_text_that_is_no_file_yet(self):
+        with Editor() as editor:
+            (fault,) = editor.open("untitled:Untitled-1", "module M: run N end module\n")
+            self.assertEqual(fault["code"], "UnknownModule")
+            editor.change("module M: output O; emit O end module\n")
+            found = editor.about("definition", "O end")
+            self.assertEqual(found["uri"], "untitled:Untitled-1")
+            changes = editor.about("rename", "O end", newName="OUT")["changes"]
+            self.assertEqual(list(changes), ["untitled:Untitled-1"])
+
     def test_words_that_can_stand_there(self):
         begun = RELAY[: RELAY.index("run RELAY\n")]
         with Editor() as editor:
@@ -293,6 +304,8 @@ class Exchange(unittest.TestCase):
                 editor.ask("textDocument/fly", {}), "there is no method textDocument/fly"
             )
             self.assertIn("words are missing", editor.ask("textDocument/hover", {}))
+            editor.tell("textDocument/didOpen", {})
+            editor.tell("textDocument/didChange", {"textDocument": 1, "contentChanges": [1]})
             editor.child.stdin.write(b"Content-Length: 3\r\n\r\n{]}")
             self.assertIsNone(editor.about("hover", "module"))
             self.assertIn("this is no JSON", editor.noticed[-1]["error"]["message"])

@@ -117,6 +117,7 @@ class Pages(unittest.TestCase):
         ran = subprocess.run(
             [
                 sys.executable,
+                "-B",
                 "-c",
                 "import json, make_completions; print(json.dumps(make_completions.files()))",
             ],

@@ -176,6 +176,15 @@ class InATerminal(unittest.TestCase):
                 shown, status = terminal.ends()
             self.assertEqual((status, "\x1b[1m" in shown), (1, is_bold))
 
+    def test_a_refusal_is_red_in_a_terminal(self):
+        path = self.program(f"#!/bin/sh\nread line; echo '{LOGIN}'; cat > /dev/null\n")
+        with Terminal(["shell", "--program", path], {"TERM": "xterm"}) as terminal:
+            terminal.sees("root> ")
+            terminal.type("fly\n")
+            terminal.sees("\x1b[31mthere is no command fly: help lists them\x1b[0m")
+            terminal.type("quit\n")
+            self.assertEqual(terminal.ends()[1], 0)
+
     def test_ctrl_c_interrupts_a_command_and_not_the_program(self):
         path = self.program(SLOW)
         with Terminal(["shell", "--program", path], {}) as terminal:

@@ -269,6 +269,9 @@ class SeveralFiles(unittest.TestCase):
             ran = run_client(words)
             self.assertEqual((ran.status, ran.told), (0, ""))
             self.assertEqual(ran.printed.split("\n")[1:], ["      1  A       B", "      2", ""])
+            alone = run_client([*words[:2], "--inputs", folder / "inputs"])
+            told = f"{folder}/cell.strl has a module CELL: name that file too"
+            self.assertEqual(alone.told.splitlines()[-1], told)
             (folder / "cell.strl").write_text(
                 "module CELL: input I; output O;\n  emit O emit\nend module\n"
             )

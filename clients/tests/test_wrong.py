@@ -76,7 +76,9 @@ class Files(WhatGoesWrong):
 
     def test_a_policy_that_is_none(self):
         path = self.file("p.toml", "# two users\nusers = [1]\n")
-        self.fails(["apply", path], "p.toml: line 2: a list has strings")
+        ran = run_client(["apply", path])
+        told = f"{path}:2: a list has strings in double quotes, with commas between them\n"
+        self.assertEqual((ran.status, ran.printed, ran.told), (1, "", told))
 
     def test_an_empty_policy(self):
         ran = play_dialogue(DIALOGUES / "login", ["apply", self.file("p.toml", "")])

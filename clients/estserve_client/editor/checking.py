@@ -6,7 +6,7 @@ from __future__ import annotations
 from typing import Callable, Dict, List, Optional
 
 from ..command_table import IDENTIFIER, OF_TEXTS
-from ..connection import Client, Disconnected, NotText, Refusal, TooLong
+from ..connection import Client, Disconnected, NotText, Refusal, TimedOut, TooLong
 from ..diagnosis import Diagnosis, Mark, diagnose_load
 from ..library_text import LibraryText
 from ..module_text import Module, main_of, modules_of
@@ -57,7 +57,7 @@ class Checker:
         return None
 
     def faults_of(self, library: LibraryText) -> List[Diagnosis]:
-        """What is wrong with a library. Raises Disconnected."""
+        """What is wrong with a library. Raises Disconnected, TimedOut."""
         found: Dict[str, Diagnosis] = {}
         try:
             for main in mains_of(library):
@@ -68,7 +68,7 @@ class Checker:
                 found.setdefault(str(told.as_json()), told)
                 if refusal.fault not in OF_MAIN:
                     break
-        except Disconnected:
+        except (Disconnected, TimedOut):
             self.close()
             raise
         except (TooLong, NotText, Refusal) as fault:

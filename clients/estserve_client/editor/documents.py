@@ -22,11 +22,6 @@ def path_of(uri: str) -> str:
     return urllib.parse.unquote(parts.path) if parts.scheme == "file" else uri
 
 
-def uri_of(path: str) -> str:
-    """The name of a file for an editor."""
-    return pathlib.Path(os.path.abspath(path)).as_uri() if "://" not in path else path
-
-
 def units(text: str) -> int:
     """How many UTF-16 units a text has."""
     return len(text.encode("utf-16-le", "surrogatepass")) // 2
@@ -74,6 +69,11 @@ class Documents:
 
     def __init__(self) -> None:
         self.open: Dict[str, str] = {}
+        self.uris: Dict[str, str] = {}  # what the editor calls those that were opened
+
+    def uri_of(self, path: str) -> str:
+        """What the editor calls a file."""
+        return self.uris.get(path) or pathlib.Path(os.path.abspath(path)).as_uri()
 
     def text_of(self, path: str) -> Optional[str]:
         """The text of a file, as it is typed where it is open; None where it can't be read."""

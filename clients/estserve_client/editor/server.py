@@ -10,7 +10,7 @@ import threading
 from typing import Any, BinaryIO, Callable, Dict, List, Optional, Union
 
 from .. import __version__
-from ..connection import Disconnected, start
+from ..connection import Disconnected, TimedOut, start
 from ..diagnosis import Diagnosis, Mark, shortened
 from ..formatting import fault_of, format_text
 from ..library_text import LibraryText, join_texts
@@ -18,7 +18,7 @@ from ..programs import program_of
 from ..syntax_tree import parse
 from .checking import Checker
 from .completing import words_at
-from .documents import Documents, Range, lines_of, path_of, place_of, range_at, uri_of, whole_of
+from .documents import Documents, Range, lines_of, path_of, place_of, range_at, whole_of
 from .names import Declared, Names, Use
 from .renaming import Edit, edits_of
 from .wire import FAILED, NO_METHOD, WRONG_WORDS, Message, Refused, read_message, write_message
@@ -35,6 +35,7 @@ CAPABILITIES = {
 }
 KINDS = {"module": 2, "input": 8, "output": 8, "inputoutput": 8, "signal": 13, "trap": 24}
 ERROR = 1  # how severe a fault is
+WRONG = (KeyError, TypeError, AttributeError, IndexError)  # raised where words are missing
 Came = Union[Message, Refused, None]  # a message, what is none, or the end
 
 
@@ -110,9 +111,8 @@ class EditorServer:
         """Does what a message asks for."""
         name, words = message.get("method"), message.get("params") or {}
         if "id" not in message:
-            act = self.notices.get(str(name))
-            if act:
-                act(words)
+            with contextlib.suppress(*WRONG):
+                self.notices.get(str(name), lambda _: None)(words)
             return
         try:
             if name not in self.requests:
@@ -120,7 +120,7 @@ class EditorServer:
             self.answer(message["id"], result=self.requests[str(name)](words))
         except Refused as fault:
             self.answer(message["id"], error=fault)
-        except (KeyError, TypeError, AttributeError) as fault:
+        except WRONG as fault:
             self.answer(message["id"], error=Refused(WRONG_WORDS, f"words are missing: {fault}"))
 
     def answer(self, number: Any, result: Any = None, error: Optional[Refused] = None) -> None:
@@ -142,6 +142,7 @@ class EditorServer:
 
     def opened(self, words: Message) -> None:
         document = words["textDocument"]
+        self.documents.uris[path_of(document["uri"])] = document["uri"]
         self.keep(path_of(document["uri"]), document["text"])
 
     def changed(self, words: Message) -> None:
@@ -170,7 +171,7 @@ class EditorServer:
         try:
             faults = self.checker.faults_of(library)
             self.has_program = True
-        except Disconnected as none:
+        except (Disconnected, TimedOut) as none:
             faults = self.own_faults(path, str(none))
         found: Dict[str, List[Message]] = {path: []}
         for fault in faults:
@@ -194,7 +195,7 @@ class EditorServer:
         """Tells the faults that come from a file, and takes away those that did before."""
         gone = [other for other in self.marked.get(path, [path]) if other not in found]
         for other, diagnostics in [*found.items(), *[(name, []) for name in gone]]:
-            words = {"uri": uri_of(other), "diagnostics": diagnostics}
+            words = {"uri": self.documents.uri_of(other), "diagnostics": diagnostics}
             self.notify("textDocument/publishDiagnostics", words)
         self.marked[path] = list(found)
 
@@ -204,7 +205,7 @@ class EditorServer:
     def location(self, mark: Mark) -> Message:
         """A place as an editor has it."""
         shown = range_at(self.lines_of(mark.file), mark.line, mark.column, mark.width)
-        return {"uri": uri_of(mark.file), "range": shown}
+        return {"uri": self.documents.uri_of(mark.file), "range": shown}
 
     def diagnostic(self, fault: Diagnosis, library: LibraryText, path: str) -> Message:
         """A fault as an editor has it: its sentence, its first place, and the others beside it."""
@@ -324,7 +325,9 @@ class EditorServer:
         for edit in edits:
             path, line = library.place(edit.line)
             shown = range_at(self.lines_of(path), line, edit.column, edit.width)
-            found.setdefault(uri_of(path), []).append({"range": shown, "newText": edit.text})
+            found.setdefault(self.documents.uri_of(path), []).append(
+                {"range": shown, "newText": edit.text}
+            )
         return found
 
     def format(self, words: Message) -> List[Message]:
