@@ -11,13 +11,13 @@ import shutil
 import subprocess
 import sys
 
+import run
+
 ROOT = pathlib.Path(__file__).resolve().parent.parent
 DEBIAN_PYTHON = "/usr/bin/python3"
 LEAST_PYTHON = (3, 9)
 INSTALL = "scripts/install_debian.sh"
-GIGABYTE = 10**9
-DISK = 4  # gigabytes, for what `make run` keeps of its proofs, and leaves while it proves
-MEMORY = 8  # gigabytes, for two proofs side by side
+GIGABYTE = run.GIGABYTE
 
 
 class Finding:
@@ -78,15 +78,17 @@ def program(names, purpose, remedy, called):
 
 
 def disk():
-    free = shutil.disk_usage(ROOT).free / GIGABYTE
-    here = free >= DISK and f"{free:.0f} GB are free"
-    return Finding(f"{DISK} GB of disk", here, "what is kept of proofs", f"only {free:.1f} GB are free: rm -rf crates/*/out frees what older proofs left", True)
+    free, wanted = shutil.disk_usage(ROOT).free, max(run.KEPT - run.bytes_kept(), 0)
+    here = free >= wanted and f"{free / GIGABYTE:.0f} GB are free"
+    remedy = f"make room: {free / GIGABYTE:.0f} GB are free"
+    return Finding(f"{wanted / GIGABYTE:.0f} GB of disk", here, "what is kept of the proofs", remedy, True)
 
 
 def memory():
-    whole = os.sysconf("SC_PAGE_SIZE") * os.sysconf("SC_PHYS_PAGES") / GIGABYTE
-    here = whole >= MEMORY and f"{whole:.0f} GB, and {os.cpu_count()} processors"
-    return Finding(f"{MEMORY} GB of memory", here, "two proofs side by side", f"a machine with more than {whole:.0f} GB: here one crate is proved at a time")
+    whole = os.sysconf("SC_PAGE_SIZE") * os.sysconf("SC_PHYS_PAGES")
+    here = whole >= 2 * run.MEMORY and f"{whole / GIGABYTE:.0f} GB, for {run.lanes()} proofs at a time now"
+    remedy = f"LANES=1 make run proves one crate at a time in {whole / GIGABYTE:.0f} GB"
+    return Finding(f"{2 * run.MEMORY / GIGABYTE:.0f} GB of memory", here, "two proofs side by side", remedy)
 
 
 def findings():

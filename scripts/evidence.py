@@ -11,6 +11,7 @@ REFUSED = re.compile(r"^rt: must-fail (\w+/\w+\.edit): refused, as it must be", 
 LAST = re.compile(r"^(\d+) passed, 0 failed$")
 KIT = re.compile(r"(\S+) logic ([0-9a-f]{16})")
 INPUTS = (".rt", ".antt", ".edit")
+GIT = ("git", "-c", f"safe.directory={ROOT}")  # whoever owns the folder
 
 
 class NoEvidence(Exception):
@@ -71,7 +72,7 @@ def check_freshness(program):
     newer = [path for path in inputs() if path.suffix != ".edit" and path.stat().st_mtime > built]
     if newer:
         raise NoEvidence(f"{program} is older than {newer[0].relative_to(ROOT)}: make build builds it anew")
-    changed = said_by("git", "status", "--porcelain", "--untracked-files=no")
+    changed = said_by(*GIT, "status", "--porcelain", "--untracked-files=no")
     if changed:
         raise NoEvidence(f"there are changes that no commit has, which PROOF.json is to name: {changed.splitlines()[0]}")
 
@@ -81,7 +82,7 @@ def record(version, program, log):
     name, logic = KIT.fullmatch(said_by("rt", "version")).groups()
     found = {
         "version": version,
-        "commit": said_by("git", "rev-parse", "HEAD"),
+        "commit": said_by(*GIT, "rev-parse", "HEAD"),
         "proved": log is not None,
         "kit": name,
         "logic": logic,

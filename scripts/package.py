@@ -177,7 +177,7 @@ def main():
         if not program.exists():
             raise evidence.NoEvidence(f"there is no program at {program}: make build proves and builds it")
         record = evidence.record(version(), program, words.log)
-        package = Package(record, int(evidence.said_by("git", "log", "-1", "--format=%ct")))
+        package = Package(record, int(evidence.said_by(*evidence.GIT, "log", "-1", "--format=%ct")))
     except (evidence.NoEvidence, trial.CannotBuild) as fault:
         say(f"no package: {fault}")
         return 1

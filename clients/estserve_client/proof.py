@@ -1,4 +1,6 @@
-"""The command `proof`: what the package says was proved of the programs, and whether they are those."""
+"""The command `proof`: what the package says was proved of its programs, and whether those that are
+installed are the same.
+"""
 from __future__ import annotations
 
 import argparse
@@ -10,11 +12,14 @@ from typing import Any, Dict, List, Optional
 
 from .texts import Failed
 
-NO_RECORD = "there is no PROOF.json here: what was proved stands in the package, or beside it"
-SHOWS = """What this shows: whoever made the package says that these very programs were built from that commit, all of
-whose proofs were judged by that kit. What it doesn't show: that they say the truth, or that nobody changed programs
-and record together. To see for yourself: check out the commit, run `rt ci` with that kit, build the package
-with the log, and compare; the same tree and the same log give the same bytes."""
+NO_RECORD = "there is no PROOF.json here: it comes with the package"
+SHOWS = """\
+What this shows: whoever made the package says that these very programs were built from that
+commit, all of whose proofs were judged by that kit. What it doesn't show: that they say the truth,
+or that nobody changed programs and record together. To see for yourself: check out the commit, run
+`rt ci` with that kit, make the package with the log, and compare; the same tree and the same log
+give the same bytes."""
+SAME = "the same"
 
 
 def prefix() -> str:
@@ -49,14 +54,12 @@ def digest_of(path: str) -> Optional[str]:
         return None
 
 
-def compared(programs: Dict[str, str], folder: str) -> List[str]:
-    """A line for each program of the record: whether the one that is installed is the same."""
-    lines = []
-    for name, digest in sorted(programs.items()):
-        found = digest_of(os.path.join(folder, name))
-        state = "the same" if found == digest else "not there" if found is None else "ANOTHER PROGRAM"
-        lines.append(f"{name}: {state} (SHA-256 {digest})")
-    return lines
+def state_of(path: str, digest: str) -> str:
+    """Whether the program that is installed there is the one with this SHA-256."""
+    found = digest_of(path)
+    if found is None:
+        return "not there"
+    return SAME if found == digest else "ANOTHER PROGRAM"
 
 
 def told_of_run(record: Dict[str, Any]) -> List[str]:
@@ -65,9 +68,10 @@ def told_of_run(record: Dict[str, Any]) -> List[str]:
         return ["NOT PROVED: this package was made without a log of `rt ci`."]
     run = record["rt_ci"]
     return [
-        f"Proved by {record['kit']}, of the logic {record['logic']}: `rt ci` ended with '{run['last_line']}'.",
-        f"Proofs: {run['proofs_done']} done in that run, {run['proofs_kept']} kept from earlier ones. "
-        f"Wrong bodies: {run['edits_done']} refused in that run, {run['edits_kept']} kept.",
+        f"Proved by {record['kit']}, of the logic {record['logic']}: "
+        f"`rt ci` ended with '{run['last_line']}'.",
+        f"Proofs: {run['proofs_done']} done in that run, {run['proofs_kept']} kept from earlier "
+        f"ones. Wrong bodies: {run['edits_done']} refused in that run, {run['edits_kept']} kept.",
         f"SHA-256 of its log: {run['log_sha256']}",
     ]
 
@@ -76,8 +80,14 @@ def proof(arguments: argparse.Namespace) -> int:
     """Compares the programs with the record, and tells what that shows. Raises Failed."""
     record = read_record(arguments.record)
     if record is None:
-        raise Failed(arguments.record and f"there is no {arguments.record}" or NO_RECORD)
-    lines = compared(record["programs"], os.path.join(prefix(), "bin"))
-    print(f"estserve {record['version']}, commit {record['commit']}, of {len(record['inputs'])} files that are proved")
-    print("\n".join([*told_of_run(record), *lines, *([SHOWS] if record["proved"] else [])]))
-    return 0 if all(": the same (" in line for line in lines) else 1
+        raise Failed(f"there is no {arguments.record}" if arguments.record else NO_RECORD)
+    count = len(record["inputs"])
+    print(f"estserve {record['version']}, commit {record['commit']}, of {count} files of proofs")
+    print("\n".join(told_of_run(record)))
+    programs = sorted(record["programs"].items())
+    states = [state_of(os.path.join(prefix(), "bin", name), digest) for name, digest in programs]
+    for (name, digest), state in zip(programs, states):
+        print(f"{name}: {state} (SHA-256 {digest})")
+    if record["proved"]:
+        print(SHOWS)
+    return 0 if set(states) == {SAME} else 1

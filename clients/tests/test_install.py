@@ -249,7 +249,10 @@ class Installed(InAFolder):
         for path in (path for path in stage.rglob("*") if path.is_file()):
             self.assertNotIn(f"{self.folder}/stage".encode(), path.read_bytes(), path)
         units = stage / "lib" / "systemd" / "system"
-        for unit, words in (("estserve-team@", "estserve-client team"), ("estserve@", "estserve serve")):
+        for unit, words in (
+            ("estserve-team@", "estserve-client team"),
+            ("estserve@", "estserve serve"),
+        ):
             text = (units / f"{unit}.service").read_text()
             self.assertIn(f"\nExecStart={self.folder}/p/bin/{words} --", text)
 

@@ -14,6 +14,8 @@ VERSION = (ROOT / "VERSION").read_text().strip()
 SUITE = "bookworm"
 INCLUDED = "python3,python3-aiohttp,systemd"  # so that what is left after the removal is of the package alone
 MAKE_SECONDS = 600
+NETWORK = ["--aptopt=Acquire::http::Timeout \"20\"", "--aptopt=Acquire::Retries \"1\""]  # so that without one the test is skipped soon
+PASSED_ON = ("PATH", "http_proxy", "https_proxy", "no_proxy")
 STATE = re.compile(r"/var/lib/estserve(/.*)?")
 # what apt, dpkg and the tools for users keep, whatever is installed
 KEPT = re.compile(r"/var/(log|cache|lib/(apt|dpkg|systemd))/.*|/etc/(passwd|group|shadow|gshadow|subuid|subgid)-|/etc/\.pwd\.lock")
@@ -50,8 +52,8 @@ class Bare(unittest.TestCase):
         ]
         words = ["mmdebstrap", "--quiet", "--variant=minbase", f"--include={INCLUDED}", "--format=null"]
         words += [f"--customize-hook={hook}" for hook in hooks]
-        variables = {"PATH": os.environ["PATH"], "HOME": str(cls.folder)}  # those of the tests aren't there
-        made = subprocess.run([*words, SUITE, "/dev/null"], capture_output=True, text=True, env=variables, timeout=MAKE_SECONDS)
+        variables = {name: os.environ[name] for name in PASSED_ON if name in os.environ}  # those of the tests aren't there
+        made = subprocess.run([*words, *NETWORK, SUITE, "/dev/null"], capture_output=True, text=True, env={**variables, "HOME": str(cls.folder)}, timeout=MAKE_SECONDS)
         if not (cls.folder / "told" / "before").exists():
             raise unittest.SkipTest(f"mmdebstrap made no Debian here: {made.stderr.strip()[-300:]}")
 

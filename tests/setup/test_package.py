@@ -57,7 +57,7 @@ class Packages(unittest.TestCase):
     def copied(cls, name):
         """A copy of the files of this repository, in a commit of its own, with a program that was built after it."""
         tree = cls.folder / name
-        listed = subprocess.run(["git", "ls-files", "-co", "--exclude-standard", "-z"], cwd=ROOT, capture_output=True, check=True)
+        listed = subprocess.run([*evidence.GIT, "ls-files", "-co", "--exclude-standard", "-z"], cwd=ROOT, capture_output=True, check=True)
         for file in filter(None, listed.stdout.decode().split("\0")):
             if (ROOT / file).exists():
                 (tree / file).parent.mkdir(parents=True, exist_ok=True)

@@ -25,7 +25,12 @@ mkdir -p out
 echo "$crate" > out/kept
 [ "$crate" != wrong ] || exit 1
 echo "ended $crate" >> "$CALLS"
-if [ "$1" = run ]; then shift; echo "the program: $*"; cat; fi
+if [ "$1" = run ]; then
+    shift
+    echo "the program: $*"
+    cat
+    echo "built of $(cat ../long/out/kept) ${WHERE:+in $PWD}" > "out/$crate"
+fi
 """
 # `long` is under a longer chain than `short`; `top` stands on both
 CRATES = "# Storey: of tests\nshort:\nlong:\nmiddle: long\ntop: short middle kit_library\n"
@@ -57,12 +62,14 @@ class Runs(unittest.TestCase):
         for line in crates.splitlines()[1:]:
             (self.folder / "crates" / line.partition(":")[0]).mkdir(parents=True, exist_ok=True)
 
-    def start(self, *words, lanes=2, seconds="0.3"):
+    def variables(self, lanes=2, seconds="0.3"):
         path = f"{self.folder / 'bin'}:{os.environ['PATH']}"
-        variables = {"PATH": path, "CALLS": str(self.calls), "LANES": str(lanes), "SECONDS_EACH": seconds}
+        return {**os.environ, "PATH": path, "CALLS": str(self.calls), "LANES": str(lanes), "SECONDS_EACH": seconds}
+
+    def start(self, *words, **more):
         return subprocess.Popen(
             [sys.executable, "-B", self.folder / "scripts" / "run.py", *words],
-            stdin=subprocess.PIPE, stdout=subprocess.PIPE, stderr=subprocess.PIPE, text=True, env={**os.environ, **variables},
+            stdin=subprocess.PIPE, stdout=subprocess.PIPE, stderr=subprocess.PIPE, text=True, env=self.variables(**more),
         )  # fmt: skip
 
     def run_to_end(self, *words, **more):
@@ -126,6 +133,17 @@ class Runs(unittest.TestCase):
         self.assertEqual((status, printed), (1, ""))
         self.assertEqual(told[-1], "wrong NOT proved: crates/above/out/proofs/wrong.log says why")
         self.assertNotIn("begun above", self.told_calls())
+
+    def test_another_folder_is_seen_to_give_the_same_program_or_another(self):
+        self.list(CRATES + "estserve: long\n")
+        script = self.write("tests/setup/same_program", (ROOT / "tests" / "setup" / "same_program").read_text())
+        self.write("HANDLES", "")
+        self.assertEqual(self.run_to_end("estserve", seconds="0")[0], 0)
+        for words in ([], ["--anew"]):
+            for where, status, told in (("", 0, "the same"), ("1", 1, "ANOTHER")):
+                variables = {**self.variables(seconds="0"), "WHERE": where}
+                ran = subprocess.run([sys.executable, "-B", script, *words], capture_output=True, text=True, env=variables)
+                self.assertEqual((ran.returncode, ran.stdout), (status, f"crates/estserve/out/estserve: another folder gives {told} program\n"))
 
     def test_an_interrupt_ends_what_runs(self):
         started = self.start("top", seconds="30")
