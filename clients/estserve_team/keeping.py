@@ -21,6 +21,9 @@ def folder_of(arguments: argparse.Namespace) -> pathlib.Path:
     """The team's folder. Raises Failed."""
     if arguments.state is None:
         raise Failed("the team's folder is missing: --state DIR")
+    private = arguments.state / "private"
+    if arguments.state.exists() and not os.access(private, os.R_OK | os.X_OK):
+        raise Failed(f"{private} can't be read: this is for the Unix user who runs the gateway")
     return arguments.state
 
 

@@ -156,7 +156,7 @@ class Failures(unittest.TestCase):
     def after(self, team, folder):
         """Sees that the gateway serves on, or has ended with a fault; without its cause it serves."""
         try:
-            status = team.process.wait(1.5)
+            status = team.process.wait(0.8)
         except subprocess.TimeoutExpired:
             status = None
         (folder / faulty.FILLER).unlink(missing_ok=True)

@@ -18,7 +18,7 @@ from teams import Server, Talker, Team, line_of, login_line, program_file, rando
 from estserve_team.server import Lost
 from test_failures import END_SECONDS, small_disk
 
-RESTARTS = int(os.environ.get("GATEWAY_RESTARTS", "20"))
+RESTARTS = int(os.environ.get("GATEWAY_RESTARTS", "12"))
 COMMANDS = 25  # between two restarts, at most
 MODULE = (
     "module M: input A, B; output O; loop [ await A || await B ]; emit O; pause end end module"
