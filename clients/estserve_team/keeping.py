@@ -111,7 +111,7 @@ def backed_up_tip(path: pathlib.Path, database: sqlite3.Connection) -> Tip:
     if not has_table(database, "backup"):
         raise Failed(f"{path} is no backup")
     tip = last_tip(database, name_of(path, database))
-    (entries, entry_hash), = database.execute("SELECT entries, hash FROM backup").fetchall()
+    ((entries, entry_hash),) = database.execute("SELECT entries, hash FROM backup").fetchall()
     return tip._replace(entries=entries, entry_hash=entry_hash)
 
 

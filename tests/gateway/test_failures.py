@@ -154,7 +154,7 @@ class Failures(unittest.TestCase):
             seen.step(talker, STEPS)
 
     def after(self, team, folder):
-        """Sees that the gateway serves on, or has ended with a fault; without its cause it serves."""
+        """Sees that the gateway serves on, or has ended with a fault, once the cause is gone."""
         try:
             status = team.process.wait(0.8)
         except subprocess.TimeoutExpired:
