@@ -16,7 +16,7 @@ import unittest
 import teams
 from teams import Server, Talker, Team, line_of, login_line, program_file, random_of
 from estserve_team.server import Lost
-from test_failures import END_SECONDS, small_disk
+from test_failures import END_SECONDS, setUpModule, small_disk
 
 RESTARTS = int(os.environ.get("GATEWAY_RESTARTS", "12"))
 COMMANDS = 25  # between two restarts, at most
