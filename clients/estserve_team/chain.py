@@ -1,8 +1,9 @@
 """What lets a record prove itself: each entry's hash is over the entry and the hash before it, and
 the last ones stand in a second file, the head.
 
-The head says how far the record has come. A record that has come further is whole, since the gateway
-may have ended between the two; one that has not, or has other hashes, was cut, changed or exchanged.
+The head says how far the record has come. A record that has come further is whole, since the
+gateway may have ended between the two; one that has not, or has other hashes, was cut, changed or
+exchanged.
 """
 import hashlib
 import os
@@ -73,9 +74,7 @@ def tip_of(slot: bytes) -> Optional[Tip]:
             return None
         serial, record, entries, entry_hash, givenup, givenup_hash, *rest = text.split(" ")
         known = tuple("".join(rest).split(",")) if rest else ()
-        return Tip(
-            record, int(entries), entry_hash, int(givenup), givenup_hash, known, int(serial)
-        )
+        return Tip(record, int(entries), entry_hash, int(givenup), givenup_hash, known, int(serial))
     except ValueError:
         return None
 
@@ -93,9 +92,7 @@ class Head:
             held = os.pread(self._descriptor, 2 * SLOT_BYTES, 0)
         except OSError as fault:
             raise Failed(f"{path} cannot be opened: {fault.strerror}") from fault
-        self._slots = [
-            tip_of(held[at * SLOT_BYTES : (at + 1) * SLOT_BYTES]) for at in range(2)
-        ]
+        self._slots = [tip_of(held[at * SLOT_BYTES : (at + 1) * SLOT_BYTES]) for at in range(2)]
         self._next = 0
         self._serial = max((tip.serial for tip in self.tips()), default=0)
 

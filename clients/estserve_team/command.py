@@ -48,6 +48,20 @@ def add_parser(subparsers: Any) -> None:
     parser.add_argument(
         "--group", metavar="NAME", help="the Unix group of the team (the folder's own)"
     )
+    add_record_options(parser)
+    parser.add_argument("--most-sends", type=int, default=MOST_SENDS, help=argparse.SUPPRESS)
+    web.add_options(parser)
+    parser.set_defaults(act=serve_team)
+    subparsers = parser.add_subparsers(
+        metavar="WORD",
+        help="a question to the gateway that runs on DIR; without one, serve the team",
+    )
+    add_words(subparsers)
+    keeping.add_words(subparsers)
+
+
+def add_record_options(parser: argparse.ArgumentParser) -> None:
+    """Adds what is said of the record, and the limits."""
     parser.add_argument(
         "--until",
         metavar="PLACE",
@@ -65,15 +79,6 @@ def add_parser(subparsers: Any) -> None:
         metavar="NAME=NUMBER",
         help="set one of the limits of docs/GATEWAY.md",
     )
-    parser.add_argument("--most-sends", type=int, default=MOST_SENDS, help=argparse.SUPPRESS)
-    web.add_options(parser)
-    parser.set_defaults(act=serve_team)
-    subparsers = parser.add_subparsers(
-        metavar="WORD",
-        help="a question to the gateway that runs on DIR; without one, serve the team",
-    )
-    add_words(subparsers)
-    keeping.add_words(subparsers)
 
 
 def people_of(path: pathlib.Path) -> People:

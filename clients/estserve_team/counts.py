@@ -1,5 +1,5 @@
-"""What an operator sees: counts of what the gateway did, in Prometheus' text form, and whether it is
-well."""
+"""What an operator sees: counts of what the gateway did, in Prometheus' text form, and whether it
+is well."""
 import asyncio
 import bisect
 import collections

@@ -34,6 +34,7 @@ from .sessions import (
     ask_later,
     login_request,
 )
+from .slot_gate import SlotGate
 from .starting import Begun, replace_record, restore_record, start_server
 from .watchdog import Reserve, Watchdog
 
@@ -69,20 +70,14 @@ class Gateway:
         most_sends: int = MOST_SENDS,
         limits: Limits = Limits(),
     ) -> None:
-        self.places, self.people, self.program, self.most_sends = (
-            places,
-            people,
-            program,
-            most_sends,
-        )
+        self.places, self.people = places, people
+        self.program, self.most_sends = program, most_sends
         self.state, self.private, self.record_path = places.state, places.private, places.record
         self.name = self.state.name
         self.reader = Reader()
         self.words = {**words.WORDS, **reads.WORDS, **web.WORDS, **overseeing.WORDS}
         self.counts = Counts()
-        self.closed_slots: Set[int] = set()  # of which one session alone has commands under way
-        self._waiting: List[Any] = []  # clients whose next line is for such a slot
-        self._opened = asyncio.Event()
+        self.slot_gate = SlotGate()
         self.phase = STARTING
         self.sessions: Dict[int, Session] = {}
         self.shared: Dict[Tuple[str, str, Tuple[str, ...]], "asyncio.Future[SharedSession]"] = {}
@@ -189,25 +184,7 @@ class Gateway:
             text = f"{cmd} of {user} is refused: {fault}"
             self.log(text, "refused", person=person, user=user, command=cmd, fault=fault)
 
-    # ---- slots of which one session alone has commands under way
-
-    def wait_for_slot(self, client: Any) -> None:
-        """Has a client go on when slots are open again."""
-        self._waiting.append(client)
-
-    async def until_open(self, slot: Optional[int]) -> None:
-        """Waits until a slot is open."""
-        while slot in self.closed_slots:
-            self._opened.clear()
-            await self._opened.wait()
-
-    def open_slot(self, slot: int) -> None:
-        """Lets others have commands on a slot again."""
-        self.closed_slots.discard(slot)
-        self._opened.set()
-        waiting, self._waiting = self._waiting, []
-        for client in waiting:
-            self._tell(client.go_on)
+    # ---- what is recorded at once
 
     def hold_commits(self) -> None:
         """Has what comes now be written in one transaction with what comes until `let_commit`."""

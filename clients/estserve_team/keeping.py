@@ -21,6 +21,9 @@ def folder_of(arguments: argparse.Namespace) -> pathlib.Path:
     """The team's folder. Raises Failed."""
     if arguments.state is None:
         raise Failed("the team's folder is missing: --state DIR")
+    private = arguments.state / "private"
+    if arguments.state.exists() and not os.access(private, os.R_OK | os.X_OK):
+        raise Failed(f"{private} can't be read: this is for the Unix user who runs the gateway")
     return arguments.state
 
 
@@ -108,7 +111,7 @@ def backed_up_tip(path: pathlib.Path, database: sqlite3.Connection) -> Tip:
     if not has_table(database, "backup"):
         raise Failed(f"{path} is no backup")
     tip = last_tip(database, name_of(path, database))
-    (entries, entry_hash), = database.execute("SELECT entries, hash FROM backup").fetchall()
+    ((entries, entry_hash),) = database.execute("SELECT entries, hash FROM backup").fetchall()
     return tip._replace(entries=entries, entry_hash=entry_hash)
 
 

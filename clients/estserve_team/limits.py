@@ -1,5 +1,5 @@
-"""How much one Unix user may hold and use, and what is kept for administrators. docs/GATEWAY.md says
-why each number is as it is."""
+"""How much one Unix user may hold and use, and what is kept for administrators. docs/GATEWAY.md
+says why each number is as it is."""
 import time
 from typing import TYPE_CHECKING, Any, Callable, Dict, List, NamedTuple, Sequence
 

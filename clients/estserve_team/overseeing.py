@@ -66,9 +66,9 @@ async def retract(context: Context, keys: Dict[str, Any]) -> Dict[str, Any]:
     slot, name, gateway = keys["slot"], keys["signal"], context.gateway
     if not 0 <= slot < SLOTS:
         raise not_a_word("slots are 0 to 15")
-    if slot in gateway.closed_slots:
+    if slot in gateway.slot_gate.closed:
         raise failed("another offer is just being taken back there; ask again")
-    gateway.closed_slots.add(slot)
+    gateway.slot_gate.closed.add(slot)
     try:
         await asyncio.wait_for(settled(gateway, slot), SETTLE_SECONDS)
         pending = list(gateway.reads.slots[slot].pending)
@@ -80,7 +80,7 @@ async def retract(context: Context, keys: Dict[str, Any]) -> Dict[str, Any]:
     except asyncio.TimeoutError:
         raise failed("others use the slot too much; ask again") from None
     finally:
-        gateway.open_slot(slot)
+        gateway.slot_gate.open(slot)
 
 
 async def settled(gateway: Any, slot: int) -> None:

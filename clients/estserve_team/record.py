@@ -175,8 +175,8 @@ def in_order(database: sqlite3.Connection) -> Iterator[Entry]:
 
 
 def rest_of(database: sqlite3.Connection) -> str:
-    """The hash of what a record has beside its entries: its facts, its programs, what was put aside,
-    and answers of before."""
+    """The hash of what a record has beside its entries: its facts, its programs, what was put
+    aside, and answers of before."""
     found = b""
     for sql in REST:
         for row in database.execute(sql):
@@ -282,9 +282,7 @@ class RecordWriter:
         return self.tip._replace(entries=count, entry_hash=last.hex()), rows
 
     @staticmethod
-    def _after_givenup(
-        tip: Tip, givenup: Iterable[GivenUp]
-    ) -> Tuple[Tip, List[Tuple[Any, ...]]]:
+    def _after_givenup(tip: Tip, givenup: Iterable[GivenUp]) -> Tuple[Tip, List[Tuple[Any, ...]]]:
         """The tip after these connections were given up, and their rows."""
         last, rows = bytes.fromhex(tip.givenup_hash), []
         for number, one in enumerate(givenup, tip.givenup + 1):
@@ -407,9 +405,7 @@ class RecordWriter:
                 "UPDATE givenup SET aside_time = :now WHERE aside_time IS NULL AND time > :then",
                 {**then, "now": now},
             )
-            database.execute(
-                "UPDATE givenup SET aside_time = NULL WHERE aside_time = :then", then
-            )
+            database.execute("UPDATE givenup SET aside_time = NULL WHERE aside_time = :then", then)
             check_places(database)
         return aside, back
 

@@ -282,7 +282,7 @@ class SharedSession:
         async with self._room:
             if self._session.is_worn:
                 await self._renew()
-            await self._gateway.until_open(request.slot)
+            await self._gateway.slot_gate.until_open(request.slot)
             return await ask_later(self.own_session(), request, request_id)
 
     def own_session(self) -> Session:

@@ -118,7 +118,9 @@ class LineClient(asyncio.Protocol):
 
     def resume(self) -> None:
         """Reads on, where that was paused and few lines are left."""
-        is_few = len(self.lines) < FEW_LINES and self.waiting < self.gateway.limits.waiting_bytes // 2
+        is_few = (
+            len(self.lines) < FEW_LINES and self.waiting < self.gateway.limits.waiting_bytes // 2
+        )
         if self._is_paused and is_few and not self.is_gone:
             self._is_paused = False
             self._transport.resume_reading()
@@ -220,10 +222,10 @@ class TeamClient(LineClient):
         elif self.session.is_worn and request.cmd != "logout":
             self._begin(self._renew(line))
             self.under_way -= self.items.pop().size
-        elif request.slot in self.gateway.closed_slots:
+        elif request.slot in self.gateway.slot_gate.closed:
             self._is_busy = True
             self._put_back(line)
-            self.gateway.wait_for_slot(self)
+            self.gateway.slot_gate.wait_for(self)
         elif request.cmd in CHANGES_OF_ROLES and self._is_refused(item):
             return
         else:

@@ -3,10 +3,10 @@
 usage: faulty.py FAULT MOMENT team --state DIR ..
 
 Once it gets SIGUSR1, the fault comes the next time that the moment is reached, and stays until
-SIGUSR2. The faults are real ones: a file fills the file system on which the folder lies, descriptors are opened
-until there is none, standard error is a pipe that nobody reads any more, another connection holds
-the record, or the system refuses to fork. Where such a fault alone hurts nobody, the server is
-killed too.
+SIGUSR2. The faults are real ones: a file fills the file system on which the folder lies,
+descriptors are opened until there is none, standard error is a pipe that nobody reads any more,
+another connection holds the record, or the system refuses to fork. Where such a fault alone hurts
+nobody, the server is killed too.
 """
 import ctypes
 import json

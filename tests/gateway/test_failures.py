@@ -29,6 +29,7 @@ from estserve_team.server import Lost
 FAULTS = ("full_disk", "no_descriptors", "closed_stderr", "locked_record", "no_forks")
 BYTES = 16 << 20  # of the file system that is filled
 STEPS = 12
+NEW_MOUNTS, PRIVATE = 0x00020000, 0x44000  # of Linux, the second with all that lies below
 BESIDE = 3  # gateways that run beside each other
 END_SECONDS = 30  # several times what the watchdog leaves; loaded machines are slow
 STEP = line_of(cmd="step", slot=0)
@@ -39,6 +40,13 @@ SETUP = [
     line_of(cmd="grant", object="0", op="step", role="root"),
     line_of(cmd="load", main="M", slot=0, text=MODULE),
 ]
+
+
+def setUpModule():
+    """Has what is mounted here go away with this process, however it ends."""
+    library = ctypes.CDLL(None)
+    if os.geteuid() == 0 and library.unshare(NEW_MOUNTS) == 0:
+        library.mount(None, b"/", None, PRIVATE, None)
 
 
 def mount(folder):
@@ -154,9 +162,9 @@ class Failures(unittest.TestCase):
             seen.step(talker, STEPS)
 
     def after(self, team, folder):
-        """Sees that the gateway serves on, or has ended with a fault; without its cause it serves."""
+        """Sees that the gateway serves on, or has ended with a fault, once the cause is gone."""
         try:
-            status = team.process.wait(1.5)
+            status = team.process.wait(0.8)
         except subprocess.TimeoutExpired:
             status = None
         (folder / faulty.FILLER).unlink(missing_ok=True)
@@ -246,7 +254,7 @@ class Told(unittest.TestCase):
         with tempfile.TemporaryDirectory(prefix="gateway-") as folder:
             team = Team(state=pathlib.Path(folder) / "team")
             command = ["sh", "-c", 'exec "$@" 2>&-', "sh", *team.command()]
-            process = subprocess.Popen(
+            process = team.process = subprocess.Popen(
                 command, stdin=subprocess.DEVNULL, stdout=subprocess.PIPE, text=True
             )
             self.assertTrue(process.stdout.readline().startswith("ready: "))

@@ -86,7 +86,6 @@ class TheFolder(unittest.TestCase):
                 with Places(pathlib.Path(folder) / ("x" * 100)):
                     pass
 
-
     def test_a_link_is_not_followed(self):
         with tempfile.TemporaryDirectory() as folder:
             for name in ("team", "team/private", "team/private/lock", "team/private/records"):

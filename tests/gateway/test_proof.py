@@ -1,5 +1,5 @@
-"""A record proves itself: whatever was cut, changed or exchanged stops the start, with the place and
-what to do. A record without hashes, as gateways made it before, gets them at the first start."""
+"""A record proves itself: whatever was cut, changed or exchanged stops the start, with the place
+and what to do. A record without hashes, as gateways made it before, gets them at the first start."""
 import contextlib
 import json
 import pathlib
@@ -203,7 +203,9 @@ class Changed(Record):
     def test_a_head_that_was_torn_has_another_place(self):
         with open(self.head, "r+b") as file:
             text = file.read()
-            newest = max(range(2), key=lambda at: tip_of(text[at * SLOT_BYTES :][:SLOT_BYTES]).serial)
+            newest = max(
+                range(2), key=lambda at: tip_of(text[at * SLOT_BYTES :][:SLOT_BYTES]).serial
+            )
             file.seek(newest * SLOT_BYTES + 100)
             file.write(b"torn")
         self.assertTrue(self.is_proven())

@@ -65,7 +65,9 @@ class Document(unittest.TestCase):
         named = {name for row in rows for name in re.findall(r"`(test_\w+(?:\.py)?)`", row)}
         files = list(pathlib.Path(__file__).parent.rglob("test_*.py"))
         written = {path.name for path in files}
-        written |= {name for path in files for name in re.findall(r"def (test_\w+)", path.read_text())}
+        written |= {
+            name for path in files for name in re.findall(r"def (test_\w+)", path.read_text())
+        }
         self.assertGreater(len(named), 30)
         self.assertEqual(named - written, set())
 
@@ -86,7 +88,9 @@ class Document(unittest.TestCase):
         from estserve_team import overseeing, reads
 
         words = {**reads.WORDS, **overseeing.WORDS}
-        table = DOCUMENT.read_text().partition("## Answers on")[2].partition("\n## ")[0].splitlines()
+        table = (
+            DOCUMENT.read_text().partition("## Answers on")[2].partition("\n## ")[0].splitlines()
+        )
         rows = [line.split("|")[1:3] for line in table if line.startswith("| `")]
         told = {word.strip(" `"): set(re.findall(r"`(\w+)`", keys)) for word, keys in rows}
         self.assertEqual(

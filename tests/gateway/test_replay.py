@@ -82,8 +82,8 @@ def failed_start(team):
 
 
 def change(team, sql, *values):
-    """Changes the record while no gateway runs, as one does who may write all of it: hashes and head
-    are made anew."""
+    """Changes the record while no gateway runs, as one does who may write all of it: hashes and
+    head are made anew."""
     database = sqlite3.connect(team.record)
     with database:
         count = database.execute(sql, values).rowcount

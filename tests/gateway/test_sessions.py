@@ -161,9 +161,7 @@ class InProcess(unittest.TestCase):
         with teams.open_reader(gateway.record_path) as database:
             return [
                 teams.Entry._make(row)
-                for row in database.execute(
-                    f"SELECT {teams.COLUMNS} FROM entries ORDER BY number"
-                )
+                for row in database.execute(f"SELECT {teams.COLUMNS} FROM entries ORDER BY number")
             ]
 
 
@@ -174,7 +172,7 @@ class ServerLost(InProcess):
         teams.hold(gateway._server.process)
 
     async def lose_server_of(self, gateway, count):
-        """Kills the server, which stands still, once this many logins wait for its answer, and waits
+        """Kills the server, which stands still, once this many logins wait for its answer. Waits
         until that is noticed."""
         server = gateway._server.process
         while self.logins_of(gateway) < count:

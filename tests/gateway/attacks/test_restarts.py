@@ -1,8 +1,8 @@
-"""After each restart the gateway's world is what its clients were answered: a server alone is given
-the same commands, and both are asked the same, byte for byte.
+"""After each restart the gateway's world is what its clients were answered: a server alone is
+given the same commands, and both are asked the same, byte for byte.
 
-Gateway, server or both are killed at random, or the disk is full for a while, or the gateway is told
-to end. The variable GATEWAY_RESTARTS says how often.
+Gateway, server or both are killed at random, or the disk is full for a while, or the gateway is
+told to end. The variable GATEWAY_RESTARTS says how often.
 """
 import contextlib
 import json
@@ -16,17 +16,23 @@ import unittest
 import teams
 from teams import Server, Talker, Team, line_of, login_line, program_file, random_of
 from estserve_team.server import Lost
-from test_failures import END_SECONDS, small_disk
+from test_failures import END_SECONDS, setUpModule, small_disk
 
-RESTARTS = int(os.environ.get("GATEWAY_RESTARTS", "20"))
+RESTARTS = int(os.environ.get("GATEWAY_RESTARTS", "12"))
 COMMANDS = 25  # between two restarts, at most
-MODULE = (
-    "module M: input A, B; output O; loop [ await A || await B ]; emit O; pause end end module"
-)
+MODULE = "module M: input A, B; output O; loop [ await A || await B ]; emit O; pause end end module"
 LOGOUT = line_of(cmd="logout")
-PAIRS = [(op, f"{slot}{name}") for slot in (0, 1) for op, name in (
-    ("load", ""), ("step", ""), ("offer", ".A"), ("offer", ".B"), ("observe", ".A"), ("observe", ".O")
-)]  # fmt: skip
+PAIRS = [
+    (op, f"{slot}{name}")
+    for slot in (0, 1)
+    for op, names in (
+        ("load", [""]),
+        ("step", [""]),
+        ("offer", [".A", ".B"]),
+        ("observe", [".A", ".O"]),
+    )
+    for name in names
+]
 
 
 class Worlds:
@@ -73,7 +79,10 @@ class Worlds:
             return line_of(cmd="discard", slot=slot)
         if kind < 9:
             return numbers.choice(
-                [line_of(cmd="unload", slot=slot), line_of(cmd="load", main="M", slot=slot, text=MODULE)]
+                [
+                    line_of(cmd="unload", slot=slot),
+                    line_of(cmd="load", main="M", slot=slot, text=MODULE),
+                ]
             )
         op, object = numbers.choice(PAIRS)
         cmd = numbers.choice(["grant", "grant", "revoke"])
@@ -114,7 +123,9 @@ class Worlds:
 class Restarts(unittest.TestCase):
     def test_each_restart_is_what_was_answered(self):
         numbers, kinds = random_of("restarts"), []
-        with tempfile.TemporaryDirectory(prefix="gateway-") as folder, contextlib.ExitStack() as held:
+        with tempfile.TemporaryDirectory(
+            prefix="gateway-"
+        ) as folder, contextlib.ExitStack() as held:
             disk = held.enter_context(small_disk()) if os.geteuid() == 0 else None
             state = (disk or pathlib.Path(folder)) / "team"
             model = held.enter_context(Server(program_file(), pathlib.Path(folder) / "model"))

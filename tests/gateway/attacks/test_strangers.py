@@ -166,9 +166,7 @@ class OverHttp(unittest.TestCase):
             client.addrole("last")
         for thread in threads:
             thread.join(SECONDS)
-        longest = max(
-            after - before for times in heard for before, after in zip(times, times[1:])
-        )
+        longest = max(after - before for times in heard for before, after in zip(times, times[1:]))
         print(f"60 streams, 20 changes a second: the longest silence was {longest:.2f} s")
         self.assertLess(longest, SECONDS)
         self.assertTrue(all(len(times) > 3 for times in heard))
