@@ -14,9 +14,9 @@ returns-in_err-text-clause-fault c =
     let p = err_from_is_err_and c.from_residual.result c.from_residual.ensures.1 in
     rw (p.1, p.2) (in_cutting Memory tt)
 
-pub returns-in_err-engine-clause-fault : goal.returns-in_err-engine-clause-fault
-returns-in_err-engine-clause-fault c =
-    let p = err_from_is_err_and c.from_residual-in_err-engine.result c.from_residual-in_err-engine.ensures.1 in
+pub returns-in_err-build-clause-fault : goal.returns-in_err-build-clause-fault
+returns-in_err-build-clause-fault c =
+    let p = err_from_is_err_and c.from_residual-in_err-build.result c.from_residual-in_err-build.ensures.1 in
     rw (p.1, p.2) (in_cutting Memory tt)
 
 -- an identifier is read as one
