@@ -1,8 +1,8 @@
 """The words of the command line: each command with its options.
 
-A further command is a module with a function `add_NAME` here, a line in ADDERS, and a function that
-does it, in a module of its own that is imported when it is asked for. A package beside this one
-brings its commands by NEIGHBOURS.
+A further command is a function `add_NAME` here, a line in ADDERS, and a function that does it, in a
+module of its own that is imported when it is asked for; then a section of man/estserve-client.1, and
+`make_completions.py` run anew. A package beside this one brings its commands by NEIGHBOURS.
 """
 from __future__ import annotations
 

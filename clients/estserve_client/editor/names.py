@@ -35,7 +35,9 @@ class Use:
 
 @dataclasses.dataclass(frozen=True)
 class Bound:
-    """A run that binds a signal by its name alone: the name of the module that is run."""
+    """A run that binds a signal by its name alone: the run, the name, the module that is run, what the
+    name means where the run stands, and the module in which that is.
+    """
 
     run: Node
     name: str
