@@ -5,7 +5,7 @@ _estserve_client() {
     COMPREPLY=()
     if ((COMP_CWORD == 1)); then path=; fi
     case "$path ${COMP_WORDS[2]}" in
-    'team who' | 'team slots' | 'team policy' | 'team why' | 'team log' | 'team archive' | 'team link')
+    'team who' | 'team slots' | 'team policy' | 'team why' | 'team log' | 'team archive' | 'team link' | 'team health' | 'team visits' | 'team kick' | 'team close' | 'team retract' | 'team verify' | 'team backup' | 'team restore' | 'team undo-until')
         if ((COMP_CWORD > 2)); then path="$path ${COMP_WORDS[2]}"; fi
         ;;
     esac
@@ -61,10 +61,10 @@ _estserve_client() {
         esac
         ;;
     'team')
-        words='who slots policy why log archive link --help --state --people --program --group --until --http --http-socket --origin --user-header --proxy-user'
+        words='who slots policy why log archive link health visits kick close retract verify backup restore undo-until --help --state --people --program --group --until --accept --limit --http --http-socket --origin --user-header --proxy-user'
         case "$before" in
         --state | --people | --program | --http-socket) words='' files=1 ;;
-        --group | --until | --http | --origin | --user-header | --proxy-user) return ;;
+        --group | --until | --limit | --http | --origin | --user-header | --proxy-user) return ;;
         esac
         ;;
     'team who')
@@ -114,6 +114,67 @@ _estserve_client() {
         case "$before" in
         --state) words='' files=1 ;;
         --as | --role) return ;;
+        esac
+        ;;
+    'team health')
+        words='--help --state --as --role --json'
+        case "$before" in
+        --state) words='' files=1 ;;
+        --as | --role) return ;;
+        esac
+        ;;
+    'team visits')
+        words='--help --state --as --role --json'
+        case "$before" in
+        --state) words='' files=1 ;;
+        --as | --role) return ;;
+        esac
+        ;;
+    'team kick')
+        words='--help --state --as --role --json'
+        case "$before" in
+        --state) words='' files=1 ;;
+        --as | --role) return ;;
+        esac
+        ;;
+    'team close')
+        words='--help --state --as --role --json'
+        case "$before" in
+        --state) words='' files=1 ;;
+        --as | --role) return ;;
+        esac
+        ;;
+    'team retract')
+        words='--help --state --as --role --json'
+        case "$before" in
+        --state) words='' files=1 ;;
+        --as | --role) return ;;
+        esac
+        ;;
+    'team verify')
+        words='--help --state'
+        case "$before" in
+        --state) words='' files=1 ;;
+        esac
+        ;;
+    'team backup')
+        words='--help --state'
+        files=1
+        case "$before" in
+        --state) words='' files=1 ;;
+        esac
+        ;;
+    'team restore')
+        words='--help --state'
+        files=1
+        case "$before" in
+        --state) words='' files=1 ;;
+        esac
+        ;;
+    'team undo-until')
+        words='--help --state'
+        case "$before" in
+        --state) words='' files=1 ;;
         esac
         ;;
     esac
