@@ -29,7 +29,7 @@ pairs_joined P [] ys a b c = b
 pairs_joined P (x ∷ xs) ys a b c = AllPairs-cons P x (xs ++ ys)
     (All-append (P x) xs ys (λ k d w. a 0 (suc k) d (omega arith) (omega arith)) (All-head (λ y. All (P y) ys) x xs c))
     (pairs_joined P xs ys (λ i j d l w. a (suc i) (suc j) d (omega arith) (omega arith)) b
-        (All-tail (λ y. All (P y) ys) x xs c))
+    (All-tail (λ y. All (P y) ys) x xs c))
 
 module _ {S A : Type 0} (answers : ℕ → A → Option S → Type 0) (is_state : S → Type 0) (may : ℕ → Bool)
     (relations : List Relation) (places most : ℕ) where
@@ -71,12 +71,16 @@ module _ {S A : Type 0} (answers : ℕ → A → Option S → Type 0) (is_state 
     all = at whole w;
   } where
     has : (inputs : InputSet) → IsIn inputs may → IsBelow places inputs m → HasInputs (s ∷ []) inputs
-    has inputs offered below = record { step = s; listed = (0, (omega arith), refl); is = rw is
-        (whole_inputs beyond m inputs offered below) }
+    has inputs offered below = record {
+      step = s;
+      listed = (0, (omega arith), refl);
+      is = rw is
+          (whole_inputs beyond m inputs offered below);
+    }
 
     at : (b : Bool) → MatchBool b (Unit {0}) (most < length (old ++ s ∷ [])) → MatchBool b
         ((inputs : InputSet) → IsIn inputs may → AreLawful relations inputs → IsBelow places inputs m → HasInputs
-            (s ∷ []) inputs)
+        (s ∷ []) inputs)
         (most < length (old ++ s ∷ []))
     at true u = λ inputs offered lawful below. has inputs offered below
     at false l = l
@@ -136,23 +140,23 @@ module _ {S A : Type 0} (answers : ℕ → A → Option S → Type 0) (is_state 
         (All-weaker (λ s. IsBelow (p + 1) (bits s.label.inputs) m) (λ s. IsBelow p (bits s.label.inputs) m)
         (λ s. without_is_below may places p m part (bits s.label.inputs)) a.more a.within)
         (All-weaker (λ s. IsBelow (p + 1) (bits s.label.inputs) (with_place m p))
-            (λ s. IsBelow p (bits s.label.inputs) m)
+        (λ s. IsBelow p (bits s.label.inputs) m)
         (λ s. with_is_below may places p m part (bits s.label.inputs)) b.more b.within);
     differ = pairs_joined (λ s t. s.label.inputs ≢ t.label.inputs) a.more b.more a.differ b.differ
         (All-weaker (λ s. IsBelow (p + 1) (bits s.label.inputs) m)
-            (λ s. All (λ t. s.label.inputs ≢ t.label.inputs) b.more)
+        (λ s. All (λ t. s.label.inputs ≢ t.label.inputs) b.more)
         (λ s i. All-weaker (λ t. IsBelow (p + 1) (bits t.label.inputs) (with_place m p))
-            (λ t. s.label.inputs ≢ t.label.inputs)
+        (λ t. s.label.inputs ≢ t.label.inputs)
         (λ t j e. false≢true (sym (without_has_not p m part.low s.label.inputs i) ∙
-            (ap (λ k. bits k p) e ∙ with_has p m t.label.inputs j)))
+        (ap (λ k. bits k p) e ∙ with_has p m t.label.inputs j)))
         b.more b.within) a.more a.within);
     all = at whole b.all;
   } where
     at : (w : Bool)
         → MatchBool w ((inputs : InputSet) → IsIn inputs may → AreLawful relations inputs → IsBelow (p + 1) inputs
-            (with_place m p) → HasInputs b.more inputs) (most < length new)
+        (with_place m p) → HasInputs b.more inputs) (most < length new)
         → MatchBool w ((inputs : InputSet) → IsIn inputs may → AreLawful relations inputs → IsBelow p inputs m →
-            HasInputs (a.more ++ b.more) inputs) (most < length new)
+        HasInputs (a.more ++ b.more) inputs) (most < length new)
     at true h = λ inputs offered lawful below. elim (cases_Bool (inputs p)) [
       | inl t ↦ let one = h inputs offered lawful (more_below p inputs m t below) in
           record { step = one.step; listed = Contains-append_right a.more b.more one.step one.listed; is = one.is }

@@ -11,7 +11,7 @@ use Rattle.est_kernel.specs.Term.{Term}
 use Rattle.est_kernel.specs.declared.state.State.TheVariants.{Fresh}
 use Rattle.est_meaning.specs.States.{IsState}
 use Rattle.est_explore.specs.Inner.Answers.{AnswersSo}
-use Rattle.est_explore.specs.Inner.Explored.{IsExplored, fails}
+use Rattle.est_explore.specs.Explored.{IsExplored, fails}
 use Rattle.est_explore.specs.Runs.{Module, IsLawful, Instant, Goes, Runs, start}
 use Rattle.est_explore.specs.Verdicts.{shown, outputs_of, FailsAt, FailsBy, IsReached, HasMoreStates, HasMoreTrials}
 use Rattle.est_explore.specs.Verdicts.{Trial}
@@ -86,7 +86,7 @@ module _ (m : Module) (f : Found Position (Asked Answer)) (e : IsExplored m f) w
   deeper p q a b i j l = elim (cases_lt p q) [
     | inl lt ↦ subst (λ (o : Node Position). o.depth ≤ b.depth) (i.is a)
         (subst (λ (o : Node Position). (get_or f.nodes.items p a).depth ≤ o.depth) (j.is a)
-            (e.found.tree.ordered p q a lt j.within))
+        (e.found.tree.ordered p q a lt j.within))
     | inr ge ↦
         let same : p ≡ q = omega arith in
         let one : a ≡ b = is_one f.nodes.items q a b (rw same at i) j in
@@ -125,7 +125,7 @@ module _ (m : Module) (f : Found Position (Asked Answer)) (e : IsExplored m f) w
     later row k l s g = elim (cases_lt at k) [
       | inl lt ↦ subst (λ (a : Row (Asked Answer)). a.from ≤ row.from) (get_or_default f.rows.items at row r w ∙ is)
           (subst (λ (a : Row (Asked Answer)). (get_or f.rows.items at row).from ≤ a.from) s
-              (e.found.tree.in_turn at k row lt l))
+          (e.found.tree.in_turn at k row lt l))
       | inr eq ↦
           let same : k ≡ at = omega arith in
           let one : row ≡ r = sym s ∙ (rw same (get_or_default f.rows.items at row r w) ∙ is) in
@@ -164,11 +164,11 @@ module _ (m : Module) (f : Found Position (Asked Answer)) (e : IsExplored m f) w
 
   pub fails_first : (claim : Claim) (at : ℕ) (word : List (Asked Answer)) → at < length f.rows.items
       → ((d : Row (Asked Answer)) → fails claim (get_or f.rows.items at d).label.inputs
-          (get_or f.rows.items at d).label.answer ≡ true)
+      (get_or f.rows.items at d).label.answer ≡ true)
       → ((d : Row (Asked Answer)) (k : ℕ) → k < at
       → fails claim (get_or f.rows.items k d).label.inputs (get_or f.rows.items k d).label.answer ≡ false)
       → ((r : Row (Asked Answer)) → LedTo (DoesSo m) (record { state = Fresh }) f.nodes.items (get_or f.rows.items at r)
-          word)
+      word)
       → FailsBy m claim word
   fails_first claim at word w bad pass led = fails_by claim at (get_or f.rows.items at nothing) word w pass
       (get_or_default f.rows.items at (get_or f.rows.items at nothing) nothing w) (bad nothing) (led nothing)
@@ -189,12 +189,12 @@ module _ (m : Module) (f : Found Position (Asked Answer)) (e : IsExplored m f) w
         → IsReached m n.state
     by before came =
         let row : IsRow (DoesSo m) f.nodes.items came.row = subst
-            (λ (a : Row (Asked Answer)). IsRow (DoesSo m) f.nodes.items a)
+        (λ (a : Row (Asked Answer)). IsRow (DoesSo m) f.nodes.items a)
         (came.by came.row) (All-get_or (IsRow (DoesSo m) f.nodes.items) f.rows.items n.by came.row came.within
-            e.found.tree.sound) in
+        e.found.tree.sound) in
         let to : row.after ≡ Some n.state =
         leads_there (λ (x : Position). IsState m.kernel.root x.state) (DoesSo m)
-            (λ (a b : Asked Answer). a.inputs ≢ b.inputs)
+        (λ (a b : Asked Answer). a.inputs ≢ b.inputs)
         f.nodes.items _ k n came.row.next row.after row.leads came.to here in
         let step : DoesSo m row.before.state came.row.label (Some n.state) = rw to at row.step in
         let earlier = came.earlier in
@@ -245,13 +245,13 @@ module _ (m : Module) (f : Found Position (Asked Answer)) (e : IsExplored m f) w
     more = rw length-map l;
     distinct = pairs_mapped (λ x y. x ≢ y) trial f.rows.items nothing
         (λ i j d k w. differ (get_or f.rows.items i d) (get_or f.rows.items j d) (row_at i d (omega arith))
-            (row_at j d w)
+        (row_at j d w)
         (e.found.tree.in_turn i j d k w) (e.found.tree.differ i j d k w));
     reached = All-map (λ a. IsReached m a.position) trial f.rows.items
         (λ k d w. let row = row_at k d w in
         subst (λ (n : Node Position). IsReached m n.state) (sym (row.from.is e.begins.node))
-            (reached _ row.before row.from));
+        (reached _ row.before row.from));
     lawful = All-map (λ a. IsLawful m (bits a.inputs)) trial f.rows.items
         (λ k d w. let row = row_at k d w in lawful_of m row.before.state (get_or f.rows.items k d).label row.after
-            row.step);
+        row.step);
   }

@@ -28,10 +28,10 @@ all_imply : (p q : Relation → Bool) → ((r : Relation) → p r ≡ true → q
     → list_all p rs ≡ true → list_all q rs ≡ true
 all_imply p q imply [] h = refl
 all_imply p q imply (r ∷ rs) h = joined (p r) (q r) (list_all p rs) (list_all q rs) (imply r) (all_imply p q imply rs) h
-    where
-  joined : (a b c d : Bool) → (a ≡ true → b ≡ true) → (c ≡ true → d ≡ true) → (a && c) ≡ true → (b && d) ≡ true
-  joined true b c d f g h = rw (f refl) (g h)
-  joined false b c d f g h = absurd (false≢true h)
+  where
+    joined : (a b c d : Bool) → (a ≡ true → b ≡ true) → (c ≡ true → d ≡ true) → (a && c) ≡ true → (b && d) ≡ true
+    joined true b c d f g h = rw (f refl) (g h)
+    joined false b c d f g h = absurd (false≢true h)
 
 pub fewer_keep : (rs : List Relation) (f g : InputSet) → IsIn f g → are_exclusions_kept rs g ≡ true
     → are_exclusions_kept rs f ≡ true

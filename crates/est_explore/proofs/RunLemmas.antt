@@ -14,7 +14,7 @@ use Rattle.est_meaning.specs.Rounds.{judged_signals}
 use Rattle.est_meaning.specs.States.{state_term}
 use Rattle.est_explore.specs.Inner.Answers.{AnswersSo}
 use Rattle.est_explore.specs.Claims.{holds, HasReaction, HoldsFor}
-use Rattle.est_explore.specs.Inner.Explored.{IsExplored, fails}
+use Rattle.est_explore.specs.Explored.{IsExplored, fails}
 use Rattle.est_explore.specs.Inner.InputSets.{IsAsked}
 use Rattle.est_explore.specs.Runs.{Module, InputSet, IsLawful, Instant, is_present, Goes, Runs, start, may_offer}
 use Rattle.est_explore.specs.declared.asked.Asked.{Asked}
@@ -68,7 +68,7 @@ module _ (m : Module) (f : Found Position (Asked Answer)) (e : IsExplored m f) w
       let has : HasRow f.nodes.items f.rows.items k n one.step =
       All-contains (HasRow f.nodes.items f.rows.items k n) all.steps one.step all.listed one.listed in
       let row : IsRow Does f.nodes.items has.row = All-contains (IsRow Does f.nodes.items) f.rows.items has.row
-          e.found.tree.sound has.listed in
+      e.found.tree.sound has.listed in
       let same_node : row.before ≡ n = is_one f.nodes.items k row.before n (rw has.from at row.from) here in
       record {
         row = has.row;
@@ -95,15 +95,15 @@ module _ (m : Module) (f : Found Position (Asked Answer)) (e : IsExplored m f) w
       (place : Option ℕ)
       (after : Option Position) → Leads f.nodes.items most place after → AnswersSo m.kernel x i answer after
       → (outputs : ℕ → Bool) (v : Term) → Goes m (term_of_position m x) inputs outputs v → FollowsBy answer most outputs
-          v
+      v
   follow_by x most inputs i is (Reaction o) place after nowhere a outputs v goes = absurd a
   follow_by x most inputs i is (Stuck u) place after (there p n here few) a outputs v goes = absurd a
   follow_by x most inputs i is (Stuck u) place after nowhere a outputs v goes =
       let g : Goes m (term_of_position m x) (bits i) outputs v = rw is goes in absurd
-          (a.cannot g.signals g.code v g.gives)
+      (a.cannot g.signals g.code v g.gives)
   follow_by x most inputs i is (Reaction o) place after (there p n here few) a outputs v goes =
       let one = same m (term_of_position m x) inputs (bits o) (term_of_position m n.state) outputs v (rw is at a.reacts)
-          goes in
+      goes in
       record { emitted = o; is = refl; shows = one.shown; place = p; node = n; here = here; few = few; term = one.next }
 
   pub follows : (k : ℕ) (n : Node Position) (inputs : InputSet) (r : RowFor k n inputs) (outputs : ℕ → Bool) (v : Term)
@@ -137,7 +137,7 @@ module _ (m : Module) (f : Found Position (Asked Answer)) (e : IsExplored m f) w
       let s = follows k n i.inputs r i.outputs runs.0 runs.2 in
       let few = s.few in
       let g = run_goes claim d c s.place s.node s.here run t (subst (λ (v : Term). Runs m v run t) (sym s.term) runs.3)
-          (omega arith) in
+      (omega arith) in
       record { place = g.place; node = g.node; here = g.here; few = let w = g.few in omega arith; term = g.term }
 
   passes_holds : (test : Bor Test) (i : ℕ) (answer : Answer) (emitted : ℕ) (inputs outputs : ℕ → Bool) → answer ≡
@@ -164,7 +164,7 @@ module _ (m : Module) (f : Found Position (Asked Answer)) (e : IsExplored m f) w
       (passes_holds test r.row.label.inputs r.row.label.answer s.emitted i.inputs i.outputs s.is r.is s.shows
       (c.passes r.row r.listed n (rw r.from here) (omega arith)))
       (run_passes test d c s.place s.node s.here run t (subst (λ (v : Term). Runs m v run t) (sym s.term) runs.3)
-          (omega arith))
+      (omega arith))
 
   reacts_by : (x : Position) (most : ℕ) (inputs : InputSet) (i : ℕ) → bits i ≡ inputs → (answer : Answer)
       (place : Option ℕ)
@@ -194,7 +194,7 @@ module _ (m : Module) (f : Found Position (Asked Answer)) (e : IsExplored m f) w
       let r = row_for g.place g.node inputs g.here (c.done g.place g.node g.here (omega arith)) lawful in
       subst (λ (v : Term). HasReaction m v inputs) g.term
       (reacts_by g.node.state (g.node.depth + 1) inputs r.row.label.inputs r.is r.row.label.answer r.row.next r.after
-          r.leads r.answer
+      r.leads r.answer
       (c.passes r.row r.listed g.node (rw r.from g.here) (omega arith)))
   holds_for (Always test) d c = λ run is l.
       let none = first_depth in

@@ -2,7 +2,7 @@
 ghost use Rattle.std.specs.Prelude.{◌≡◌};
 ghost use Rattle.est_kernel.specs.Bits.{bits};
 ghost use Rattle.est_explore.specs.Claims.{holds};
-ghost use Rattle.est_explore.specs.Inner.Explored.{fails};
+ghost use Rattle.est_explore.specs.Explored.{fails};
 
 use crate::asked::Asked;
 use crate::one_module::Answer;

@@ -31,7 +31,7 @@ fn add_step<R: Reactive>(
     ensures covered { IfOk result (λ whole. IsCovered (R.answers reactive.now state.now)
         (R.is_state reactive.now)
         (bits sets.now.may) sets.now.relations.now sets.now.places inputs most whole steps.old.items
-            steps.new.items) }
+        steps.new.items) }
 {
     if !sets.keep(inputs) {
         return Ok(true);
@@ -71,7 +71,7 @@ pub fn cover<R: Reactive>(
     ensures covered { IfOk result (λ whole. IsCovered (R.answers reactive.now state.now)
         (R.is_state reactive.now)
         (bits sets.now.may) sets.now.relations.now part.place part.inputs most whole steps.old.items
-            steps.new.items) }
+        steps.new.items) }
 {
     if part.place >= sets.places {
         return add_step(reactive, sets, scratch, state, most, part.inputs, steps);

@@ -101,9 +101,9 @@ impl<'a> InputSets<'a> {
         ensures { MatchOption result
             ((bits self.now.may part.place ≡ false)
             ⊎ (are_exclusions_kept self.now.relations.now (bits (with_place part.inputs part.place))
-                ≡ false))
+            ≡ false))
             (λ more. (more ≡ with_place part.inputs part.place) ×
-                (bits self.now.may part.place ≡ true)) }
+            (bits self.now.may part.place ≡ true)) }
     {
         if !mask::has(self.may, part.place) {
             return None;

@@ -3,7 +3,7 @@ ghost use Rattle.std.specs.Prelude.{◌≡◌, ◌<◌, ℕ, IfOk, MatchOption, 
 ghost use Rattle.std.specs.Prelude.{false};
 ghost use Rattle.state_search.specs.Table.{HasEnded};
 ghost use Rattle.state_search.specs.declared.found.Row.{Row as RowValue};
-ghost use Rattle.est_explore.specs.Inner.Explored.{IsExplored, fails};
+ghost use Rattle.est_explore.specs.Explored.{IsExplored, fails};
 ghost use Rattle.est_explore.specs.Verdicts.{IsRight};
 ghost use Rattle.est_explore.specs.Views.{module_of};
 ghost use Rattle.est_explore.specs.declared.asked.Asked.{Asked as AskedValue};
@@ -25,15 +25,15 @@ use std::alloc::{AllocError, Global};
 fn first_failure(rows: &[Row<Asked<Answer>>], claim: &Claim<'_>) -> Option<usize>
     ensures { MatchOption result
         ((d : RowValue (AskedValue AnswerValue)) (k : ℕ) → k < length rows.now → fails claim.now
-            (slice_index_or rows.now k d).label.inputs (slice_index_or rows.now k d).label.answer ≡
-            false)
+        (slice_index_or rows.now k d).label.inputs (slice_index_or rows.now k d).label.answer ≡
+        false)
         (λ at. (at < length rows.now)
         × ((d : RowValue (AskedValue AnswerValue)) → fails claim.now
-            (slice_index_or rows.now at d).label.inputs (slice_index_or rows.now at d).label.answer
-            ≡ true)
+        (slice_index_or rows.now at d).label.inputs (slice_index_or rows.now at d).label.answer
+        ≡ true)
         × ((d : RowValue (AskedValue AnswerValue)) (k : ℕ) → k < at → fails claim.now
-            (slice_index_or rows.now k d).label.inputs (slice_index_or rows.now k d).label.answer ≡
-            false)) }
+        (slice_index_or rows.now k d).label.inputs (slice_index_or rows.now k d).label.answer ≡
+        false)) }
 {
     for at in 0..rows.len() {
         if claim.fails(&rows[at].label) {
@@ -54,7 +54,7 @@ pub fn explore<E: Engine>(
     ensures engine { E.is_for engine.new subject.now.reactive.now.kernel.now }
     ensures explored { IfOk result
         (IsExplored (module_of subject.now.reactive.now.kernel.now subject.now.relations.now
-            subject.now.among)) }
+        subject.now.among)) }
     ensures ended { IfOk result (λ f.
         HasEnded limits.states limits.steps f.nodes.items f.rows.items f.done) }
 {
@@ -76,7 +76,7 @@ pub fn judge<E: Engine>(
     ensures { (states steps : ℕ) → HasEnded states steps found.now.nodes.items found.now.rows.items
         found.now.done
         → IfOk result (IsRight (module_of subject.now.reactive.now.kernel.now
-            subject.now.relations.now subject.now.among) claim.now states steps) }
+        subject.now.relations.now subject.now.among) claim.now states steps) }
 {
     if let Some(at) = first_failure(&found.rows, claim) {
         let word = word_to(alloc, subject, found, at)?;

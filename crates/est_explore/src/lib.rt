@@ -10,4 +10,5 @@ mod input_sets;
 pub mod judge;
 pub mod one_module;
 pub mod reactive;
+pub mod table;
 pub mod verdict;

@@ -60,7 +60,7 @@ gives_grows (suspend s p) e f l o k u g = inside_grows (Gives p e) (Gives p f) _
 gives_grows (held s p) e f l o k u (is_held v g) = is_held (present_stays _ _ (query_below e f s l) v) g
 gives_grows (held s p) e f l o k u (is_resumed v g) =
     is_resumed (absent_stays _ _ (query_below e f s l) v) (inside_grows (Gives p e) (Gives p f) _ (gives_grows p e f l)
-        o k u g)
+    o k u g)
 gives_grows (seq p q) e f l o k u (goes_on d g) =
     goes_on d (inside_grows (Gives p e) (Gives p f) _ (gives_grows p e f l) o k u g)
 gives_grows (seq p q) e f l o k u (ends_then a b v x y z) =

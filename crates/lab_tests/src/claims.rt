@@ -66,7 +66,7 @@ fn expect_answer(
     };
     let limits = Limits {
         states: most,
-        steps: 4 * most,
+        steps: 99,
     };
     let found = explore(alloc, &subject, &mut Rounds::new(), limits).expect(rt, "room");
     let verdict = judge(alloc, &subject, &found, claim).expect(rt, "room");

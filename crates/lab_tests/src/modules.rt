@@ -1,7 +1,7 @@
 //! The modules of the worked examples, and tests over their signals.
 
 use est_kernel::closed::is_closed;
-use est_kernel::interface::{Declaration, Interface, Kind};
+use est_kernel::interface::{Declaration, Interface, Kind, MOST_SIGNALS};
 use est_kernel::kernel::Kernel;
 use est_kernel::statement::{InterfaceSignal, Signal, Statement, Test};
 use est_text::identifier::Identifier;
@@ -28,7 +28,8 @@ pub fn is_absent(rt: &impl Abort, alloc: Global, signal: InterfaceSignal) -> Tes
 /// Adds a declaration.
 fn declare(rt: &impl Abort, interface: &mut Interface, name: &str, kind: Kind) {
     let name = Identifier::from_text(name).expect(rt, "a name");
-    assert!(rt; !interface.is_full() && !interface.has(&name));
+    assert!(rt; interface.len() < MOST_SIGNALS);
+    assert!(rt; !interface.has(&name));
     interface
         .declare(Declaration { name, kind })
         .expect(rt, "room");

@@ -27,11 +27,11 @@ module _ {S L : Type 0} (is_state : S → Type 0) (does : S → L → Option S �
   pub at_row : (nodes : List (Node S)) (rows : List (Row L)) (at : ℕ) (row : Row L) → IsTree is_state does apart nodes
       rows
       → at < length rows → row ≡ get_or rows at row → (r : Row L) → GoneBack does nodes (get_or rows at r) row.from
-          (row.label ∷ [])
+      (row.label ∷ [])
   at_row nodes rows at row tree w e r =
       subst (λ (a : Row L). GoneBack does nodes a row.from (row.label ∷ [])) (e ∙ get_or_default rows at row r w)
       (let is : IsRow does nodes row = subst (λ (a : Row L). IsRow does nodes a) (sym e)
-          (All-get_or (IsRow does nodes) rows at row w tree.sound) in
+      (All-get_or (IsRow does nodes) rows at row w tree.sound) in
       record {
         before = [];
         split = refl;
@@ -48,7 +48,7 @@ module _ {S L : Type 0} (is_state : S → Type 0) (does : S → L → Option S �
       (row : Row L)
       → IsTree is_state does apart nodes rows → 0 < place → GoneBack does nodes r place word
       → node ≡ get_or nodes place node → row ≡ get_or rows node.by row → GoneBack does nodes r row.from
-          (row.label ∷ word)
+      (row.label ∷ word)
   one_back nodes rows r place word node row tree after gone at by =
       subst (λ (a : Row L). GoneBack does nodes r a.from (a.label ∷ word)) (sym same) (record {
         before = came.row.label ∷ gone.before;
@@ -99,7 +99,7 @@ module _ {S L : Type 0} (is_state : S → Type 0) (does : S → L → Option S �
   -- at the first node
   pub all_back : (nodes : List (Node S)) (rows : List (Row L)) (r : Row L) (word : List L) (start : S)
       → IsTree is_state does apart nodes rows → GoneBack does nodes r 0 word → At nodes 0 start → LedTo does start nodes
-          r word
+      r word
   all_back nodes rows r word start tree gone begin = record {
     before = gone.before;
     split = gone.split;
@@ -109,6 +109,6 @@ module _ {S L : Type 0} (is_state : S → Type 0) (does : S → L → Option S �
         (ap (λ (n : Node S). n.state) (is_one nodes 0 gone.here begin.node gone.at begin.is) ∙ begin.state) gone.path;
     shortest =
         let none : gone.here.depth ≡ 0 = ap (λ (n : Node S). n.depth)
-            (is_one nodes 0 gone.here tree.first gone.at tree.begins) ∙ tree.none in
+        (is_one nodes 0 gone.here tree.first gone.at tree.begins) ∙ tree.none in
         let s = gone.steps in omega arith;
   }

@@ -88,7 +88,7 @@ module _ {S L : Type 0} (is_state : S → Type 0) (does : S → L → Option S �
     ];
     sound = All-push (IsRow does (nodes ++ m ∷ [])) rows r
         (All-weaker (IsRow does nodes) (IsRow does (nodes ++ m ∷ [])) (row_stays does nodes (m ∷ [])) rows t.sound)
-            j.row;
+        j.row;
     in_turn = all_before (λ a b. a.from ≤ b.from) rows r t.in_turn j.in_turn;
     differ = all_before (λ a b. a.from ≡ b.from → apart a.label b.label) rows r t.differ j.differs;
   }
@@ -117,7 +117,7 @@ module _ {S L : Type 0} (is_state : S → Type 0) (does : S → L → Option S �
       (All-weaker (λ a. a.from ≡ at → HasLabel done a.label) (λ a. a.from ≡ at → HasLabel (done ++ s ∷ []) a.label)
       (λ a h i. let old = h i in
       record { step = old.step; listed = Contains-append_left done (s ∷ []) old.step old.listed; label = old.label })
-          rows mine)
+      rows mine)
       (λ i. record { step = s; listed = Contains-push done s; label = sym e })
 
   -- the new row is this step
@@ -148,7 +148,7 @@ module _ {S L : Type 0} (is_state : S → Type 0) (does : S → L → Option S �
       (next : Option ℕ) → IsExpanding is_state does covers apart nodes rows at n done → MayAdd n done s
       → Leads nodes (n.depth + 1) next s.next
       → IsExpanding is_state does covers apart nodes (rows ++ record { from = at; label = s.label; next = next } ∷ [])
-          at n
+      at n
       (done ++ s ∷ [])
   joined nodes rows at n done s next h may leads = record {
     found = record {
@@ -176,7 +176,7 @@ module _ {S L : Type 0} (is_state : S → Type 0) (does : S → L → Option S �
       (y : S) → IsExpanding is_state does covers apart nodes rows at n done → MayAdd n done s → s.next ≡ Some y
       → All (λ m. m.state ≢ y) nodes
       → IsExpanding is_state does covers apart (nodes ++ record { state = y; by = length rows; depth = n.depth + 1 } ∷
-          [])
+      [])
       (rows ++ record { from = at; label = s.label; next = Some (length nodes) } ∷ []) at n (done ++ s ∷ [])
   grown nodes rows at n done s y h may to fresh = record {
     found = record {

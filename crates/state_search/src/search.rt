@@ -77,11 +77,11 @@ fn expand<M: Machine>(
     ensures search { IfOk result (λ whole. MatchBool whole
         ((found.new.done ≡ found.old.done + 1)
         × IsSearching (M.is_state machine.now) (M.does machine.now) (M.covers machine.now)
-            (M.apart machine.now)
+        (M.apart machine.now)
         found.new.nodes.items found.new.rows.items found.new.done)
         ((most + length found.old.rows.items < length found.new.rows.items)
         × IsFound (M.is_state machine.now) (M.does machine.now) (M.covers machine.now)
-            (M.apart machine.now)
+        (M.apart machine.now)
         found.new.nodes.items found.new.rows.items found.new.done)) }
 {
     let from = found.done;

@@ -28,7 +28,7 @@ pub fn word_to<M: Machine>(
         found.now.nodes.items found.now.rows.items }
     ensures { IfOk result (λ word. (start : M.State) → At found.now.nodes.items 0 start
         → (r : RowValue M.Label) → LedTo (M.does machine.now) start found.now.nodes.items
-            (slice_index_or found.now.rows.items at r) word.items) }
+        (slice_index_or found.now.rows.items at r) word.items) }
 {
     let row = found.rows[at];
     let mut back = Vec::new(alloc);

@@ -26,4 +26,4 @@ returns-in-Some-clause-covered g t c =
 pub returns-in-None-clause-covered : goal.returns-in-None-clause-covered
 returns-in-None-clause-covered g t c =
     covers_without _ _ _ _ _ _ _ _ _ _ c.requires.part c.in-None.ensures
-        (rw c.if-not-branch.false at c.in_ok-cover.ensures.covered)
+    (rw c.if-not-branch.false at c.in_ok-cover.ensures.covered)

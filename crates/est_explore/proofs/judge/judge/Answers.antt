@@ -26,4 +26,4 @@ returns g c = λ states steps ended n.
     let o = c.args.found.now.nodes.ok.0 in
     holds_for _ _ c.requires.explored c.args.claim.now n
     (cleared_all _ _ c.requires.explored c.args.claim.now (rw c.deref.ensures.value at c.in_default.ensures)
-        (omega arith) n)
+    (omega arith) n)

@@ -26,17 +26,17 @@ loop-step-preserved g c =
     let h = c.loop-step.invariant in
     let a = c.in_ok-add_row.ensures.adds in
     let steps : AreSteps (g.M.Machine.is_state c.args.machine.now) (g.M.Machine.does c.args.machine.now)
-        (g.M.Machine.covers c.args.machine.now) (g.M.Machine.apart c.args.machine.now) c.index.result.now
-        c.as_slice-step-items.result.now =
+    (g.M.Machine.covers c.args.machine.now) (g.M.Machine.apart c.args.machine.now) c.index.result.now
+    c.as_slice-step-items.result.now =
     rw c.as_slice-step-items.ensures.value (record {
       sound = c.in_ok-whole.ensures.sound;
       states = c.in_ok-whole.ensures.states;
       differ = c.in_ok-whole.ensures.apart;
     }) in
     let next = adding _ _ _ _ _ _ _ _ _ c.loop-step.step-index _ _ _ c.loop-step-test.true c.step-item.is steps
-        h.expanding a in
+    h.expanding a in
     let more = adds_one (g.M.Machine.is_state c.args.machine.now) (g.M.Machine.does c.args.machine.now)
-        (g.M.Machine.covers c.args.machine.now) (g.M.Machine.apart c.args.machine.now) _ _ _ _ _ _ _ a in
+    (g.M.Machine.covers c.args.machine.now) (g.M.Machine.apart c.args.machine.now) _ _ _ _ _ _ _ a in
     record {
       places = c.in_ok-add_row.ensures.places;
       first = λ x k. adds_stay (g.M.Machine.is_state c.args.machine.now) (g.M.Machine.does c.args.machine.now)
@@ -53,8 +53,11 @@ returns-then-whole-clause-search g c =
     let h = c.loop-step.invariant.expanding in
     let all = rw (take_all c.loop-step.step-index c.as_slice-step-items.result.now (omega arith)) at h in
     let whole = rw c.if-whole.true at c.in_ok-whole.ensures.whole in
-    rw (c.if-whole.true, c.loop-step.invariant.done) (refl, expanded _ _ _ _ _ _ _ _ _ all
-        (rw c.as_slice-step-items.ensures.value whole))
+    rw (c.if-whole.true, c.loop-step.invariant.done) (
+      refl,
+      expanded _ _ _ _ _ _ _ _ _ all
+          (rw c.as_slice-step-items.ensures.value whole),
+    )
 
 pub returns-else-whole-clause-search : goal.returns-else-whole-clause-search
 returns-else-whole-clause-search g c =

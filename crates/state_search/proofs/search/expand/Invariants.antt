@@ -13,5 +13,5 @@ invariant-loop-step g l = record {
   count : length l.found.rows.items ≡ length l.fn.found.rows.items + l.step-index;
   expanding : IsExpanding (g.M.Machine.is_state l.machine) (g.M.Machine.does l.machine) (g.M.Machine.covers l.machine)
       (g.M.Machine.apart l.machine) l.found.nodes.items l.found.rows.items l.from l.node
-          (take l.step-index l.step-items);
+      (take l.step-index l.step-items);
 }

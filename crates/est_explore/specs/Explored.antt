@@ -1,4 +1,4 @@
--- What a search has found of a module; for private clauses (this project's own form).
+-- What a search has found of a module (this project's own form).
 use Rattle.std.specs.Prelude.{◌≢◌, ℕ, Bool, true, false, not, ◌||◌}
 use Rattle.est_kernel.specs.Bits.{bits}
 use Rattle.est_kernel.specs.declared.state.State.TheVariants.{Fresh}
