@@ -139,7 +139,6 @@ fn words_that_are_no_order(rt: HostRuntime) -> Result<(), Fail> {
             ("estserve --version", "DisplayVersion"),
             ("estserve script --version", "UnknownArgument"),
             ("estserve script -h", "DisplayHelp"),
-            ("estserve --version", "UnknownArgument"),
         ],
     )?;
     Ok(())
