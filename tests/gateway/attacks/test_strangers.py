@@ -97,6 +97,19 @@ class OverHttp(unittest.TestCase):
             for at, half in enumerate(halves):
                 self.assertTrue(is_ended(half), at)
 
+    def test_requests_that_are_sent_ahead_take_no_memory(self):
+        team = self.serving()
+        place, before = place_of(team), memory_of(team)
+        asked = b"GET / HTTP/1.1\r\nHost: x\r\n\r\n" * 30_000
+        with contextlib.ExitStack() as held:
+            for _ in range(30):
+                connection = held.enter_context(opened(place))
+                connection.settimeout(0.3)
+                with contextlib.suppress(OSError):
+                    connection.sendall(asked)
+            self.assertLess(memory_of(team) - before, MEGABYTES)
+        self.assertEqual(Visitor(visitors.address_of(team)).send("GET", "/health").status, 200)
+
     def test_no_body_is_read_of_one_who_is_not_known(self):
         team = self.serving()
         visitor = Visitor(visitors.address_of(team))
