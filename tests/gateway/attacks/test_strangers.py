@@ -169,9 +169,9 @@ class OverHttp(unittest.TestCase):
             threads[-1].start()
         with team.root() as client:
             teams.wait_for(lambda: all(heard))
-            end = time.monotonic() + 6
-            at = 0
-            while time.monotonic() < end:
+            began, at = time.monotonic(), 0
+            while time.monotonic() < began + 5 or min(map(len, heard)) < 4:
+                self.assertLess(time.monotonic() - began, teams.WAIT_SECONDS)
                 (client.addrole if at < 20 else client.delrole)(f"role{at % 20}")
                 at = (at + 1) % 40
                 time.sleep(0.05)
@@ -182,7 +182,6 @@ class OverHttp(unittest.TestCase):
         longest = max(after - before for times in heard for before, after in zip(times, times[1:]))
         print(f"60 streams, 20 changes a second: the longest silence was {longest:.2f} s")
         self.assertLess(longest, SECONDS)
-        self.assertTrue(all(len(times) > 3 for times in heard))
 
 
 class OverTheSockets(unittest.TestCase):
