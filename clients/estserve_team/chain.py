@@ -85,7 +85,6 @@ class Head:
     def __init__(self, path: pathlib.Path) -> None:
         """Opens the file, and makes it where there is none. Raises Failed."""
         self.path = path
-        self.was_there = path.exists()
         flags = os.O_RDWR | os.O_CREAT | os.O_NOFOLLOW | os.O_CLOEXEC
         try:
             self._descriptor = os.open(path, flags, 0o600)

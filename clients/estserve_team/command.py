@@ -16,9 +16,9 @@ from estserve_client.telling import TELLER
 from . import HELP, keeping, web
 from .counts import CountsClient
 from .gateway import Gateway
-from .limits import read_limits
+from .limits import fit_to, read_limits
 from .listening import Listener
-from .log import fill_standard_streams, write_now
+from .log import fill_standard_streams, forward_all, write_now
 from .people import People, peer_uid, read_people
 from .places import Failed, Places, bind_socket
 from .reads.client import add_words
@@ -97,7 +97,6 @@ def serve_team(arguments: argparse.Namespace) -> None:
         raise Failed("the team's folder is missing: --state DIR")
     people, program = people_of(arguments.people), str(find_program(arguments.program))
     fill_standard_streams()
-    raise_descriptors()
     with Places(arguments.state, arguments.group) as places:
         if arguments.accept:
             open_record(places, program, is_accepted=True).close()
@@ -141,9 +140,10 @@ async def run(
 ) -> None:
     """One gateway, from its start to its end. Raises Failed."""
     loop = asyncio.get_running_loop()
-    limits = read_limits(arguments.limit)
+    limits = fit_to(read_limits(arguments.limit), raise_descriptors())
     gateway = Gateway(places, people, program, arguments.most_sends, limits)
     gateway.watchdog = watchdog
+    forward_all(gateway.log)
     for orphan in places.orphans:
         gateway.log(f"the process {orphan} of an earlier gateway was ended")
     told_to_end = loop.create_future()

@@ -13,6 +13,7 @@ if TYPE_CHECKING:
     from .sessions import Session
 
 HOUR = 3_600.0
+OWN_DESCRIPTORS = 200  # of the gateway itself: logins, a replay, the record, what is kept
 SEATS = 16
 
 
@@ -32,8 +33,8 @@ class Limits(NamedTuple):
     person_links: int = 16  # to the page, that were not used yet
     person_visits: int = 32  # of browsers
     person_seats: int = 128  # of pages
-    http_connections: int = 384
-    address_connections: int = 192  # of them, of one address, that have not said who they are
+    http_connections: int = 1_024
+    address_connections: int = 256  # of them, of one address, that have not said who they are
     person_http: int = 192  # of them, of one person
     header_seconds: int = 10  # for the head of a request, on a new connection
     body_seconds: int = 20  # for its body
@@ -49,6 +50,15 @@ def read_limits(words: Sequence[str]) -> Limits:
             raise Failed(f"--limit {word}: one of {', '.join(Limits._fields)} is set to a number")
         changed[name] = int(number)
     return Limits()._replace(**changed)
+
+
+def fit_to(limits: Limits, descriptors: int) -> Limits:
+    """The limits of connections, so that so many descriptors are enough."""
+    room = max(descriptors - OWN_DESCRIPTORS, 32)
+    if limits.connections + limits.http_connections <= room:
+        return limits
+    connections = min(limits.connections, room // 2)
+    return limits._replace(connections=connections, http_connections=room - connections)
 
 
 class Bucket:

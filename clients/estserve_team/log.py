@@ -5,8 +5,10 @@ import contextlib
 import errno
 import fcntl
 import json
+import logging
 import os
 import select
+import sys
 import time
 from typing import Any, Callable, Dict, List
 
@@ -92,6 +94,25 @@ class Log:
         if descriptor >= 0:
             with contextlib.suppress(OSError):
                 os.close(descriptor)
+
+
+class Forward(logging.Handler):
+    """Has what libraries log go the same way."""
+
+    def __init__(self, log: Log) -> None:
+        super().__init__(logging.WARNING)
+        self._log = log
+
+    def emit(self, record: logging.LogRecord) -> None:
+        fault = record.exc_info[1] if record.exc_info else None
+        self._log(f"{record.getMessage()}: {fault!r}" if fault else record.getMessage(), "library")
+
+
+def forward_all(log: Log) -> None:
+    """Has nothing of this process written to standard error but by this log."""
+    logging.raiseExceptions = False
+    logging.getLogger().handlers[:] = [Forward(log)]
+    sys.unraisablehook = lambda told: log(f"{told.err_msg}: {told.exc_value!r}", "library")
 
 
 def is_out_of_descriptors(fault: OSError) -> bool:

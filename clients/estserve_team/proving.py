@@ -98,7 +98,7 @@ def prove(path: pathlib.Path, database: sqlite3.Connection, tip: Optional[Tip]) 
             raise NotProven(path, "its connections are not those of its logins")
         aside = database.execute("SELECT count(*) FROM aside").fetchone()[0]
     except sqlite3.Error as fault:
-        raise NotProven(path, f"the file cannot be read: {fault}") from fault
+        raise unreadable(path, fault) from fault
     return Proven(entries, aside, givenup, entries - tip.entries)
 
 
@@ -110,7 +110,15 @@ def facts_of(path: pathlib.Path) -> Optional[dict]:
                 return None
             return dict(database.execute("SELECT name, value FROM facts"))
     except sqlite3.Error as fault:
-        raise NotProven(path, f"the file cannot be opened: {fault}") from fault
+        raise unreadable(path, fault) from fault
+
+
+def unreadable(path: pathlib.Path, fault: sqlite3.Error) -> Failed:
+    """What is told of a file that can't be read: it may be damaged, or only held by another
+    process, or on a disk that has no room."""
+    if any(word in str(fault) for word in ("locked", "disk I/O", "disk is full", "unable to open")):
+        return Failed(f"the record {path} cannot be opened: {fault}")
+    return NotProven(path, f"the file cannot be opened: {fault}")
 
 
 def check_record(path: pathlib.Path, head: Head, is_accepted: bool) -> bool:
@@ -156,7 +164,7 @@ def take_over(path: pathlib.Path, head: Head, record: str, is_accepted: bool) ->
                 raise NotProven(path, "it is one of before, and the head knows a later one")
             head.begin(tip)
     except sqlite3.Error as fault:
-        raise NotProven(path, f"the file cannot be read: {fault}") from fault
+        raise unreadable(path, fault) from fault
 
 
 Rows = List[Tuple[Any, ...]]

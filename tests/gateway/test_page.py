@@ -74,6 +74,23 @@ class PageTest(unittest.TestCase):
 
     # What one can do.
 
+    def test_another_click_takes_an_offer_back_for_who_may_step(self):
+        def change(cmd):
+            with self.team.root() as root:
+                for name in "AB":
+                    getattr(root, cmd)("stepper", "offer", f"0.{name}")
+
+        change("grant")
+        self.addCleanup(change, "revoke")
+        self.drive_and_step()
+        for name in "AB":
+            self.one.click(f"[data-signal={name}]")
+            self.two.wait_text("#pending", f"Pending: {'A B'[: 3 if name == 'B' else 1]}")
+        self.two.click("[data-signal=A]")
+        self.one.wait_text("#pending", "Pending: B")
+        self.one.click("[data-signal=B]")
+        self.one.wait_text("[data-signal=B] ~ .refusal", "AlreadyOffered")
+
     def test_drive_step_and_watch(self):
         self.drive_and_step()
         self.one.click("[data-signal=B]")

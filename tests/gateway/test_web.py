@@ -15,7 +15,7 @@ from visitors import Visitor, link_of, visitor_of
 
 PAGE = teams.ROOT / "clients" / "estserve_team" / "page"
 READS = ("me", "here", "text", "looks", "policy", "why", "log", "who", "events")
-ACTS = ("login", "leave", "ask", "archive", "out")
+ACTS = ("login", "leave", "ask", "archive", "retract", "out")
 NOBODY = 65_534  # a user who is not the proxy
 
 
@@ -277,6 +277,22 @@ class BorderTest(SharedTest):
             told = visitor.ask(f"change {at}", **command)
             self.assertEqual(told["refusal"]["fault"], "NotHere")
         self.assertEqual(visitor.ask("offer", "offer", slot=0, signal="A")["reply"]["ok"], "offer")
+
+
+    def test_one_offer_is_taken_back(self):
+        with self.team.root() as client:
+            client.grant("root", "step", "0")
+            for name in "AB":
+                client.grant("root", "offer", f"0.{name}")
+        visitor, other = visitor_of(self.team, "root", "root"), visitor_of(self.team, "ann", "lead")
+        for name in "AB":
+            visitor.ask(f"offer {name}", "offer", slot=0, signal=name)
+        asked = {"slot": 0, "signal": "A"}
+        refused = other.post("retract", {"seat": other.seat, **asked}).told
+        self.assertEqual(refused["refusal"]["fault"], "NotAllowed")
+        told = visitor.post("retract", {"seat": visitor.seat, **asked}).told
+        self.assertEqual(told["pending"], ["B"])
+        self.assertEqual(visitor.ask("step", "step", slot=0)["reply"]["ok"], "step")
 
 
 class OnceTest(OwnTest):

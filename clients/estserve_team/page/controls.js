@@ -44,12 +44,15 @@ export class Controls {
     this.busy = false;
   }
 
+  /** Offers an input, or takes its offer back where it is pending and may be discarded. */
   async offer(name) {
     const toggle = this.toggles.get(name);
-    if (toggle && !toggle.control.disabled) {
-      const command = { cmd: "offer", slot: this.slot.slot, signal: name };
-      await trying(toggle.told, () => this.connection.ask(command));
-    }
+    if (!toggle || toggle.control.disabled) return;
+    const words = { slot: this.slot.slot, signal: name };
+    const back = this.slot.may.step && this.slot.pending.includes(name);
+    await trying(toggle.told, () => (
+      back ? this.connection.once("retract", words) : this.connection.ask({ cmd: "offer", ...words })
+    ));
   }
 
   buildToggle(name, place) {

@@ -92,7 +92,15 @@ async def archive(seat: Seat, body: Told) -> Told:
     return await words.act_on(seat.context, asked)
 
 
-ACTS: Dict[str, Callable[[Seat, Told], Awaitable[Told]]] = {"ask": ask, "archive": archive}
+async def retract(seat: Seat, body: Told) -> Told:
+    """Takes one offer back, and leaves the others. Raises Refused."""
+    asked = {name: body[name] for name in ("slot", "signal") if name in body}
+    return await words.act_on(seat.context, {"word": "retract", **asked})
+
+
+ACTS: Dict[str, Callable[[Seat, Told], Awaitable[Told]]] = {
+    one.__name__: one for one in (ask, archive, retract)
+}
 
 
 # What is read.

@@ -10,6 +10,7 @@ from ..limits import Limits
 from ..refusals import Refused, too_many
 
 AHEAD_BYTES = 1 << 20  # may come before an answer is whole
+AHEAD_HEADS = 8  # so may the heads of further requests, each of which takes memory
 KEPT_SECONDS = 60  # a known connection may be silent so long between two requests
 REFUSED = b"HTTP/1.1 503 Service Unavailable\r\nContent-Length: 0\r\nConnection: close\r\n\r\n"
 
@@ -24,7 +25,8 @@ class Gate(asyncio.Protocol):
         self.transport: Any = None
         self.since = time.monotonic()  # when it began to wait for a head
         self.is_at_work = False  # a request is being answered
-        self._came = 0
+        self._came = self._heads = 0
+        self._tail = b""
         self._choked: Optional[float] = None
         self._is_closed = False
 
@@ -37,10 +39,18 @@ class Gate(asyncio.Protocol):
 
     def data_received(self, data: bytes) -> None:
         self._came += len(data)
-        if self._came > AHEAD_BYTES:
+        self._count_heads(data)
+        if self._came > AHEAD_BYTES or self._heads > AHEAD_HEADS:
             self.transport.abort()
         else:
             self._inner.data_received(data)
+
+    def _count_heads(self, data: bytes) -> None:
+        """Counts what may be ends of heads, by lines that are empty."""
+        text = self._tail + data
+        for end in (b"\n\r\n", b"\n\n"):
+            self._heads += text.count(end) - self._tail.count(end)
+        self._tail = text[-2:]
 
     def eof_received(self) -> Optional[bool]:
         return self._inner.eof_received()
@@ -65,6 +75,7 @@ class Gate(asyncio.Protocol):
     def end(self) -> None:
         """A request is answered."""
         self.is_at_work, self.since, self._came = False, time.monotonic(), 0
+        self._heads = max(0, self._heads - 1)
 
     def is_late(self, now: float, limits: Limits) -> bool:
         """Whether it takes too long for what it does."""

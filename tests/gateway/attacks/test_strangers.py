@@ -97,6 +97,19 @@ class OverHttp(unittest.TestCase):
             for at, half in enumerate(halves):
                 self.assertTrue(is_ended(half), at)
 
+    def test_requests_that_are_sent_ahead_take_no_memory(self):
+        team = self.serving()
+        place, before = place_of(team), memory_of(team)
+        asked = b"GET / HTTP/1.1\r\nHost: x\r\n\r\n" * 30_000
+        with contextlib.ExitStack() as held:
+            for _ in range(30):
+                connection = held.enter_context(opened(place))
+                connection.settimeout(0.3)
+                with contextlib.suppress(OSError):
+                    connection.sendall(asked)
+            self.assertLess(memory_of(team) - before, MEGABYTES)
+        self.assertEqual(Visitor(visitors.address_of(team)).send("GET", "/health").status, 200)
+
     def test_no_body_is_read_of_one_who_is_not_known(self):
         team = self.serving()
         visitor = Visitor(visitors.address_of(team))
@@ -156,9 +169,9 @@ class OverHttp(unittest.TestCase):
             threads[-1].start()
         with team.root() as client:
             teams.wait_for(lambda: all(heard))
-            end = time.monotonic() + 6
-            at = 0
-            while time.monotonic() < end:
+            began, at = time.monotonic(), 0
+            while time.monotonic() < began + 5 or min(map(len, heard)) < 4:
+                self.assertLess(time.monotonic() - began, teams.WAIT_SECONDS)
                 (client.addrole if at < 20 else client.delrole)(f"role{at % 20}")
                 at = (at + 1) % 40
                 time.sleep(0.05)
@@ -169,7 +182,6 @@ class OverHttp(unittest.TestCase):
         longest = max(after - before for times in heard for before, after in zip(times, times[1:]))
         print(f"60 streams, 20 changes a second: the longest silence was {longest:.2f} s")
         self.assertLess(longest, SECONDS)
-        self.assertTrue(all(len(times) > 3 for times in heard))
 
 
 class OverTheSockets(unittest.TestCase):
