@@ -7,7 +7,7 @@ PROGRAM is the built `crates/estserve/out/estserve`, BENCHES the built `crates/b
 
 - one client's round trip, a step, a look and a check in turn, beside the same lines sent back by BENCHES, and by a few lines of Python;
 - 100 lines sent ahead of their answers, beside one at a time;
-- four clients in processes of their own, each on a slot of its own, and four that only check, beside one, 100 lines ahead;
+- four clients in processes of their own, each on a slot of its own, all on one slot, and four that only check, beside one, 100 lines ahead;
 - the time of a step in a slot with 60,000 entries, beside that in one with 100.
 
 The figure of a kind of work is that of the fastest of ROUNDS rounds (five if left out, at most twelve), in each of which every kind has
@@ -41,6 +41,7 @@ HOPES = {
     "a round trip, beside the echo in Python": (1.5, "at most"),
     "100 lines ahead, beside one at a time": (10, "at least"),
     "four clients on slots of their own, beside one": (2.5, "at least"),
+    "four clients on one slot, beside four on slots of their own": (1.1, "at most"),
     "four clients that check, beside one": (3, "at least"),
     "a step after 60,000 entries, beside one after 100": (1.1, "at most"),
 }
@@ -59,6 +60,12 @@ def lines_on(slot, count):
         lines.append(line_of("look", instant=instant, slot=slot))
         lines.append(line_of("check", op="step", object=str(slot)))
     return lines
+
+
+def lines_on_shared(slot, count):
+    """This many lines in turn, for a slot that others step too: a step, a look at the first instant, a check."""
+    step, look, check = line_of("step", slot=slot), line_of("look", instant=1, slot=slot), line_of("check", op="step", object=str(slot))
+    return [step, look, check] * (count // 3)
 
 
 def checks(count):
@@ -232,15 +239,16 @@ def times_of_trips(folder, program, benches, rounds):
 
 
 def rates_of_clients(folder, program, rounds):
-    """Microseconds a line, by the clock and of processor time: of one client and of four, on slots of their own and at checks."""
+    """Microseconds a line, by the clock and of processor time: of one client and of four, on slots of their own, on one, at checks."""
     path = folder / "clients"
-    found = {"one": [], "four": [], "one that checks": [], "four that check": []}
+    found = {"one": [], "four": [], "four on one slot": [], "one that checks": [], "four that check": []}
     with serving(path, [program, "serve", "--socket", str(path), "--workers", str(CLIENTS + 1)]) as server:
         with prepare(path) as client:
             for number in range(rounds):
                 slots = [(CLIENTS * number + at) % SLOTS for at in range(CLIENTS)]
                 works = [lines_on(slot, LINES) for slot in slots]
-                asked = zip(found, [works[:1], works, [checks(LINES)], [checks(LINES)] * CLIENTS])
+                shared = [lines_on_shared(slots[-1], LINES // CLIENTS)] * CLIENTS
+                asked = zip(found, [works[:1], works, shared, [checks(LINES)], [checks(LINES)] * CLIENTS])
                 for kind, lines in asked:
                     begin_anew(client, slots)
                     count = sum(map(len, lines))
@@ -289,6 +297,7 @@ def main():
         for kind, times in clients.items():
             tell(f"clients, {kind}", times)
         say("four clients on slots of their own, beside one", clients["one"][0] / clients["four"][0])
+        say("four clients on one slot, beside four on slots of their own", clients["four on one slot"][0] / clients["four"][0])
         say("four clients that check, beside one", clients["one that checks"][0] / clients["four that check"][0])
         few, many = times_of_steps(folder, program, rounds)
         tell(f"a step after {FEW} entries", few)

@@ -1,4 +1,4 @@
--- What the plain engine answers is an outcome of the journal, and an accepted step keeps one.
+-- What the second engine answers is an outcome of the journal, and an accepted step keeps one.
 use Rattle.std.proofs.Common.{◌≡◌, ◌∙◌, ◌<◌, ℕ, false, List, sym, ap, subst, ⊎_elim, arith}
 use Rattle.std.specs.Prelude.{Some, is_some}
 use Rattle.std.proofs.lemmas.Bool.{false≢true}
@@ -99,7 +99,7 @@ same_depth modules journal k other one two =
     let same : one.given ≡ two.given = modules two.load one.given two.given is two.is in
     ap local_depth (one.begins ∙ ap (λ (g : GivenModule). g.term) same ∙ sym two.begins)
 
--- where the plain engine is not asked, nothing is said
+-- where the second engine is not asked, nothing is said
 pub too_deep : OneModule → (journal : List SlotEntry) (k : Kernel) (outputs : ℕ) → IsKernelOf journal k
     → ASKED_LOCALS < local_depth (term_of k.root) → GivesOutputs journal outputs
 too_deep modules journal k outputs here deep other is shallow =

@@ -1,5 +1,6 @@
 //! The audit of a slot's journal.
 ghost use Rattle.std.specs.Prelude.{◌≡◌, ◌↔◌, ◌≤◌, List, IsTrue, IfOk, IfErr, OnOk, length, take};
+ghost use Rattle.est_kernel.specs.declared.kernel.Kernel.{Kernel as KernelValue};
 ghost use Rattle.rbac_policy.specs.declared.commands.Entry.{Entry};
 ghost use Rattle.rbac_policy.specs.Change.{policy_of};
 ghost use Rattle.rbac_policy.specs.StandsFor.{StandsFor};
@@ -15,6 +16,7 @@ use access_core::command::SlotCommand;
 use access_core::refusal::Refusal;
 use access_core::reply::Reply;
 use access_core::slot::{Slot, decide_slot};
+use est_rounds::engine::Engine;
 use rbac_policy::commands::{Entry, SessionId};
 use rbac_policy::objects::SlotNumber;
 use rbac_policy::policy::Policy;
@@ -97,13 +99,15 @@ fn fault_of(refusal: &Refusal) -> Fault
 }
 
 /// Gives the entry's command to the slot, which has to add this very entry; else says why it
-/// doesn't. Of a step the plain engine is asked too.
-fn replay_entry(
+/// doesn't. Of a step this engine is asked too.
+fn replay_entry<E: Engine>(
     alloc: Global,
     policy: &Policy,
     slot: &mut Slot,
     entry: &SlotEntry,
+    engine: &mut E,
 ) -> Result<(), Fault>
+    requires { (e : E) (kernel : KernelValue) → E.is_for e kernel }
     ensures number { slot.new.number ≡ slot.old.number }
     ensures step { (judged : List Entry) → StandsFor policy.now judged
         → length judged ≡ entry.now.stamp.version
@@ -113,7 +117,7 @@ fn replay_entry(
         return Err(Fault::Memory);
     };
     let session = SessionId::new(entry.stamp.session);
-    let agrees = agrees(slot, &entry.action);
+    let agrees = agrees(engine, slot, &entry.action);
     match decide_slot(policy, slot, session, command) {
         Reply::Refused(refusal) => Err(fault_of(&refusal)),
         _ => {
@@ -153,13 +157,15 @@ fn finding_of(fault: Fault, slot: SlotNumber, place: u64) -> Finding
 /// finding in it, or that memory was refused.
 ///
 /// The journal is replayed on an empty slot, each entry at the policy of its version.
-pub(crate) fn check_slot(
+pub(crate) fn check_slot<E: Engine>(
     alloc: Global,
     entries: &[Entry],
     number: SlotNumber,
     journal: &[SlotEntry],
+    engine: &mut E,
 ) -> Result<(), Finding>
-    requires { IsPolicyList entries.now }
+    requires list { IsPolicyList entries.now }
+    requires any { (e : E) (kernel : KernelValue) → E.is_for e kernel }
     ensures ok { OnOk result (IsLegal entries.now number journal.now) }
     ensures err { IfErr result (IsFirstOfSlot entries.now number journal.now) }
 {
@@ -177,7 +183,7 @@ pub(crate) fn check_slot(
         }
         take_in(&mut policy, entries, version, next as usize);
         version = next as usize;
-        if let Err(fault) = replay_entry(alloc, &policy, &mut slot, entry) {
+        if let Err(fault) = replay_entry(alloc, &policy, &mut slot, entry, engine) {
             return Err(finding_of(fault, number, place));
         }
     }

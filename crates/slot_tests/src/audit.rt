@@ -1,3 +1,4 @@
+mod asking;
 mod changes;
 mod findings;
 pub mod journals;

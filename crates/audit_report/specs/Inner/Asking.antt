@@ -1,4 +1,4 @@
--- What the plain engine is asked of a step: private to the audit of a slot.
+-- What the second engine is asked of a step: private to the audit of a slot.
 use Rattle.std.specs.Prelude.{ℕ, ◌≤◌, List}
 use Rattle.est_kernel.specs.Limits.{local_depth}
 use Rattle.est_kernel.specs.Term.{Term}
@@ -21,7 +21,7 @@ GivesOutputs journal outputs = (k : Kernel) → IsKernelOf journal k → local_d
 abbrev pub GivesOtherwise : List SlotEntry → (outputs : ℕ) → Type 0
 GivesOtherwise journal outputs = (next : Term) → IsOutcome journal outputs next → ⊥
 
--- where the action is a step, the next instant gives the outputs that it keeps, if the plain engine is asked
+-- where the action is a step, the next instant gives the outputs that it keeps, if the second engine is asked
 abbrev pub KeepsOutputs : List SlotEntry → Action → Type 0
 KeepsOutputs journal (Load l) = Unit {0}
 KeepsOutputs journal (Offer signal) = Unit {0}

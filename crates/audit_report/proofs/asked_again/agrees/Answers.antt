@@ -6,11 +6,11 @@ use Rattle.audit_report.proofs.AskedAgain.{nothing_runs}
 use Rattle.audit_report.proofs.asked_again.agrees.Goals as goal
 
 pub returns-in_default-clause-same : goal.returns-in_default-clause-same
-returns-in_default-clause-same c =
+returns-in_default-clause-same g c =
     λ same. nothing_runs c.args.slot.now.journal c.args.action.now c.in_default.ensures
 
 pub returns-in-Step-clause-other : goal.returns-in-Step-clause-other
-returns-in-Step-clause-other c = λ otherwise.
+returns-in-Step-clause-other g c = λ otherwise.
     let journal = c.args.slot.now.journal in
     let here : GivesOtherwise journal c.in-Step.stored.outputs =
     subst (λ (j : List SlotEntry). GivesOtherwise j c.in-Step.stored.outputs) c.in-Some.ensures

@@ -14,7 +14,7 @@ use Rattle.audit_report.proofs.Walking.{fault_first}
 use Rattle.audit_report.proofs.slot_audit.check_slot.Goals as goal
 
 pub returns-in-Err-clause-err : goal.returns-in-Err-clause-err
-returns-in-Err-clause-err c =
+returns-in-Err-clause-err g c =
     let entries = c.args.entries.now in
     let number = c.args.number in
     let journal = c.args.journal.now in
@@ -29,7 +29,7 @@ returns-in-Err-clause-err c =
     record { rises = omega (arith, c.loop-at.invariant.last, c.if-next-version.false); known = known } in
     let stands : StandsFor c.take_in.new.policy (take e.stamp.version entries) =
     subst (λ (p : Policy). StandsFor p (take e.stamp.version entries)) (sym c.take_in.ensures)
-    (front_stands entries c.requires e.stamp.version) in
+    (front_stands entries c.requires.list e.stamp.version) in
     let long : length (take e.stamp.version entries) ≡ e.stamp.version = length-take-le e.stamp.version entries known in
     let why : IsFaultOf (take e.stamp.version entries) number (take at journal) e fault =
     subst (λ (b : List SlotEntry). IsFaultOf (take e.stamp.version entries) number b e fault)
@@ -41,7 +41,7 @@ returns-in-Err-clause-err c =
     (fault_first entries number journal at e fault c.loop-at.invariant.legal there right why)
 
 pub loop-at-preserved : goal.loop-at-preserved
-loop-at-preserved c =
+loop-at-preserved g c =
     let entries = c.args.entries.now in
     let number = c.args.number in
     let journal = c.args.journal.now in
@@ -55,7 +55,7 @@ loop-at-preserved c =
     record { rises = omega (arith, c.loop-at.invariant.last, c.if-next-version.false); known = known } in
     let stands : StandsFor c.take_in.new.policy (take e.stamp.version entries) =
     subst (λ (p : Policy). StandsFor p (take e.stamp.version entries)) (sym c.take_in.ensures)
-    (front_stands entries c.requires e.stamp.version) in
+    (front_stands entries c.requires.list e.stamp.version) in
     let long : length (take e.stamp.version entries) ≡ e.stamp.version = length-take-le e.stamp.version entries known in
     let step = c.in_default.ensures.step (take e.stamp.version entries) stands long in
     let added : Adds (take e.stamp.version entries) number (take at journal) e e =
@@ -74,5 +74,5 @@ loop-at-preserved c =
     }
 
 pub returns-clause-ok : goal.returns-clause-ok
-returns-clause-ok c = λ at entry low there. c.loop-at.invariant.legal at entry
+returns-clause-ok g c = λ at entry low there. c.loop-at.invariant.legal at entry
     (omega (arith, low, c.loop-at-test.false)) there

@@ -5,7 +5,7 @@ use Rattle.audit_report.proofs.slot_audit.check_slot.Given as goal
 
 -- the entries so far are legal, and the slot has them; the policy is that of the last one's version
 abbrev pub invariant-loop-at : goal.invariant-loop-at
-invariant-loop-at l = record {
+invariant-loop-at g l = record {
   policy : l.policy ≡ policy_of (take l.version l.entries);
   known : l.version ≤ length l.entries;
   last : l.version ≡ last_version (take l.at l.journal);

@@ -8,7 +8,7 @@ use Rattle.audit_report.proofs.slot_audit.replay_entry.Goals.{else-agrees-via-th
 use Rattle.audit_report.proofs.slot_audit.replay_entry.Goals.{else-agrees-via-else-agrees}
 
 pub returns-in-Refused-clause-step : goal.returns-in-Refused-clause-step
-returns-in-Refused-clause-step c = λ judged stands version.
+returns-in-Refused-clause-step g c = λ judged stands version.
     let slot = c.args.slot.now in
     let e = c.args.entry.now in
     let step = judges judged slot.number c.new-session.result c.in-Ok.command slot.journal e _
@@ -18,7 +18,7 @@ returns-in-Refused-clause-step c = λ judged stands version.
     (fault_is judged slot.number slot.journal e c.in-Refused.refusal c.decide_slot.new.slot.journal version step)
 
 pub returns-then-keeps_instant : goal.returns-then-keeps_instant
-returns-then-keeps_instant c =
+returns-then-keeps_instant g c =
     let slot = c.args.slot.now in
     let e = c.args.entry.now in
     let after = c.decide_slot.new.slot.journal in
@@ -34,7 +34,7 @@ returns-then-keeps_instant c =
     }
 
 pub returns : goal.returns
-returns c =
+returns g c =
     let slot = c.args.slot.now in
     let e = c.args.entry.now in
     let after = c.decide_slot.new.slot.journal in

@@ -1,0 +1,6 @@
+use Rattle.audit_report.specs.Findings.{AreSlotsLegal}
+use Rattle.audit_report.proofs.audit.check_with.Given as goal
+
+-- the journals so far are legal
+abbrev pub invariant-loop-number : goal.invariant-loop-number
+invariant-loop-number g l = AreSlotsLegal l.entries l.slots l.number
