@@ -9,7 +9,7 @@ use Rattle.est_relations.specs.declared.refusal.Refusal.{Refusal as PendingRefus
 use Rattle.refusal_rules.proofs.RuleLemmas.{all_passed, answered}
 use Rattle.reactor_core.specs.declared.loaded.Module.{Module}
 use Rattle.reactor_core.specs.Faults.{refusal_of_pending}
-use Rattle.reactor_core.specs.Standing.{pending_inputs, AreKept, JoinsAs, RefusesName, RefusesInstant}
+use Rattle.reactor_core.specs.Standing.{pending_inputs, JoinsAs, RefusesName, RefusesInstant}
 
 pub no_err : {A E : Type 0} (x : A) (e : E) → Ok x ≡ Err e → ⊥
 no_err x e h = cc
