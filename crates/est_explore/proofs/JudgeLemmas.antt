@@ -74,7 +74,8 @@ runs_on m t [] u i v runs lawful goes = (v, lawful, rw runs goes, refl)
 runs_on m t (j ∷ run) u i v runs lawful goes = (runs.0, runs.1, runs.2, runs_on m runs.0 run u i v runs.3 lawful goes)
 
 -- pairs of a list, of what its members are mapped to
-pairs_mapped : {X Y : Type 0} (P : Y → Y → Type 0) (g : X → Y) (xs : List X) → X → AllPairs (λ a b. P (g a) (g b)) xs
+pub pairs_mapped : {X Y : Type 0} (P : Y → Y → Type 0) (g : X → Y) (xs : List X) → X → AllPairs (λ a b. P (g a) (g b))
+    xs
     → AllPairs P (map g xs)
 pairs_mapped P g xs x h i j d l w =
     let within : j < length xs = rw length-map at w in

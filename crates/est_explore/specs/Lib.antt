@@ -1,7 +1,10 @@
 pub mod Claims
+pub mod Comparisons
 pub mod Explored
+pub mod ExploredBoth
 pub mod Inner
 pub mod Runs
+pub mod Same
 pub mod Tables
 pub mod Verdicts
 pub mod Views

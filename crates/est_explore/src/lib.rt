@@ -10,5 +10,7 @@ mod input_sets;
 pub mod judge;
 pub mod one_module;
 pub mod reactive;
+pub mod same;
 pub mod table;
+pub mod two_modules;
 pub mod verdict;

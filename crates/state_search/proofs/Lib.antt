@@ -3,3 +3,4 @@ pub mod Growth
 pub mod Nodes
 pub mod PlaceLemmas
 pub mod TreeLemmas
+pub mod Ways
