@@ -8,6 +8,7 @@ goes wrong between server and record ends in `fail`: from there on nothing is an
 is ended, and begun anew from the record.
 """
 import asyncio
+import sqlite3
 import time
 from pathlib import Path
 from typing import Any, Callable, Dict, List, Optional, Set, Tuple
@@ -124,8 +125,12 @@ class Gateway:
         return sorted(self.places.old_records.glob("[0-9]*.sqlite"))
 
     def answer_to(self, person: str, request_id: str) -> Optional[Tuple[bytes, bytes]]:
-        """The request and the answer that are recorded under a person's id, if some are."""
-        return self._writer.answer_to(person, request_id)
+        """The request and the answer that are recorded under a person's id, if some are. Raises
+        Refused, while the record is closed."""
+        try:
+            return self._writer.answer_to(person, request_id)
+        except sqlite3.Error:
+            raise interrupted() from None
 
     async def share(self, person: Person, user: str, roles: List[str]) -> SharedSession:
         """A share of the login of this person as this user in these roles, which is made if there
