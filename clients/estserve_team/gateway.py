@@ -22,7 +22,7 @@ from .log import Log, is_out_of_descriptors
 from .order import Asked, Order
 from .people import People, Person
 from .places import Failed, Places
-from .record import POLICY, Connection, Entry, GivenUp, RecordWriter
+from .record import POLICY, Connection, Entry, GivenUp, RecordWriter, remove_record
 from .refusals import ProgramRefused, Refused, all_taken, failed, interrupted, not_you, stopping
 from .server import Lost
 from .sessions import (
@@ -616,7 +616,7 @@ class Gateway:
         if self.phase != ARCHIVING:
             raise Failed("the server has ended meanwhile")
         loop = asyncio.get_running_loop()
-        self.places.next_record.unlink(missing_ok=True)
+        remove_record(self.places.next_record)
         await loop.run_in_executor(
             None, build, self.record_path, self.places.next_record, self.program, self.private
         )

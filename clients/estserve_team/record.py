@@ -412,6 +412,12 @@ class RecordWriter:
         return aside, back
 
 
+def remove_record(path: pathlib.Path) -> None:
+    """Takes a file of SQLite's away, with what belongs to it."""
+    for suffix in ("-wal", "-shm", ""):
+        path.with_name(path.name + suffix).unlink(missing_ok=True)
+
+
 def open_writer(path: pathlib.Path) -> sqlite3.Connection:
     """The file, to write: what is committed is on the disk."""
     database = sqlite3.connect(
