@@ -8,6 +8,7 @@ goes wrong between server and record ends in `fail`: from there on nothing is an
 is ended, and begun anew from the record.
 """
 import asyncio
+import sqlite3
 import time
 from pathlib import Path
 from typing import Any, Callable, Dict, List, Optional, Set, Tuple
@@ -21,7 +22,7 @@ from .log import Log, is_out_of_descriptors
 from .order import Asked, Order
 from .people import People, Person
 from .places import Failed, Places
-from .record import POLICY, Connection, Entry, GivenUp, RecordWriter
+from .record import POLICY, Connection, Entry, GivenUp, RecordWriter, remove_record
 from .refusals import ProgramRefused, Refused, all_taken, failed, interrupted, not_you, stopping
 from .server import Lost
 from .sessions import (
@@ -124,8 +125,12 @@ class Gateway:
         return sorted(self.places.old_records.glob("[0-9]*.sqlite"))
 
     def answer_to(self, person: str, request_id: str) -> Optional[Tuple[bytes, bytes]]:
-        """The request and the answer that are recorded under a person's id, if some are."""
-        return self._writer.answer_to(person, request_id)
+        """The request and the answer that are recorded under a person's id, if some are. Raises
+        Refused, while the record is closed."""
+        try:
+            return self._writer.answer_to(person, request_id)
+        except sqlite3.Error:
+            raise interrupted() from None
 
     async def share(self, person: Person, user: str, roles: List[str]) -> SharedSession:
         """A share of the login of this person as this user in these roles, which is made if there
@@ -611,7 +616,7 @@ class Gateway:
         if self.phase != ARCHIVING:
             raise Failed("the server has ended meanwhile")
         loop = asyncio.get_running_loop()
-        self.places.next_record.unlink(missing_ok=True)
+        remove_record(self.places.next_record)
         await loop.run_in_executor(
             None, build, self.record_path, self.places.next_record, self.program, self.private
         )

@@ -11,7 +11,7 @@ from typing import Any
 from .chain import Head, NotProven, Tip
 from .places import Failed, Places
 from .proving import Proven, prove
-from .record import FORMAT, has_table, last_tip, open_reader
+from .record import FORMAT, has_table, last_tip, open_reader, remove_record
 from .starting import open_there, settle_records, sync_folder
 
 BACKUP = "CREATE TABLE backup (time REAL NOT NULL, entries INTEGER NOT NULL, hash TEXT NOT NULL)"
@@ -123,7 +123,7 @@ def restore(arguments: argparse.Namespace) -> None:
             with open_reader(arguments.file) as source:
                 tip = backed_up_tip(arguments.file, source)
                 proven = prove(arguments.file, source, tip)
-                places.next_record.unlink(missing_ok=True)
+                remove_record(places.next_record)
                 with contextlib.closing(sqlite3.connect(places.next_record)) as copy:
                     source.backup(copy)
                     copy.execute("DROP TABLE backup")

@@ -79,7 +79,7 @@ class Log:
     def _write(self, text: str, kind: str, fields: Dict[str, Any]) -> None:
         now = time.time()
         stamp = time.strftime("%Y-%m-%dT%H:%M:%S", time.gmtime(now)) + f".{int(now % 1 * 1000):03}Z"
-        line = {"kind": kind, "text": text[:1_000], "time": stamp, **fields}
+        line: Dict[str, Any] = {"kind": kind, "text": text[:1_000], "time": stamp, **fields}
         if self.dropped:
             line["dropped"] = self.dropped
         data = json.dumps(line, separators=(",", ":"), sort_keys=True).encode()

@@ -101,6 +101,7 @@ async def need_offers(context: Context, slot: int, others: List[str]) -> None:
 
 async def carry_out(context: Context, slot: int, others: List[str]) -> Dict[str, Any]:
     """Gives the commands at once, whose entries are recorded in one transaction. Raises Refused."""
+    assert context.session is not None  # the word needs one
     session, gateway = context.session.own_session(), context.gateway
     futures = []
     gateway.hold_commits()

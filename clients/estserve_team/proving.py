@@ -18,6 +18,7 @@ from .record import (
     has_table,
     last_tip,
     open_writer,
+    remove_record,
     rest_of,
     transaction,
 )
@@ -130,7 +131,7 @@ def check_record(path: pathlib.Path, head: Head, is_accepted: bool) -> bool:
     if facts is None:
         if written and not is_accepted:
             raise NotProven(path, f"it is gone, and {written} entries were written")
-        path.unlink(missing_ok=True)
+        remove_record(path)
         return False
     if facts.get("format") == FORMAT_OF_BEFORE:
         take_over(path, head, name_of_before(facts), is_accepted)

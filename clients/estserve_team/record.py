@@ -274,7 +274,8 @@ class RecordWriter:
 
     def _after_entries(self, entries: Iterable[Entry]) -> Tuple[Tip, List[Tuple[Any, ...]]]:
         """The tip after these entries, and their rows."""
-        last, rows = bytes.fromhex(self.tip.entry_hash), []
+        last = bytes.fromhex(self.tip.entry_hash)
+        rows: List[Tuple[Any, ...]] = []
         for entry in entries:
             last = hash_of(last, entry)
             rows.append((*entry, last))
@@ -284,7 +285,8 @@ class RecordWriter:
     @staticmethod
     def _after_givenup(tip: Tip, givenup: Iterable[GivenUp]) -> Tuple[Tip, List[Tuple[Any, ...]]]:
         """The tip after these connections were given up, and their rows."""
-        last, rows = bytes.fromhex(tip.givenup_hash), []
+        last = bytes.fromhex(tip.givenup_hash)
+        rows: List[Tuple[Any, ...]] = []
         for number, one in enumerate(givenup, tip.givenup + 1):
             last = hash_of(last, one)
             rows.append((number, *one, last))
@@ -408,6 +410,12 @@ class RecordWriter:
             database.execute("UPDATE givenup SET aside_time = NULL WHERE aside_time = :then", then)
             check_places(database)
         return aside, back
+
+
+def remove_record(path: pathlib.Path) -> None:
+    """Takes a file of SQLite's away, with what belongs to it."""
+    for suffix in ("-wal", "-shm", ""):
+        path.with_name(path.name + suffix).unlink(missing_ok=True)
 
 
 def open_writer(path: pathlib.Path) -> sqlite3.Connection:

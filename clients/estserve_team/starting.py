@@ -10,7 +10,16 @@ from typing import Callable, List, NamedTuple, Optional, Tuple
 from .chain import Head
 from .places import Failed, Places, digest_of
 from .proving import check_record
-from .record import POLICY, Aside, Entry, GivenUp, RecordWriter, last_tip, open_reader
+from .record import (
+    POLICY,
+    Aside,
+    Entry,
+    GivenUp,
+    RecordWriter,
+    last_tip,
+    open_reader,
+    remove_record,
+)
 from .replay import Live, Replay
 from .server import Server
 from .sessions import LOGOUT
@@ -57,7 +66,7 @@ def put_aside(places: Places, place: Aside, is_accepted: bool = False) -> int:
 def settle_records(places: Places) -> None:
     """Finishes what an archiving left that was broken off: the present record is none of the old
     ones, and there is no next one."""
-    places.next_record.unlink(missing_ok=True)
+    remove_record(places.next_record)
     for old in sorted(places.old_records.glob("[0-9]*.sqlite")):
         if places.record.exists() and old.samefile(places.record):
             old.unlink()

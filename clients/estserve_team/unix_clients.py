@@ -245,6 +245,7 @@ class TeamClient(LineClient):
 
     def _is_refused(self, item: Item) -> bool:
         """Whether this person has changed roles too often; then that is the answer."""
+        assert self.session is not None  # else the line is a login
         try:
             self.gateway.accounts.check_entry(self.session)
         except Refused as refused:

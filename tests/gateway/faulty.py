@@ -25,16 +25,21 @@ from estserve_team import moments  # noqa: E402
 NOBODY = 65_534
 FILLER = "filler"
 CAPABILITIES = 0x20080522  # the version of the form of `capset`
+FORM = struct.Struct("IIIIII")  # what is effective, permitted and inherited, in two parts
 SYS_ADMIN, SYS_RESOURCE = 21, 24
 
 
 def give_up_forking_at_will() -> None:
     """Becomes one whom the limit of processes binds, which root is not."""
     os.setresuid(NOBODY, 0, 0)
-    header = struct.pack("Ii", CAPABILITIES, 0)
-    low = 0xFFFFFFFF & ~(1 << SYS_ADMIN | 1 << SYS_RESOURCE)
-    mask = struct.pack("IIIIII", low, low, 0, 0x1FF, 0x1FF, 0)
-    if ctypes.CDLL(None, use_errno=True).capset(header, mask):
+    library = ctypes.CDLL(None, use_errno=True)
+    header = ctypes.create_string_buffer(struct.pack("Ii", CAPABILITIES, 0))
+    held = ctypes.create_string_buffer(FORM.size)
+    if library.capget(header, held):
+        raise OSError(ctypes.get_errno(), "capget")
+    effective, permitted, *rest = FORM.unpack(held.raw)
+    left = ~(1 << SYS_ADMIN | 1 << SYS_RESOURCE)
+    if library.capset(header, FORM.pack(effective & left, permitted, *rest)):
         raise OSError(ctypes.get_errno(), "capset")
 
 

@@ -212,6 +212,48 @@ class Failures(unittest.TestCase):
         )
 
 
+class Archived(unittest.TestCase):
+    """An archive on a disk that has little or no room: the old record goes on, or the new one."""
+
+    @unittest.skipUnless(os.geteuid() == 0, "only root can mount a file system that is then filled")
+    def test_an_archive_without_room_leaves_a_record_that_is_proven(self):
+        for pages in (0, 4, 30, 80):
+            with self.subTest(pages), small_disk() as folder:
+                if folder is None:
+                    self.skipTest("no file system can be mounted here")
+                with Team(state=folder / "team") as team:
+                    self.archive_with(team, folder, pages)
+                with Team(state=folder / "team") as again, again.root() as client:
+                    self.assertEqual(client.addrole("again")["ok"], "addrole")
+                    self.assertEqual(again.end(), 0)
+
+    def archive_with(self, team, folder, pages):
+        """Asks for an archive while the disk has so many pages left."""
+        with team.root() as client:
+            client.grant("root", "load", "0")
+            for at in range(20):
+                client.addrole(f"role{at}")
+        with team.words() as words:
+            words.word("login", user="root", roles=["root"])
+            fill(folder / faulty.FILLER, pages)
+            with contextlib.suppress(Lost):
+                self.assertTrue({"ok", "code"}.intersection(words.word("archive")))
+        (folder / faulty.FILLER).unlink()
+        if is_back(team, END_SECONDS):
+            self.assertEqual(team.end(), 0)
+        else:
+            self.assertEqual(team.wait(), 1)
+
+
+def fill(path, pages):
+    """Fills the disk on which a file lies, up to so many pages."""
+    with open(path, "ab", buffering=0) as file:
+        with contextlib.suppress(OSError):
+            while file.write(b"x" * 4_096) == 4_096:
+                pass
+        file.truncate(max(0, file.tell() - pages * 4_096))
+
+
 class Told(unittest.TestCase):
     """The log never raises and never waits."""
 

@@ -8,6 +8,7 @@ import shutil
 import signal
 import sqlite3
 import subprocess
+import sys
 import tempfile
 import threading
 import unittest
@@ -26,7 +27,8 @@ FLIPS = 60  # bits of the file that are changed, one at a time
 
 def word(state, *words):
     """What the client's words for a record print; its status and standard error too."""
-    command = [*Team(state=state).command()[:4], *words, "--state", str(state)]
+    script = str(teams.ROOT / "clients" / "estserve.py")
+    command = [sys.executable, "-B", script, "team", *words, "--state", str(state)]
     ran = subprocess.run(command, capture_output=True, text=True, timeout=teams.WAIT_SECONDS)
     return ran.returncode, ran.stdout, ran.stderr
 

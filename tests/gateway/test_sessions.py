@@ -291,6 +291,18 @@ class ServerLost(InProcess):
         self.run_with(work)
 
 
+class RecordClosed(InProcess):
+    def test_an_id_that_is_asked_meanwhile_is_to_be_asked_again(self):
+        async def work(gateway):
+            self.assertIsNone(gateway.answer_to("admin", "one"))
+            gateway._writer.close()
+            with self.assertRaises(Refused) as held:
+                gateway.answer_to("admin", "one")
+            self.assertEqual(held.exception.code, 1004)
+
+        self.run_with(work)
+
+
 class Shared(InProcess):
     def test_all_with_the_same_roles_share_one_login_until_the_last_leaves(self):
         async def work(gateway):

@@ -278,7 +278,6 @@ class BorderTest(SharedTest):
             self.assertEqual(told["refusal"]["fault"], "NotHere")
         self.assertEqual(visitor.ask("offer", "offer", slot=0, signal="A")["reply"]["ok"], "offer")
 
-
     def test_one_offer_is_taken_back(self):
         with self.team.root() as client:
             client.grant("root", "step", "0")
