@@ -459,12 +459,12 @@ class Gateway:
     async def _begin(self) -> None:
         """A server that has what the record says, with nobody logged in. Raises Failed."""
         begun = await self._start_server()
-        self._is_lost = False
         self.reserve.fill()
         self._writer, self.order = begun.writer, Order(*begun.extent)
         self.entries_written, connections = begun.writer.last_numbers()
         self._connections = max(self._connections, connections)
-        reads.on_start(self)
+        await asyncio.get_running_loop().run_in_executor(None, reads.on_start, self)
+        self._is_lost = False
         if begun.count:
             self.log(f"{begun.count} entries replayed, {begun.logged_out} sessions logged out")
         if self.phase != STOPPING:
