@@ -82,9 +82,11 @@ class Pages(unittest.TestCase):
         shown = [action for action in team._actions if action.help != argparse.SUPPRESS]
         options = {word for action in shown for word in action.option_strings} - {"-h", "--help"}
         for word in options:
-            self.assertRegex(text, rf"(?m)^\.B[IR]* {word}\b", word)
+            self.assertEqual(
+                len(re.findall(rf"(?m)^\.TP\n\.B[IR]* {word}(?![\w-])", text)), 1, word
+            )
         for word in team._subparsers._group_actions[0].choices:
-            self.assertRegex(text, rf"(?m)^\.B {word}$", word)
+            self.assertEqual(len(re.findall(rf"(?m)^\.TP\n\.B {word}$", text)), 1, word)
 
     @needs_program
     def test_the_programs_manual_has_each_option(self):
