@@ -1,6 +1,0 @@
-use Rattle.audit_report.specs.Findings.{AreSlotsLegal}
-use Rattle.audit_report.proofs.audit.check.Given as goal
-
--- the journals so far are legal
-abbrev pub invariant-loop-number : goal.invariant-loop-number
-invariant-loop-number l = AreSlotsLegal l.entries l.slots l.number
