@@ -17,7 +17,7 @@ overflow_sub-self c = (fewer c).enough
 pub invariant_of-self : goal.invariant_of-self
 invariant_of-self c =
     let size = (ap length c.decide.ensures.cells
-        ∙ length-set c.as_mut_slice.result.now c.args.cell (known_as c.args.value)) ∙ c.as_mut_slice.ensures.len in
+    ∙ length-set c.as_mut_slice.result.now c.args.cell (known_as c.args.value)) ∙ c.as_mut_slice.ensures.len in
     record {
       counted = rw (with_items_is c.args.self.now.cells c.decide.new.cells size) (fewer c).counted;
     }
