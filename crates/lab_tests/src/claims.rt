@@ -6,6 +6,8 @@ use est_explore::claim::Claim;
 use est_explore::every::Every;
 use est_explore::judge::{explore, judge};
 use est_explore::one_module::{Answer, OneModule};
+use est_explore::same::{Comparison, compare, explore_both};
+use est_explore::two_modules::{Engines, TwoModules};
 use est_explore::verdict::Verdict;
 use est_kernel::kernel::Kernel;
 use est_relations::relations::{Members, Relation, Relations};
@@ -143,4 +145,38 @@ fn limits(rt: HostRuntime) {
     let claim = Claim::Always(&no_o);
     expect_answer(&rt, alloc, &kernel, &free, 0, &claim, 9, " 0>0 0>0 0>4");
     expect_answer(&rt, alloc, &kernel, &free, 0, &claim, 2, " too many");
+}
+
+/// A module does the same as itself.
+#[test]
+fn twins(rt: HostRuntime) {
+    let alloc = rt.alloc();
+    let kernel = both(&rt, alloc);
+    let free = Relations::new(alloc);
+    let twins = TwoModules {
+        first: OneModule {
+            kernel: &kernel,
+            engine: PhantomData,
+        },
+        second: OneModule {
+            kernel: &kernel,
+            engine: PhantomData,
+        },
+    };
+    let subject = Every {
+        reactive: &twins,
+        relations: &free,
+        among: ALL,
+    };
+    let mut engines = Engines {
+        first: Rounds::new(),
+        second: Rounds::new(),
+    };
+    let limits = Limits {
+        states: 9,
+        steps: 99,
+    };
+    let found = explore_both(alloc, &subject, &mut engines, limits).expect(&rt, "room");
+    let answer = compare(alloc, &subject, &found).expect(&rt, "room");
+    assert!(rt; matches!(answer, Comparison::Same));
 }
