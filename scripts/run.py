@@ -8,6 +8,7 @@ there are processors and memory for: first the one under the longest chain of ot
 before, and has not changed, is taken as it is. The lines go to standard error, the long texts of the proofs to crates/PROGRAM/out/proofs, which each run begins anew.
 Standard output has what the program wrote, and nothing else. The variable LANES says how many crates are proved at a time.
 """
+import contextlib
 import fcntl
 import functools
 import hashlib
@@ -47,8 +48,13 @@ def lanes():
 
 def bytes_kept():
     """What the proofs of earlier runs take on the disk."""
-    folders = [folder / "out" for folder in (ROOT / "crates").iterdir()]
-    return sum(file.lstat().st_size for folder in folders for file in folder.rglob("*"))
+    found = 0
+    for folder in (ROOT / "crates").glob("*/out"):
+        for at, _, names in os.walk(folder):
+            for name in names:
+                with contextlib.suppress(OSError):  # another run may have taken the file away
+                    found += os.lstat(os.path.join(at, name)).st_size
+    return found
 
 
 def has_room():
@@ -163,7 +169,7 @@ class Lane(Work):
         crates.mkdir(parents=True)
         for it in below:
             subprocess.run(["cp", "-al", ROOT / "crates" / it, crates], check=True)
-        shutil.copytree(self.own, crates / crate, ignore=shutil.ignore_patterns("out"))
+        shutil.copytree(self.own, crates / crate, ignore=lambda folder, names: {"out"} if folder == str(self.own) else ())
         lines = (ROOT / "crates.txt").read_text().splitlines(keepends=True)
         own_lines = [line for line in lines if re.split("[ :]", line)[0] in {crate, *below}]
         (self.clone / "crates.txt").write_text("".join(own_lines))
