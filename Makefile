@@ -1,11 +1,13 @@
 # The targets, by `make help`, which is what `make` alone does.
 PROGRAM := crates/estserve/out/estserve
 BENCHES := crates/benches/out/benches
+LAB := crates/estlab/out/estlab
+ASKS_LAB := $(if $(wildcard crates/estlab/src),--lab)
 PREFIX ?= /usr/local
 # rt ci proves as many crates side by side as RT_JOBS says, each by one job: a second job at one crate costs more than it saves.
 CORES := $(shell nproc)
 
-.PHONY: help doctor try run build abro examples client socket gateway hostile soak documents test check bench faults times install setup package package-check container
+.PHONY: help doctor try run build abro examples client lab socket gateway hostile soak documents test check bench faults times install setup package package-check container
 
 help:
 	@echo 'make doctor    say what of all that is used here is installed, what the rest is for, and how to get it'
@@ -18,11 +20,12 @@ help:
 	@echo 'make build     as make run, without the script'
 	@echo 'make examples  run each script and controller of examples, and each dialogue of tests and of the client, on the program, built without proof, and compare its answers'
 	@echo 'make client    the tests of the client and of the tutorial, on the program built WITHOUT proof'
+	@echo 'make lab       random modules and mistakes made on purpose, asked of estlab, on the programs built WITHOUT proof'
 	@echo 'make socket    the tests of the server over its socket, on the program built WITHOUT proof'
 	@echo 'make gateway   the tests of the team'"'"'s gateway and its page, on the program built WITHOUT proof'
 	@echo 'make faults    each growth of memory refused in turn, of each command and of whole runs, on the program built WITHOUT proof'
 	@echo 'make hostile   lines that are cut or wrong, full journals and clients that go away, on the program built WITHOUT proof'
-	@echo 'make soak      hostile, with all journals filled and a soak of ten minutes, and ten minutes of faults of the gateway; make build, and then'
+	@echo 'make soak      hostile, with all journals filled and a soak of ten minutes, and half an hour of faults of the gateway; make build, and then'
 	@echo '               make soak ESTSERVE=$$PWD/$(PROGRAM) takes the proved program; no part of make test'
 	@echo 'make abro      the waves of ABRO, by the client, on the program built WITHOUT proof: about a minute, and at once from then on'
 	@echo 'make install   put the proved program, the client, its page of the manual and completions under PREFIX (/usr/local)'
@@ -46,13 +49,14 @@ run:
 
 build:
 	@python3 scripts/run.py estserve script < /dev/null
+	@$(if $(ASKS_LAB),python3 scripts/run.py estlab < /dev/null)
 
 abro:
 	@echo 'This program is built WITHOUT proof; make build proves it first.' >&2
 	@python3 clients/estserve.py run examples/abro/abro.strl --inputs examples/abro/abro.inputs --wave --unproved
 
 install:
-	@clients/install '$(PREFIX)' $(PROGRAM)
+	@clients/install '$(PREFIX)' $(PROGRAM) $(wildcard $(LAB))
 
 setup:
 	tests/setup/run
@@ -72,7 +76,10 @@ examples:
 	python3 scripts/examples.py
 
 client:
-	python3 scripts/trial.py clients/tests/run
+	python3 scripts/trial.py $(ASKS_LAB) clients/tests/run
+
+lab:
+	tests/lab/run
 
 socket:
 	tests/socket/run
@@ -91,11 +98,13 @@ documents:
 	python3 scripts/version.py
 	python3 scripts/reading_list.py
 	python3 scripts/wrong_bodies.py
+	python3 scripts/contracts.py
+	python3 scripts/proof_lines.py --write
 	python3 tests/documents.py
 
 test:
 	python3 tests/documents.py
-	python3 scripts/trial.py sh -c 'clients/tests/run && tests/socket/run && tests/journals/walk && tests/gateway/run && tests/hostile/run && tests/faults/run && tests/setup/run'
+	python3 scripts/trial.py $(ASKS_LAB) sh -c 'clients/tests/run && $(if $(ASKS_LAB),tests/lab/run &&) tests/socket/run && tests/journals/walk && tests/gateway/run && tests/hostile/run && tests/faults/run && tests/setup/run'
 	python3 tests/journals/run
 	python3 tests/must-not-compile/run
 	RT_JOBS=$(CORES) rt ci

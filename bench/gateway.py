@@ -1,12 +1,12 @@
 #!/usr/bin/env python3
-"""What the team's gateway costs: a step through it beside one without, and accepted commands a
-second over four connections.
+"""What the team's gateway costs: a step through it beside one without, accepted commands a second
+over four connections, a hundred tabs that watch, and a start from a long record.
 
-usage: gateway.py PROGRAM
+usage: gateway.py PROGRAM [steps | tabs | start ..]
 
 Clients are processes of their own; each steps a slot of its own. Processor time is that of the
-gateway's process; the record is synced to the disk before each answer, so that the clock says as
-much about the disk."""
+gateway's process, the core; the record is synced to the disk before each answer, so that the clock
+says as much about the disk. Of the tabs it is that of the core and of the page, in cores."""
 import sys
 
 sys.path[
@@ -17,13 +17,18 @@ sys.dont_write_bytecode = True
 import multiprocessing
 import os
 import pathlib
+import selectors
 import tempfile
 import time
 
 import teams
+import visitors
+from test_two_processes import page_of
 
 STEPS = 2_000
 CLIENTS = 4
+TABS, SECONDS = 100, 10
+LONG = 100_000  # entries
 MODULE = "module M: input A; output O; loop present A then emit O end; pause end end module"
 
 
@@ -76,10 +81,8 @@ def tell(name, seconds, spent):
     print(f"{name:56} {seconds * 1e6:9.0f} {1 / seconds:9.0f} {spent * 1e6:9.0f}", flush=True)
 
 
-def main():
-    os.environ["ESTSERVE"] = os.path.abspath(
-        sys.argv[1]
-    )  # `teams` reads it when the program is first needed
+def tell_steps():
+    """What a step costs, with the gateway and without."""
     print(f"{'':56} {'us a step':>9} {'a second':>9} {'us cpu':>9}")
     with tempfile.TemporaryDirectory(prefix="gateway-") as folder:
         with teams.Server(teams.program_file(), pathlib.Path(folder) / "socket") as server:
@@ -99,6 +102,82 @@ def main():
                 *timed(team.path, team.process.pid, clients, ahead),
             )
         print(f"{len(team.entries())} entries recorded")
+
+
+def listen(visitor, seats, told):
+    """Tabs that follow their events, until the gateway ends; counts the bytes that come."""
+    selector, held = selectors.DefaultSelector(), []
+    for seat in seats:
+        visitor.seat = seat
+        connection, _ = visitor.open("GET", f"/api/events?seat={seat}")
+        connection.sock.setblocking(False)
+        selector.register(connection.sock, selectors.EVENT_READ)
+        held.append(connection)
+    told.value = 0
+    while selector.get_map():
+        for key, _ in selector.select():
+            data = key.fileobj.recv(65_536)
+            told.value += len(data)
+            if not data:
+                selector.unregister(key.fileobj)
+
+
+def tell_tabs():
+    """What tabs that watch cost, all of one login, while a slot is stepped."""
+    told = multiprocessing.Value("q", -1)
+    with visitors.Team("--http", "127.0.0.1:0") as team:
+        visitors.set_up(team)
+        visitor = visitors.visitor_of(team)
+        seats = []
+        for _ in range(TABS):
+            visitor.login("bob", "watcher")
+            seats.append(visitor.seat)
+        tabs = multiprocessing.Process(target=listen, args=(visitor, seats, told), daemon=True)
+        tabs.start()
+        teams.wait_for(lambda: told.value >= 0)
+        processes = [team.process.pid, page_of(team)]
+        with team.client() as client:
+            client.login("cho", ["stepper"])
+            before, began, came = list(map(cpu_of, processes)), time.monotonic(), told.value
+            for at in range(20 * SECONDS):
+                client.step(0)
+                time.sleep(max(0, began + at / 20 - time.monotonic()))
+            seconds = time.monotonic() - began
+        spent = [(after - since) / seconds for after, since in zip(map(cpu_of, processes), before)]
+        told_bytes = (told.value - came) / seconds / TABS
+        rate = 20 * SECONDS / seconds
+        print(f"{TABS} tabs, {rate:.1f} steps a second: {told_bytes:.0f} bytes a second each")
+        print(f"  {spent[0]:.2f} of a core in the core, {spent[1]:.2f} in the page")
+        tabs.terminate()
+
+
+def tell_start():
+    """How long a start takes that replays a long record."""
+    with teams.Team() as team:
+        with team.talker() as talker:
+            set_up(talker)
+            talker.ask(teams.login_line())
+            lines = [teams.line_of(cmd="step", slot=at % 2) for at in range(500)]
+            for _ in range(LONG // len(lines)):
+                talker.ask_part(lines)
+            talker.ask(teams.line_of(cmd="logout"))
+        assert team.end() == 0
+        began = time.monotonic()
+        team.start()
+        seconds, server = time.monotonic() - began, cpu_of(team.server())
+        print(f"a start with {len(team.entries())} entries: {seconds:.2f} s; processor time")
+        print(f"  {cpu_of(team.process.pid):.2f} s of the core, {server:.2f} s of the server")
+
+
+PARTS = {"steps": tell_steps, "tabs": tell_tabs, "start": tell_start}
+
+
+def main():
+    os.environ["ESTSERVE"] = os.path.abspath(
+        sys.argv[1]
+    )  # `teams` reads it when the program is first needed
+    for part in sys.argv[2:] or PARTS:
+        PARTS[part]()
 
 
 if __name__ == "__main__":

@@ -25,10 +25,10 @@ CRATES = {
     "est_kernel": ("code_set", "completion", "mask", "pause_set", "statement"),
     "est_meaning": ("status",),
     "est_rounds": ("acts", "answer", "signal_set", "resume"),
-    "est_net": ("reach", "table"),
-    "est_micro": ("begin", "cells", "decided", "direction", "idle", "next", "outputs", "resume", "run", "micro"),
+    "est_net": ("extents", "lay", "net", "pause_run", "reach", "table"),
+    "est_micro": ("begin", "cells", "decided", "direction", "extents", "idle", "learning", "next", "outputs", "resume", "run", "micro"),
 }
-BY_HAND = {"est_kernel": ("interface", "kernel", "state"), "est_net": ("net",)}  # modules of bench/port.rs
+BY_HAND = {"est_kernel": ("interface", "kernel", "state")}  # modules of bench/port.rs
 INSTANTS = 20
 LARGEST = "deep60x12"
 
@@ -44,8 +44,8 @@ def after_braces(text, at):
 
 def without_clauses(text):
     """A file's text without what a proof alone needs."""
-    for line in (r"[ \t]*ghost [^\n]*\n", r"//![^\n]*\n", r"#\[(?:derive\(Drop\)|cycle\(\w+\))\]\n", r"#!\[tactic\(auto\)\]\n",
-                 r"use std::alloc::[^\n]*\n"):
+    for line in (r"(?:[ \t]*///[^\n]*\n)?[ \t]*ghost [^\n]*\n", r"//![^\n]*\n", r"#\[(?:derive\(Drop\)|cycle\(\w+\))\]\n",
+                 r"#!?\[tactic\(auto[^\n]*\n", r"use std::alloc::[^\n]*\n"):
         text = re.sub(f"^{line}", "", text, flags=re.M)
     while clause := re.search(r"^[ \t]*(?:requires|ensures)\b[^\n{]*\{", text, flags=re.M):
         text = text[:clause.start()] + text[after_braces(text, clause.end()):].lstrip(" \t").removeprefix("\n")
@@ -65,9 +65,10 @@ def ported(crate, module):
         text = re.sub(r"\nimpl (?:Test|Statement) \{.*?\n\}\n", "\n", text, flags=re.S)
     if (crate, module) == ("est_rounds", "resume"):  # the rest is the plain engine's
         text = f"use est_kernel::pause_set::PauseSet;\nuse est_kernel::statement::Statement;\n{function(text, 'has_live')}\n"
-    if module == "reach":  # memory is never refused here
-        for ours, theirs in (("alloc: Global, ", ""), ("Vec::new(alloc)", "Vec::new()"), ("AllocError", "()"), ("pauses.push(from)?;", "pauses.push(from);")):
+    if crate == "est_net":  # memory is never refused here
+        for ours, theirs in (("alloc: Global, ", ""), ("(alloc, ", "("), ("(alloc)", "()"), ("AllocError", "()")):
             text = text.replace(ours, theirs)
+        text = re.sub(r"(\.push\(.*\))\?;", r"\1;", text)
     if module == "micro":
         text = text[:text.index("impl Engine for")].replace("use est_rounds::engine::Engine;\n", "")
     text = text.replace("use crate::", f"use crate::{crate}::")

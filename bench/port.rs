@@ -64,28 +64,15 @@ mod by_hand {
             pub undecided: u64,
         }
     }
-
-    pub mod net {
-        use crate::est_net::reach::Reach;
-        use crate::est_net::table::Table;
-
-        pub struct Net {
-            pub reach: Reach,
-            pub table: Table,
-            pub outputs: usize,
-        }
-    }
 }
 
 use by_hand::interface::Interface;
 use by_hand::kernel::Kernel;
-use by_hand::net::Net;
 use by_hand::state::{Inputs, State};
 use est_kernel::statement::{InterfaceSignal, LocalSignal, PauseIndex, Signal, Statement, Test, TrapIndex};
 use est_meaning::status::Status;
 use est_micro::micro::Micro;
-use est_net::reach::Reach;
-use est_net::table::Table;
+use est_net::net::Net;
 
 /// The words of a statement, and the names that are in scope.
 struct Reader<'a> {
@@ -151,21 +138,6 @@ impl<'a> Reader<'a> {
     }
 }
 
-/// How many cells a statement has.
-fn size(main: bool, s: &Statement, traps: usize) -> usize {
-    let own = traps + 3;
-    match s {
-        Statement::Nothing | Statement::Pause(_) | Statement::Emit(_) | Statement::Exit(_) => own,
-        Statement::Present(_, p, q) | Statement::Seq(p, q) | Statement::Par(p, q) => {
-            own + size(main, p, traps) + size(main, q, traps)
-        }
-        Statement::Suspend(_, p) => own + size(main, p, traps),
-        Statement::Loop(p) => own + size(main, p, traps) + if main { size(false, p, traps) } else { 0 },
-        Statement::Trap(p) => own + size(main, p, traps + 1),
-        Statement::Local(_, p) => own + 1 + size(main, p, traps),
-    }
-}
-
 /// The mask of as many signals.
 fn first(count: usize) -> u64 {
     if count == 64 { u64::MAX } else { (1 << count) - 1 }
@@ -182,11 +154,9 @@ fn main() {
     let len = signals.len();
     let mut reader = Reader { words: lines[3].split_whitespace(), signals, locals: vec![], traps: vec![], pauses: 0 };
     let root = reader.statement();
-    let cells = len - inputs + size(true, &root, 0);
     let interface = Interface { emittable: first(len) & !first(inputs), offerable: first(inputs), len };
-    let reach = Reach::of(&root).expect("no reach");
     let kernel = Kernel { interface, root };
-    let mut engine = Micro::new(Net { reach, table: Table::new(vec![Status::Unknown; cells]), outputs: len - inputs });
+    let mut engine = Micro::new(Net::build(&kernel).expect("no table"));
     let (mut state, mut sum) = (State::Fresh, 0u64);
     for n in 0..instants {
         let Ok(outcome) = engine.run(&kernel, &state, &Inputs { signals: masks[n % masks.len()] & first(inputs) }) else {
@@ -198,5 +168,5 @@ fn main() {
             State::Fresh | State::Done => State::Fresh,
         };
     }
-    println!("{cells} {} {sum:016x}", engine.steps());
+    println!("{} {} {sum:016x}", engine.net().cells(), engine.steps());
 }

@@ -1,10 +1,11 @@
 #!/usr/bin/env python3
 """The client of estserve: run a module through inputs, test a folder, lay texts out, tell an editor
-of them, speak with a server, apply a policy.
+of them, judge claims in every run, speak with a server, apply a policy.
 
     estserve.py run abro.strl --inputs abro.inputs --wave
     estserve.py test scenarios
     estserve.py format abro.strl
+    estserve.py prove crossing.strl --never 'CARS_GO and WALK'
     estserve.py shell --socket PATH --user ann --role driver
     estserve.py apply team.toml --socket PATH
 

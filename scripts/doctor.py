@@ -100,6 +100,7 @@ def findings():
         disk(),
         memory(),
         *module("aiohttp", page),
+        *module("hypothesis", "the tests of the gateway's orders and lines"),
         *module("selenium", "the tests of the page in a browser"),
         program(["chromium"], "the tests of the page in a browser", INSTALL, "a browser"),
         program(["chromedriver"], "the tests of the page in a browser", INSTALL, "the browser's driver"),

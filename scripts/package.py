@@ -55,6 +55,7 @@ class Package:
             "kilobytes": sum(-(-path.lstat().st_size // 1024) for path in tree.rglob("*")),
             "depends": NEEDS if self.record["proved"] else UNPROVED_NEEDS,
             "relations": relations,
+            "claim": "Its behaviour is proved." if self.record["proved"] else "This build is not proved.",
             "note": "" if self.record["proved"] else " (built without proof)",
         }
 

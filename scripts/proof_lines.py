@@ -1,18 +1,18 @@
 #!/usr/bin/env python3
-"""Prints how many lines of code, of definitions and of proofs the crates have, by storey, as docs/GATE.md has them.
+"""Prints how many lines of code, of definitions and of proofs the crates have, by storey, as docs/generated/LINES.md has them.
 
-usage: proof_lines.py [--crates]
+usage: proof_lines.py [--crates | --write]
 
 Counted are all lines of the crates' src/**/*.rt, specs/**/*.antt and proofs/**/*.antt, blank lines and comments too. The last column is
-the lines of proofs over those of code and definitions. With --crates each crate has a row of its own. tests/documents.py fails where the
-document tells a number of lines that is more than a twentieth and 100 lines away from today's.
+the lines of proofs over those of code and definitions. With --crates each crate has a row of its own; --write puts the table into the
+document. tests/documents.py fails where that tells a number of lines that is more than a twentieth and 100 lines away from today's.
 """
 import pathlib
 import re
 import sys
 
 ROOT = pathlib.Path(__file__).resolve().parent.parent
-DOCUMENT = ROOT / "docs/GATE.md"
+DOCUMENT = ROOT / "docs/generated/LINES.md"
 KINDS = {"src": ".rt", "specs": ".antt", "proofs": ".antt"}
 HEAD = ["", "Code (src)", "Definitions (specs)", "Proofs (proofs)", "Proofs over code and definitions"]
 UNPROMISED = ["Tests", "Benches"]  # storeys of which the program has nothing
@@ -73,17 +73,25 @@ def stale_rows():
     """A line for each row that the document lacks, or that is more than a twentieth and 100 lines away from today's."""
     told = counts_by_name(DOCUMENT.read_text())
     return [
-        f"docs/GATE.md: lines of proof, {name}: not as scripts/proof_lines.py prints them"
+        f"docs/generated/LINES.md, {name}: not as scripts/proof_lines.py --write has it"
         for name, counts in counts_by_name(table()).items()
         if name not in told or any(abs(old - new) > new / 20 + 100 for old, new in zip(told[name], counts))
     ]
 
 
+def write():
+    """Puts the table into the document."""
+    DOCUMENT.write_text(DOCUMENT.read_text().partition("|")[0] + table() + "\n")
+
+
 def main(words):
-    if words not in ([], ["--crates"]):
+    if words not in ([], ["--crates"], ["--write"]):
         print(__doc__, file=sys.stderr)
         return 2
-    print(table(bool(words)))
+    if words == ["--write"]:
+        write()
+    else:
+        print(table(bool(words)))
     return 0
 
 

@@ -1,13 +1,14 @@
 #!/usr/bin/env python3
 """Runs a command with the program, built WITHOUT proof, in the variable ESTSERVE.
 
-usage: trial.py COMMAND [WORD ..]
-       trial.py --path
+usage: trial.py [--lab] COMMAND [WORD ..]
+       trial.py --path [estserve | estlab]
 
-The program is built by `rt try`, and kept in out/trial while no source changes: no file
-`crates/**/*.rt`, not crates.txt, not the kit. Where ESTSERVE names a program already, it is taken.
-Ends with the command's status; with --path it builds the program where that is needed, and prints
-where it lies.
+With --lab the program estlab is in the variable ESTLAB too. A program is built by `rt try`, and
+kept in out/trial while no source changes: no file `crates/**/*.rt`, not crates.txt, not the kit.
+Where its variable names a program already, that one is taken. Ends with the command's status; with
+--path it builds the one program, which is estserve if none is named, where that is needed, and
+prints where it lies.
 """
 import hashlib
 import os
@@ -20,7 +21,8 @@ import tempfile
 
 ROOT = pathlib.Path(__file__).resolve().parent.parent
 KEPT = ROOT / "out" / "trial"
-MOST = 3  # programs are kept, the newest ones
+MOST = 6  # programs are kept, the newest ones
+NAMES = ("estserve", "estlab")
 sys.path.insert(0, str(ROOT / "tests" / "socket"))
 sys.dont_write_bytecode = True
 import running  # noqa: E402
@@ -66,26 +68,54 @@ def write_caller(words, path):
     path.chmod(0o755)
 
 
-def build(folder):
-    """Builds the program, and puts it into this folder at once when it is whole. Raises
+def built_lab(folder):
+    """How to call the program estlab that `rt try` builds: it waits for a text, and its file is
+    copied meanwhile. Raises CannotBuild.
+    """
+    text = folder / "text"
+    os.mkfifo(text)
+    trial = subprocess.Popen(
+        ["rt", "try", "--", "prove", str(text), "--main", "M"],
+        cwd=ROOT / "crates" / "estlab",
+        start_new_session=True,
+        stdin=subprocess.DEVNULL, stdout=subprocess.DEVNULL, stderr=subprocess.PIPE, text=True,
+    )  # fmt: skip
+
+    def caller():
+        below = running.commands_below(trial.pid)
+        fronts = [words[: words.index("prove")] for words in below if "prove" in words]
+        return next((front for front in fronts if front and front[-1].endswith("/program")), None)
+
+    found = running.wait_for(lambda: caller() or trial.poll() is not None, running.BUILD_SECONDS)
+    if not isinstance(found, list):
+        raise CannotBuild(f"the program could not be built: {trial.stderr.read()}")
+    program = shutil.copy(found[-1], folder / "estlab")
+    text.write_text("module M: nothing end module")
+    trial.communicate()
+    text.unlink()
+    return [*found[:-1], str(program)]
+
+
+def build(folder, name):
+    """Builds a program, and puts it into this folder at once when it is whole. Raises
     CannotBuild.
     """
     print(
-        "The program is built WITHOUT proof, which takes about a minute ..",
+        f"The program {name} is built WITHOUT proof, which takes about a minute ..",
         file=sys.stderr,
         flush=True,
     )
     KEPT.mkdir(parents=True, exist_ok=True)
-    with tempfile.TemporaryDirectory(dir=KEPT, prefix="building-") as name:
-        made = pathlib.Path(name) / "made"
+    with tempfile.TemporaryDirectory(dir=KEPT, prefix="building-") as path:
+        made = pathlib.Path(path) / "made"
         made.mkdir()
         try:
-            words = running.built_program(made)
+            words = running.built_program(made) if name == "estserve" else built_lab(made)
         except (AssertionError, StopIteration) as fault:
             raise CannotBuild(str(fault) or "the program that was built was not found") from fault
         (made / "first").unlink(missing_ok=True)
-        (made / "estserve").rename(made / "program")
-        write_caller([*words[:-1], str(folder / "program")], made / "estserve")
+        (made / name).rename(made / "program")
+        write_caller([*words[:-1], str(folder / "program")], made / name)
         try:
             made.rename(folder)
         except OSError:  # another one has built it meanwhile
@@ -100,26 +130,29 @@ def drop_old():
         shutil.rmtree(path, ignore_errors=True)
 
 
-def program():
-    """The path of the program, which is built where it isn't kept. Raises CannotBuild."""
-    if os.environ.get("ESTSERVE"):
-        return os.environ["ESTSERVE"]
-    folder = KEPT / key()
+def program(name="estserve"):
+    """The path of a program, which is built where it isn't kept. Raises CannotBuild."""
+    if os.environ.get(name.upper()):
+        return os.environ[name.upper()]
+    folder = KEPT / (key() if name == "estserve" else f"{key()}-{name}")
     if not folder.exists():
-        build(folder)
+        build(folder, name)
         drop_old()
-    return str(folder / "estserve")
+    return str(folder / name)
 
 
 def main():
     words = sys.argv[1:]
-    if words == ["--path"]:
-        print(program())
+    if words[:1] == ["--path"] and set(words[1:]) <= set(NAMES):
+        print(program(*words[1:]))
         return 0
-    if not words:
+    names = NAMES if words[:1] == ["--lab"] else NAMES[:1]
+    command = words[len(names) - 1 :]
+    if not command:
         print(__doc__, file=sys.stderr)
         return 2
-    return subprocess.run(words, env=dict(os.environ, ESTSERVE=program())).returncode
+    programs = {name.upper(): program(name) for name in names}
+    return subprocess.run(command, env=dict(os.environ, **programs)).returncode
 
 
 if __name__ == "__main__":

@@ -1,13 +1,14 @@
 #!/usr/bin/env python3
 """Checks that the documents keep up with the repository.
 
-The lists of docs/generated are those that scripts/reading_list.py and scripts/wrong_bodies.py write, and each wrong
-body says why it is wrong; README.md has at most 100 lines; each crate stands in docs/ARCHITECTURE.md, and crates.txt
-has its storeys and its order; each function of the walk there stands in its file; each script of examples/scripts has
-its answers and its row in examples/README.md, and the opening one is the stored run; each test that docs/EXAMPLES.md
-names is written; each link leads to a file and a heading, and each quoted block stands in its file; no line of code,
-definition or proof is too wide; docs/GATE.md tells nearly as many lines of proof as there are; docs/DECISIONS.md has at
-most 60 entries, which say what was rejected; and the version is the same wherever it stands.
+The lists of docs/generated are those that scripts/reading_list.py, wrong_bodies.py and contracts.py write, and each
+wrong body says why it is wrong; README.md has at most 100 lines; each crate stands in docs/ARCHITECTURE.md, and
+crates.txt has its storeys and its order; each function of the walk there stands in its file; each script of
+examples/scripts has its answers and its row in examples/README.md, and the opening one is the stored run; each test
+that docs/EXAMPLES.md names is written; each link leads to a file and a heading, and each quoted block stands in its
+file; no line of code, definition or proof is too wide; docs/generated/LINES.md tells nearly as many lines as there are;
+docs/DECISIONS.md has at most 40 short entries, which say what was rejected; no sentence is too long, and the documents
+have no more words than scripts/words.py allows; and the version is the same wherever it stands.
 Ends with status 1 after naming what differs.
 """
 
@@ -18,21 +19,24 @@ import sys
 ROOT = pathlib.Path(__file__).resolve().parent.parent
 sys.path.insert(0, str(ROOT / "scripts"))
 sys.dont_write_bytecode = True
+import contracts  # noqa: E402
 import proof_lines  # noqa: E402
 import reading_list  # noqa: E402
 import version  # noqa: E402
+import words  # noqa: E402
 import wrong_bodies  # noqa: E402
 
 
 README_LINES = 100  # at most
-ENTRIES = 60  # of docs/DECISIONS.md, at most
+ENTRIES = 40  # of docs/DECISIONS.md, at most
+ENTRY_WORDS = 72  # of an entry, at most
 WIDTHS = {".rt": 100, ".antt": 120}  # characters of a line, at most
 
 
 def differing_tables():
     """A line for each list of docs/generated that its script would write otherwise."""
     faults = []
-    for script in [reading_list, wrong_bodies]:
+    for script in [reading_list, wrong_bodies, contracts]:
         text = script.DOCUMENT.read_text()
         if script.written(text) != text:
             faults.append(f"{script.DOCUMENT.relative_to(ROOT)} is out of step: run scripts/{script.__name__}.py")
@@ -46,10 +50,11 @@ def long_readme():
 
 
 def faulty_decisions():
-    """A line if docs/DECISIONS.md has too many entries, and one for each that words a rejected way otherwise."""
+    """A line if docs/DECISIONS.md has too many entries, and one for each that is too long or words a rejected way otherwise."""
     lines = (ROOT / "docs/DECISIONS.md").read_text().splitlines()
     entries = [line for line in lines if line.startswith("- **")]
     faults = [f"docs/DECISIONS.md has {len(entries)} entries: at most {ENTRIES}"] if len(entries) > ENTRIES else []
+    faults += [f"docs/DECISIONS.md: more than {ENTRY_WORDS} words in {line[:60]} .." for line in entries if len(line.split()) > ENTRY_WORDS]
     return faults + [f"docs/DECISIONS.md: Rejected: in place of Instead of: in {line[:60]} .." for line in entries if "Instead of:" in line]
 
 
@@ -185,7 +190,7 @@ def wide_lines():
 def main():
     faults = differing_tables() + missing_sentences() + missing_functions() + faulty_examples()
     faults += long_readme() + missing_crates("docs/ARCHITECTURE.md") + shuffled_crates() + missing_tests() + wide_lines()
-    faults += faulty_decisions() + proof_lines.stale_rows() + version.stale_places()
+    faults += faulty_decisions() + proof_lines.stale_rows() + version.stale_places() + words.faults()
     for document in [*ROOT.glob("*.md"), *ROOT.glob("docs/**/*.md"), *ROOT.glob("examples/*.md")]:
         faults += broken_links(document) + broken_anchors(document) + stale_quotes(document)
     print("\n".join(faults) if faults else "documents: in step with the repository")

@@ -5,13 +5,13 @@ _estserve_client() {
     COMPREPLY=()
     if ((COMP_CWORD == 1)); then path=; fi
     case "$path ${COMP_WORDS[2]}" in
-    'team who' | 'team slots' | 'team policy' | 'team why' | 'team log' | 'team archive' | 'team link' | 'team health' | 'team visits' | 'team kick' | 'team close' | 'team retract' | 'team verify' | 'team backup' | 'team restore' | 'team undo-until')
+    'team who' | 'team slots' | 'team policy' | 'team why' | 'team log' | 'team archive' | 'team link' | 'team health' | 'team visits' | 'team kick' | 'team close' | 'team retract' | 'team verify' | 'team backup' | 'team restore' | 'team undo-until' | 'team page')
         if ((COMP_CWORD > 2)); then path="$path ${COMP_WORDS[2]}"; fi
         ;;
     esac
     case "$path" in
     '')
-        words='run test format lsp shell apply proof team --help --version'
+        words='run test format lsp shell apply proof prove coverage lint whocan graph team --help --version'
         ;;
     'run')
         words='--help --main --inputs --signals --table --wave --vcd --expect --update --watch --program --unproved --socket --user --role --reads --slot --loaded'
@@ -60,11 +60,51 @@ _estserve_client() {
         --record) words='' files=1 ;;
         esac
         ;;
+    'prove')
+        words='--help --main --never --always --observer --inputs --same --write --estlab --unproved --most'
+        files=1
+        case "$before" in
+        --same | --write | --estlab) words='' files=1 ;;
+        --main | --never | --always | --observer | --inputs | --most) return ;;
+        esac
+        ;;
+    'coverage')
+        words='--help --module --main --write --estlab --unproved --most'
+        files=1
+        case "$before" in
+        --module | --estlab) words='' files=1 ;;
+        --main | --most) return ;;
+        esac
+        ;;
+    'lint')
+        words='--help --main --estlab --unproved --most'
+        files=1
+        case "$before" in
+        --estlab) words='' files=1 ;;
+        --main | --most) return ;;
+        esac
+        ;;
+    'whocan')
+        words='--help --roles --main --estlab --unproved --most'
+        files=1
+        case "$before" in
+        --estlab) words='' files=1 ;;
+        --roles | --main | --most) return ;;
+        esac
+        ;;
+    'graph')
+        words='--help --main --inputs --estlab --unproved --most'
+        files=1
+        case "$before" in
+        --estlab) words='' files=1 ;;
+        --main | --inputs | --most) return ;;
+        esac
+        ;;
     'team')
-        words='who slots policy why log archive link health visits kick close retract verify backup restore undo-until --help --state --people --program --group --until --accept --limit --http --http-socket --origin --user-header --proxy-user'
+        words='who slots policy why log archive link health visits kick close retract verify backup restore undo-until page --help --state --people --program --unproved --group --until --accept --limit --http --http-socket --origin --user-header --proxy-user --page-user --page-names'
         case "$before" in
         --state | --people | --program | --http-socket) words='' files=1 ;;
-        --group | --until | --limit | --http | --origin | --user-header | --proxy-user) return ;;
+        --group | --until | --limit | --http | --origin | --user-header | --proxy-user | --page-user) return ;;
         esac
         ;;
     'team who')
@@ -175,6 +215,13 @@ _estserve_client() {
         words='--help --state'
         case "$before" in
         --state) words='' files=1 ;;
+        esac
+        ;;
+    'team page')
+        words='--help --state --limit --program --http --http-socket --origin --user-header --proxy-user'
+        case "$before" in
+        --state | --program | --http-socket) words='' files=1 ;;
+        --limit | --http | --origin | --user-header | --proxy-user) return ;;
         esac
         ;;
     esac

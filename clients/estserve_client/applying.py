@@ -12,20 +12,26 @@ import sys
 from typing import Any, Dict, Iterator, List, Optional, Union
 
 from .close_words import meant
-from .command_table import BACK, KEYS
+from .command_table import KEYS, back_of
 from .connection import Client, Refusal, start
 from .gateway_words import policy_at
 from .module_text import OFFERED, main_of
+from .planning import changes_of, remade
 from .policy_file import BadPolicy, Policy, Wish, read_file
-from .pruning import candidates, exact, names_of, prune
+from .pruning import candidates, check_terminal, exact, is_agreed, names_of, prune
 from .programs import program_of
 from .sentences import Set, sentence
-from .session import roles_of, session_of
+from .session import roles_of, session_of, user_of
 from .texts import Failed, Placed, read_text
 
 THERE_ALREADY = {
     "UserExists", "RoleExists", "AlreadyAssigned", "AlreadyGranted", "EdgeExists", "DsdExists",
 }  # fmt: skip
+ASKED_ON = {
+    "offer": "a signal", "observe": "a signal", "step": "a slot", "load": "a slot",
+    "administer": "policy", "audit": "policy",
+}  # fmt: skip
+ALONE = ", on a program of its own, which has ended: name a server by --socket"
 Command = Dict[str, Any]
 
 
@@ -34,12 +40,6 @@ def text_of(command: Command) -> str:
     words = [command[key] for key in KEYS[command["cmd"]]]
     flat = [part for word in words for part in (word if isinstance(word, list) else [word])]
     return " ".join([command["cmd"], *map(str, flat)])
-
-
-def back_of(command: Command) -> Command:
-    """The command that takes another one back."""
-    back = BACK[command["cmd"]]
-    return {"cmd": back, **{key: command[key] for key in KEYS[back]}}
 
 
 @dataclasses.dataclass
@@ -61,7 +61,7 @@ def take_back(client: Client, made: List[Wish]) -> List[Wish]:
     left = []
     for wish in reversed(made):
         try:
-            client.ask(**back_of(wish.command))
+            client.ask(**(wish.back or back_of(wish.command)))
         except Refusal:
             left.append(wish)
     return left
@@ -101,8 +101,8 @@ def apply_file(client: Client, path: Union[str, "os.PathLike[str]"]) -> Applied:
 
 
 def warnings_of(policy: Policy, path: str) -> Iterator[str]:
-    """What is said of each permission on a signal that the slot's module doesn't have, or nobody
-    can offer.
+    """What is said of each permission that does nothing, or is on a signal that the slot's module
+    doesn't have, or nobody can offer.
     """
     folder = pathlib.Path(path).parent
     modules = {
@@ -111,11 +111,13 @@ def warnings_of(policy: Policy, path: str) -> Iterator[str]:
     }
     for wish in policy.wishes:
         slot, _, signal = wish.command.get("object", "").partition(".")
-        if signal and slot.isdigit() and int(slot) in modules:
+        place = f"{path}:{wish.line}: warning: {text_of(wish.command)}"
+        if wish.command["cmd"] == "grant" and (told := of_no_use(wish.command)):
+            yield f"{place}: {told}"
+        elif signal and slot.isdigit() and int(slot) in modules:
             name, module = modules[int(slot)]
             wrong = wrong_permission(wish.command["op"], signal, module.kinds())
             if wrong:
-                place = f"{path}:{wish.line}: warning: {text_of(wish.command)}"
                 yield f"{place}: {module.name} of {name} {wrong}"
 
 
@@ -125,7 +127,16 @@ def wrong_permission(op: str, signal: str, kinds: Dict[str, str]) -> Optional[st
         return f"has no signal {signal}"
     if op == "offer" and kinds[signal] not in OFFERED:
         return f"gives {signal} as an output, which nobody can offer"
-    return None if op in ("offer", "observe") else f"knows no {op} on a signal"
+    return None
+
+
+def of_no_use(grant: Command) -> Optional[str]:
+    """What is said of a permission that no command asks for; None of any other."""
+    object, wanted = grant["object"], ASKED_ON.get(grant["op"])
+    kind = object if object == "policy" else "a signal" if "." in object else "a slot"
+    if wanted in (None, kind):
+        return None
+    return f"this does nothing: {grant['op']} is asked for on {wanted}"
 
 
 def sets_of(policy: Policy) -> Dict[str, Set]:
@@ -176,19 +187,81 @@ def dry_run(arguments: argparse.Namespace, policy: Policy) -> None:
 
 
 def to_prune(
-    arguments: argparse.Namespace, policy: Policy, before: Optional[Policy]
+    policy: Policy, before: Optional[Policy], known: Optional[Dict[str, Any]]
 ) -> List[Command]:
-    """The commands of --prune: at a gateway what is there and not asked for, which is listed; else
-    what may be there.
+    """The commands of --prune: what is there and not asked for, where that is known; else what may
+    be there.
     """
-    path, roles = arguments.socket, roles_of(arguments)
-    known = policy_at(path, arguments.user, roles) if path else None
-    if known is None:
-        return candidates(policy, before)
-    commands = exact(policy, known)
-    for command in [] if arguments.yes else commands:
+    return candidates(policy, before) if known is None else exact(policy, known)
+
+
+def known_policy(arguments: argparse.Namespace, policy: Policy) -> Optional[Dict[str, Any]]:
+    """The whole policy as a gateway tells it, where it is needed; None where none does."""
+    if not arguments.socket or not (arguments.prune or sets_of(policy)):
+        return None
+    arguments.user = user_of(arguments)
+    return policy_at(arguments.socket, arguments.user, roles_of(arguments))
+
+
+def tell_plan(policy: Policy, taken: List[Command], known: Optional[Dict[str, Any]]) -> None:
+    """Tells what would be made and taken away, before a person is asked."""
+    commands = [wish.command for wish in policy.wishes]
+    for command in changes_of(commands, known)[0] if known else commands:
+        print(f"{'to make' if known else 'asked for'}: {text_of(command)}")
+    for command in taken if known else []:
         print(f"not asked for: {text_of(command)}")
-    return commands
+
+
+def tell_sets(applied: Applied, known: Optional[Dict[str, Any]], path: str) -> None:
+    """Tells which separation sets were made anew, and of those that may be other ones than the file
+    asks for.
+    """
+    for wish in applied.made:
+        if wish.back:
+            told = f"{text_of(wish.back)} was there: it is made anew"
+            print(f"{path}:{wish.line}: {told}", file=sys.stderr, flush=True)
+    for wish in applied.there if known is None else []:
+        if wish.command["cmd"] == "dsd":
+            name = wish.command["name"]
+            told = f"a set {name} is there already, and the server doesn't tell its roles"
+            told += f": if they have changed, `undsd {name}` first"
+            print(f"{path}:{wish.line}: warning: {told}", file=sys.stderr, flush=True)
+
+
+def check_words(arguments: argparse.Namespace) -> None:
+    """Raises Failed where the arguments don't go together."""
+    if (arguments.before or arguments.yes) and not arguments.prune:
+        raise Failed("--before and --yes are for --prune")
+    if arguments.dry_run and (arguments.socket or arguments.prune):
+        told = "--dry-run tries the file on a program of its own"
+        raise Failed(f"{told}: leave --socket and --prune away")
+    if arguments.prune and not arguments.yes:
+        check_terminal()
+
+
+def send(
+    arguments: argparse.Namespace,
+    policy: Policy,
+    known: Optional[Dict[str, Any]],
+    taken: List[Command],
+) -> None:
+    """Makes what the file asks for, and takes away the rest. Raises Failed where a command was
+    refused.
+    """
+    path = arguments.file
+    with session_of(arguments) as (client, _):
+        applied = apply_wishes(client, remade(policy.wishes, known) if known else policy.wishes)
+        if applied.refused:
+            sys.stdout.flush()
+            tell_refusal(applied, path, policy)
+            raise Failed(end_of(applied))
+        tell_sets(applied, known, path)
+        added = sum(wish.back is None for wish in applied.made)
+        print(
+            f"{len(applied.there)} there already, {added} added{'' if arguments.socket else ALONE}"
+        )
+        if arguments.prune:
+            prune(client, taken, text_of)
 
 
 def apply(arguments: argparse.Namespace) -> None:
@@ -196,21 +269,17 @@ def apply(arguments: argparse.Namespace) -> None:
     file is no policy, or a command was refused.
     """
     path = arguments.file
-    if (arguments.before or arguments.yes) and not arguments.prune:
-        raise Failed("--before and --yes are for --prune")
+    check_words(arguments)
     policy = read_policy_file(path)
     for warning in warnings_of(policy, path):
         print(warning, file=sys.stderr, flush=True)
     if arguments.dry_run:
         return dry_run(arguments, policy)
     before = read_policy_file(arguments.before) if arguments.before else None
-
-    with session_of(arguments) as (client, _):
-        applied = apply_wishes(client, policy.wishes)
-        if applied.refused:
-            sys.stdout.flush()
-            tell_refusal(applied, path, policy)
-            raise Failed(end_of(applied))
-        print(f"{len(applied.there)} there already, {len(applied.made)} added")
-        if arguments.prune:
-            prune(client, to_prune(arguments, policy, before), arguments.yes, text_of)
+    known = known_policy(arguments, policy)
+    taken = to_prune(policy, before, known) if arguments.prune else []
+    if arguments.prune and not arguments.yes:
+        tell_plan(policy, taken, known)
+        if not is_agreed():
+            return print("nothing is changed")
+    send(arguments, policy, known, taken)

@@ -5,8 +5,7 @@ the gateway.
 """
 from __future__ import annotations
 
-import re
-from typing import Dict, Tuple
+from typing import Any, Dict, Iterable, Tuple
 
 # The keys of each command besides `cmd`, in the order in which people write them.
 KEYS: Dict[str, Tuple[str, ...]] = {
@@ -46,16 +45,61 @@ BACK = {
     "grant": "revoke",
     "dsd": "undsd",
 }
+
+
+def back_of(command: Dict[str, Any]) -> Dict[str, Any]:
+    """The command that takes another one back."""
+    back = BACK[command["cmd"]]
+    return {"cmd": back, **{key: command[key] for key in KEYS[back]}}
+
+
 OPERATIONS = ("offer", "observe", "step", "load", "administer", "audit")
 SLOTS = 16
 MOST_ROLES = 32  # that one command lists
 MOST = 2**64 - 1  # the largest number of a command
 OF_TEXTS = range(70, 81)  # the codes of faults of a module text
 
-NAME = re.compile(r"[A-Za-z0-9_-]{1,24}")
-IDENTIFIER = re.compile(r"[A-Za-z][A-Za-z0-9_]{0,47}")
-OPERATION = re.compile("|".join(OPERATIONS))
-OBJECT = re.compile(rf"policy|([0-9]|1[0-5])(\.{IDENTIFIER.pattern})?")
+
+class Form:
+    """The form of a word: its first letter, the later ones, and how many there are at most."""
+
+    def __init__(self, first: str, later: str, most: int) -> None:
+        self.first, self.later, self.most = first, frozenset(later), most
+
+    def fullmatch(self, word: str) -> bool:
+        """Whether the whole word has this form."""
+        is_begun = 0 < len(word) <= self.most and word[0] in self.first
+        return is_begun and self.later.issuperset(word)
+
+
+class OneOf:
+    """The form of a word that is one of a few."""
+
+    def __init__(self, words: Iterable[str]) -> None:
+        self.words = frozenset(words)
+
+    def fullmatch(self, word: str) -> bool:
+        """Whether it is one of them."""
+        return word in self.words
+
+
+class Object:
+    """The form of an object: `policy`, a slot, or a signal of one."""
+
+    def fullmatch(self, word: str) -> bool:
+        """Whether the whole word has this form."""
+        slot, dot, signal = word.partition(".")
+        if slot not in SLOT_NUMBERS:
+            return word == "policy"
+        return not dot or IDENTIFIER.fullmatch(signal)
+
+
+LETTERS, DIGITS = "abcdefghijklmnopqrstuvwxyzABCDEFGHIJKLMNOPQRSTUVWXYZ", "0123456789"
+SLOT_NUMBERS = frozenset(map(str, range(SLOTS)))
+NAME = Form(LETTERS + DIGITS + "_-", LETTERS + DIGITS + "_-", 24)
+IDENTIFIER = Form(LETTERS, LETTERS + DIGITS + "_", 48)
+OPERATION = OneOf(OPERATIONS)
+OBJECT = Object()
 NAMES = ("user", "role", "senior", "junior", "name", "roles")  # keys whose words are names
 IDENTIFIERS = ("main", "signal")
 NUMBERS = ("slot", "instant", "count")

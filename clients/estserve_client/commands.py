@@ -17,6 +17,16 @@ TYPE_CHECKING = False
 if TYPE_CHECKING:
     from typing import Any, Callable
 
+VARIABLES = (
+    "The variable ESTSERVE names the program estserve, and ESTLAB the program estlab; without them"
+    " they are looked for on PATH. They come with the Debian package, or from `make build`."
+)
+BESIDE = (
+    "Lists NAME.CASE.inputs are of NAME.strl too. Where that is not there, all .strl files beside"
+    " are taken, if only one module is run by none. What `prove` writes, NAME.counterexample.inputs, is"
+    " no scenario."
+)
+
 # subcommands of packages beside this one, which may be there
 NEIGHBOURS = (("team", "estserve_team"),)
 
@@ -58,7 +68,7 @@ def doing(module: str, name: str) -> Callable[[argparse.Namespace], Any]:
 
 def add_program(parser: Parser) -> None:
     programs = parser.add_mutually_exclusive_group()
-    help = "the program to start, in place of the one that `make run` builds"
+    help = "the program to start (default: that of the variable ESTSERVE, or estserve on PATH)"
     programs.add_argument("--program", metavar="PATH", help=help)
     help = "in the repository: build the program without proof, and keep it while no source changes"
     programs.add_argument("--unproved", action="store_true", help=help)
@@ -124,7 +134,7 @@ def add_run(commands: Any) -> None:
 
 def add_test(commands: Any) -> None:
     help = "run each NAME.inputs of a folder, and compare it with NAME.expected"
-    parser = commands.add_parser("test", help=help)
+    parser = commands.add_parser("test", help=help, epilog=BESIDE)
     add = parser.add_argument
     add("folder", metavar="DIR", help="the folder")
     help = "the module texts for all of them (default: NAME.strl, or all .strl files of the folder)"
@@ -166,7 +176,11 @@ def add_apply(commands: Any) -> None:
         action="store_true",
         help="try it on a program of its own, list its commands, and send nothing",
     )
-    add("--prune", action="store_true", help="ask, and take away what the file doesn't ask for")
+    add(
+        "--prune",
+        action="store_true",
+        help="ask first, and take away what the file doesn't ask for",
+    )
     add(
         "--before",
         metavar="OLD",
@@ -204,6 +218,19 @@ def add_proof(commands: Any) -> None:
     help = "the file, in place of the installed one"
     parser.add_argument("--record", metavar="FILE", help=help)
     parser.set_defaults(act=doing("proof", "proof"))
+
+
+def adding(name: str, module: str) -> Callable[[Any], None]:
+    """Adds a command of estlab: its words are imported when it is asked for, and so is what does
+    it.
+    """
+
+    def add(commands: Any) -> None:
+        from .lab import parsers
+
+        getattr(parsers, "add_" + name)(commands, doing("lab." + module, name))
+
+    return add
 
 
 class TellVersion(argparse.Action):
@@ -246,12 +273,17 @@ ADDERS = {
     "shell": add_shell,
     "apply": add_apply,
     "proof": add_proof,
+    "prove": adding("prove", "proving"),
+    "coverage": adding("coverage", "coverage"),
+    "lint": adding("lint", "linting"),
+    "whocan": adding("whocan", "whocan"),
+    "graph": adding("graph", "graph"),
 }
 
 
 def make_parser(asked: str = "") -> Parser:
     """The words of the command line, with the one command that is asked for, or else with all."""
-    parser = Parser(prog=TELLER.name, description="The client of estserve.")
+    parser = Parser(prog=TELLER.name, description="The client of estserve.", epilog=VARIABLES)
     help = "print the version, and end"
     parser.add_argument("--version", action=TellVersion, nargs=0, help=help)
     # Without `prog` the library words the usage anew, for which it imports more than all the rest.

@@ -14,6 +14,7 @@ import io
 import json
 import os
 import sys
+import time
 
 TYPE_CHECKING = False  # stands for typing's, which takes its time to import
 if TYPE_CHECKING:
@@ -48,6 +49,7 @@ if TYPE_CHECKING:
 ROOT = os.path.dirname(os.path.dirname(os.path.dirname(os.path.realpath(__file__))))
 LINE_BYTES = 65_536  # a command's line may have this many bytes before its LF
 AHEAD_BYTES = 24_000  # commands are sent ahead in batches whose answers have about this many bytes
+DROP_SECONDS = 0.5  # what a program still writes at its end is taken for at most this many
 END_SECONDS = (
     10  # a program that was started ends in this many when its input has ended, or is stopped
 )
@@ -207,6 +209,8 @@ class Client:
         self.timeout, self._again, self.reads = timeout, again, reads
         self.when_renewed: Callable[[Answer], None] = lambda answer: None
         self.when_waiting: Callable[[], None] = lambda: None
+        self.program: Optional[Path] = None  # that was started for it
+        self._is_heard = False  # whether anything has come from it
         self.room = ROOM  # this many bytes of commands may be sent ahead at once
         self._login: Optional[Tuple[str, List[str]]] = None  # the user and the active roles
         self._begin()
@@ -241,7 +245,7 @@ class Client:
             self._writer.write(lines)
             self._writer.flush()
         except (OSError, ValueError) as fault:
-            raise Disconnected("the server has gone away") from fault
+            raise Disconnected(self._gone()) from fault
         self._cut = False
 
     def _receive(self, cmd: Optional[str] = None) -> Answer:
@@ -291,9 +295,10 @@ class Client:
                 raise TimedOut(self.timeout)
             more = self._reader.read1(LINE_BYTES)
         except (OSError, ValueError) as fault:
-            raise Disconnected("the server has gone away") from fault
+            raise Disconnected(self._gone()) from fault
         if not more:
             raise Disconnected(self._ended())
+        self._is_heard = True
         return more
 
     def _comes_within(self, seconds: float) -> bool:
@@ -306,7 +311,13 @@ class Client:
         """What is said of a connection that the server has ended."""
         if 2 * self._used >= self.reads:
             return f"the server has ended the connection, as it does after {self.reads:,} reads"
-        return "the server has gone away"
+        return self._gone()
+
+    def _gone(self) -> str:
+        """What is said of a server that has ended, or of a program that never answered."""
+        if self._is_heard or self.program is None:
+            return "the server has gone away"
+        return f"{self.program} ended before it answered anything"
 
     def _renew(self) -> None:
         """Makes a new connection, on which the same user has the same roles. Raises Refusal,
@@ -667,24 +678,27 @@ def connect(path: Path, timeout: Optional[float] = None, reads: int = READS) -> 
     return Client(*open_socket(path), timeout, lambda: open_socket(path), reads)
 
 
-def find_program(named: Optional[Path] = None) -> Path:
-    """The program: the one that is named, or of the variable ESTSERVE, or the one that `make run`
-    builds, or one beside the command that was started, or one on the path.
+def find_program(named: Optional[Path] = None, name: str = "estserve") -> Path:
+    """The program of this name: the one that is named, or of the variable ESTSERVE (or ESTLAB), or
+    the one that `make run` builds, or one beside the command that was started, or one on the path.
 
     Raises Disconnected, if there is none.
     """
-    if named or os.environ.get("ESTSERVE"):
-        return named or os.environ["ESTSERVE"]
-    program = os.path.join(ROOT, "crates", "estserve", "out", "estserve")
+    if named or os.environ.get(name.upper()):
+        return named or os.environ[name.upper()]
+    program = os.path.join(ROOT, "crates", name, "out", name)
     if os.path.exists(program):
         return program
     import shutil
 
-    beside = os.path.join(os.path.dirname(os.path.realpath(sys.argv[0])), "estserve")
-    found = shutil.which(beside) or shutil.which("estserve")
+    beside = os.path.join(os.path.dirname(os.path.realpath(sys.argv[0])), name)
+    found = shutil.which(beside) or shutil.which(name)
     if found is None:
+        word = "--program" if name == "estserve" else f"--{name}"
         raise Disconnected(
-            "there is no program estserve: build it by `make build`, or name it by --program"
+            f"there is no program {name} on PATH: it comes with the Debian package, or `make build`"
+            f" builds it; name it by {word}, or by the variable {name.upper()};"
+            " in the repository --unproved builds one without proof, in a minute"
         )
     return found
 
@@ -722,11 +736,28 @@ def wait_for_end(child: subprocess.Popen[bytes], seconds: float) -> None:
         os.close(ended)
 
 
-def end_program(child: subprocess.Popen[bytes]) -> None:
-    """Ends the input of a program that was started, and waits for its end. One that goes on for
-    too long is stopped.
+def drop_output(child: subprocess.Popen[bytes], seconds: float) -> None:
+    """Reads what a program still writes, for at most this many seconds: it would call a pipe that
+    nobody reads a fault.
     """
-    close_all((child.stdin, child.stdout))
+    import select
+
+    assert child.stdout
+    until = time.monotonic() + seconds
+    with contextlib.suppress(OSError, ValueError):
+        while (left := until - time.monotonic()) > 0:
+            comes = select.select([child.stdout], [], [], left)[0]
+            if not comes or not os.read(child.stdout.fileno(), LINE_BYTES):
+                return
+
+
+def end_program(child: subprocess.Popen[bytes]) -> None:
+    """Ends the input of a program that was started, takes what it still writes, and waits for its
+    end. One that goes on for too long is stopped.
+    """
+    close_all((child.stdin,))
+    drop_output(child, DROP_SECONDS)
+    close_all((child.stdout,))
     try:
         wait_for_end(child, END_SECONDS)
     finally:
@@ -734,19 +765,26 @@ def end_program(child: subprocess.Popen[bytes]) -> None:
         child.wait()
 
 
-def start(program: Optional[Path] = None, timeout: Optional[float] = None) -> Client:
+def start(
+    program: Optional[Path] = None, timeout: Optional[float] = None, is_quiet: bool = False
+) -> Client:
     """A client of a program that is started for it alone, as `estserve script`. Raises
     Disconnected.
 
     An answer is waited for `timeout` seconds, or for as long as it takes. The program is in a
-    process group of its own, so that Ctrl-C interrupts the client and not the program.
+    process group of its own, so that Ctrl-C interrupts the client and not the program. Where it
+    `is_quiet`, what it writes on standard error is dropped.
     """
     import subprocess
 
     command = [find_program(program), "script"]
     try:
         child = subprocess.Popen(
-            command, stdin=subprocess.PIPE, stdout=subprocess.PIPE, start_new_session=True
+            command,
+            stdin=subprocess.PIPE,
+            stdout=subprocess.PIPE,
+            stderr=subprocess.DEVNULL if is_quiet else None,
+            start_new_session=True,
         )
     except (OSError, ValueError) as fault:
         told = getattr(fault, "strerror", None) or fault
@@ -754,6 +792,7 @@ def start(program: Optional[Path] = None, timeout: Optional[float] = None) -> Cl
 
     assert isinstance(child.stdout, io.BufferedReader) and child.stdin
     client = Client(child.stdout, child.stdin, lambda: end_program(child), timeout)
+    client.program = command[0]
     if widen(child.stdin) and widen(child.stdout):
         client.room = WIDE_ROOM
     return client

@@ -9,6 +9,7 @@ from .pictures import Seen, table_lines
 from .texts import read_text, write_lines
 
 Row = Tuple[str, ...]
+AS_IT_WAS, WRITTEN, ANEW = "as it was", "written", "written anew"  # what comes of a file
 
 
 def outcome_lines(seen: Seen, refusal: Optional[str]) -> List[str]:
@@ -69,11 +70,12 @@ def read_expected(path: str) -> List[str]:
     return [line.rstrip() for line in read_text(path, "the expected table").rstrip().split("\n")]
 
 
-def update(path: str, lines: List[str]) -> bool:
-    """Writes an outcome into its file where it isn't there already. Answers whether it was written.
+def update(path: str, lines: List[str]) -> str:
+    """Writes an outcome into its file where it isn't there already. Answers what came of the file.
     Raises Failed.
     """
-    if pathlib.Path(path).exists() and read_expected(path) == lines:
-        return False
+    was_there = pathlib.Path(path).exists()
+    if was_there and read_expected(path) == lines:
+        return AS_IT_WAS
     write_lines(path, lines)
-    return True
+    return ANEW if was_there else WRITTEN

@@ -227,10 +227,15 @@ def format_text(text: str) -> Optional[str]:
 
 
 def fault_of(text: str) -> str:
-    """The place at which the client's own reader stops, as `LINE:COL`, and what it expected there."""
-    from .syntax_faults import expected_at, spot_at
+    """The first place at which no token stands, as `LINE:COL`; else that at which the client's own
+    reader stops, and what it expected there.
+    """
+    from .syntax_faults import expected_at, lexical_at, spot_at
     from .syntax_tree import NoTree, Reader, tokens_of
 
+    lexical = lexical_at(text)
+    if lexical:
+        return f"{lexical[0]}:{lexical[1]}: Lexical: no token stands here"
     tokens = tokens_of(text)
     reader = Reader(tokens)
     try:
@@ -257,13 +262,27 @@ def texts_of(paths: List[str]) -> Iterator[str]:
             yield path
 
 
+def lines_of(text: str) -> List[str]:
+    """The lines of a text, whatever ends them."""
+    lines = text.replace("\r\n", "\n").split("\n")
+    return lines if lines[-1] else lines[:-1]
+
+
+def ends_told(path: str, text: str) -> List[str]:
+    """What is said of the ends of lines, which a difference of lines doesn't show."""
+    told = ["line ends are CRLF"] if "\r\n" in text else []
+    told += [] if text.endswith("\n") else ["no newline at the end"]
+    return [f"{path}: {one}" for one in told]
+
+
 def show_difference(path: str, text: str, laid_out: str) -> None:
     """Prints how a text would change."""
     lines = difflib.unified_diff(
-        text.splitlines(), laid_out.splitlines(), path, f"{path}, laid out", lineterm=""
+        lines_of(text), lines_of(laid_out), path, f"{path}, laid out", lineterm=""
     )
     colours = Colours(sys.stdout)
-    print("".join(colours.of_diff(line) + "\n" for line in lines), end="", flush=True)
+    shown = [*map(colours.of_diff, lines), *ends_told(path, text)]
+    print("".join(line + "\n" for line in shown), end="", flush=True)
 
 
 def format_one(path: str, arguments: argparse.Namespace) -> bool:

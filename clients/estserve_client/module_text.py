@@ -6,16 +6,15 @@ declares.
 """
 from __future__ import annotations
 
-import re
-
 TYPE_CHECKING = False
 if TYPE_CHECKING:
     from typing import Dict, List, Optional, Tuple
 
-TOKEN = re.compile(r"%\{.*?\}%|%[^\n]*|\s+|[A-Za-z][A-Za-z0-9_]*|\|\||=>|.", re.DOTALL)
-OPEN_TOKEN = re.compile(TOKEN.pattern.partition("|")[2], re.DOTALL)  # no comment is closed any more
-CLOSE = "}%"
-KEPT = re.compile(r"[^\s%]")
+BEGIN, CLOSE, ARROW = "%", "}%", "=>"
+IN_PLACE = "\N{RIGHTWARDS DOUBLE ARROW}"  # of an arrow, while the text is cut
+MARKS = "!\"#$%&'()*+,-./:;<=>?@[\\]^`{|}~"  # each is a token
+APART = {**{ord(mark): f" {mark} " for mark in MARKS}, ord(IN_PLACE): f" {IN_PLACE} "}
+NO_LETTERS = "0123456789_"  # with which no word begins
 KINDS = {"input": "input", "output": "output", "inputoutput": "inout"}  # of what each word declares
 OFFERED = ("input", "inout")  # the kinds of signals that can be offered
 
@@ -47,15 +46,25 @@ class Module:
         return [name for name, other in self.signals if other == kind]
 
 
+def without_comments(text: str) -> str:
+    """A text with a blank in the place of each comment."""
+    last, kept, at = text.rfind(CLOSE), [], 0
+    while (begin := text.find(BEGIN, at)) >= 0:
+        kept.append(text[at:begin])
+        end = -1
+        if text.startswith("{", begin + 1) and begin + 2 <= last:
+            end = text.find(CLOSE, begin + 2) + len(CLOSE)
+        at = end if end >= 0 else text.find("\n", begin)
+        if at < 0:
+            return " ".join(kept)
+    return " ".join([*kept, text[at:]])
+
+
 def tokens_of(text: str) -> List[str]:
-    """The tokens of a text, without blanks and comments."""
-    closed = text.rfind(CLOSE) + len(CLOSE) if CLOSE in text else 0
-    tokens, at = [], 0
-    while at < closed:  # so that no search for the end of a comment comes to the end of the text
-        match = TOKEN.match(text, at)
-        tokens.append(match[0])
-        at = match.end()
-    return [token for token in [*tokens, *OPEN_TOKEN.findall(text, at)] if KEPT.match(token)]
+    """The words and marks of a text, without blanks, comments and numbers."""
+    cut = without_comments(text).replace(ARROW, IN_PLACE).translate(APART)
+    words = (word.lstrip(NO_LETTERS) for word in cut.split())
+    return [ARROW if word == IN_PLACE else word for word in words if word]
 
 
 def parts_of(tokens: List[str], at: int, end: int) -> Tuple[List[List[str]], int]:

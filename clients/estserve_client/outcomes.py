@@ -8,16 +8,19 @@ import json
 from typing import Any, Dict, List
 
 from .colours import Colours
+from .expecting import ANEW, WRITTEN
 from .texts import write_lines
 
-PASSED, FAILED, WRITTEN = "ok", "FAILED", "written"
+PASSED, FAILED = "ok", "FAILED"
+ERROR = "ERROR"  # of what could not be tried, since the run of all ended before
+FAULTS = {FAILED: "failure", ERROR: "error"}  # the elements of JUnit
 NOT_IN_XML = {number: "?" for number in range(32) if chr(number) not in "\t\n"}
 
 
 @dataclasses.dataclass
 class Outcome:
     """What came of one scenario: its name, the word for it, what is said, the lines of a difference,
-    its file, and how many seconds it took.
+    its file, how many seconds it took, and its module, where that was found.
     """
 
     name: str
@@ -26,17 +29,24 @@ class Outcome:
     lines: List[str]
     path: str
     seconds: float = 0.0
+    module: str = ""
+
+    @property
+    def line(self) -> str:
+        """It in one line, without its word."""
+        return f"{self.name}{f' ({self.module})' if self.module else ''}: {self.told}"
 
     def as_json(self) -> Dict[str, Any]:
         """It as an object of JSON."""
-        told = {"name": self.name, "outcome": self.word.lower(), "told": self.told}
+        told = {"name": self.name, "module": self.module, "outcome": self.word.lower()}
+        told.update(told=self.told)
         return {**told, "lines": self.lines, "file": self.path, "seconds": round(self.seconds, 3)}
 
 
 def counts_of(outcomes: List[Outcome]) -> Dict[str, int]:
-    """How many there are of each word."""
-    words = [outcome.word for outcome in outcomes]
-    return {word: words.count(word) for word in (PASSED, FAILED, WRITTEN)}
+    """How many there are of each word; what is written anew is written."""
+    words = [WRITTEN if outcome.word == ANEW else outcome.word for outcome in outcomes]
+    return {word: words.count(word) for word in (PASSED, FAILED, WRITTEN, ERROR)}
 
 
 class Plain:
@@ -51,7 +61,7 @@ class Plain:
     def tell(self, number: int, outcome: Outcome) -> None:
         word = self.colours.word(f"{outcome.word:<7}", outcome.word != FAILED)
         lines = map(self.colours.of_diff, outcome.lines)
-        print("\n".join([f"{word} {outcome.name}: {outcome.told}", *lines]), flush=True)
+        print("\n".join([f"{word} {outcome.line}", *lines]), flush=True)
 
     def end(self, outcomes: List[Outcome]) -> None:
         counts = counts_of(outcomes)
@@ -67,7 +77,7 @@ class Tap:
 
     def tell(self, number: int, outcome: Outcome) -> None:
         is_ok = "not ok" if outcome.word == FAILED else "ok"
-        print(f"{is_ok} {number} - {outcome.name}: {outcome.told}".replace("#", "\\#"))
+        print(f"{is_ok} {number} - {outcome.line}".replace("#", "\\#"))
         print("".join(f"# {line}\n" for line in outcome.lines), end="", flush=True)
 
     def end(self, outcomes: List[Outcome]) -> None:
@@ -95,11 +105,14 @@ def case_lines(suite: str, outcome: Outcome) -> List[str]:
     told = {"classname": suite, "name": outcome.name, "file": outcome.path}
     attributes = " ".join(f'{key}="{escaped(text)}"' for key, text in told.items())
     attributes += f' time="{outcome.seconds:.3f}"'
-    if outcome.word != FAILED:
-        return [f"  <testcase {attributes}/>"]
-    detail = escaped("\n".join(outcome.lines))
-    failure = f'    <failure message="{escaped(outcome.told)}">{detail}</failure>'
-    return [f"  <testcase {attributes}>", failure, "  </testcase>"]
+    lines = []
+    if outcome.module:
+        one = f'<property name="module" value="{escaped(outcome.module)}"/>'
+        lines.append(f"    <properties>{one}</properties>")
+    if outcome.word in FAULTS:
+        tag, detail = FAULTS[outcome.word], escaped("\n".join([outcome.told, *outcome.lines]))
+        lines.append(f'    <{tag} message="{escaped(outcome.told)}">{detail}</{tag}>')
+    return [f"  <testcase {attributes}>", *lines, "  </testcase>"]
 
 
 def escaped(text: str) -> str:
@@ -111,8 +124,9 @@ def escaped(text: str) -> str:
 
 def write_junit(path: str, suite: str, outcomes: List[Outcome]) -> None:
     """Writes a file of JUnit's XML. Raises Failed."""
-    failed, seconds = counts_of(outcomes)[FAILED], sum(outcome.seconds for outcome in outcomes)
-    counted = f'tests="{len(outcomes)}" failures="{failed}" errors="0" time="{seconds:.3f}"'
+    counts, seconds = counts_of(outcomes), sum(outcome.seconds for outcome in outcomes)
+    counted = f'tests="{len(outcomes)}" failures="{counts[FAILED]}" errors="{counts[ERROR]}"'
+    counted += f' time="{seconds:.3f}"'
     cases = [line for outcome in outcomes for line in case_lines(suite, outcome)]
     head = [
         '<?xml version="1.0" encoding="UTF-8"?>',

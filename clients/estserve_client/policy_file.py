@@ -14,10 +14,13 @@ __all__ = ["BadPolicy", "Policy", "Table", "Wish", "lists_of", "read_file", "tab
 
 @dataclasses.dataclass
 class Wish:
-    """One command that the file asks for, and the line that it stands on."""
+    """One command that the file asks for, the line that it stands on, and the command that takes it
+    back, where it is not the usual one.
+    """
 
     line: int
     command: Dict[str, Any]
+    back: Optional[Dict[str, Any]] = None
 
 
 @dataclasses.dataclass
@@ -83,7 +86,9 @@ def permissions_of(table: Optional[Table], slots: Dict[str, int]) -> Iterator[Wi
             told = f"{words[1]} is no object: policy, a slot, or a signal of one, as 0.A"
             name = words[1].partition(".")[0]
             question = meant(name, [*slots, "policy"])
-            if not question and not name.isdigit():
+            if "*" in words[1]:
+                question = "a file names each signal; the page spreads patterns"
+            elif not question and not name.isdigit() and name not in slots:
                 question = f"the table slots gives {name} no number"
             raise BadPolicy(line, asking(told, question))
         yield Wish(line, {"cmd": "grant", "role": role, "op": words[0], "object": object})

@@ -18,15 +18,18 @@ OUTSIDE = (
 )
 
 
-def unproved_program() -> str:
-    """The program, built without proof by scripts/trial.py, which keeps it. Raises Disconnected."""
+def unproved_program(name: str = "estserve") -> str:
+    """The program of this name, built without proof by scripts/trial.py, which keeps it. Raises
+    Disconnected.
+    """
     import subprocess
 
     script = os.path.join(connection.ROOT, "scripts", "trial.py")
     if not os.path.exists(script):
         raise Disconnected(OUTSIDE)
     try:
-        ran = subprocess.run([sys.executable, script, "--path"], stdout=subprocess.PIPE, text=True)
+        words = [sys.executable, script, "--path", name]
+        ran = subprocess.run(words, stdout=subprocess.PIPE, text=True)
     except OSError as fault:
         raise Disconnected(f"scripts/trial.py cannot be run: {fault.strerror or fault}") from fault
     if ran.returncode != 0:

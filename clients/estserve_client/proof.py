@@ -77,7 +77,9 @@ def told_of_run(record: Dict[str, Any]) -> List[str]:
 
 
 def proof(arguments: argparse.Namespace) -> int:
-    """Compares the programs with the record, and tells what that shows. Raises Failed."""
+    """Compares the programs with the record, and tells what that shows. Answers 1 where they are
+    others, or not proved. Raises Failed.
+    """
     record = read_record(arguments.record)
     if record is None:
         raise Failed(f"there is no {arguments.record}" if arguments.record else NO_RECORD)
@@ -90,4 +92,4 @@ def proof(arguments: argparse.Namespace) -> int:
         print(f"{name}: {state} (SHA-256 {digest})")
     if record["proved"]:
         print(SHOWS)
-    return 0 if set(states) == {SAME} else 1
+    return 0 if record["proved"] and set(states) == {SAME} else 1

@@ -106,31 +106,26 @@ def exact(policy: Policy, known: Dict[str, Any]) -> List[Command]:
     ]
 
 
-def is_agreed(is_certain: bool) -> bool:
-    """Whether a person agrees to take away what the file doesn't ask for. Raises Failed where
-    nobody can be asked.
-    """
-    if is_certain:
-        return True
+def check_terminal() -> None:
+    """Raises Failed where nobody can be asked."""
     if not sys.stdin.isatty():
         raise Failed("--prune asks, and standard input is no terminal: say --yes")
+
+
+def is_agreed() -> bool:
+    """Whether a person agrees to apply the file, and to take away what it doesn't ask for."""
     print(
-        "take away what the file doesn't ask for? sessions that need it end [y/N] ",
+        "apply the file, and take away what the file doesn't ask for? sessions that need it end [y/N] ",
         end="",
         flush=True,
     )
     return sys.stdin.readline().strip().lower() in ("y", "yes")
 
 
-def prune(
-    client: Client, commands: List[Command], is_certain: bool, text_of: Callable[[Command], str]
-) -> None:
+def prune(client: Client, commands: List[Command], text_of: Callable[[Command], str]) -> None:
     """Takes away what is there, and lists it. Raises Failed where a command is refused that was not
     for nothing.
     """
-    if not is_agreed(is_certain):
-        print("nothing is taken away")
-        return
     answers = client.ask_all(commands)
     taken = [command for command, answer in zip(commands, answers) if "ok" in answer]
     for command in taken:

@@ -6,11 +6,11 @@ import sys
 
 from .connection import Refusal, start
 from .drawing import Drawing, Progress
-from .module_text import main_of
 from .pictures import Seen
 from .programs import program_of
 from .stage import Refused, Scenario, SharedSlot, Stage, check_inputs, stopping
 from .texts import Failed, Interrupted, read_library, read_text
+from .texts_beside import chosen_of
 
 TYPE_CHECKING = False
 if TYPE_CHECKING:
@@ -29,7 +29,7 @@ def read_scenario(arguments: argparse.Namespace) -> Scenario:
             "the module text is read from standard input: name the inputs by --inputs FILE"
         )
     library = read_library(arguments.file)
-    module = main_of(library.text, arguments.main)
+    module = chosen_of(library.text, arguments.main)
     listed = read_text(arguments.inputs, "the list of inputs")
     return Scenario(library, module, listed, arguments.inputs)
 
@@ -130,28 +130,40 @@ def hold_run(
     seen = Seen(scenario.module.name, chosen(scenario.module, arguments.signals), [])
     refusal = play(place, scenario, seen.instants.extend, Progress(len(scenario.inputs), True))
     lines = outcome_lines(seen, refusal.told if refusal else None)
+    told = counted(seen, refusal, len(scenario.inputs))
     if arguments.update:
-        written = update(arguments.expect, lines)
-        told = counted(seen) + blessed(refusal.told if refusal else "", written)
-        print(f"{arguments.expect} is {'written' if written else 'as it was'}: {told}")
+        how = update(arguments.expect, lines)
+        print(f"{arguments.expect} is {how}: {told}{blessed(refusal, how)}")
         return
     found = first_difference(read_expected(arguments.expect), lines, arguments.expect)
     if found:
         print("\n".join(map(Colours(sys.stdout).of_diff, found[1])), flush=True)
         raise Failed(f"{arguments.expect}: the first difference is at {found[0]}")
-    print(f"{counted(seen)}, as expected")
+    print(f"{told}, as expected")
 
 
-def counted(seen: Seen) -> str:
-    """How many instants were seen, in words."""
-    return f"{len(seen.instants):,} instant{'' if len(seen.instants) == 1 else 's'}"
+def instants_told(count: int) -> str:
+    """A number of instants, in words."""
+    return f"{count:,} instant{'' if count == 1 else 's'}"
 
 
-def blessed(refusal: str, is_written: bool) -> str:
-    """What is said of a table that is written, where the run ended with a refusal."""
+def counted(seen: Seen, refusal: Optional[Refused], total: int) -> str:
+    """How many instants were seen, what refused the next one, and how many were not run."""
+    told, left = instants_told(len(seen.instants)), total - len(seen.instants) - 1
+    if not refusal:
+        return told
+    told += f", then {refusal.fault}"
+    return f"{told}; {instants_told(left)} not run" if left else told
+
+
+def blessed(refusal: Optional[Refused], how: str) -> str:
+    """What is said of a table, where the run ended with a refusal, by what came of its file."""
+    from .expecting import AS_IT_WAS
+
     if not refusal:
         return ""
-    return f"; WITH A REFUSAL as what is expected: {refusal}" if is_written else f"; {refusal}"
+    begin = "; " if how == AS_IT_WAS else "; WITH A REFUSAL as what is expected: "
+    return begin + refusal.told
 
 
 def run_once(arguments: argparse.Namespace) -> None:

@@ -12,7 +12,7 @@ from typing import Any, Dict, Iterable, List, Set, Tuple
 
 from .close_words import meant
 from .colours import Colours
-from .command_table import KEYS, OF_TEXTS, OPERATIONS, SLOTS
+from .command_table import IDENTIFIER, KEYS, OF_TEXTS, OPERATIONS, SLOTS
 from .connection import CannotBeSent, Client, Refusal, TimedOut
 from .drawing import waves_for, write_vcd
 from .history import keeping_history
@@ -305,18 +305,19 @@ class Shell(cmd.Cmd):
     def module_of(self, line: str) -> Tuple[int, LibraryText, Module]:
         """The slot, the text and the module that a line names. Raises Usage, Failed."""
         words = line.split()
-        if words and not words[0].isdigit() and len(words) < 3:
+        if words and not words[0].isdigit():
             words.insert(0, str(self.slot))
-        if len(words) not in (2, 3):
-            raise Usage("expected: [SLOT] FILE [MODULE]")
-        slot, library = number_of(words[0]), read_library([words[1]])
-        return slot, library, main_of(library.text, words[2] if len(words) == 3 else None)
+        if len(words) < 2:
+            raise Usage("expected: [SLOT] FILE.. [MODULE]")
+        main = words.pop() if len(words) > 2 and IDENTIFIER.fullmatch(words[-1]) else None
+        slot, library = number_of(words[0]), read_library(words[1:])
+        return slot, library, main_of(library.text, main)
 
     def keep(self, slot: int, library: LibraryText, module: Module) -> None:
         self.modules[slot], self.texts[slot] = module, library
 
     def do_load(self, line: str) -> None:
-        """load [SLOT] FILE [MODULE]: loads a module of the file into the slot"""
+        """load [SLOT] FILE.. [MODULE]: loads a module of the files into the slot"""
         slot, library, module = self.module_of(line)
         try:
             self.client.load(slot, module.name, library.text)
@@ -328,7 +329,7 @@ class Shell(cmd.Cmd):
         print(f"{module.name} runs in slot {slot}")
 
     def do_module(self, line: str) -> None:
-        """module [SLOT] FILE [MODULE]: tells the shell which text another client has loaded"""
+        """module [SLOT] FILE.. [MODULE]: tells the shell which text another client has loaded"""
         slot, library, module = self.module_of(line)
         self.keep(slot, library, module)
         kinds = [kind for kind in KINDS if kind != "inout" or module.of_kind(kind)]

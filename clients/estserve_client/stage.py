@@ -57,12 +57,12 @@ class Scenario:
 
 
 class Refused(Failed):
-    """An instant was refused: its number, and what is said of it in one line. More lines may
-    follow.
+    """An instant was refused: its number, the fault, and what is said of it in one line. More lines
+    may follow.
     """
 
-    def __init__(self, number: int, told: str, more: List[str]) -> None:
-        self.told = f"instant {number}: {told}"
+    def __init__(self, number: int, fault: str, told: str, more: List[str]) -> None:
+        self.told, self.fault, self.more = f"instant {number}: {told}", fault, more
         super().__init__("\n".join([self.told, *more]))
 
 
@@ -74,7 +74,7 @@ def refused(refusal: Refusal, number: int, scenario: Scenario) -> Refused:
     module = scenario.module
     undecided = refusal.fields.get("undecided", ())
     more = chain_lines(scenario.library, module.name, undecided) if undecided else []
-    return Refused(number, sentence(refusal, module.relations), more)
+    return Refused(number, refusal.fault, sentence(refusal, module.relations), more)
 
 
 def not_loaded(refusal: Refusal, scenario: Scenario) -> Failed:

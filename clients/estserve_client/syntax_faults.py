@@ -7,7 +7,7 @@ from __future__ import annotations
 
 import dataclasses
 import re
-from typing import Callable, List, Optional
+from typing import Callable, List, Optional, Tuple
 
 from .close_words import meant
 from .syntax_tree import (
@@ -26,6 +26,28 @@ KINDS = {A_NAME: (), A_STATEMENT: STATEMENTS, A_DECLARATION: DECLARATIONS}
 JOINING = ("and", "or", ";", "||", ",", "#")  # what nearly any place can go on with
 CLOSING = ("then", "else", "end", "when", "each", "do", "in", "]", ")", "signal")
 WITH_END = ("present", "suspend", "abort", "weak", "loop", "every", "trap", "signal", "module")
+
+
+# what stands in a text without a lexical fault: comments, blanks, words, symbols
+FITS = re.compile(
+    r"%\{.*?\}%|%(?!\{)[^\n]*|[ \t\r\n\f]+|[A-Za-z][A-Za-z0-9_]{0,47}(?![A-Za-z0-9_])"
+    r"|\|\||=>|[;:,\[\]()#/]",
+    re.DOTALL,
+)
+
+
+def lexical_at(text: str) -> Optional[Tuple[int, int]]:
+    """The line and the column of the first place at which no token stands; None where there is
+    none.
+    """
+    at = 0
+    while at < len(text):
+        match = FITS.match(text, at)
+        if match is None:
+            before = text[text.rfind("\n", 0, at) + 1 : at]
+            return text.count("\n", 0, at) + 1, len(before.encode(errors="replace")) + 1
+        at = match.end()
+    return None
 
 
 @dataclasses.dataclass

@@ -6,88 +6,90 @@ from __future__ import annotations
 import argparse
 import fnmatch
 import pathlib
+import re
 import sys
 import time
-from typing import List, Tuple, Union
+from typing import List, Union
 
 from .colours import Colours
-from .connection import start
+from .connection import Disconnected, start
 from .drawing import Progress
-from .expecting import first_difference, outcome_lines, read_expected, update
-from .module_text import main_of
-from .outcomes import FAILED, PASSED, WRITTEN, Json, Outcome, Plain, Tap, write_junit
+from .expecting import AS_IT_WAS, first_difference, outcome_lines, read_expected, update
+from .outcomes import ERROR, FAILED, PASSED, Json, Outcome, Plain, Tap, write_junit
 from .pictures import Seen
 from .programs import program_of
 from .running import blessed, counted, play
 from .stage import Scenario, Stage, check_inputs
 from .texts import Failed, read_library, read_text
+from .texts_beside import chosen_of, texts_beside
 
 Report = Union[Plain, Tap, Json]
+HOW = "name the texts by --module, or the module by --main"
+COUNTEREXAMPLE = re.compile(r"\.counterexample\d*$")  # at the end of the names that `prove` gives
 
 
 def texts_for(inputs: pathlib.Path, arguments: argparse.Namespace) -> List[pathlib.Path]:
-    """The module texts of a list of inputs: those that are named, or that of its name, or all of
-    the folder. Raises Failed.
+    """The module texts of a list of inputs: those that are named, or those beside it. Raises
+    Failed.
     """
     if arguments.module:
         return [pathlib.Path(path) for path in arguments.module]
-    own = inputs.with_suffix(".strl")
-    found = [own] if own.exists() else sorted(inputs.parent.glob("*.strl"))
-    if not found:
-        raise Failed(f"there is no module text in {inputs.parent}: name it by --module")
-    return found
+    return texts_beside(inputs, arguments.main, HOW)
 
 
-def outcome(
-    stage: Stage, inputs: pathlib.Path, arguments: argparse.Namespace
-) -> Tuple[Seen, List[str], str]:
-    """What a list of inputs gives: what was seen, its lines, and the refusal that ended it, or
-    nothing. Raises Failed.
-    """
+def scenario_of(inputs: pathlib.Path, arguments: argparse.Namespace) -> Scenario:
+    """A list of inputs with its module. Raises Failed."""
     library = read_library(texts_for(inputs, arguments))
-    module = main_of(library.text, arguments.main)
-    scenario = Scenario(library, module, read_text(inputs, "the list of inputs"), str(inputs))
+    module = chosen_of(library.text, arguments.main)
+    return Scenario(library, module, read_text(inputs, "the list of inputs"), str(inputs))
+
+
+def judge(stage: Stage, scenario: Scenario, expected: str, found: Outcome, updates: bool) -> None:
+    """Runs a scenario, and notes what came of it. Raises Failed."""
     stage.load(scenario)
     check_inputs(scenario)
-    seen = Seen(module.name, module.signals, [])
-    refusal = play(stage, scenario, seen.instants.extend, Progress(len(scenario.inputs), True))
-    told = refusal.told if refusal else ""
-    return seen, outcome_lines(seen, told), told
+    seen, total = Seen(scenario.module.name, scenario.module.signals, []), len(scenario.inputs)
+    refusal = play(stage, scenario, seen.instants.extend, Progress(total, True))
+    lines = outcome_lines(seen, refusal.told if refusal else "")
+    found.told = counted(seen, refusal, total)
+    if updates:
+        how = update(expected, lines)
+        found.word = PASSED if how == AS_IT_WAS else how
+        found.told += blessed(refusal, how)
+    elif not pathlib.Path(expected).exists():
+        found.told = f"there is no {pathlib.Path(expected).name}: --update writes it"
+    elif difference := first_difference(read_expected(expected), lines, expected):
+        found.told = f"the first difference is at {difference[0]}"
+        found.lines = difference[1] + (refusal.more if refusal else [])
+    else:
+        found.word = PASSED
 
 
-def held(
-    stage: Stage, path: pathlib.Path, arguments: argparse.Namespace
-) -> Tuple[str, str, List[str]]:
-    """How the scenario of this expected table stands: the word for it, what is said, and the lines
-    of a difference. Raises Interrupted.
-    """
-    inputs = path.with_suffix(".inputs")
-    if not inputs.exists():
-        return FAILED, f"there is no {inputs.name}: {path.name} is held against nothing", []
+def held(stage: Stage, path: pathlib.Path, arguments: argparse.Namespace) -> Outcome:
+    """What comes of the scenario of this expected table. Raises Interrupted."""
+    inputs, begun = path.with_suffix(".inputs"), time.monotonic()
+    found = Outcome(path.stem, FAILED, "", [], str(inputs))
     try:
-        seen, lines, refusal = outcome(stage, inputs, arguments)
-        if arguments.update:
-            written = update(str(path), lines)
-            return (WRITTEN if written else PASSED), counted(seen) + blessed(refusal, written), []
-        if not path.exists():
-            return FAILED, f"there is no {path.name}: --update writes it", []
-        found = first_difference(read_expected(str(path)), lines, str(path))
+        if not inputs.exists():
+            raise Failed(f"there is no {inputs.name}: {path.name} is held against nothing")
+        scenario = scenario_of(inputs, arguments)
+        found.module = scenario.module.name
+        judge(stage, scenario, str(path), found, arguments.update)
     except Failed as fault:
         if fault.status != 1:
             raise
-        first, *more = str(fault).split("\n")
-        return FAILED, first, more
-    if found:
-        return FAILED, f"the first difference is at {found[0]}", found[1]
-    return PASSED, counted(seen), []
+        found.told, *found.lines = str(fault).split("\n")
+    found.seconds = time.monotonic() - begun
+    return found
 
 
 def scenarios_of(arguments: argparse.Namespace) -> List[pathlib.Path]:
-    """The expected tables of the folder's scenarios, also of those that have none yet. Raises
-    Failed.
+    """The expected tables of the folder's scenarios, also of those that have none yet. What `prove`
+    writes is none, unless it has a table. Raises Failed.
     """
     folder = pathlib.Path(arguments.folder)
-    found = {path.with_suffix(".expected") for path in folder.glob("*.inputs")}
+    listed = [path for path in folder.glob("*.inputs") if not COUNTEREXAMPLE.search(path.stem)]
+    found = {path.with_suffix(".expected") for path in listed}
     if not found:
         raise Failed(f"there is no NAME.inputs in {folder}")
     found |= set(folder.glob("*.expected"))
@@ -114,31 +116,43 @@ def report_of(arguments: argparse.Namespace) -> Report:
     return Json() if arguments.json else Plain(Colours(sys.stdout), arguments.update)
 
 
-def run_scenarios(
-    arguments: argparse.Namespace, paths: List[pathlib.Path], report: Report
-) -> List[Outcome]:
-    """Runs each scenario on one program, and tells its outcome as it comes. Raises Interrupted."""
-    program, outcomes = program_of(arguments), []
+def told_once(found: Outcome, before: List[Outcome]) -> Outcome:
+    """An outcome without the lines of a fault that another one has told, as one of a text."""
+    fault = found.told, found.lines
+    first = next((one for one in before if (one.told, one.lines) == fault), None)
+    if found.word == FAILED and found.lines and first:
+        found.told, found.lines = f"{found.told} (as for {first.name})", []
+    return found
+
+
+def run_scenarios(arguments: argparse.Namespace, report: Report, outcomes: List[Outcome]) -> None:
+    """Runs each scenario on one program, tells its outcome as it comes, and adds it. Raises Failed,
+    Disconnected.
+    """
+    paths = scenarios_of(arguments)
+    report.begin(len(paths))
+    program = program_of(arguments)
     with Stage(lambda: start(program)) as stage:
         for number, path in enumerate(paths, 1):
-            begun = time.monotonic()
-            word, told, lines = held(stage, path, arguments)
-            seconds = time.monotonic() - begun
-            inputs = str(path.with_suffix(".inputs"))
-            outcomes.append(Outcome(path.stem, word, told, lines, inputs, seconds))
+            outcomes.append(told_once(held(stage, path, arguments), outcomes))
             report.tell(number, outcomes[-1])
-    return outcomes
+    report.end(outcomes)
 
 
 def test(arguments: argparse.Namespace) -> int:
     """Runs each list of inputs of the folder on one program, with a line for each. Answers 1 where
-    one failed. Raises Failed.
+    one failed. A file of JUnit is written in any case, and tells why the run ended early. Raises
+    Failed, Disconnected.
     """
-    paths, report = scenarios_of(arguments), report_of(arguments)
-    report.begin(len(paths))
-    outcomes = run_scenarios(arguments, paths, report)
-    report.end(outcomes)
-    if arguments.junit:
-        write_junit(arguments.junit, str(arguments.folder), outcomes)
+    folder = str(arguments.folder).rstrip("/") or "/"
+    outcomes: List[Outcome] = []
+    try:
+        run_scenarios(arguments, report_of(arguments), outcomes)
+    except (Failed, Disconnected) as fault:
+        outcomes.append(Outcome("the run", ERROR, str(fault), [], folder))
+        raise
+    finally:
+        if arguments.junit:
+            write_junit(arguments.junit, folder, outcomes)
     sys.stdout.flush()
     return int(any(outcome.word == FAILED for outcome in outcomes))

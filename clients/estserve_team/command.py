@@ -3,30 +3,37 @@ import argparse
 import asyncio
 import contextlib
 import functools
+import importlib.util
 import os
 import pathlib
 import signal
 import socket
-from typing import Any, Callable, List, NoReturn, Set
+import sys
+from typing import Any, Callable, List, NoReturn, Optional
 
+from estserve_client.commands import add_program
 from estserve_client.connection import find_program
-from estserve_client.policy_file import BadPolicy
+from estserve_client.programs import program_of
 from estserve_client.telling import TELLER
 
-from . import HELP, keeping, web
+from . import HELP, keeping, page_process
 from .counts import CountsClient
 from .gateway import Gateway
 from .limits import fit_to, read_limits
 from .listening import Listener
 from .log import fill_standard_streams, forward_all, write_now
+from .page_process import PageProcess
 from .people import People, peer_uid, read_people
 from .places import Failed, Places, bind_socket
 from .reads.client import add_words
 from .record import place_of
 from .sessions import MOST_SENDS
 from .starting import open_record, put_aside
-from .unix_clients import LineClient, TeamClient, WordClient
+from .unix_clients import TeamClient, WordClient
+from .visiting.page_client import PageClient
 from .watchdog import Watchdog, raise_descriptors
+from .web import serving
+from .web.options import Bad, Options, add_options, read_options
 
 
 def add_parser(subparsers: Any) -> None:
@@ -40,17 +47,14 @@ def add_parser(subparsers: Any) -> None:
         type=pathlib.Path,
         help="who may log in as whom: the table [people] of a TOML file",
     )
-    parser.add_argument(
-        "--program",
-        metavar="PATH",
-        help="the program to serve with, in place of the one that `make run` builds",
-    )
+    add_program(parser)
     parser.add_argument(
         "--group", metavar="NAME", help="the Unix group of the team (the folder's own)"
     )
     add_record_options(parser)
     parser.add_argument("--most-sends", type=int, default=MOST_SENDS, help=argparse.SUPPRESS)
-    web.add_options(parser)
+    add_options(parser)
+    page_process.add_options(parser)
     parser.set_defaults(act=serve_team)
     subparsers = parser.add_subparsers(
         metavar="WORD",
@@ -58,6 +62,7 @@ def add_parser(subparsers: Any) -> None:
     )
     add_words(subparsers)
     keeping.add_words(subparsers)
+    serving.add_word(subparsers)
 
 
 def add_record_options(parser: argparse.ArgumentParser) -> None:
@@ -85,6 +90,8 @@ def people_of(path: pathlib.Path) -> People:
     """The people of a file, or of this machine where none is named. Raises Failed."""
     if path is None:
         return People()
+    from estserve_client.policy_file import BadPolicy
+
     try:
         return People(read_people(path.read_text(encoding="utf-8")))
     except (OSError, UnicodeDecodeError, BadPolicy) as fault:
@@ -95,7 +102,8 @@ def serve_team(arguments: argparse.Namespace) -> None:
     """Serves the team until SIGTERM or SIGINT. Raises Failed."""
     if arguments.state is None:
         raise Failed("the team's folder is missing: --state DIR")
-    people, program = people_of(arguments.people), str(find_program(arguments.program))
+    arguments.http_options = http_options_of(arguments)
+    people, program = people_of(arguments.people), str(find_program(program_of(arguments)))
     fill_standard_streams()
     with Places(arguments.state, arguments.group) as places:
         if arguments.accept:
@@ -109,6 +117,18 @@ def serve_team(arguments: argparse.Namespace) -> None:
             watchdog.hurry()
             end_with(fault)
         watchdog.stop()
+
+
+def http_options_of(arguments: argparse.Namespace) -> Optional[Options]:
+    """What the page is to serve; None where this gateway starts no page. Raises Failed, also where
+    there is no aiohttp, before anything is made."""
+    try:
+        found = read_options(arguments)
+    except Bad as fault:
+        raise Failed(str(fault)) from fault
+    if found is not None and importlib.util.find_spec("aiohttp") is None:
+        raise Failed(serving.NO_AIOHTTP.format(sys.executable))
+    return found
 
 
 def end_with(fault: Exception) -> NoReturn:
@@ -146,6 +166,8 @@ async def run(
     forward_all(gateway.log)
     for orphan in places.orphans:
         gateway.log(f"the process {orphan} of an earlier gateway was ended")
+    if places.children.fault:
+        gateway.log(places.children.fault)
     told_to_end = loop.create_future()
     for number in (signal.SIGTERM, signal.SIGINT):
         loop.add_signal_handler(number, lambda: told_to_end.done() or told_to_end.set_result(None))
@@ -170,36 +192,65 @@ async def serve(
     gateway: Gateway, told_to_end: "asyncio.Future[None]", arguments: argparse.Namespace
 ) -> None:
     """Takes clients until the gateway is told to end, or has a fault. Raises Failed."""
-    clients: Set[LineClient] = gateway.clients
     paths = [
         (gateway.places.team_socket, TeamClient),
         (gateway.places.gateway_socket, WordClient),
         (gateway.places.metrics_socket, CountsClient),
     ]
-    servers = []
+    page = page_of(gateway, arguments)
+    if gateway.page_users:
+        paths.append((gateway.places.page_socket, PageClient))
+    servers: List[Listener] = []
     try:
         for path, kind in paths:
             make = functools.partial(admit, kind, gateway)
             servers.append(Listener(bind_socket(path), make, gateway.log, gateway.reserve))
-        running = await web.start(gateway, arguments)
+        gateway.visiting.begin()
+        if page is not None:
+            starting = asyncio.ensure_future(page.start())
+            await asyncio.wait(
+                {starting, told_to_end, gateway.finished},
+                return_when=asyncio.FIRST_COMPLETED,
+            )
         tell_ready(gateway)
         await asyncio.wait({told_to_end, gateway.finished}, return_when=asyncio.FIRST_COMPLETED)
-        if running is not None:
-            await running.stop()
     finally:
-        for server, (path, _) in zip(servers, paths):
-            server.close()
-            with contextlib.suppress(OSError):
-                path.unlink()
-        if gateway.finished.done():
-            gateway.close()
-        else:
-            await gateway.stop()
-        for client in list(clients):
-            client.close()
-        await asyncio.sleep(0)
+        if page is not None:
+            await page.stop()
+        await close_all(gateway, servers, [path for path, _ in paths])
     if gateway.finished.done():
         gateway.finished.result()
+
+
+async def close_all(gateway: Gateway, servers: List[Listener], paths: List[pathlib.Path]) -> None:
+    """Takes no more clients, logs out those that there are, and ends the server. Raises Failed."""
+    for server, path in zip(servers, paths):
+        server.close()
+        with contextlib.suppress(OSError):
+            path.unlink()
+    if gateway.finished.done():
+        gateway.close()
+    else:
+        await gateway.visiting.stop()
+        await gateway.stop()
+    for client in list(gateway.clients):
+        client.close()
+    await asyncio.sleep(0)
+
+
+def page_of(gateway: Gateway, arguments: argparse.Namespace) -> Optional[PageProcess]:
+    """The page that this gateway starts, if it does; the gateway knows as whom pages come. Raises
+    Failed."""
+    options, name = arguments.http_options, arguments.page_user
+    user = None
+    if options is not None:
+        user = page_process.user_of(name, gateway.state)
+        gateway.page_users.add(os.geteuid() if user is None else user.uid)
+    elif name is not None:
+        gateway.page_users.add(page_process.uid_of(name))
+    is_header = options is not None and options.header is not None
+    gateway.visiting.names_are_trusted = arguments.page_names or is_header
+    return options and PageProcess(gateway, options, arguments.limit, user)
 
 
 def admit(kind: Callable[..., Any], gateway: Gateway, connection: socket.socket) -> Any:

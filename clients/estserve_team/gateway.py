@@ -13,7 +13,7 @@ import time
 from pathlib import Path
 from typing import Any, Callable, Dict, List, Optional, Set, Tuple
 
-from . import moments, overseeing, reads, web, words
+from . import moments, overseeing, reads, visiting, words
 from .answerer import Answerer
 from .counts import Counts
 from .limits import Accounts, Limits
@@ -37,6 +37,7 @@ from .sessions import (
 )
 from .slot_gate import SlotGate
 from .starting import Begun, replace_record, restore_record, start_server
+from .turns import Turns
 from .watchdog import Reserve, Watchdog
 
 STARTING, SERVING, BEGINNING, ARCHIVING, STOPPING = (
@@ -76,9 +77,10 @@ class Gateway:
         self.state, self.private, self.record_path = places.state, places.private, places.record
         self.name = self.state.name
         self.reader = Reader()
-        self.words = {**words.WORDS, **reads.WORDS, **web.WORDS, **overseeing.WORDS}
+        self.words = {**words.WORDS, **reads.WORDS, **visiting.WORDS, **overseeing.WORDS}
         self.counts = Counts()
         self.slot_gate = SlotGate()
+        self.turns = Turns()
         self.phase = STARTING
         self.sessions: Dict[int, Session] = {}
         self.shared: Dict[Tuple[str, str, Tuple[str, ...]], "asyncio.Future[SharedSession]"] = {}
@@ -99,6 +101,8 @@ class Gateway:
         self.log = Log()
         self.limits, self.accounts = limits, Accounts(self, limits)
         self.clients: Set[Any] = set()  # of the Unix sockets
+        self.visiting = visiting.Visiting(self)
+        self.page_users: Set[int] = set()  # as whom a page's process may come
         self.reserve = Reserve()
         self.answerer = Answerer(program, places.children, self.stop_failed, self.reserve)
         self.watchdog: Optional[Watchdog] = None  # where the process is the gateway's own
@@ -175,7 +179,7 @@ class Gateway:
         self.log("who may be whom was read anew", "people")
         for client in list(self.clients):
             self._tell(client.follow_people)
-        self._tell(web.follow_people, self)
+        self._tell(self.visiting.follow_people)
 
     @property
     def is_serving(self) -> bool:
@@ -313,10 +317,15 @@ class Gateway:
 
     def after_answers(self) -> None:
         """Does what answers of the server make possible: entries are written soon, in one
-        transaction; other answers go out."""
+        transaction with those of answers that are under way, and at once where none is; other
+        answers go out."""
         if self._is_lost:
             return
         if self.order.has_ready:
+            is_busy = any(session.flight for session in self.sessions.values())
+            if not is_busy and not self._is_held:
+                self._commit()
+                return
             self._commit_soon()
         self.release()
 

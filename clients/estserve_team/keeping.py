@@ -10,8 +10,16 @@ from typing import Any
 
 from .chain import Head, NotProven, Tip
 from .places import Failed, Places
-from .proving import Proven, prove
-from .record import FORMAT, has_table, last_tip, open_reader, remove_record
+from .proving import Proven, check_plain, prove
+from .record import (
+    FORMAT,
+    FORMAT_OF_BEFORE,
+    SCHEMA,
+    has_table,
+    last_tip,
+    open_reader,
+    remove_record,
+)
 from .starting import open_there, settle_records, sync_folder
 
 BACKUP = "CREATE TABLE backup (time REAL NOT NULL, entries INTEGER NOT NULL, hash TEXT NOT NULL)"
@@ -27,29 +35,32 @@ def folder_of(arguments: argparse.Namespace) -> pathlib.Path:
     return arguments.state
 
 
-def known_tip(state: pathlib.Path, record: str) -> Tip:
-    """The tip that the head of a folder has of a record. Raises Failed."""
-    path = state / "private" / "head"
-    if not path.exists():
-        raise Failed(f"there is no head at {path}")
-    head = Head(path)
+def known_tip(state: pathlib.Path, path: pathlib.Path, database: sqlite3.Connection) -> Tip:
+    """The tip that the head of a folder has of its record. Raises Failed."""
+    place = state / "private" / "head"
+    if not place.exists():
+        name_of(path, database, has_hashes=False)
+        raise Failed(f"there is no head at {place}")
+    head = Head(place)
     try:
-        tip = head.of(record)
+        tip = head.of(name_of(path, database, has_hashes=bool(head.tips())))
     finally:
         head.close()
     if tip is None:
-        raise NotProven(state / "private" / "record.sqlite", "the head is another record's")
+        raise NotProven(path, "the head is another record's")
     return tip
 
 
-def name_of(path: pathlib.Path, database: sqlite3.Connection) -> str:
-    """The name of a record that has hashes. Raises Failed."""
+def name_of(path: pathlib.Path, database: sqlite3.Connection, has_hashes: bool) -> str:
+    """The name of a record; `has_hashes` says that it was written with hashes. Raises Failed."""
     try:
         facts = dict(database.execute("SELECT name, value FROM facts"))
     except sqlite3.Error as fault:
         raise Failed(f"the record {path} cannot be read: {fault}") from fault
-    if facts.get("format") != FORMAT:
+    if facts.get("format") == FORMAT_OF_BEFORE and not has_hashes:
         raise Failed(f"the record {path} has no hashes yet: the next start gives it some")
+    if facts.get("format") != FORMAT or "id" not in facts:
+        raise NotProven(path, "its format or its name was changed")
     return facts["id"]
 
 
@@ -67,9 +78,9 @@ def verify(arguments: argparse.Namespace) -> None:
     path = state / "private" / "record.sqlite"
     if not path.exists():
         raise Failed(f"there is no record at {path}")
+    check_plain(path)
     with open_reader(path) as database:
-        record = name_of(path, database)
-        tip = known_tip(state, record)
+        tip = known_tip(state, path, database)
         proven = prove(path, database, tip)
     print(told(proven))
     print(f"the head knows entry {tip.entries}, and its hash is that of the record")
@@ -80,6 +91,7 @@ def backup(arguments: argparse.Namespace) -> None:
     """Copies the record into one file, also while the gateway runs. Raises Failed."""
     state, target = folder_of(arguments), arguments.file.absolute()
     path = state / "private" / "record.sqlite"
+    check_plain(path)
     if target.exists():
         raise Failed(f"{target} is there already")
     beside = target.with_name(target.name + ".part")
@@ -87,7 +99,7 @@ def backup(arguments: argparse.Namespace) -> None:
     os.close(os.open(beside, os.O_WRONLY | os.O_CREAT | os.O_EXCL, 0o600))
     try:
         with open_reader(path) as source, contextlib.closing(sqlite3.connect(beside)) as copy:
-            tip = known_tip(state, name_of(path, source))  # the copy has at least as much
+            tip = known_tip(state, path, source)  # the copy has at least as much
             source.backup(copy)
             copy.isolation_level = None
             copy.execute("PRAGMA journal_mode=DELETE")
@@ -110,7 +122,7 @@ def backed_up_tip(path: pathlib.Path, database: sqlite3.Connection) -> Tip:
     """How far a backup has to come, by its own word. Raises Failed."""
     if not has_table(database, "backup"):
         raise Failed(f"{path} is no backup")
-    tip = last_tip(database, name_of(path, database))
+    tip = last_tip(database, name_of(path, database, has_hashes=True))
     ((entries, entry_hash),) = database.execute("SELECT entries, hash FROM backup").fetchall()
     return tip._replace(entries=entries, entry_hash=entry_hash)
 
@@ -122,7 +134,7 @@ def restore(arguments: argparse.Namespace) -> None:
         try:
             with open_reader(arguments.file) as source:
                 tip = backed_up_tip(arguments.file, source)
-                proven = prove(arguments.file, source, tip)
+                proven = prove(arguments.file, source, tip, SCHEMA + BACKUP)
                 remove_record(places.next_record)
                 with contextlib.closing(sqlite3.connect(places.next_record)) as copy:
                     source.backup(copy)

@@ -39,6 +39,7 @@ class Limits(NamedTuple):
     header_seconds: int = 10  # for the head of a request, on a new connection
     body_seconds: int = 20  # for its body
     refusals_logged: int = 60  # an hour, of one Unix user
+    page_seconds: int = 30  # after which a page that asks nothing stands still
 
 
 def read_limits(words: Sequence[str]) -> Limits:

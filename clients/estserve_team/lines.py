@@ -8,6 +8,7 @@ NaN, a surrogate that stands alone, bytes that aren't UTF-8 and values nested ov
 no JSON.
 """
 import json
+import sys
 from typing import Any, Dict, List, Optional, Tuple
 
 from estserve_client.command_table import (
@@ -28,6 +29,7 @@ LINE_BYTES = 65_536
 MOST_DEPTH = 127
 LONGEST_NUMBER = 300  # digits; longer ones are left to the program
 LARGEST_FLOAT = 1e300  # larger ones too
+QUICK_BYTES = 2_048  # a longer line is first seen to be a command at all
 CACHED_BYTES = 128  # lines of at most this many bytes are kept with what they ask for
 CACHED_LINES = 4_096
 
@@ -78,6 +80,16 @@ def refuse_constant(text: str) -> Any:
     raise NotUnderstood(text)
 
 
+def read_int(text: str) -> int:
+    """A whole number of the gateway's own; long ones take long to read. Raises ValueError."""
+    if len(text) > LONGEST_NUMBER:
+        raise NotUnderstood(text)
+    return int(text)
+
+
+READ_INT = int if hasattr(sys, "set_int_max_str_digits") else read_int  # which has a bound itself
+PLAIN = json.JSONDecoder(parse_int=READ_INT, parse_constant=refuse_constant)
+QUICK = json.JSONDecoder(parse_int=len, parse_float=len, parse_constant=refuse_constant)
 DECODER = json.JSONDecoder(
     object_pairs_hook=Pairs,
     parse_int=read_whole,
@@ -101,11 +113,11 @@ def depth_of(value: Any) -> int:
 
 
 def is_name(value: Any) -> bool:
-    return isinstance(value, str) and NAME.fullmatch(value) is not None
+    return isinstance(value, str) and NAME.fullmatch(value)
 
 
 def is_identifier(value: Any) -> bool:
-    return isinstance(value, str) and IDENTIFIER.fullmatch(value) is not None
+    return isinstance(value, str) and IDENTIFIER.fullmatch(value)
 
 
 def is_number(value: Any) -> bool:
@@ -122,7 +134,7 @@ KINDS = {
     **dict.fromkeys(NUMBERS, is_number),
     "roles": are_roles,
     "op": lambda value: isinstance(value, str) and value in OPERATIONS,
-    "object": lambda value: isinstance(value, str) and OBJECT.fullmatch(value) is not None,
+    "object": lambda value: isinstance(value, str) and OBJECT.fullmatch(value),
     "text": lambda value: isinstance(value, str),
 }
 
@@ -158,6 +170,28 @@ def read_object(line: bytes) -> Optional[Dict[str, Any]]:
     return keys if is_flat else None
 
 
+def read_plain(line: bytes) -> Optional[Dict[str, Any]]:
+    """The object that a line of the gateway's own is, of each key the last value; None where it
+    is none."""
+    try:
+        found = PLAIN.decode(line.decode())
+    except (ValueError, RecursionError):
+        return None
+    return found if isinstance(found, dict) else None
+
+
+def may_be_command(line: bytes) -> bool:
+    """Whether a line has the keys of a command. It takes a small part of the time that reading a
+    long line takes."""
+    try:
+        found = QUICK.decode(line.decode())
+    except (ValueError, RecursionError):
+        return False
+    cmd = found.get("cmd") if isinstance(found, dict) else None
+    form = KEYS.get(cmd) if isinstance(cmd, str) else None
+    return form is not None and found.keys() == {"cmd", *form}
+
+
 class Reader:
     """Reads lines, and keeps what short ones ask for, since teams ask the same over and over."""
 
@@ -169,6 +203,8 @@ class Reader:
         found = self._kept.get(line)
         if found is not None:
             return found
+        if len(line) > QUICK_BYTES and not may_be_command(line):
+            return None
         keys = read_object(line)
         request = request_of(keys) if keys is not None else None
         if request is not None and len(line) <= CACHED_BYTES:

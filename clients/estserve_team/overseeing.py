@@ -2,7 +2,6 @@
 import asyncio
 from typing import Any, Dict, List
 
-from . import web
 from .counts import health
 from .lines import Request, request_of
 from .order import Asked
@@ -33,13 +32,13 @@ async def kick(context: Context, keys: Dict[str, Any]) -> Dict[str, Any]:
     clients = [one for one in gateway.clients if one.person and one.person.name == name]
     for client in clients:
         client.close()
-    return {"connections": len(clients), "visits": web.end_visits(gateway, name, None)}
+    return {"connections": len(clients), "visits": gateway.visiting.end_visits(name, None)}
 
 
 async def visits(context: Context, keys: Dict[str, Any]) -> Dict[str, Any]:
     """The visits of browsers: one's own, or for an administrator all."""
     is_all = await Rights(context.session).may("administer", "policy")
-    told = web.visits_of(context.gateway, None if is_all else context.person.name)
+    told = context.gateway.visiting.visits_of(None if is_all else context.person.name)
     return {"visits": told}
 
 
@@ -47,7 +46,7 @@ async def close(context: Context, keys: Dict[str, Any]) -> Dict[str, Any]:
     """Ends a visit: one of one's own, or for an administrator any. Raises Refused."""
     is_all = await Rights(context.session).may("administer", "policy")
     person = None if is_all else context.person.name
-    return {"visits": web.end_visits(context.gateway, person, keys["visit"])}
+    return {"visits": context.gateway.visiting.end_visits(person, keys["visit"])}
 
 
 # ---- one offer back

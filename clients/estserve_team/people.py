@@ -5,8 +5,6 @@ import socket
 import struct
 from typing import Dict, List, NamedTuple, Optional, Tuple
 
-from estserve_client.policy_file import lists_of, tables_of
-
 from .refusals import unknown_person
 
 CREDENTIALS = struct.Struct("iII")  # of a peer: process, user, group
@@ -26,9 +24,9 @@ class Person(NamedTuple):
 def read_people(text: str) -> Dict[str, List[str]]:
     """The table `[people]` of a TOML file: from each policy user to its Unix users. Raises
     BadPolicy."""
-    tables = tables_of(text)
-    from estserve_client.policy_file import BadPolicy
+    from estserve_client.policy_file import BadPolicy, lists_of, tables_of
 
+    tables = tables_of(text)
     for name, table in tables.items():
         if name not in ("", "people") or (name == "" and table.keys):
             raise BadPolicy(table.line, "a file of people has the table [people] and nothing else")

@@ -4,6 +4,7 @@
     DIR/team.sock       0660: the program's lines
     DIR/gateway.sock    0660: the gateway's own words
     DIR/metrics.sock    0660: counts for an operator
+    DIR/page.sock       0660: the page's process
     DIR/private         0700: what follows
     .../lock            held while a gateway runs
     .../inner.sock      the server's socket
@@ -27,10 +28,11 @@ import subprocess
 import time
 from typing import Any, Callable, Dict, List, Optional, Sequence
 
-from estserve_client.running import Failed
+from estserve_client.texts import Failed
 
 PATH_BYTES = 107  # the longest path of a Unix socket
 LIST_NAME = "children"
+PAGE_SOCKET = "page.sock"
 END_SECONDS = 10  # in this time a process that was killed is gone
 LEAVE_SECONDS = 2  # after this time it is left to the system
 SET_PARENT_DEATH_SIGNAL = 1
@@ -159,12 +161,20 @@ def die_with(parent: int) -> Callable[[], None]:
     return prepare
 
 
-def start_child(command: Sequence[str], **streams: Any) -> subprocess.Popen:
-    """Starts a process that dies with the thread that calls this. Raises Failed."""
+def start_child(
+    command: Sequence[str], give_up: Optional[Callable[[], None]] = None, **options: Any
+) -> subprocess.Popen:
+    """Starts a process that dies with the thread that calls this; `give_up` is what it does
+    first. Raises Failed."""
+    die = die_with(os.getpid())
+
+    def prepare() -> None:
+        if give_up is not None:
+            give_up()
+        die()  # last, since a change of the user would undo it
+
     try:
-        return subprocess.Popen(
-            command, start_new_session=True, preexec_fn=die_with(os.getpid()), **streams
-        )
+        return subprocess.Popen(command, start_new_session=True, preexec_fn=prepare, **options)
     except (OSError, ValueError, subprocess.SubprocessError) as fault:
         raise Failed(f"{command[0]} cannot be started: {fault}") from fault
 
@@ -178,6 +188,31 @@ def end_child(child: subprocess.Popen) -> None:
         child.wait(LEAVE_SECONDS)
 
 
+def read_json(path: pathlib.Path) -> Any:
+    """What a file of the gateway's own holds. Raises OSError, where there is no plain file, and
+    ValueError."""
+    descriptor = os.open(path, os.O_RDONLY | os.O_NOFOLLOW | os.O_NONBLOCK | os.O_CLOEXEC)
+    try:
+        if not stat.S_ISREG(os.fstat(descriptor).st_mode):
+            raise OSError("it is no plain file")
+        with open(descriptor, encoding="utf-8", closefd=False) as file:
+            return json.load(file)
+    except RecursionError:
+        raise ValueError("it is nested too deep") from None
+    finally:
+        os.close(descriptor)
+
+
+def write_json(path: pathlib.Path, value: Any) -> None:
+    """Writes such a file anew, in one piece. Raises OSError."""
+    beside = path.with_suffix(".new")
+    beside.unlink(missing_ok=True)
+    flags = os.O_WRONLY | os.O_CREAT | os.O_EXCL | os.O_CLOEXEC
+    with open(os.open(beside, flags, 0o600), "w", encoding="utf-8") as file:
+        json.dump(value, file)
+    os.replace(beside, path)
+
+
 class Children:
     """The processes that this gateway has started, kept in a file so that the next one ends what
     was left over."""
@@ -185,6 +220,7 @@ class Children:
     def __init__(self, folder: pathlib.Path) -> None:
         self._path = folder / LIST_NAME
         self._running: Dict[int, str] = {}
+        self.fault = ""  # why the list that was there can't be read
 
     def end_orphans(self) -> List[int]:
         """Ends what an earlier gateway on this folder has left over. Answers their ids. Raises
@@ -193,11 +229,14 @@ class Children:
         A list that can't be read, or of another folder, or of another run of the system, names
         none: the children of a gateway die with it."""
         try:
-            listed = json.loads(self._path.read_text())
+            listed = read_json(self._path)
             if listed["of"] != self._of():
                 return []
             started = {int(process): str(start) for process, start in listed["processes"].items()}
-        except (OSError, ValueError, AttributeError, KeyError, TypeError):
+        except FileNotFoundError:
+            return []
+        except (OSError, ValueError, AttributeError, KeyError, TypeError) as fault:
+            self.fault = f"{self._path} can't be read, and is made anew: {fault!r}"
             return []
         left = [process for process, start in started.items() if start_time_of(process) == start]
         for process in left:
@@ -214,9 +253,9 @@ class Children:
             boot = ""
         return [found.st_dev, found.st_ino, boot]
 
-    def start(self, command: Sequence[str], **streams: Any) -> subprocess.Popen:
+    def start(self, command: Sequence[str], **options: Any) -> subprocess.Popen:
         """Starts a process, and lists it. Raises Failed."""
-        child = start_child(command, **streams)
+        child = start_child(command, **options)
         self._running[child.pid] = start_time_of(child.pid) or ""
         self._write()
         return child
@@ -230,10 +269,8 @@ class Children:
     def _write(self) -> None:
         """Writes the list, where that can be done: it is for the case that a child outlives its
         gateway, which the system doesn't let happen."""
-        beside = self._path.with_suffix(".new")
         with contextlib.suppress(OSError):
-            beside.write_text(json.dumps({"of": self._of(), "processes": self._running}))
-            beside.replace(self._path)
+            write_json(self._path, {"of": self._of(), "processes": self._running})
 
 
 class Places:
@@ -247,6 +284,7 @@ class Places:
         self.team_socket = self.state / "team.sock"
         self.gateway_socket = self.state / "gateway.sock"
         self.metrics_socket = self.state / "metrics.sock"
+        self.page_socket = self.state / PAGE_SOCKET
         self.inner_socket = self.private / "inner.sock"
         self.record = self.private / "record.sqlite"
         self.head = self.private / "head"

@@ -2,9 +2,11 @@
 record without hashes gets some."""
 import contextlib
 import hashlib
+import json
 import pathlib
 import sqlite3
-from typing import Any, Iterator, List, NamedTuple, Optional, Tuple
+import stat
+from typing import Any, Dict, Iterator, List, NamedTuple, Optional, Tuple
 
 from .chain import Head, NotProven, Tip, first_hash, hash_of
 from .places import Failed
@@ -25,12 +27,10 @@ from .record import (
 
 LINES = f"SELECT {COLUMNS}, hash FROM entries UNION ALL SELECT {COLUMNS}, hash FROM aside"
 GIVEN = "SELECT number, hash, connection, version, time FROM givenup ORDER BY number"
-WRONG_CONNECTIONS = (
-    "SELECT count(*) FROM (SELECT number, session, user, person FROM connections EXCEPT "
-    "SELECT connection, session, user, person FROM "
-    "(SELECT connection, session, user, person FROM entries WHERE command = 'login' UNION "
-    "SELECT connection, session, user, person FROM aside WHERE command = 'login'))"
-)
+CONNECTIONS = "SELECT number, session, user, person, roles FROM connections"
+LOGIN = "SELECT connection, session, user, person, request FROM {} WHERE command = 'login'"
+LOGINS = f"{LOGIN.format('entries')} UNION ALL {LOGIN.format('aside')}"
+OBJECTS = "SELECT type, name, tbl_name, sql FROM sqlite_master"
 ENTRIES_AT = len(Entry._fields)
 
 
@@ -83,9 +83,57 @@ def check_givenup(path: pathlib.Path, database: sqlite3.Connection, tip: Tip) ->
     return count
 
 
-def prove(path: pathlib.Path, database: sqlite3.Connection, tip: Optional[Tip]) -> Proven:
-    """Reads a whole record, and holds it against the tip that the head has. Raises NotProven."""
+def roles_of(request: bytes) -> str:
+    """The roles that the request of a login names, as `connections` has them."""
     try:
+        return json.dumps(json.loads(request)["roles"])
+    except (ValueError, KeyError, TypeError, RecursionError):
+        return ""
+
+
+def check_connections(path: pathlib.Path, database: sqlite3.Connection) -> None:
+    """Sees that the connections are those of the logins, each with its user, person and roles.
+    Raises NotProven."""
+    logins = {(*row[:4], roles_of(row[4])) for row in database.execute(LOGINS)}
+    wrong = logins ^ set(database.execute(CONNECTIONS))
+    if wrong:
+        number = min(row[0] for row in wrong)
+        raise NotProven(path, f"its connections are not those of its logins: {number}")
+
+
+Objects = Dict[Tuple[str, str], Tuple[str, Optional[str]]]
+
+
+def objects_of(database: sqlite3.Connection) -> Objects:
+    """The tables, indexes, triggers and views of a file, each with the text that made it."""
+    return {(kind, name): (table, sql) for kind, name, table, sql in database.execute(OBJECTS)}
+
+
+def objects_made(schema: str) -> Objects:
+    """The objects that a schema makes."""
+    with contextlib.closing(sqlite3.connect(":memory:")) as database:
+        database.executescript(schema)
+        return objects_of(database)
+
+
+def check_objects(path: pathlib.Path, database: sqlite3.Connection, schema: str) -> None:
+    """Sees that a file has what its schema makes, and nothing else: a trigger could change entries
+    later. Raises NotProven."""
+    made, found = objects_made(schema), objects_of(database)
+    for kind, name in sorted({*made, *found}):
+        if (kind, name) not in made:
+            raise NotProven(path, f"it has the {kind} {name}, which no gateway makes")
+        if found.get((kind, name)) != made[kind, name]:
+            raise NotProven(path, f"its {kind} {name} is not as a gateway makes it")
+
+
+def prove(
+    path: pathlib.Path, database: sqlite3.Connection, tip: Optional[Tip], schema: str = SCHEMA
+) -> Proven:
+    """Reads a whole record, and holds it against its schema, and against the tip that the head has.
+    Raises NotProven."""
+    try:
+        check_objects(path, database, schema)
         found = database.execute("PRAGMA integrity_check(1)").fetchone()[0]
         if found != "ok":
             raise NotProven(path, f"the file is damaged: {found.splitlines()[0]}")
@@ -95,12 +143,19 @@ def prove(path: pathlib.Path, database: sqlite3.Connection, tip: Optional[Tip]) 
         entries = check_entries(path, database, tip)
         if rest_of(database) not in tip.rest:
             raise NotProven(path, "what it has beside its entries is not as it was written")
-        if database.execute(WRONG_CONNECTIONS).fetchone()[0]:
-            raise NotProven(path, "its connections are not those of its logins")
+        check_connections(path, database)
         aside = database.execute("SELECT count(*) FROM aside").fetchone()[0]
     except sqlite3.Error as fault:
         raise unreadable(path, fault) from fault
     return Proven(entries, aside, givenup, entries - tip.entries)
+
+
+def check_plain(path: pathlib.Path) -> None:
+    """Sees that a record is a file, where something is, and no link: what a link names is
+    another's. Raises NotProven."""
+    with contextlib.suppress(FileNotFoundError):
+        if not stat.S_ISREG(path.lstat().st_mode):
+            raise NotProven(path, "it is a link, or no file")
 
 
 def facts_of(path: pathlib.Path) -> Optional[dict]:
@@ -126,6 +181,7 @@ def check_record(path: pathlib.Path, head: Head, is_accepted: bool) -> bool:
     """Sees that the record at a path is the one that the head knows. One of before gets its hashes,
     and so does one that is accepted as it stands. Answers whether there is one. Raises
     NotProven."""
+    check_plain(path)
     written = max((tip.entries for tip in head.tips()), default=0)
     facts = facts_of(path) if path.exists() else None
     if facts is None:
@@ -157,6 +213,8 @@ def take_over(path: pathlib.Path, head: Head, record: str, is_accepted: bool) ->
     try:
         with contextlib.closing(open_writer(path)) as database, transaction(database):
             rows = old_rows(database)
+            if is_accepted:
+                drop_strangers(database)
             make_anew(database, record, *rows)
             tip = last_tip(database, record)
             known = head.of(record)
@@ -181,6 +239,15 @@ def old_rows(database: sqlite3.Connection) -> Tuple[Rows, Rows, Rows]:
     if not is_of_before:
         order = "version, time, aside_time FROM givenup ORDER BY number"
     return entries, aside, database.execute(f"SELECT connection, {order}").fetchall()
+
+
+def drop_strangers(database: sqlite3.Connection) -> None:
+    """Takes away the tables and views that no gateway makes."""
+    made = objects_made(SCHEMA)
+    for kind, name in objects_of(database):
+        if kind in ("table", "view") and (kind, name) not in made:
+            quoted = name.replace('"', '""')
+            database.execute(f'DROP {kind.upper()} "{quoted}"')
 
 
 def make_anew(

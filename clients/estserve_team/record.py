@@ -146,6 +146,7 @@ def open_reader(path: pathlib.Path) -> Iterator[sqlite3.Connection]:
         check_same_thread=False,
     )
     try:
+        database.execute("PRAGMA trusted_schema=OFF")
         yield database
     finally:
         database.close()
@@ -423,6 +424,7 @@ def open_writer(path: pathlib.Path) -> sqlite3.Connection:
     database = sqlite3.connect(
         path, isolation_level=None, check_same_thread=False, timeout=LOCKED_SECONDS
     )
+    database.execute("PRAGMA trusted_schema=OFF")
     database.execute("PRAGMA journal_mode=WAL")
     database.execute("PRAGMA synchronous=FULL")
     return database

@@ -11,7 +11,7 @@ from . import moments
 from .lines import Request, cut_lines, request_of
 from .order import Asked
 from .people import Person
-from .refusals import Refused, id_taken, interrupted, on_shared
+from .refusals import id_taken, interrupted, on_shared
 
 if TYPE_CHECKING:
     from .gateway import Gateway
@@ -118,7 +118,7 @@ class Session(asyncio.Protocol):
     def _take(self, line: bytes) -> None:
         """Takes the answer to the oldest request."""
         asked = self.flight.popleft()
-        asked.reply, asked.fields = line, json.loads(line)
+        asked.reply, asked.fields = line, json.loads(line.decode())
         if asked.fields.get("ok", asked.request.cmd) != asked.request.cmd or (
             "ok" in asked.fields
         ) == ("code" in asked.fields):

@@ -68,7 +68,7 @@ def settle_records(places: Places) -> None:
     ones, and there is no next one."""
     remove_record(places.next_record)
     for old in sorted(places.old_records.glob("[0-9]*.sqlite")):
-        if places.record.exists() and old.samefile(places.record):
+        if places.record.exists() and os.path.samestat(old.lstat(), places.record.lstat()):
             old.unlink()
 
 

@@ -2,21 +2,18 @@
 gateway's own words."""
 import asyncio
 import json
-import time
 from collections import deque
 from typing import Any, Deque, Dict, List, Optional
 
 from . import moments, words
 from .gateway import Gateway
-from .lines import LINE_BYTES, Request, cut_lines
+from .line_client import LineClient
+from .lines import Request, read_plain
 from .order import Asked
-from .people import Person, peer_uid
-from .refusals import Refused, failed, not_a_word, not_you, unknown_person
+from .refusals import Refused, failed, not_a_word, not_you
 from .sessions import Session, SharedSession
 
 WINDOW = 128  # answers that one client may have to wait for
-MOST_LINES = 1_000  # of one client wait; beyond that no more are read
-FEW_LINES = 200
 CHANGES_OF_ROLES = ("activate", "drop")
 TOO_LONG = b'{"code":1,"fault":"TooLong"}'
 
@@ -31,149 +28,6 @@ class Item:
         self.size = size  # of the line that asked for it
 
 
-class LineClient(asyncio.Protocol):
-    """A client that sends lines: who it is, and its lines as they come."""
-
-    def __init__(self, gateway: Gateway, clients: "set[LineClient]") -> None:
-        self.gateway, self.clients = gateway, clients
-        self.lines: Deque[
-            Optional[bytes]
-        ] = deque()  # None stands for a line that is too long; after it nothing counts
-        self.person: Person = None  # type: ignore[assignment]
-        self.uid: Optional[int] = None  # where its connection is counted
-        self.is_gone = self.is_at_end = False
-        self.waiting = 0  # bytes of the lines that wait
-        self._held = b""
-        self._is_paused = False
-        self._transport: Any = None
-        self._heard = time.monotonic()
-        self._choked: Optional[float] = None  # since when it reads no answers
-
-    def connection_made(self, transport: Any) -> None:
-        self._transport = transport
-        self.clients.add(self)
-        uid = -1
-        try:
-            uid = peer_uid(transport.get_extra_info("socket"))
-            self.person = self.gateway.people.of_uid(uid)
-        except (Refused, OSError):
-            self.is_at_end = True
-            transport.write(unknown_person(uid).line + b"\n")
-            self.close()
-
-    def data_received(self, data: bytes) -> None:
-        if self.is_at_end or self.is_gone:
-            return
-        self._heard = time.monotonic()
-        lines, self._held = cut_lines(self._held, data)
-        for line in lines:
-            if len(line) > LINE_BYTES:
-                self._end_lines(None)
-                break
-            self.lines.append(line)
-            self.waiting += len(line)
-        else:
-            if len(self._held) > LINE_BYTES:
-                self._end_lines(None)
-        if self._has_enough() and not self._is_paused:
-            self._is_paused = True
-            self._transport.pause_reading()
-        self.pump()
-
-    def _has_enough(self) -> bool:
-        """Whether no more lines are to be read now."""
-        return len(self.lines) > MOST_LINES or self.waiting > self.gateway.limits.waiting_bytes
-
-    def next_line(self) -> Optional[bytes]:
-        """The line that waits longest, which waits no more; None for one that is too long."""
-        line = self.lines.popleft()
-        self.waiting -= len(line or b"")
-        return line
-
-    def look_after(self) -> None:
-        """Ends a connection that reads no answers, or is not used."""
-        now, limits = time.monotonic(), self.gateway.limits
-        if self._choked is not None and now - self._choked > limits.slow_seconds:
-            self.gateway.log("a client reads no answers: its connection is ended", "slow")
-            self._transport.abort()
-        elif now - self._heard > limits.idle_seconds and not self.is_busy():
-            self.close()
-
-    def is_busy(self) -> bool:
-        """Whether an answer is missing."""
-        return bool(self.lines)
-
-    def pause_writing(self) -> None:
-        self._choked = time.monotonic()
-
-    def resume_writing(self) -> None:
-        self._choked = None
-        self.pump()
-
-    def _end_lines(self, *last: Optional[bytes]) -> None:
-        """Takes no more lines than these."""
-        self.is_at_end = True
-        self._held = b""
-        self.lines.extend(last)
-
-    def resume(self) -> None:
-        """Reads on, where that was paused and few lines are left."""
-        is_few = (
-            len(self.lines) < FEW_LINES and self.waiting < self.gateway.limits.waiting_bytes // 2
-        )
-        if self._is_paused and is_few and not self.is_gone:
-            self._is_paused = False
-            self._transport.resume_reading()
-
-    def eof_received(self) -> bool:
-        if not self.is_at_end:
-            self._end_lines(*([self._held] if self._held else []))
-        self.pump()
-        return True
-
-    def connection_lost(self, fault: Optional[Exception]) -> None:
-        self.is_gone = self.is_at_end = True
-        self.lines.clear()
-        self.clients.discard(self)
-        uid, self.uid = self.uid, None
-        if uid is not None:
-            self.gateway.accounts.disconnect(uid)
-        self.leave()
-
-    def follow_people(self) -> None:
-        """Takes the person anew, after who may be whom was changed; a login that this person may no
-        more have is ended."""
-        if self.uid is not None and not self.is_gone:
-            try:
-                self.person = self.gateway.people.of_uid(self.uid)
-            except Refused:
-                self.close()
-                return
-            user = self.held_user()
-            if user is not None and not self.person.may_be(user):
-                self.close()
-
-    def held_user(self) -> Optional[str]:
-        """The user of the login that is held, if one is."""
-        session = getattr(self, "session", None)
-        return None if session is None or session.is_over else session.user
-
-    def close(self) -> None:
-        """Ends the connection, once what was written is sent."""
-        if not self.is_gone:
-            self.is_gone = True
-            self.lines.clear()
-            self._transport.close()
-
-    def pump(self) -> None:
-        """Takes lines, as far as that is possible now."""
-        raise NotImplementedError
-
-    def leave(self) -> None:
-        """Gives up the login, if one is held."""
-        raise NotImplementedError
-
-
 class TeamClient(LineClient):
     """A client of team.sock: it has the answers of the program, and those of the gateway where it
     refuses a login."""
@@ -185,9 +39,11 @@ class TeamClient(LineClient):
         self.under_way = 0  # bytes of the lines that these answer
         self._is_busy = False  # a login or a logout is under way
 
-    def pump(self) -> None:
-        while self.lines and not self._is_busy and self._choked is None and self._has_room():
-            self._take(self.next_line())
+    def may_take(self) -> bool:
+        is_free = not self._is_busy and self._choked is None
+        return bool(self.lines) and is_free and self._has_room()
+
+    def settle(self) -> None:
         if self.session is not None and not self.session.is_over:
             self.session.flush()
         self.resume()
@@ -201,8 +57,7 @@ class TeamClient(LineClient):
     def is_busy(self) -> bool:
         return bool(self.lines or self.items or self._is_busy)
 
-    def _take(self, line: Optional[bytes]) -> None:
-        """Has one line answered."""
+    def take(self, line: Optional[bytes]) -> None:
         item = Item(len(line or b""))
         self.items.append(item)
         self.under_way += item.size
@@ -361,29 +216,42 @@ class WordClient(LineClient):
     def __init__(self, gateway: Gateway, clients: "set[LineClient]") -> None:
         super().__init__(gateway, clients)
         self.session: Optional[SharedSession] = None
+        self.is_parked = False  # until another word of this user is done
         self._task: "Optional[asyncio.Future[None]]" = None
 
-    def pump(self) -> None:
-        if self._choked is not None:
-            return
-        if self.lines and self._task is None:
-            self._task = asyncio.ensure_future(self._answer(self.next_line()))
-            self._task.add_done_callback(self._go_on)
-        elif self.is_at_end and not self.lines and self._task is None:
+    def may_take(self) -> bool:
+        is_free = self._task is None and self._choked is None and not self.is_parked
+        return bool(self.lines) and is_free
+
+    def settle(self) -> None:
+        if self.is_at_end and not self.lines and self._task is None and self._choked is None:
             self.close()
 
-    def _go_on(self, _: Any) -> None:
+    def take_turn(self, until: float) -> bool:
+        self.has_asked = False
+        if self.may_take() and self.gateway.turns.begin_word(self):
+            self.take(self.next_line())
+        self.settle()
+        return False
+
+    def take(self, line: Optional[bytes]) -> None:
+        user, asked = self.uid, read_plain(line) if line is not None else None
+        self._task = asyncio.ensure_future(self._answer(line, asked))
+        self._task.add_done_callback(lambda _: self._go_on(user))
+
+    def _go_on(self, user: Any) -> None:
         self._task = None
+        self.gateway.turns.end_word(user)
         self.resume()
         self.pump()
 
     def is_busy(self) -> bool:
         return bool(self.lines) or self._task is not None
 
-    async def _answer(self, line: Optional[bytes]) -> None:
+    async def _answer(self, line: Optional[bytes], asked: Optional[Dict[str, Any]]) -> None:
         """Answers one word."""
         try:
-            answer = await self._act(line)
+            answer = await self._act(line, asked)
         except Refused as refused:
             answer = refused.answer
         except Exception as fault:  # a fault of one word is told, and the gateway goes on
@@ -394,16 +262,12 @@ class WordClient(LineClient):
                 json.dumps(answer, separators=(",", ":"), sort_keys=True).encode() + b"\n"
             )
 
-    async def _act(self, line: Optional[bytes]) -> Dict[str, Any]:
+    async def _act(self, line: Optional[bytes], asked: Optional[Dict[str, Any]]) -> Dict[str, Any]:
         """Carries out the word of a line. Raises Refused."""
         if line is None:
             raise not_a_word("the line is too long")
-        try:
-            asked = json.loads(line.decode())
-        except (ValueError, RecursionError):
-            raise not_a_word("the line is no JSON") from None
-        if not isinstance(asked, dict):
-            raise not_a_word("the line is no object")
+        if asked is None:
+            raise not_a_word("the line is no object of JSON")
         if asked.get("word") in ("login", "logout"):
             return await self._change_login(asked)
         session = self.session if self.session is not None and not self.session.is_over else None

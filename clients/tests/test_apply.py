@@ -8,10 +8,13 @@ import socket
 import tempfile
 import threading
 import unittest
+import unittest.mock
 
 from support import needs_program, run_client, serve
 
 import estserve
+from estserve_client import applying
+from estserve_client.applying import ALONE
 from estserve_client.policy_file import BadPolicy, read_file
 
 POLICY = """users = ["ann", "bob"]
@@ -90,7 +93,11 @@ class Slots(InAFolder):
 class OnTheProgram(InAFolder):
     def test_a_dry_run_lists_the_commands_and_sends_nothing(self):
         with serve() as server:
-            status, printed, told = self.apply("--dry-run", "--socket", server.path)
+            for more in (["--socket", server.path], ["--prune", "--yes"]):
+                status, printed, told = self.apply("--dry-run", *more)
+                self.assertIn("leave --socket and --prune away", told[0])
+                self.assertEqual((status, printed), (1, []))
+            status, printed, told = self.apply("--dry-run")
             self.assertEqual((status, told), (0, []))
             self.assertEqual(printed[0], "p.toml:2: addrole driver")
             self.assertEqual(printed[-2], "p.toml:10: grant driver load 4")
@@ -167,7 +174,7 @@ class OnTheProgram(InAFolder):
         text = POLICY.replace('["offer door.OPEN", "step door", "load 4"]', permissions)
         self.path.write_text(text + '[modules]\ndoor = "door.strl"\n')
         status, printed, told = self.apply()
-        self.assertEqual((status, printed[-1]), (0, "0 there already, 11 added"))
+        self.assertEqual((status, printed), (0, ["0 there already, 11 added" + ALONE]))
         self.assertEqual(
             told,
             [
@@ -177,6 +184,17 @@ class OnTheProgram(InAFolder):
         )
         (self.folder / "door.strl").unlink()
         self.assertIn("door.strl cannot be read", self.apply()[2][0])
+
+    def test_a_permission_that_does_nothing_is_warned_of(self):
+        wanted = '["step 0.A", "offer policy", "audit 0", "step 0", "audit policy", "observe 0.A"]'
+        self.path.write_text(f'roles = ["r"]\n[permissions]\nr = {wanted}\n')
+        told = [
+            ("step 0.A", "step is asked for on a slot"),
+            ("offer policy", "offer is asked for on a signal"),
+            ("audit 0", "audit is asked for on policy"),
+        ]
+        lines = [f"p.toml:3: warning: grant r {one}: this does nothing: {why}" for one, why in told]
+        self.assertEqual(self.apply()[2], lines)
 
     def test_prune_takes_away_what_the_file_does_not_ask_for(self):
         with serve() as server, server.root() as root:
@@ -259,18 +277,54 @@ class AtAGateway(InAFolder):
             root.assign("cho", "driver")
             root.addrole("guest")
             root.dsd("apart", ["guest", "chief"], 2)
-            status, printed, told = self.apply("--socket", path, "--prune")
             taken = ["revoke driver offer 3.OPNE", "deassign cho driver", "undsd apart"]
             taken += ["deluser cho", "delrole guest"]
-            self.assertEqual(
-                printed, ["9 there already, 0 added", *[f"not asked for: {one}" for one in taken]]
-            )
-            self.assertEqual((status, len(told)), (1, 1))
+            with unittest.mock.patch.object(applying, "check_terminal"):
+                status, printed, told = self.apply("--socket", path, "--prune")
+            made = ["grant driver offer 3.OPEN", "grant driver step 3", "grant driver load 4"]
+            plan = [f"to make: {one}" for one in made] + [f"not asked for: {one}" for one in taken]
+            self.assertEqual((status, printed[:-1], told), (0, plan, []))
+            self.assertTrue(printed[-1].endswith("[y/N] nothing is changed"))
             status, printed, told = self.apply("--socket", path, "--prune", "--yes")
             self.assertEqual((status, printed[1:], told), (0, [*taken, "5 taken away"], []))
             listening.shutdown(socket.SHUT_RDWR)
             thread.join(60)
         self.assertEqual(asked, ["ping", *["ping", "login", "policy", "logout"] * 2])
+
+    def test_a_set_that_is_another_one_is_made_anew(self):
+        asked, sets = [], '[separate.apart]\nroles = ["driver", "chief"]\ncount = 2\n'
+        self.path.write_text(sets)
+        with serve() as server, server.root() as root, socket.socket(socket.AF_UNIX) as listening:
+            for role in ("driver", "chief", "guest"):
+                root.addrole(role)
+            root.adduser("bob")
+            root.assign("bob", "driver")
+            root.assign("bob", "chief")
+            root.dsd("apart", ["guest", "chief"], 2)
+            status, printed, told = self.apply("--socket", server.path)
+            self.assertEqual((status, printed), (0, ["1 there already, 0 added"]))
+            self.assertIn("p.toml:2: warning: a set apart is there already, and the", told[0])
+            listening.bind(str(self.folder / "gateway.sock"))
+            listening.listen()
+            thread = threading.Thread(target=self.answer, args=(listening, asked))
+            thread.start()
+            path = self.folder / "team.sock"
+            path.symlink_to(server.path)
+            status, printed, told = self.apply("--socket", path)
+            self.assertEqual((status, printed), (0, ["0 there already, 1 added"]))
+            line = "p.toml:2: dsd apart 2 guest chief was there: it is made anew"
+            self.assertEqual(told, [line])
+            with estserve.connect(server.path) as bob:
+                with self.assertRaises(estserve.Refusal):
+                    bob.login("bob", ["driver", "chief"])
+            self.path.write_text(sets.replace('"chief"', '"nobody"'))
+            root.undsd("apart")
+            root.dsd("apart", ["guest", "chief"], 2)
+            self.assertEqual(self.apply("--socket", path)[0], 1)
+            with self.assertRaisesRegex(estserve.Refusal, "DsdExists"):
+                root.dsd("apart", ["guest", "chief"], 2)  # it is taken back
+            listening.shutdown(socket.SHUT_RDWR)
+            thread.join(60)
 
 
 class Library(InAFolder):

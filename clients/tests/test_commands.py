@@ -14,12 +14,15 @@ from support import (
     DIALOGUES,
     EXAMPLES,
     dialogue_variables,
+    needs_program,
     play_dialogue,
     read_vcd,
+    run_client,
     run_words,
 )
 
 import estserve
+from estserve_client.applying import ALONE
 
 
 # what is told besides of the runs that end at an instant which is refused
@@ -95,7 +98,7 @@ class Policies(unittest.TestCase):
     def test_a_policy_is_applied(self):
         ran = play_dialogue(DIALOGUES / "apply", ["apply", EXAMPLES / "team" / "team.toml"])
         self.assertEqual((ran.status, ran.told), (0, ""))
-        self.assertEqual(ran.printed, "0 there already, 22 added\n")
+        self.assertEqual(ran.printed, f"0 there already, 22 added{ALONE}\n")
 
     def test_what_is_there_and_what_is_refused_is_told_with_its_line(self):
         ran = play_dialogue(DIALOGUES / "apply_again", ["apply", DIALOGUES.parent / "again.toml"])
@@ -126,6 +129,25 @@ class Dialogues(unittest.TestCase):
 
     def test_an_inputoutput_is_offered_and_shown(self):
         self.check("inouts")
+
+
+class SeveralFiles(unittest.TestCase):
+    @needs_program
+    def test_the_shell_loads_several_files_as_one_library(self):
+        with tempfile.TemporaryDirectory() as folder:
+            main, part = (pathlib.Path(folder) / name for name in ("main.strl", "part.strl"))
+            main.write_text("module MAIN: output O; run PART [signal O/P] end module")
+            part.write_text("module PART: output P; emit P end module")
+            lines = [
+                "grant root load 0",
+                f"load {main} {part}",
+                "unload",
+                f"load 0 {main} {part} PART",
+            ]
+            ran = run_client(["shell"], "\n".join(lines) + "\nload\n")
+        self.assertEqual(ran.status, 1)
+        self.assertIn("MAIN runs in slot 0\nslot 0 is empty\nPART runs in slot 0\n", ran.printed)
+        self.assertIn("expected: [SLOT] FILE.. [MODULE]", ran.printed + ran.told)
 
 
 class OverASocket(unittest.TestCase):

@@ -2,13 +2,14 @@
 is laid out doesn't change.
 """
 import json
+import os
 import pathlib
 import random
 import re
 import tempfile
 import unittest
 
-from support import EXAMPLES, ROOT, run_client
+from support import EXAMPLES, ROOT, needs_program, run_client
 
 from estserve_client.formatting import WIDTH, format_text
 from estserve_client.layout_tree import Words
@@ -161,6 +162,25 @@ class Command(unittest.TestCase):
         self.assertEqual(self.path.read_text(), UGLY)
         self.path.write_text(PRETTY)
         self.assertEqual(run_client(["format", "--check", self.path]).status, 0)
+
+    def test_ends_of_lines_are_told_in_words(self):
+        for text, told in [
+            (PRETTY.replace("\n", "\r\n"), "line ends are CRLF"),
+            (PRETTY.rstrip("\n"), "no newline at the end"),
+        ]:
+            self.path.write_bytes(text.encode())
+            ran = run_client(["format", "--diff", self.path])
+            self.assertEqual((ran.status, ran.printed), (1, f"{self.path}: {told}\n"))
+
+    @needs_program
+    def test_lexical_faults_are_those_of_the_program(self):
+        head = "module M: output O;\n"
+        for text in ("emit O %{ open", "[ A && B ]", "/* c */", "{", "a | b", "é", "A'", "O := 1"):
+            self.path.write_text(head + text)
+            told = run_client(["format", self.path]).told.split("\n")[0]
+            ran = run_client(["run", self.path, "--inputs", os.devnull])
+            self.assertEqual(told, ran.told.split("\n")[0], text)
+            self.assertIn(": Lexical: no token stands here", told)
 
     def test_from_standard_input(self):
         ran = run_client(["format", "-"], UGLY)

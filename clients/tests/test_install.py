@@ -16,7 +16,7 @@ import time
 import unittest
 import unittest.mock
 
-from support import CLIENTS, ROOT, needs_program
+from support import CLIENTS, EXAMPLES, ROOT, needs_program
 
 from estserve_client import commands
 from estserve_team import command
@@ -191,8 +191,9 @@ class InAFolder(unittest.TestCase):
 
 
 class Installed(InAFolder):
-    def install(self, program, **variables):
+    def install(self, program, lab="", **variables):
         words = ["make", "-s", "install", f"PREFIX={self.folder}/p", f"PROGRAM={program}"]
+        words.append(f"LAB={lab}")
         environment = {key: value for key, value in os.environ.items() if key not in OF_MAKE}
         return subprocess.run(
             words, cwd=ROOT, capture_output=True, text=True, env={**environment, **variables}
@@ -233,6 +234,21 @@ class Installed(InAFolder):
             self.assertTrue((prefix / "share" / name).exists(), name)
         self.assertFalse(list(prefix.glob("**/__pycache__/*")) and not sys.dont_write_bytecode)
 
+    def test_estlab_is_put_beside_it_and_found(self):
+        program = self.script("program", "#!/bin/sh\n")
+        for lab in ("", self.script("lab", '#!/bin/sh\nread line\necho "the lab: $line"\n')):
+            ran = self.install(program, lab)
+            self.assertEqual((ran.returncode, ran.stderr), (0, ""))
+            self.assertEqual((self.folder / "p" / "bin" / "estlab").exists(), bool(lab))
+        variables = {key: value for key, value in os.environ.items() if key != "ESTLAB"}
+        words = [
+            self.folder / "p" / "bin" / "estserve-client",
+            "prove",
+            EXAMPLES / "abro/abro.strl",
+        ]
+        ran = subprocess.run(words, capture_output=True, text=True, env=variables)
+        self.assertIn("""'the lab: {"cmd":"load","main":"ABRO",""", ran.stderr)
+
     def test_the_client_starts_without_the_site_and_the_gateway_with_it(self):
         ran = self.install(self.script("program", "#!/bin/sh\n"))
         self.assertEqual((ran.returncode, ran.stderr), (0, ""))
@@ -253,6 +269,7 @@ class Installed(InAFolder):
         units = stage / "lib" / "systemd" / "system"
         for unit, words in (
             ("estserve-team@", "estserve-client team"),
+            ("estserve-page@", "estserve-client team page"),
             ("estserve@", "estserve serve"),
         ):
             text = (units / f"{unit}.service").read_text()
@@ -372,6 +389,12 @@ class Kept(InAFolder):
     def test_one_that_is_named_is_taken(self):
         printed, told = self.trial("--path", ESTSERVE="/bin/true").communicate(timeout=60)
         self.assertEqual((printed, told, self.built()), ("/bin/true\n", "", 0))
+        named = {"ESTSERVE": "/bin/true", "ESTLAB": "/bin/false"}
+        printed, told = self.trial("--path", "estlab", **named).communicate(timeout=60)
+        self.assertEqual((printed, told), ("/bin/false\n", ""))
+        words = ["--lab", "sh", "-c", "echo $ESTSERVE $ESTLAB"]
+        printed, told = self.trial(*words, **named).communicate(timeout=60)
+        self.assertEqual((printed, told, self.built()), ("/bin/true /bin/false\n", "", 0))
 
     def test_an_interrupt_prints_no_traceback(self):
         trial = self.trial("--path", SLOW="1")

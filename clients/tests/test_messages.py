@@ -24,6 +24,24 @@ from estserve_client.syntax_faults import expected_at, spot_at
 from estserve_client.syntax_tree import parse, tokens_of
 
 LONG = "A" * 49
+# Texts with a syntax fault, and the column of its token, beside those of docs/LANGUAGE.md.
+REFUSED = [
+    ("module M: output await; pause end module", 18),
+    ("module M: input I; pause", 25),
+    ("module M: pause;; pause end module", 17),
+    ("module M: pause || end module", 20),
+    ("module M: await [[A]] end module", 18),
+    ("module M: await [A] or B end module", 21),
+    ("module M: await A not B end module", 19),
+    ("module M: await A and end module", 23),
+    ("module M: emit not A end module", 16),
+    ("module M: weak pause when S end module", 16),
+    ("module M: abort pause when S end suspend end module", 34),
+    ("module M: loop pause end every end module", 26),
+    ("module M: run P [A/B] end module", 18),
+    ("module M: pause; input I; end module", 18),
+    ("module M: inputoutput B nothing end module", 25),
+]
 # Bodies of `module M: input A, B; output O, P; .. end module`, and what is said after the fault's name.
 SYNTAX = [
     ("present A\nemit O end", "`then` or `else` expected; the `present` of line 1 is open"),
@@ -187,15 +205,15 @@ class OnTheProgram(unittest.TestCase):
             found.told, "Syntax: `end` expected; the `module` of line 1 of m.strl is open"
         )
 
-    def test_each_text_of_the_language_page_has_its_expectation(self):
+    def test_each_refused_text_has_its_expectation(self):
         page = (ROOT / "docs" / "LANGUAGE.md").read_text()
-        rows = re.findall(r"^\| `(module M: [^`]*)` \| syntax \| 1, (\d+) \|", page, re.MULTILINE)
-        self.assertGreater(len(rows), 15)
-        for text, column in rows:
+        rows = re.findall(r"^\| `(module M: [^`|]*)` \| syntax \| 1, (\d+) \|", page, re.MULTILINE)
+        self.assertGreater(len(rows), 3)
+        for text, column in [*REFUSED, *((text, int(column)) for text, column in rows)]:
             with self.subTest(text):
-                refusal = refusal_of(self.client, text.replace("\\|", "|"))
-                self.assertEqual(refusal.fields, {"line": 1, "column": int(column)})
-                spot = spot_at(tokens_of(text.replace("\\|", "|")), 1, int(column))
+                refusal = refusal_of(self.client, text)
+                self.assertEqual(refusal.fields, {"line": 1, "column": column})
+                spot = spot_at(tokens_of(text), 1, column)
                 self.assertNotIn(expected_at(spot), ("", "the text cannot go on so"))
                 self.assertNotIn(spot.word(), [word for word in spot.words() if word.isalpha()])
 
@@ -231,7 +249,7 @@ class Mutated(unittest.TestCase):
         with estserve.start(os.environ["ESTSERVE"]) as client:
             client.login("root", ["root"])
             client.ask_all(grants_of(Module("M", [], [], [])))
-            for _ in range(600):
+            for _ in range(1_500):
                 text = self.mutated(chance.choice(texts), chance)
                 fault = self.check(client, text, main_of(text).name)
                 counts[fault] += 1

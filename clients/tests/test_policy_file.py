@@ -103,6 +103,7 @@ class Toml(unittest.TestCase):
             "user = []": "; did you mean `users`?",
             '[slots]\ndoor = 3\n[permissions]\na = ["step dor"]': "; did you mean `door`?",
             '[permissions]\na = ["step door"]': "; the table slots gives door no number",
+            '[permissions]\na = ["observe 3.*"]': "; a file names each signal; the page spreads patterns",
             "[separate.s]\ncount = 02": "a whole number doesn't begin with 0",
             'users = ["a"\nroles = []': "; this one begins on line 1",
         }

@@ -14,10 +14,13 @@ import xml.etree.ElementTree
 
 from support import EXAMPLES, needs_program, run_client
 
+import estserve
 from estserve_client.colours import Colours
 from estserve_client.commands import make_parser
 from estserve_client.drawing import Progress, bar
 from estserve_client.outcomes import FAILED, PASSED, Outcome, write_junit
+from estserve_client.texts import Failed
+from estserve_client.texts_beside import tell_choice, texts_beside
 
 ABRO = EXAMPLES / "abro" / "abro.strl"
 CELL = "module CELL: input I; output O; loop present I then emit O end; pause end end module\n"
@@ -55,16 +58,18 @@ class Folders(InAFolder):
             (suite.tag, suite.get("tests"), suite.get("failures")), ("testsuite", "2", "1")
         )
         both, wrong = suite
-        self.assertEqual((both.get("name"), list(both)), ("both", []))
+        self.assertEqual((both.get("name"), both.findall("failure")), ("both", []))
+        self.assertEqual(both.find("properties")[0].attrib, {"name": "module", "value": "ABRO"})
         self.assertEqual(wrong.get("file"), f"{self.folder}/wrong.inputs")
-        self.assertEqual(wrong[0].get("message"), "the first difference is at instant 2")
-        self.assertIn("-      2  A       <O>\n+      2  A", wrong[0].text)
+        failure, told = wrong.find("failure"), "the first difference is at instant 2"
+        self.assertEqual((failure.get("message"), failure.text.split("\n")[0]), (told, told))
+        self.assertIn("-      2  A       <O>\n+      2  A", failure.text)
         self.assertGreaterEqual(float(suite.get("time")), float(both.get("time")))
 
     def test_lines_of_tap(self):
         lines = run_client(["test", self.folder, "--tap"]).printed.splitlines()
-        self.assertEqual(lines[:3], ["TAP version 13", "1..2", "ok 1 - both: 2 instants"])
-        self.assertEqual(lines[3], "not ok 2 - wrong: the first difference is at instant 2")
+        self.assertEqual(lines[:3], ["TAP version 13", "1..2", "ok 1 - both (ABRO): 2 instants"])
+        self.assertEqual(lines[3], "not ok 2 - wrong (ABRO): the first difference is at instant 2")
         self.assertEqual(lines[-1], "# +      2  A")
 
     def test_an_object_of_json(self):
@@ -100,7 +105,7 @@ class Folders(InAFolder):
         self.file("cells.expected", "instant  inputs  outputs\n      1  A       B\n      2\n")
         ran = run_client(["test", self.folder, "-k", "cells", "--module", main, cell])
         self.assertEqual(
-            (ran.status, ran.printed), (0, "ok      cells: 2 instants\n1 passed, 0 failed\n")
+            (ran.status, ran.printed), (0, "ok      cells (MAIN): 2 instants\n1 passed, 0 failed\n")
         )
 
     def test_a_refusal_is_not_blessed_without_a_word(self):
@@ -109,19 +114,110 @@ class Folders(InAFolder):
         self.file("paradox.strl", (paradox / "paradox.strl").read_text())
         self.file("paradox.inputs", (paradox / "paradox.inputs").read_text())
         words = ["test", self.folder, "-k", "paradox", "--update"]
-        told = f"written paradox: 1 instant; WITH A REFUSAL as what is expected: {stuck}"
+        told = f"written paradox (PARADOX): 1 instant, then Stuck; WITH A REFUSAL as what is expected: {stuck}"
         self.assertEqual(run_client(words).printed.splitlines()[0], told)
         self.assertEqual(
-            run_client(words).printed.splitlines()[0], f"ok      paradox: 1 instant; {stuck}"
+            run_client(words).printed.splitlines()[0],
+            f"ok      paradox (PARADOX): 1 instant, then Stuck; {stuck}",
         )
+        self.file("paradox.inputs", ";\nI\n;\n;\n")
+        told = "ok      paradox (PARADOX): 1 instant, then Stuck; 2 instants not run"
+        self.assertEqual(run_client(words[:-1]).printed.splitlines()[0], told)
         path = self.folder / "table"
         words = ["run", self.folder / "paradox.strl", "--inputs", self.folder / "paradox.inputs"]
         ran = run_client([*words, "--expect", path, "--update"])
-        told = f"{path} is written: 1 instant; WITH A REFUSAL as what is expected: {stuck}\n"
+        told = f"{path} is written: 1 instant, then Stuck; 2 instants not run; WITH A REFUSAL as what is expected: {stuck}\n"
         self.assertEqual(ran.printed, told)
 
 
+@needs_program
+class Modules(InAFolder):
+    """Which module a scenario, or a list of claims, is of."""
+
+    def setUp(self):
+        super().setUp()
+        self.file("abro.strl", ABRO.read_text())
+        self.file("cell.strl", CELL)
+
+    def test_one_that_is_not_there_is_not_guessed(self):
+        self.file("door_two.inputs", "A\n")
+        self.file("cell.on.inputs", "I\n")
+        ran = run_client(["test", self.folder, "--update"])
+        beside = "there is no door_two.strl, and several modules beside it are run by none"
+        told = f"FAILED  door_two: {beside} (ABRO, CELL): name the texts by --module"
+        self.assertIn(told, ran.printed)
+        self.assertIn("written cell.on (CELL): 1 instant\n", ran.printed)
+        self.assertFalse((self.folder / "door_two.expected").exists())
+        ran = run_client(["test", self.folder, "--update", "--main", "ABRO", "-k", "door"])
+        self.assertEqual(ran.printed.split("\n")[0], "written door_two (ABRO): 1 instant")
+
+    def test_claims_are_of_a_module_that_is_there(self):
+        path = self.file("lampe.claims", "never O\n")
+        with self.assertRaisesRegex(Failed, r"no lampe\.strl, .* \(ABRO, CELL\): name the"):
+            texts_beside(path, None, "name the module")
+        for main, name, texts in [
+            ("CELL", "lampe.claims", ["abro.strl", "cell.strl"]),
+            (None, "cell.on.claims", ["cell.strl"]),
+        ]:
+            found = texts_beside(self.folder / name, main, "")
+            self.assertEqual([text.name for text in found], texts)
+
+    def test_what_is_not_read_any_more_is_no_fault_of_the_program(self):
+        told = self.folder / "told"
+        late = f"trap '' PIPE; cat >&2; sleep 0.1; echo late 2> {told} && rm {told}"
+        path = self.file("late", f"#!/bin/sh\n{late}\n")
+        path.chmod(0o755)
+        estserve.start(path).close()
+        self.assertFalse(told.exists())
+
+    def test_a_choice_among_several_is_told_once(self):
+        both = self.file("both.strl", CELL + CELL.replace("CELL", "SPIN"))
+        for name in ("both.one.inputs", "both.two.inputs"):
+            path = self.file(name, "I\n")
+        told = "running CELL; SPIN too is run by none: choose by --main\n"
+        for words in (["test", self.folder, "--update"], ["run", both, "--inputs", path]):
+            tell_choice.cache_clear()
+            self.assertEqual(run_client(words).told, told)
+        tell_choice.cache_clear()
+        self.assertEqual(run_client([*words, "--main", "SPIN"]).told, "")
+
+    def test_a_counterexample_is_no_scenario(self):
+        self.file("abro.inputs", "A\n")
+        for name in ("abro.counterexample", "abro.counterexample2"):
+            self.file(f"{name}.inputs", "A B\n")
+        ran = run_client(["test", self.folder, "--update"])
+        self.assertEqual(ran.printed.splitlines()[-1], "0 passed, 0 failed, 1 written")
+        self.assertFalse((self.folder / "abro.counterexample.expected").exists())
+
+    def test_a_fault_of_a_text_is_shown_once(self):
+        text = self.file("m.strl", "module M: output O; emmit O end module\n")
+        for name in ("m.a", "m.b"):
+            self.file(f"{name}.inputs", "\n;\n")
+        lines = run_client(["test", self.folder]).printed.splitlines()
+        self.assertTrue(lines[0].startswith(f"FAILED  m.a (M): {text}:1:21: "), lines[0])
+        self.assertEqual(lines[-2], lines[0].replace("m.a", "m.b") + " (as for m.a)")
+        self.assertEqual(sum(line.lstrip().startswith("^") for line in lines), 1)
+
+    def test_what_is_overwritten_is_written_anew(self):
+        self.file("abro.inputs", "A\n")
+        self.file("abro.expected", "instant  inputs  outputs\n      1  A       O\n")
+        lines = run_client(["test", self.folder, "--update"]).printed.splitlines()
+        told = ["written anew abro (ABRO): 1 instant", "0 passed, 0 failed, 1 written"]
+        self.assertEqual(lines, told)
+
+
 class Files(InAFolder):
+    def test_a_file_of_junit_where_nothing_ran(self):
+        self.file("abro.strl", ABRO.read_text())
+        self.file("abro.inputs", "A\n")
+        path = self.folder / "out.xml"
+        words = ["test", f"{self.folder}/", "--junit", path, "--program", "/bin/false"]
+        told = "/bin/false ended before it answered anything"
+        self.assertEqual(run_client(words).told, f"estserve.py: {told}\n")
+        suite = xml.etree.ElementTree.parse(path).getroot()
+        self.assertEqual((suite.get("name"), suite.get("errors")), (str(self.folder), "1"))
+        self.assertEqual(suite[0].find("error").get("message"), told)
+
     def test_a_file_of_junit_holds_any_text(self):
         path = self.folder / "out.xml"
         told = "\x00\x1b[31m <&\"'> é \udcff"
@@ -183,6 +279,10 @@ class Workflows(unittest.TestCase):
             self.assertIn("--junit scenarios.xml", text)
             self.assertGreaterEqual(text.count("scenarios.xml"), 2)
             self.assertNotIn("\t", text)
+            self.assertIn(
+                'echo "${ESTSERVE_SHA256:?}  /tmp/estserve.deb" | sha256sum --check', text
+            )
+            self.assertIn('"${ESTSERVE_PACKAGE:?}"', text)
 
 
 if __name__ == "__main__":

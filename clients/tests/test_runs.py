@@ -305,10 +305,10 @@ class Folders(InAFolder):
         self.assertEqual(
             ran.printed.splitlines(),
             [
-                "ok      both: 2 instants",
-                "FAILED  new: there is no new.expected: --update writes it",
-                f"FAILED  typo: {self.folder}/typo.inputs:1:3: ABRO has no input C",
-                "FAILED  wrong: the first difference is at instant 2",
+                "ok      both (ABRO): 2 instants",
+                "FAILED  new (ABRO): there is no new.expected: --update writes it",
+                f"FAILED  typo (ABRO): {self.folder}/typo.inputs:1:3: ABRO has no input C",
+                "FAILED  wrong (ABRO): the first difference is at instant 2",
                 f"--- {self.folder}/wrong.expected",
                 "+++ this run",
                 "@@ instant 2 @@",
@@ -354,7 +354,7 @@ class Folders(InAFolder):
         self.assertEqual(
             ran.printed.splitlines(),
             [
-                f"FAILED  a: there is no module text in {self.folder}: name it by --module",
+                f"FAILED  a: there is no a.strl, and no other module text in {self.folder}",
                 "0 passed, 1 failed",
             ],
         )

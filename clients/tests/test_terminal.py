@@ -289,12 +289,12 @@ class InATerminal(unittest.TestCase):
         policy = self.folder / "p.toml"
         policy.write_text('roles = ["guest"]\n')
         for answer, told in (
-            ("y", "0 taken away"),
-            ("", "nothing is taken away"),
+            ("y", "0 there already, 1 added, on a program of its own"),
+            ("", "nothing is changed"),
             ("no", "nothing"),
         ):
             with Terminal(["apply", policy, "--prune"], {}) as terminal:
-                terminal.sees("0 there already, 1 added\n")
+                terminal.sees("asked for: addrole guest\n")
                 terminal.sees("sessions that need it end [y/N] ")
                 terminal.type(f"{answer}\n")
                 terminal.sees(told)

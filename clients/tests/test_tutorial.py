@@ -5,7 +5,7 @@ the lines under it are what it prints, and where it reads standard input, lines 
 are typed. A comment `<!-- dialogue: PATH -->` before a block names the stored dialogue that stands
 for the program, which `make examples` holds against the real one; so `--unproved` is left out. What
 is written into /tmp goes into a folder of the test's own. The blocks after `<!-- server -->` speak
-to a server; tests/socket runs them.
+to a server; tests/socket runs them. Those after `<!-- lab -->` ask estlab; test_lab runs them.
 """
 import os
 import pathlib
@@ -50,7 +50,7 @@ class Tutorial(unittest.TestCase):
     def test_each_command_prints_what_is_told(self):
         text = (ROOT / "docs" / "TUTORIAL.md").read_text()
         blocks = BLOCK.findall(text)
-        served = len(re.findall(r"<!-- server -->\s*```console\n", text))
+        served = len(re.findall(r"<!-- (?:server|lab) -->\s*```console\n", text))
         self.assertEqual(
             len(blocks) + served, text.count("```console"), "a block names no dialogue"
         )

@@ -18,6 +18,7 @@ from support import CLIENTS, DIALOGUES, EXAMPLES, play_dialogue, run_client, run
 
 import estserve
 from estserve_client import connection, session
+from estserve_client.applying import ALONE
 from estserve_client.texts import Failed
 
 LOGIN = '{"ok":"login","session":1,"version":5}'
@@ -82,7 +83,8 @@ class Files(WhatGoesWrong):
 
     def test_an_empty_policy(self):
         ran = play_dialogue(DIALOGUES / "login", ["apply", self.file("p.toml", "")])
-        self.assertEqual((ran.status, ran.printed, ran.told), (0, "0 there already, 0 added\n", ""))
+        self.assertEqual((ran.status, ran.told), (0, ""))
+        self.assertEqual(ran.printed, f"0 there already, 0 added{ALONE}\n")
 
 
 class Texts(WhatGoesWrong):
@@ -162,11 +164,12 @@ class Programs(WhatGoesWrong):
         ):
             with unittest.mock.patch.dict(os.environ, {"PATH": folder, "ESTSERVE": ""}):
                 self.fails(
-                    run_words("abro"), "there is no program estserve: build it by `make build`"
+                    run_words("abro"),
+                    "there is no program estserve on PATH: it comes with the Debian package, or",
                 )
 
     def test_one_that_goes_away(self):
-        self.each_command_fails("/bin/true", "the server has gone away")
+        self.each_command_fails("/bin/true", "/bin/true ended before it answered anything")
         self.each_command_fails(
             self.program(f"read line; printf '%s' '{LOGIN}'"), "the server has gone away"
         )
@@ -210,9 +213,32 @@ class Programs(WhatGoesWrong):
 
     def test_building_outside_of_the_repository(self):
         with unittest.mock.patch.object(connection, "ROOT", str(self.folder)):
-            for words in (run_words("abro"), ["shell"], ["apply", EXAMPLES / "team" / "team.toml"]):
+            for words in (
+                run_words("abro"),
+                ["shell"],
+                ["apply", EXAMPLES / "team" / "team.toml"],
+                ["team", "--state", self.folder / "team"],
+            ):
                 told = "--unproved builds the program from the sources of the repository, and this client"
                 self.fails([*words, "--unproved"], told)
+
+
+class Pages(WhatGoesWrong):
+    def test_a_page_without_aiohttp_leaves_nothing(self):
+        folder = self.folder / "team"
+        script = (
+            "import importlib.util, sys; find = importlib.util.find_spec;"
+            "importlib.util.find_spec = lambda name, *a: name != 'aiohttp' and find(name, *a) or None;"
+            f"sys.path.insert(0, {str(CLIENTS)!r}); import estserve;"
+            f"sys.exit(estserve.main(['team', '--state', {str(folder)!r}, '--http', '127.0.0.1:0',"
+            " '--program', sys.executable]))"
+        )
+        ran = subprocess.run(
+            [sys.executable, "-c", script], capture_output=True, text=True, timeout=60
+        )
+        self.assertEqual((ran.returncode, ran.stdout), (1, ""))
+        self.assertIn("the page needs aiohttp", ran.stderr)
+        self.assertFalse(folder.exists())
 
 
 class Servers(WhatGoesWrong):
@@ -330,7 +356,8 @@ class Streams(WhatGoesWrong):
         ]
         ran = subprocess.run(words, stderr=subprocess.PIPE, text=True, timeout=60)
         self.assertEqual(
-            (ran.returncode, ran.stderr), (1, "estserve.py: the server has gone away\n")
+            (ran.returncode, ran.stderr),
+            (1, "estserve.py: /bin/true ended before it answered anything\n"),
         )
 
     def test_an_interrupt(self):

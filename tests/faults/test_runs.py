@@ -16,6 +16,7 @@ LINES = SCRIPT.splitlines(keepends=True)
 LOGGED_IN = accepted("login", session=1, version=5)
 REPORT = report(10, "slot 0: 4 entries, 1 loads, 3 instants")
 WORKERS = 3
+ALL = 1 << 40  # growths that are refused in a row: every one from then on
 AGAIN = 40  # growths that are refused in a row, of a logout that is asked again
 ENTRIES = 12  # a policy list is full at some length below
 
@@ -64,8 +65,9 @@ class Servers(unittest.TestCase):
     def setUp(self):
         self.growths = self.enterContext(Growths(program()[-1]))
 
-    def serving(self, workers):
-        return Server("--workers", str(workers), "--connections", "1", environment=self.growths.environment)
+    def serving(self, workers, connections=1):
+        words = "--workers", str(workers), "--connections", str(connections)
+        return Server(*words, environment=self.growths.environment)
 
     def login(self, server):
         """What a new client is answered at its login; nothing where there is no server, or its connection is ended."""
@@ -108,6 +110,30 @@ class Servers(unittest.TestCase):
             self.growths.refuse(first, count)
             self.assertEqual(peer.rest(), b"")
             return server.end()
+
+    def test_every_growth_from_one_of_a_load_on(self):
+        """Want of memory is told without memory: each line is answered so, and the connection goes on. It ends where a load is done
+        and the text of its answer finds no memory."""
+        self.growths.refuse(0)
+        *before, load = LINES[:6]
+        number = 1
+        with self.serving(1, connections=2) as server, Peer(server.path) as peer:
+            for line in before:
+                self.assertIn(b'"ok"', peer.ask(line))
+            while True:
+                self.growths.refuse(number, ALL)
+                answer = peer.ask(load)
+                if answer != MEMORY:
+                    break
+                self.assertEqual([peer.ask(line) for line in (LOGIN, load, load)], [MEMORY] * 3)
+                number += 1
+            self.growths.refuse(0)
+            self.assertEqual(answer, b"")
+            with Peer(server.path) as last:
+                self.assertEqual(last.rest(), b"")
+            self.assertEqual(server.end(), (0, report(10, "slot 0: 1 entries, 1 loads, 0 instants"), b""))
+        print(f"faults: every growth refused from one of {number - 1} of a load on: four lines answered each time")
+        self.assertGreater(number, 10)
 
     def test_each_growth_of_an_end(self):
         number, passed = 1, 0

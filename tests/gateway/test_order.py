@@ -109,7 +109,7 @@ class Run:
             self.waiting.remove(asked)
             self.gone += 1
 
-    def all(self):
+    def all(self, steps=STEPS):
         kinds = [
             self.send,
             self.send,
@@ -120,7 +120,7 @@ class Run:
             self.write,
             self.release,
         ]
-        for _ in range(STEPS):
+        for _ in range(steps):
             self.numbers.choice(kinds)()
         while any(self.sent) or any(self.told):
             self.do()

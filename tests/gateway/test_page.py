@@ -9,8 +9,8 @@ import browsers
 import teams
 import visitors
 from language import LACKS, reads_expressions
+from page_case import TOLD, PageCase
 
-SHOT = os.environ.get("GATEWAY_SHOTS")  # a folder for pictures of the page, where one is wanted
 SIGNALS, INSTANTS = 64, 10_000
 FRAME = 1000 / 30  # milliseconds: a frame that is drawn in less looks smooth
 
@@ -24,54 +24,7 @@ def wide_module():
     return f"module WIDE: {declared} {body} end module", inputs + outputs
 
 
-@unittest.skipUnless(visitors.HAS_AIOHTTP, visitors.NO_AIOHTTP)
-@unittest.skipUnless(browsers.HAS_BROWSER, browsers.NO_BROWSER)
-class PageTest(unittest.TestCase):
-    """Two browsers at one gateway, of which each test finds a fresh team in slot 0."""
-
-    @classmethod
-    def setUpClass(cls):
-        cls.team = visitors.Team("--http", "127.0.0.1:0")
-        cls.team.__enter__()
-        cls.addClassCleanup(cls.team.__exit__)
-        visitors.set_up(cls.team)
-        cls.one, cls.two = browsers.Page(), None
-        cls.addClassCleanup(cls.one.close)
-        cls.two = browsers.Page()
-        cls.addClassCleanup(cls.two.close)
-
-    def setUp(self):
-        for page in (self.one, self.two):
-            page.browser.execute_cdp_cmd("Emulation.clearDeviceMetricsOverride", {})
-        self.fresh()
-
-    def fresh(self):
-        """Slot 0 has the team's module, without instants."""
-        text = (teams.ROOT / "examples" / "team" / "team.strl").read_text()
-        with self.team.root() as root:
-            try:
-                root.unload(0)
-            except Exception:  # it was empty
-                pass
-            root.load(0, "TEAM", text)
-            root.logout()
-
-    def tearDown(self):
-        for page in (self.one, self.two):
-            faults = [one for one in page.faults() if "api/" not in one]
-            self.assertEqual(faults, [], "the browser complains")
-
-    def come_in(self, page, user, *roles):
-        page.come_in(visitors.address_of_link(self.team), user, *roles)
-
-    def drive_and_step(self):
-        """Ann drives in the first browser, Cho steps in the second."""
-        self.come_in(self.one, "ann", "lead")
-        self.come_in(self.two, "cho", "stepper")
-        self.two.wait_text("h1", "TEAM")
-        for page in (self.one, self.two):
-            page.wait_text("#facts", "0 instants")
-
+class PageTest(PageCase):
     # What one can do.
 
     def test_another_click_takes_an_offer_back_for_who_may_step(self):
@@ -103,15 +56,15 @@ class PageTest(unittest.TestCase):
         self.one.press("1")
         self.one.wait_text("#pending", "Pending: A")
         self.two.press(" ")
-        self.one.wait_text("#wave-told", "instant 2: A; may not be observed: B R")
-        self.two.wait_text("#wave-told", "instant 2: nothing present; may not be observed: A B R O")
+        self.one.wait_text(TOLD, "instant 2: A; may not be observed: B, R")
+        self.two.wait_text(TOLD, "instant 2: you may observe nothing here")
         self.one.press("2")
         self.one.wait_text("#pending", "Pending: B")
         self.two.press(" ")
-        self.one.wait_text("#wave-told", "instant 3: O;")
-        self.one.wait_text("#wave-table", "A, inputabsentpresentabsent")
-        self.one.wait_text("#wave-table", "O, outputabsentabsentpresent")
-        self.one.wait_text("#wave-table", "B, input. (may not be observed)")
+        self.one.wait_text(TOLD, "instant 3: O;")
+        self.one.wait_text(".wave-table", "A, inputabsentpresentabsent")
+        self.one.wait_text(".wave-table", "O, outputabsentabsentpresent")
+        self.one.wait_text(".wave-table", "B, input. (may not be observed)")
 
     def test_the_wave_is_drawn_and_can_be_gone_through(self):
         self.come_in(self.one, "ann", "lead")
@@ -119,7 +72,7 @@ class PageTest(unittest.TestCase):
             cho.login("cho", ["stepper"])
             for _ in range(300):
                 cho.step(0)
-        self.one.wait_text("#wave-told", "instant 300:")
+        self.one.wait_text(TOLD, "instant 300:")
         colours = self.one.run(
             "const c = document.querySelector('canvas'), pen = c.getContext('2d');"
             "const { data } = pen.getImageData(0, 0, c.width, c.height);"
@@ -128,23 +81,23 @@ class PageTest(unittest.TestCase):
         )
         self.assertGreater(colours[0], 300)
         self.assertGreater(colours[2], 4, "the canvas has more than its ground")
-        self.one.type("#wave-instant", "17\n")
-        self.one.wait_text("#wave-told", "instant 17:")
-        self.assertEqual(self.one.find("#wave-newest").get_attribute("aria-pressed"), "false")
+        self.one.type(".wave .instant", "17\n")
+        self.one.wait_text(TOLD, "instant 17:")
+        self.assertEqual(self.one.find(".wave .newest").get_attribute("aria-pressed"), "false")
         with self.team.client() as cho:
             cho.login("cho", ["stepper"])
             cho.step(0)
         self.one.wait_text("#facts", "301 instants")
-        self.one.wait_text("#wave-told", "instant 17:")
-        self.one.type("#wave-instant", "0\n")
+        self.one.wait_text(TOLD, "instant 17:")
+        self.one.type(".wave .instant", "0\n")
         self.one.wait_text(
             ".wave .refusal", "NoInstant: since the load there were the instants 1 to"
         )
-        self.one.click("#wave-newest")
-        self.one.wait_text("#wave-told", "instant 301:")
-        self.one.click("#wave-pick summary")
-        self.one.click("#wave-pick input[value=B]")
-        self.one.wait(lambda: "B, input" not in self.one.text("#wave-table"), "the table without B")
+        self.one.click(".wave .newest")
+        self.one.wait_text(TOLD, "instant 301:")
+        self.one.click(".wave .signals summary")
+        self.one.click(".wave .picks input[value=B]")
+        self.one.wait(lambda: "B, input" not in self.one.text(".wave-table"), "the table without B")
 
     def test_an_inout_is_driven_and_shown(self):
         if not reads_expressions(teams.program_file()):
@@ -160,8 +113,8 @@ class PageTest(unittest.TestCase):
             self.one.wait_text("#pending", "Pending: A")
             cho.step(0)
             root.logout()
-        self.one.wait_text("#wave-told", "instant 1: A O; may not be observed: B")
-        self.one.wait_text("#wave-table", "A, inoutpresent")
+        self.one.wait_text(TOLD, "instant 1: A O; may not be observed: B")
+        self.one.wait_text(".wave-table", "A, inoutpresent")
         self.assertIsNotNone(self.one.find("[data-signal=B]"))
         self.assertIsNone(self.one.find("[data-signal=O]"))
 
@@ -171,18 +124,24 @@ class PageTest(unittest.TestCase):
         self.one.click("#unload-surely")
         self.one.type("#load-text", "module T:\ninput A;\noutput Ö;\nemit O\nend module")
         self.one.click("#load")
-        self.one.wait_text(".fault-line", "Lexical: no token stands at line 3, column 8")
+        self.one.wait_text(".bubble", "Lexical: no token stands here — names have the letters")
         before = self.one.run(
-            "const under = document.querySelector('.fault-line');"
-            "const texts = [under.previousElementSibling, under.querySelector('code')];"
-            "return texts.map((one) => one.textContent)"
+            "const line = document.querySelector('.bubble').parentNode;"
+            "return [[...line.childNodes].slice(0, -2).map((one) => one.textContent).join(''),"
+            " line.querySelector('.bad').style.getPropertyValue('--at'),"
+            " document.getElementById('load-text').selectionStart]"
         )
-        self.assertEqual(before, ["output Ö;", "       ^"])
+        self.assertEqual(before, ["output Ö;", "7", len("module T:\ninput A;\noutput ")])
+        self.assertIsNone(self.one.find(".text .refusal:not(:empty)"), "the fault is said once")
         area = self.one.find("#load-text")
         area.clear()
         area.send_keys("module T:\noutput O;\nemit P\nend module")
         self.one.click("#load")
-        self.one.wait_text(".load > .refusal", "UnknownName: the name P is not visible there")
+        self.one.wait_text(".bubble", "UnknownName: the name P is not visible there")
+        self.one.wait_text(".bubble", "T sees no signal P here")
+        area.send_keys("\ue014 ")  # the right arrow, and a blank
+        self.one.wait(lambda: not self.one.find(".bubble"), "no fault while one types")
+        self.one.wait_text(".bubble", "UnknownName")
         area.clear()
         markup = "% <img src=x onerror=alert(1)>"
         area.send_keys(f"{markup}\nmodule T:\noutput O;\nemit O\nend module")
@@ -196,13 +155,15 @@ class PageTest(unittest.TestCase):
     def test_what_is_not_allowed_is_off_and_says_why(self):
         self.drive_and_step()
         self.assertFalse(self.one.find("#step").is_enabled())
-        self.assertEqual(self.one.text("#step-missing"), "needs step on 0")
+        self.assertIn("(needs step on 0)", self.one.text("#step-missing"))
         self.assertFalse(self.two.find("[data-signal=A]").is_enabled())
-        self.assertEqual(self.two.text("#missing-A"), "needs offer on 0.A")
+        none = "You may not offer any input (needs offer on 0.A, 0.B, 0.R)."
+        self.assertEqual(self.two.text("#offer-missing"), none)
+        self.assertEqual(self.two.text("#pending"), "You may not see what is pending.")
         self.one.press(" ")
         with self.team.root() as root:
             root.revoke("driver", "offer", "0.B")
-            self.one.wait_text("#missing-B", "needs offer on 0.B")
+            self.one.wait_text("#offer-missing", "You may not offer B (needs offer on 0.B).")
             self.assertFalse(self.one.find("[data-signal=B]").is_enabled())
             root.grant("driver", "offer", "0.B")
             root.logout()
@@ -241,17 +202,18 @@ class PageTest(unittest.TestCase):
         label = self.one.find("svg.roles").get_attribute("aria-label")
         self.assertIn("lead above driver, lead above watcher", label)
         self.shoot(self.one, "policy")
-        self.one.type("#why-user", "ann")
-        self.one.type("#why-object", "0.A")
+        self.choose("#why-user", "ann")
+        self.one.type("#why-signal", "A")
         self.one.click("#why")
         self.one.wait_text("#why-answer", "ann has lead")
         self.one.type("[aria-label='Change the policy'] [name=user]", "dan")
         self.one.click("#change")
         self.one.wait_text("[aria-label=Users]", "dan")
         self.one.click("#change")
-        self.one.wait_text(
-            "[aria-label='Change the policy'] .refusal", "UserExists: the user dan is there already"
-        )
+        place = "[aria-label='Change the policy'] .refusal"
+        self.one.wait_text(place, "UserExists: the user dan is there already")
+        self.one.type("[aria-label='Change the policy'] [name=user]", "k")
+        self.assertEqual(self.one.text(place), "")
         with self.team.root() as root:
             root.deluser("dan")
             root.logout()
@@ -278,12 +240,19 @@ class PageTest(unittest.TestCase):
         self.team.end(signal.SIGKILL)
         self.one.wait_text("#state", "no answer yet")
         self.one.click("[data-signal=B]")
+        self.one.wait_text("#waiting", "offer 0.B waits until the gateway answers")
+        self.one.press("3")
+        self.one.wait_text("#waiting", "offer 0.R")
+        self.one.click("#waiting p:nth-child(2) button")
+        self.one.wait_text("[data-signal=R] ~ .refusal", "taken back: it was not sent")
         self.team._words = ["--http", f"127.0.0.1:{port}"]
         self.team.start()
         self.one.wait_text("#pending", "Pending: B")
+        self.assertEqual(self.one.text("#waiting"), "")
         self.two.wait_text("#state", "live")
         self.two.press(" ")
         self.one.wait_text("#facts", "3 instants")
+        self.assertNotIn("R", self.one.text("#pending"), "what was taken back is not done")
         offers = [
             entry
             for entry in self.team.entries()
@@ -322,11 +291,6 @@ class PageTest(unittest.TestCase):
             time.sleep(0.3)
             self.assertEqual(self.one.run(script), [], view)
 
-    def shoot(self, page, name):
-        """Keeps a picture, where pictures are wanted."""
-        if SHOT:
-            page.browser.save_screenshot(str(pathlib.Path(SHOT) / f"{name}.png"))
-
 
 @unittest.skipUnless(visitors.HAS_AIOHTTP, visitors.NO_AIOHTTP)
 @unittest.skipUnless(browsers.HAS_BROWSER, browsers.NO_BROWSER)
@@ -359,13 +323,13 @@ class LargeWaveTest(unittest.TestCase):
                 cho.ask_all([{"cmd": "step", "slot": 0}] * 500)
         self.one.come_in(visitors.address_of_link(self.team), "ann", "lead")
         self.one.wait_text("#facts", f"{INSTANTS} instants")
-        self.one.wait_text("#wave-told", f"instant {INSTANTS}: nothing present")
+        self.one.wait_text(TOLD, f"instant {INSTANTS}: nothing present")
         script = pathlib.Path(__file__).with_name("scrolling.js").read_text()
         told = self.one.browser.execute_async_script(script)
         self.assertGreater(told["unlike"], 100, "the pictures differ")
         self.assertLess(told["median"], FRAME, told)
-        self.one.type("#wave-instant", "5501\n")
-        self.one.wait_text("#wave-told", "instant 5501: I1 O1")
+        self.one.type(".wave .instant", "5501\n")
+        self.one.wait_text(TOLD, "instant 5501: I1 O1")
         print(f"a frame of a wave of {INSTANTS} instants of {SIGNALS} signals: {told}")
 
 

@@ -153,6 +153,28 @@ class Children(unittest.TestCase):
                 with Places(state) as places:
                     self.assertEqual(places.orphans, [], text)
 
+    def test_a_list_that_is_no_plain_file_or_nested_too_deep_is_made_anew(self):
+        def nested(path):
+            path.write_text("[" * 200_000)
+
+        def linked(path):
+            path.symlink_to("/dev/zero")
+
+        for plant in (os.mkfifo, nested, linked):
+            with self.subTest(plant), tempfile.TemporaryDirectory() as folder:
+                state = pathlib.Path(folder) / "team"
+                children = state / "private" / "children"
+                with Places(state) as places:
+                    self.assertEqual(places.children.fault, "")
+                plant(children)
+                os.mkfifo(children.with_suffix(".new"))
+                with Places(state) as places:
+                    self.assertEqual(places.orphans, [])
+                    self.assertIn("can't be read, and is made anew", places.children.fault)
+                    child = places.children.start(["sleep", "600"])
+                    self.assertEqual(teams.processes_of(state), [child.pid])
+                    places.children.end(child)
+
     def test_an_orphan_is_ended_and_a_stranger_of_the_same_id_is_not(self):
         with tempfile.TemporaryDirectory() as folder:
             state = pathlib.Path(folder) / "team"

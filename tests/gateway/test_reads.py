@@ -27,6 +27,14 @@ def printed(answer):
     return list(PRINTERS[answer["ok"]](answer))
 
 
+class Kicked(unittest.TestCase):
+    def test_a_person_who_has_nothing_open_is_no_success(self):
+        with self.assertRaisesRegex(Failed, "nothing open: a person is a Unix user"):
+            printed({"ok": "kick", "connections": 0, "visits": 0})
+        told = printed({"ok": "kick", "connections": 1, "visits": 2})
+        self.assertEqual(told, ["1 connection and 2 visits are ended"])
+
+
 class Case(unittest.TestCase):
     """A desk with ABRO in slot 0, four users with a role each, and kim as the person of root."""
 

@@ -54,7 +54,7 @@ class Document(unittest.TestCase):
         pieces = re.split(
             r"^\$ ", "".join(BLOCK.findall(DOCUMENT.read_text())), flags=re.MULTILINE
         )[1:]
-        self.assertGreater(len(pieces), 15)
+        self.assertGreater(len(pieces), 12)
         with Team(people=PEOPLE) as team:
             for piece in pieces:
                 self.check(piece, team)

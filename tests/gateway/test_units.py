@@ -20,11 +20,13 @@ import time
 import unittest
 
 import teams
+import visitors
 
 TEAMS = int(os.environ.get("GATEWAY_TEAMS", "8"))
 AT_ONCE = 4  # are started beside each other
 PACKAGING = teams.ROOT / "packaging"
 UNIT = PACKAGING / "estserve-team@.service"
+PAGE_UNIT = PACKAGING / "estserve-page@.service"
 SERVER_UNIT = PACKAGING / "estserve@.service"
 CLIENT = f"{sys.executable} {teams.ROOT / 'clients' / 'estserve.py'}"
 
@@ -36,7 +38,7 @@ def setting(name, unit=UNIT):
 
 def installed_here(text):
     """A text of a unit, with the paths of this machine."""
-    text = text.replace("/usr/bin/estserve-client", CLIENT)
+    text = text.replace("/usr/bin/estserve-client", CLIENT).replace("estserve-page-%i", teams.ME)
     return text.replace("/usr/bin/estserve ", f"{teams.program_file()} ")
 
 
@@ -121,6 +123,35 @@ class ManyTeams(unittest.TestCase):
             f"children); ready after {seconds:.2f} s, {AT_ONCE} at a time"
         )
 
+    @unittest.skipUnless(visitors.HAS_AIOHTTP, visitors.NO_AIOHTTP)
+    def test_the_pages_command_line_serves_a_team(self):
+        with tempfile.TemporaryDirectory(prefix="gateway-") as folder:
+            team = Started(pathlib.Path(folder), 1)
+            line = setting("ExecStart", PAGE_UNIT).replace("$PAGE_WORDS", "--http 127.0.0.1:0")
+            line = line.replace("/var/lib/estserve/%i", str(team.state))
+            page = subprocess.Popen(
+                shlex.split(installed_here(line)), stderr=subprocess.PIPE, text=True
+            )
+            try:
+                team.wait()
+                place = re.search(r"http://([^/]+)/", page.stderr.readline()).group(1)
+                visitor = visitors.Visitor(place)
+                teams.wait_for(lambda: visitor.send("GET", "/health").status == 200)
+            finally:
+                page.terminate()
+                status, ended = page.wait(teams.WAIT_SECONDS), team.end()
+                page.stderr.close()
+            self.assertEqual((status, ended), (0, (0, "")))
+
+    def test_the_page_has_no_rights_and_the_gateway_no_network(self):
+        self.assertEqual(setting("RestrictAddressFamilies"), "AF_UNIX")
+        self.assertEqual(setting("PrivateNetwork"), "yes")
+        self.assertNotEqual(setting("User"), setting("User", PAGE_UNIT))
+        self.assertIn(setting("User", PAGE_UNIT), setting("ExecStart"))
+        self.assertEqual(setting("CapabilityBoundingSet", PAGE_UNIT), "")
+        for name in ("NoNewPrivileges", "PrivateTmp", "PrivateDevices", "ProtectHome"):
+            self.assertEqual((setting(name), setting(name, PAGE_UNIT)), ("yes", "yes"), name)
+
     def test_the_unit_ends_it_by_sigterm_and_waits_long_enough(self):
         self.assertEqual(setting("KillMode"), "mixed")
         self.assertGreater(int(setting("TimeoutStopSec")), 60)
@@ -174,7 +205,7 @@ class ServerAlone(unittest.TestCase):
 @unittest.skipUnless(shutil.which("systemd-analyze"), "systemd-analyze is not installed")
 class Verified(unittest.TestCase):
     def test_systemd_finds_nothing_wrong(self):
-        for unit in (UNIT, SERVER_UNIT):
+        for unit in (UNIT, PAGE_UNIT, SERVER_UNIT):
             with self.subTest(unit.name), tempfile.TemporaryDirectory(prefix="gateway-") as folder:
                 copy = pathlib.Path(folder) / unit.name.replace("@", "@blue")
                 copy.write_text(installed_here(unit.read_text()))

@@ -9,24 +9,23 @@ import tempfile
 import unittest
 
 sys.path.insert(0, str(pathlib.Path(__file__).resolve().parents[2] / "clients"))
-from estserve_team import web  # noqa: E402
+from estserve_team.people import Person  # noqa: E402
 from estserve_team.reads import who  # noqa: E402
 from estserve_team.reads.printing import slots_lines  # noqa: E402
 from estserve_team.reads.slot_model import SlotsModel  # noqa: E402
 from estserve_team.reads.witness import Witness  # noqa: E402
 from estserve_team.refusals import Refused  # noqa: E402
-from estserve_team.web import page_slots  # noqa: E402
-from estserve_team.web.options import Bad, Options, read_options  # noqa: E402
-from estserve_team.web.refusing import refusal_of, sentence_of  # noqa: E402
-from estserve_team.people import Person  # noqa: E402
-from estserve_team.web.seats import SILENT_SECONDS, Changes, Seat, Seats  # noqa: E402
-from estserve_team.web.visits import (
+from estserve_team.visiting import page_slots  # noqa: E402
+from estserve_team.visiting.seats import SILENT_SECONDS, Changes, Seat, Seats  # noqa: E402
+from estserve_team.visiting.visits import (  # noqa: E402
     LINK_SECONDS,
     VISIT_SECONDS,
     Links,
     Visits,
     digest_of,
-)  # noqa: E402
+)
+from estserve_team.web.options import Bad, Options, add_options, read_options  # noqa: E402
+from estserve_team.web.refusing import refusal_of, sentence_of  # noqa: E402
 from estserve_team.words import Context  # noqa: E402
 
 
@@ -42,7 +41,7 @@ class Clock:
 
 def options_of(*words):
     parser = argparse.ArgumentParser()
-    web.add_options(parser)
+    add_options(parser)
     return read_options(parser.parse_args(words))
 
 
@@ -203,6 +202,24 @@ class VisitsTest(unittest.TestCase):
         for text in ("", "[", "{}", '[["a"]]', '[[1,2,3,"x"]]'):
             self.path.write_text(text)
             self.assertIsNone(Visits(self.path, self.clock).find("a", "b"))
+
+    def test_a_file_that_is_no_plain_one_or_nested_too_deep_is_made_anew(self):
+        def nested(path):
+            path.write_text("[" * 200_000)
+
+        for plant in (
+            os.mkfifo,
+            nested,
+            lambda path: path.write_text(f'[["a","b","c",{10**400}]]'),
+        ):
+            self.path.unlink(missing_ok=True)
+            plant(self.path)
+            os.mkfifo(self.path.with_suffix(".new"))
+            told = []
+            cookie, token = Visits(self.path, self.clock, tell=told.append).begin("ann")
+            self.assertEqual(len(told), 1)
+            self.assertIn("can't be read, and is made anew", told[0])
+            self.assertIsNotNone(Visits(self.path, self.clock).find(cookie, token))
 
 
 class Share:

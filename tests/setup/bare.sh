@@ -19,27 +19,43 @@ files() {
 }
 
 as_team="setpriv --reuid=estserve-main --regid=estserve-main --init-groups"
+as_page="setpriv --reuid=estserve-page-main --regid=estserve-page-main --init-groups"
 
-# The gateway, by the words of its unit, with a page; until a client has been served.
+# The words of a unit of the team main.
+words_of() {
+    sed -n 's/^ExecStart=//p' "/usr/lib/systemd/system/$1@.service" | sed 's/%i/main/g'
+}
+
+# Waits until a line of a file begins or goes on so.
+wait_for() {
+    for _ in $(seq 600); do
+        grep -qs "$1" "$2" && return
+        kill -0 "$3" || return
+        sleep 0.1
+    done
+}
+
+# The gateway and its page, by the words of their units; until a client has been served.
 serve_login() {
     state=/var/lib/estserve/main
     install -d -o estserve-main -g estserve-main -m 750 "$state"
-    words=$(sed -n 's/^ExecStart=//p' '/usr/lib/systemd/system/estserve-team@.service')
-    $as_team env STATE_DIRECTORY="$state" TEAM_WORDS='--http 127.0.0.1:0' sh -c "exec $words" > /tmp/gateway 2>&1 &
+    $as_team env STATE_DIRECTORY="$state" TEAM_WORDS= sh -c "exec $(words_of estserve-team)" > /tmp/gateway 2>&1 &
     gateway=$!
-    for _ in $(seq 600); do
-        grep -q '^ready: ' /tmp/gateway && break
-        kill -0 $gateway || break
-        sleep 0.1
-    done
+    wait_for '^ready: ' /tmp/gateway $gateway
+    $as_page env PAGE_WORDS='--http 127.0.0.1:0' sh -c "exec $(words_of estserve-page)" > /tmp/page 2>&1 &
+    page=$!
+    wait_for 'the page is at' /tmp/page $page
     echo 'adduser ann' | $as_team estserve-client shell --socket "$state/team.sock"
     served=$?
-    page=$(sed -n 's/.*the page is at \(http[^,]*\),.*/\1/p' /tmp/gateway)
-    python3 -c 'import sys, urllib.request as u; print("page", u.urlopen(sys.argv[1]).status)' "$page"
+    place=$(sed -n 's/.*the page is at \(http[^,]*\),.*/\1/p' /tmp/page)
+    python3 -c 'import sys, urllib.request as u; print("page", u.urlopen(sys.argv[1]).status)' "$place"
+    kill -TERM $page
+    wait $page
+    echo "page's process $?"
     kill -TERM $gateway
     wait $gateway
     echo "gateway $?"
-    cat /tmp/gateway
+    cat /tmp/gateway /tmp/page
     return $served
 }
 
@@ -50,7 +66,7 @@ step client_version estserve-client --version
 step proof estserve-client proof
 step abro estserve-client run $examples/abro/abro.strl --inputs $examples/abro/abro.inputs --wave
 step login serve_login
-step units systemd-analyze verify --man=no estserve-team@main.service estserve@main.service
+step units systemd-analyze verify --man=no estserve-team@main.service estserve-page@main.service estserve@main.service
 step import /usr/bin/python3 -c 'import estserve; print(estserve.__version__)'
 step remove apt-get purge --yes "$(dpkg-deb --field /root/package.deb Package)"
 step after files

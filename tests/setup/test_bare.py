@@ -71,7 +71,7 @@ class Bare(unittest.TestCase):
         self.assertEqual(self.told("import"), f"{VERSION}\n")
 
     def test_the_installed_program_is_the_one_of_the_record(self):
-        told = self.told("proof")
+        told = self.told("proof", 0 if self.is_proved else 1)
         self.assertIn("\nestserve: the same (SHA-256 ", told)
         self.assertIn("\nProved by " if self.is_proved else "\nNOT PROVED", told)
 
@@ -82,6 +82,7 @@ class Bare(unittest.TestCase):
         told = self.told("login")
         self.assertIn("session 1 of root", told)
         self.assertIn("\npage 200\n", told)
+        self.assertIn("\npage's process 0\n", told)
         self.assertIn("\ngateway 0\n", told)
 
     def test_systemd_finds_nothing_wrong_with_the_units(self):

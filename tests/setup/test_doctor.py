@@ -1,6 +1,5 @@
 """`make doctor` over stand-ins for what it looks for, and the messages on aiohttp."""
 import argparse
-import asyncio
 import os
 import pathlib
 import shutil
@@ -13,7 +12,7 @@ import unittest.mock
 ROOT = pathlib.Path(__file__).resolve().parents[2]
 sys.path.insert(0, str(ROOT / "clients"))
 from estserve_client.running import Failed  # noqa: E402
-from estserve_team import web  # noqa: E402
+from estserve_team.web import serving  # noqa: E402
 
 DOCTOR = ROOT / "scripts" / "doctor.py"
 INSTALL = ROOT / "scripts" / "install_debian.sh"
@@ -76,10 +75,10 @@ class Doctor(unittest.TestCase):
 
     def test_the_gateway_names_the_interpreter_that_has_no_aiohttp(self):
         parser = argparse.ArgumentParser()
-        web.add_options(parser)
+        serving.add_word(parser.add_subparsers())
         with unittest.mock.patch.dict(sys.modules, {"estserve_team.web.site": None}):
             with self.assertRaises(Failed) as failed:
-                asyncio.run(web.start(None, parser.parse_args(["--http"])))
+                serving.serve_page(parser.parse_args(["page", "--state", str(self.folder), "--http"]))
         self.assertIn(f"aiohttp, which {sys.executable} lacks", str(failed.exception))
 
 

@@ -125,7 +125,10 @@ class Packages(unittest.TestCase):
         self.assertTrue((self.folder / "unproved" / f"estserve-unproved_{VERSION}_amd64.deb").exists())
         folder = self.unpacked("unproved")
         self.assertEqual(self.run_client(folder, "--version"), (0, f"estserve-client {VERSION}-unproved\n"))
-        self.assertIn("\nNOT PROVED: ", self.run_client(folder, "proof")[1])
+        status, told = self.run_client(folder, "proof")
+        self.assertEqual(status, 1)
+        self.assertIn("\nNOT PROVED: ", told)
+        self.assertNotIn("Its behaviour is proved.", (folder / "DEBIAN/control").read_text())
 
     def test_what_debian_reads_of_it(self):
         folder = self.package
@@ -136,7 +139,7 @@ class Packages(unittest.TestCase):
         self.assertEqual(times, {1_700_000_000.0})
         for name in (
             "usr/bin/estserve-client", "usr/lib/python3/dist-packages/estserve_team/page/index.html",
-            "usr/lib/systemd/system/estserve-team@.service", "usr/lib/sysusers.d/estserve.conf", "usr/lib/tmpfiles.d/estserve.conf",
+            "usr/lib/systemd/system/estserve-team@.service", "usr/lib/systemd/system/estserve-page@.service", "usr/lib/sysusers.d/estserve.conf", "usr/lib/tmpfiles.d/estserve.conf",
             "usr/share/man/man1/estserve.1.gz", "usr/share/man/man1/estserve-client.1.gz", "usr/share/man/man1/estserve-team.1.gz",
             "usr/share/bash-completion/completions/estserve-client", "usr/share/estserve/examples/abro/abro.strl",
             "usr/share/estserve/editors/vscode/package.json", "usr/share/vim/vimfiles/syntax/esterel.vim",

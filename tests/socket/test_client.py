@@ -168,7 +168,9 @@ class Policies(unittest.TestCase):
             words = ["apply", path, "--socket", server.path]
             self.assertEqual(run(*words), (0, ["0 there already, 22 added"], []))
             status, printed, told = run(*words)
-            self.assertEqual((status, printed, told), (0, ["22 there already, 0 added"], []))
+            self.assertEqual((status, printed), (0, ["22 there already, 0 added"]))
+            warning = "a set drive_and_step is there already, and the server doesn't tell its roles: if they have changed, `undsd drive_and_step` first"
+            self.assertEqual(told, [f"{path}:9: warning: {warning}"])
             status, printed, told = run(*words, "--user", "ann", "--role", "lead")
             self.assertEqual((status, printed), (1, []))
             self.assertEqual(told, [

@@ -1,88 +1,40 @@
 /** The page's connection to the gateway: who is here, its seat, requests, live events. */
 
-const PATIENCE = 20_000; // milliseconds until an attempt is given up
+import { Outbox, TakenBack } from "./outbox.js";
+import { NoSeat, Unknown, Unreachable, freshId, linesOf, request, wait } from "./requests.js";
+
 const SILENCE = 25_000; // the events' stream tells of itself more often than that
+const PROBE = 1_500; // so often it is seen whether the gateway answers again
 const PAUSES = [150, 300, 600, 1_200, 2_500];
 const KEY = `estserve-token ${location.pathname}`; // each team of a host has its own
 
-/** A command was refused, and changed nothing. */
-export class Refused extends Error {
-  constructor(told) {
-    super(told.sentence);
-    this.refusal = told.refusal;
-    this.fault = told.refusal.fault;
-  }
-}
-
-/** The gateway doesn't know who this is: a new link is needed. */
-export class Unknown extends Error {}
-
-/** The seat of the page has gone. */
-class NoSeat extends Error {}
-
-/** No answer came. */
-class Unreachable extends Error {}
-
-const wait = (milliseconds) => new Promise((done) => setTimeout(done, milliseconds));
-
-/** A name for a request, which no other has. */
-function freshId() {
-  const bytes = crypto.getRandomValues(new Uint8Array(16));
-  return Array.from(bytes, (byte) => byte.toString(16).padStart(2, "0")).join("");
-}
-
-/** One request, and the value of its answer. Raises Refused, Unknown, NoSeat, Unreachable. */
-async function request(path, headers, body) {
-  const options = {
-    method: body === undefined ? "GET" : "POST",
-    headers: body === undefined ? headers : { ...headers, "Content-Type": "application/json" },
-    body: body === undefined ? undefined : JSON.stringify(body),
-    signal: AbortSignal.timeout(PATIENCE),
-    cache: "no-store",
-  };
-  let answer, told;
-  try {
-    answer = await fetch(path, options);
-    told = await answer.json();
-  } catch (fault) {
-    throw new Unreachable(String(fault));
-  }
-  return valueOf(answer.status, told);
-}
-
-/** What an answer of this status tells, or the error that it stands for. */
-function valueOf(status, told) {
-  if (status === 401) throw new Unknown(told.sentence);
-  if (status === 410) throw new NoSeat(told.sentence);
-  if (status >= 502) throw new Unreachable(told.sentence);
-  if (told.refusal) throw new Refused(told);
-  if (status !== 200) throw new Error(told.sentence || `status ${status}`);
-  return told;
-}
-
-/** The lines of an answer that comes by and by. */
-async function* linesOf(answer, heard) {
-  const reader = answer.body.pipeThrough(new TextDecoderStream()).getReader();
-  let held = "";
-  for (;;) {
-    const { value, done } = await reader.read();
-    if (done) return;
-    heard();
-    const lines = (held + value).split("\n");
-    held = lines.pop();
-    yield* lines;
-  }
-}
-
 export class Connection {
   /** `hear(name, value)` is called with each live event; `tell(state)` with `live`, `waiting`,
-   * `out`. */
-  constructor(hear, tell) {
+   * `out`; `waiting(items)` with the commands that wait for an answer. */
+  constructor(hear, tell, waiting) {
     this.hear = hear;
-    this.tell = tell;
+    this.tellPage = tell;
+    this.state = "out";
+    this.lives = []; // who wait until the gateway answers
+    this.outbox = new Outbox(waiting);
     this.seat = null;
     this.wish = null; // the user and the roles of the seat
     this.stream = null;
+    // A page that was left is kept by the browser for a while, and so would be its connection.
+    addEventListener("pagehide", () => this.stream?.abort());
+    addEventListener("pageshow", ({ persisted }) => { if (persisted && this.seat) this.listen(); });
+  }
+
+  /** Keeps and tells whether the gateway answers. */
+  tell(state, fault) {
+    this.state = state;
+    if (state === "live") for (const go of this.lives.splice(0)) go();
+    this.tellPage(state, fault);
+  }
+
+  /** Promises that the gateway answers. */
+  untilLive() {
+    return new Promise((go) => { this.lives.push(go); });
   }
 
   headers() {
@@ -133,6 +85,7 @@ export class Connection {
     const seat = this.seat;
     this.seat = this.wish = null;
     this.stream?.abort();
+    this.outbox.clear();
     if (seat) await request("api/leave", this.headers(), { seat });
   }
 
@@ -177,10 +130,38 @@ export class Connection {
     }
   }
 
-  /** Asks the program for a command. One that is sent again bears its first id: it is done once. */
-  ask(command) {
-    const id = freshId();
-    return this.post("ask", { id, command });
+  /** Asks the program for a command. One that is sent again bears its first id: it is done once.
+   * While the gateway doesn't answer it is held. Raises TakenBack too. */
+  async ask(command) {
+    const [id, item] = [freshId(), this.outbox.add(command)];
+    const act = async () => {
+      await this.hold(item);
+      if (item.isBack) throw new TakenBack();
+      item.wasSent = true;
+      return request("api/ask", this.headers(), { id, command, seat: this.seat });
+    };
+    const asked = this.persist(() => act().catch((fault) => {
+      if (fault instanceof Unreachable) this.outbox.wait(item);
+      throw fault;
+    }));
+    try {
+      return await Promise.race([asked, item.back]);
+    } finally {
+      this.outbox.end(item);
+    }
+  }
+
+  /** Waits until the gateway answers, or the command is taken back. */
+  async hold(item) {
+    const live = () => this.tell("live");
+    while (this.state === "waiting" && !item.isBack) {
+      this.outbox.wait(item);
+      await Promise.race([this.untilLive(), item.back.catch(() => {}), wait(PROBE)]);
+      if (this.state !== "waiting" || item.isBack) return;
+      await request("api/me", this.headers()).then(live, (fault) => {
+        if (!(fault instanceof Unreachable)) live();
+      });
+    }
   }
 
   /** Sends something once: whether it was done is not known where no answer comes. */

@@ -1,46 +1,99 @@
-/** What drives a slot: its inputs and inouts as toggles that offer, Step, Discard, Unload. */
+/** What drives a slot: its inputs and inouts as toggles that offer, Step, Discard. */
 
+import { isGone, watch } from "./causes.js";
 import { button, fill, make, say } from "./dom.js";
-import { allow, needs, refusalPlace, trying } from "./trying.js";
+import { keyOf } from "./keyboard.js";
+import { offerWords, pendingWords, stepWords } from "./missing.js";
+import { refusalPlace, trying } from "./trying.js";
 
-const DIGITS = 10; // inputs that a digit toggles: 1 to 9, and 0
 const OFFERED = ["input", "inout"]; // the kinds of signals that can be offered
+const MANY = 12; // inputs from which on one can be found by its name
 
-/** The digit of an input, by its place. */
-const digitOf = (place) => (place < DIGITS ? String((place + 1) % DIGITS) : null);
+/** A name that may go over lines after each `_`. */
+const breakable = (name) => name.split(/(?<=_)/).flatMap(
+  (part, at) => (at ? [make("wbr"), part] : [part])
+);
 
 export class Controls {
   constructor(connection) {
     this.connection = connection;
     this.toggles = new Map();
+    this.watched = new Map(); // what is refused, by its place
     this.inputs = make("ul", { class: "toggles", "aria-label": "inputs" });
+    this.offerNote = make("p", { class: "missing", id: "offer-missing" });
+    this.stepNote = make("p", { class: "missing", id: "step-missing" });
     this.pending = make("p", { class: "pending", role: "status", id: "pending" });
+    this.count = make("p", { class: "count" });
     this.stepping = this.buildAct("step", "Step", "Space", "space");
     this.discarding = this.buildAct("discard", "Discard", "Backspace", "⌫");
+    this.find = this.buildFind();
     this.element = make(
       "section", { class: "card controls", "aria-label": "Inputs and steps" },
-      make("h2", {}, "Inputs"), this.inputs, this.pending,
-      make("div", { class: "acts" }, this.stepping.element, this.discarding.element)
+      make("h2", {}, "Inputs"), this.offerNote, this.find, this.inputs
+    );
+    this.bar = make(
+      "section", { class: "card bar", "aria-label": "Step" }, this.count, this.pending, this.stepNote,
+      make("div", { class: "acts" }, this.stepping.control, this.discarding.control),
+      this.stepping.told, this.discarding.told
     );
   }
 
-  /** A button for a command on the slot, with the places of its notes. */
+  /** A button for a command on the slot, with the place of its refusals. */
   buildAct(cmd, label, shortcut, key) {
     const told = refusalPlace();
-    const note = make("p", { class: "missing", id: `${cmd}-missing` });
     const control = button(label, () => this.act(cmd), {
       id: cmd, class: cmd === "step" ? "main" : "",
-      "aria-keyshortcuts": shortcut, "aria-describedby": `${cmd}-missing`,
+      "aria-keyshortcuts": shortcut, "aria-describedby": "step-missing",
     });
     control.append(make("kbd", {}, key));
-    return { control, note, told, element: make("div", { class: "act" }, control, note, told) };
+    return { control, told };
+  }
+
+  /** A field that shows the inputs with some letters, of which Enter offers the first. */
+  buildFind() {
+    const find = make("input", {
+      type: "search", id: "find-input", "aria-label": "find an input", "aria-keyshortcuts": "/",
+      placeholder: "find an input  /",
+    });
+    find.addEventListener("input", () => this.showFound());
+    find.addEventListener("keydown", (event) => {
+      if (event.key === "Enter") this.offer(this.found()[0]);
+      else if (event.key === "Escape") find.value = "";
+      else return;
+      event.preventDefault();
+      find.value = "";
+      find.blur();
+      this.showFound();
+    });
+    return find;
+  }
+
+  /** The names of the inputs that are looked for. */
+  found() {
+    const part = this.find.value.trim().toLowerCase();
+    return [...this.toggles.keys()].filter((name) => name.toLowerCase().includes(part));
+  }
+
+  showFound() {
+    const found = new Set(this.found());
+    for (const [name, { element }] of this.toggles) element.hidden = !found.has(name);
+  }
+
+  /** Does a command, and tells at its place why it was refused, until the cause has gone. */
+  ask(told, command, act = () => this.connection.ask(command)) {
+    const { slot } = this;
+    this.watched.delete(told);
+    return trying(told, act, (fault) => {
+      if (fault.refusal) this.watched.set(told, watch(fault.refusal, command, slot));
+      else setTimeout(() => say(told, ""), 6_000);
+    });
   }
 
   async act(cmd) {
     const { control, told } = cmd === "step" ? this.stepping : this.discarding;
     if (control.disabled || this.busy) return;
     this.busy = true;
-    await trying(told, () => this.connection.ask({ cmd, slot: this.slot.slot }));
+    await this.ask(told, { cmd, slot: this.slot.slot });
     this.busy = false;
   }
 
@@ -49,22 +102,21 @@ export class Controls {
     const toggle = this.toggles.get(name);
     if (!toggle || toggle.control.disabled) return;
     const words = { slot: this.slot.slot, signal: name };
-    const back = this.slot.may.step && this.slot.pending.includes(name);
-    await trying(toggle.told, () => (
-      back ? this.connection.once("retract", words) : this.connection.ask({ cmd: "offer", ...words })
-    ));
+    const command = { cmd: "offer", ...words };
+    const isBack = this.slot.may.step && this.slot.pending.includes(name);
+    const back = () => this.connection.once("retract", words);
+    await this.ask(toggle.told, command, isBack ? back : undefined);
   }
 
   buildToggle(name, place) {
-    const told = refusalPlace();
-    const note = make("p", { class: "missing", id: `missing-${name}` });
+    const [told, key] = [refusalPlace(), keyOf(place)];
     const control = button("", () => this.offer(name), {
       class: "toggle", "data-signal": name, "aria-pressed": "false",
-      "aria-describedby": `missing-${name}`, "aria-keyshortcuts": digitOf(place),
+      "aria-describedby": "offer-missing", "aria-keyshortcuts": key,
     });
-    if (digitOf(place)) control.append(make("kbd", {}, digitOf(place)));
-    control.append(make("span", {}, name));
-    return { control, note, told, element: make("li", {}, control, note, told) };
+    if (key) control.append(make("kbd", {}, key));
+    control.append(make("span", {}, ...breakable(name)));
+    return { control, told, key, element: make("li", {}, control, told) };
   }
 
   /** Shows the inputs of another load. */
@@ -73,34 +125,47 @@ export class Controls {
     const inputs = offered.map(([name]) => name);
     this.toggles = new Map(inputs.map((name, place) => [name, this.buildToggle(name, place)]));
     fill(this.inputs, ...[...this.toggles.values()].map(({ element }) => element));
+    this.watched.clear();
+    this.find.hidden = inputs.length < MANY;
+    this.find.value = "";
     for (const { told } of [this.stepping, this.discarding]) say(told, "");
     this.update(slot);
   }
 
   /** Shows what is pending, and what may be done. */
   update(slot) {
-    const before = this.slot;
     this.slot = slot;
-    for (const [name, toggle] of this.toggles) {
-      const pending = slot.pending.includes(name);
-      toggle.control.setAttribute("aria-pressed", String(pending));
-      const offerNeeds = needs("offer", `${slot.slot}.${name}`);
-      allow(toggle.control, slot.may.offer[name], toggle.note, offerNeeds);
-      if (before?.pending.join(" ") !== slot.pending.join(" ")) say(toggle.told, "");
+    for (const [name, { control }] of this.toggles) {
+      const isPending = slot.pending.includes(name);
+      control.setAttribute("aria-pressed", String(isPending));
+      control.disabled = !slot.may.offer[name];
+      control.title = isPending && slot.may.step ? "take this offer back" : "";
     }
-    const stepNeeds = needs("step", String(slot.slot));
-    allow(this.stepping.control, slot.may.step, this.stepping.note, stepNeeds);
-    allow(this.discarding.control, slot.may.step, this.discarding.note, stepNeeds);
-    const names = slot.pending.join(" ");
-    say(this.pending, names ? `Pending: ${names}` : "Nothing pending.");
+    this.forgetGone(slot);
+    this.stepping.control.disabled = this.discarding.control.disabled = !slot.may.step;
+    say(this.offerNote, offerWords(slot));
+    say(this.stepNote, stepWords(slot));
+    say(this.pending, pendingWords(slot));
+    say(this.count, `next: instant ${slot.instants + 1}`);
+  }
+
+  /** Takes refusals away whose cause has gone. */
+  forgetGone(slot) {
+    for (const [told, watched] of this.watched) {
+      if (isGone(watched, slot)) {
+        say(told, "");
+        this.watched.delete(told);
+      }
+    }
   }
 
   /** Does what a key stands for. True where it stands for something. */
   pressed(key) {
-    const name = [...this.toggles.keys()].find((_, place) => digitOf(place) === key);
+    const [name] = [...this.toggles].find(([, toggle]) => toggle.key === key) ?? [];
     if (key === " ") this.act("step");
     else if (key === "Backspace") this.act("discard");
-    else if (name) this.offer(name);
+    else if (name !== undefined) this.offer(name);
+    else if (key === "/" && !this.find.hidden) this.find.focus();
     else return false;
     return true;
   }

@@ -1,6 +1,7 @@
 /** Elements of the page. Names and texts become text nodes, never markup. */
 
 const SVG = "http://www.w3.org/2000/svg";
+const LONG = 40; // letters of a cell whose words may go over lines
 
 /** Sets attributes: `text`, listeners as functions, those that are there or not, and words. */
 function setAttributes(element, attributes) {
@@ -29,9 +30,15 @@ export function draw(tag, attributes = {}, ...children) {
 
 export const byId = (id) => document.getElementById(id);
 
-/** Puts children into an element in place of those that it has. */
+/** Puts children into an element in place of those that it has. Where they are there already, they
+ * stay, and with them the focus. */
 export function fill(element, ...children) {
-  element.replaceChildren(...children.filter((child) => child !== null && child !== undefined));
+  const wanted = children.filter((child) => child !== null && child !== undefined);
+  const { childNodes } = element;
+  const isSame = wanted.length === childNodes.length && wanted.every(
+    (child, at) => child === childNodes[at]
+  );
+  if (!isSame) element.replaceChildren(...wanted);
   return element;
 }
 
@@ -53,7 +60,10 @@ export function button(text, act, attributes = {}) {
 /** A table with a head and rows, each a list of strings or elements; with no rows, a sentence. */
 export function table(caption, heads, rows, empty) {
   if (!rows.length) return make("p", { class: "quiet" }, empty);
-  const cell = (tag, attributes) => (told) => make(tag, attributes, told);
+  const cell = (tag, attributes) => (told) => {
+    const isLong = typeof told === "string" && told.length > LONG;
+    return make(tag, isLong ? { ...attributes, class: "long" } : attributes, told);
+  };
   return make(
     "div", { class: "scrolls", tabindex: "0", role: "region", "aria-label": caption },
     make(

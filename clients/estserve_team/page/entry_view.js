@@ -1,8 +1,8 @@
 /** Where one says as whom, and with which roles, one works. */
 
 import { button, field, fill, make, say } from "./dom.js";
-import { Refused, Unknown } from "./connection.js";
-import { refusalPlace } from "./trying.js";
+import { Refused, Unknown } from "./requests.js";
+import { clearOnChange, refusalPlace } from "./trying.js";
 
 const KEY = `estserve-roles ${location.pathname}`;
 
@@ -24,6 +24,7 @@ export class EntryView {
       make("div", { class: "inline" }, this.send, this.out), this.told
     );
     this.user.addEventListener("change", () => this.showRoles());
+    clearOnChange(this.element, this.told);
     this.element.addEventListener("submit", (event) => {
       event.preventDefault();
       this.login();

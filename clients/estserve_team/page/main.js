@@ -1,22 +1,27 @@
 /** The page: who is here, which view is shown, and live events handed to it. */
 
-import { Connection, Unknown } from "./connection.js";
+import { Connection } from "./connection.js";
 import { byId, button, fill, make, say } from "./dom.js";
 import { EntryView } from "./entry_view.js";
+import { KeysHelp, isWriting } from "./keyboard.js";
 import { PolicyView } from "./policy_view.js";
 import { RecordView } from "./record_view.js";
+import { Unknown } from "./requests.js";
 import { SlotsList } from "./slots_list.js";
 import { SlotView } from "./slot_view.js";
+import { nextTheme, showTheme } from "./theme.js";
+import { showWaiting } from "./waiting_bar.js";
 
 const STATES = { live: "live", waiting: "no answer yet: it is tried again ..", out: "" };
-const THEMES = ["system", "light", "dark"];
 
 class Page {
   constructor() {
     this.connection = new Connection(
-      (name, value) => this.hear(name, value), (state, fault) => this.tell(state, fault)
+      (name, value) => this.hear(name, value), (state, fault) => this.tell(state, fault),
+      (items) => showWaiting(byId("waiting"), items, this.connection.outbox)
     );
     this.entry = new EntryView(this.connection, (told) => this.entered(told));
+    this.keys = new KeysHelp();
     this.slots = new Map();
     this.slotViews = new Map();
     this.list = new SlotsList();
@@ -24,12 +29,16 @@ class Page {
   }
 
   async start() {
-    this.showTheme(localStorage.getItem("estserve-theme") ?? "system");
-    byId("theme").addEventListener("click", () => this.nextTheme());
+    const link = this.takeLink();
+    this.recolour(showTheme);
+    byId("theme").addEventListener("click", () => this.recolour(nextTheme));
     byId("change-entry").addEventListener("click", () => this.leave());
-    addEventListener("hashchange", () => this.route());
-    document.addEventListener("keydown", (event) => this.view?.pressed?.(event));
-    await this.enter(this.takeLink());
+    byId("keys").addEventListener("click", () => this.keys.show());
+    byId("who").textContent = "Menu";
+    addEventListener("hashchange", () => this.moved());
+    document.addEventListener("keydown", (event) => this.pressed(event));
+    document.addEventListener("click", (event) => closeOthers(event.target));
+    await this.enter(link);
   }
 
   /** The token of a link, which is taken out of the address at once. */
@@ -37,6 +46,15 @@ class Page {
     const [, link] = location.hash.match(/^#link=([\w-]+)$/) ?? [];
     if (link) history.replaceState(null, "", location.pathname);
     return link;
+  }
+
+  /** Another address: a view, or a link that was pasted into this tab. */
+  async moved() {
+    const link = this.takeLink();
+    if (!link) return this.route();
+    this.entry.forget();
+    await this.connection.leave().catch(() => {});
+    return this.enter(link);
   }
 
   async enter(link) {
@@ -55,7 +73,8 @@ class Page {
     document.body.dataset.in = "no";
     this.entry.show(this.me, reason);
     fill(byId("main"), this.entry.element);
-    fill(byId("who"), "");
+    say(byId("who"), "Menu");
+    say(byId("roles"), "");
   }
 
   entered(told) {
@@ -64,13 +83,16 @@ class Page {
     this.slots.clear();
     this.slotViews.clear();
     this.list = new SlotsList();
-    this.policy = new PolicyView(this.connection);
+    this.policy = new PolicyView(this.connection, this.slots);
     this.record = new RecordView(this.connection);
-    fill(byId("who"), `${told.user} · ${told.roles.join(" ") || "no roles"}`);
+    const roles = told.roles.join(" ");
+    say(byId("who"), told.user);
+    say(byId("roles"), roles ? `${told.user} with ${roles}` : `${told.user} with no roles`);
     this.route();
   }
 
   async leave() {
+    byId("menu").open = false;
     this.entry.forget();
     await this.connection.leave().catch(() => {});
     await this.enter();
@@ -114,6 +136,12 @@ class Page {
       fill(byId("main"), this.list.element, this.view.element);
     }
     if (this.slots.has(this.number)) this.view.update(this.slots.get(this.number));
+  }
+
+  pressed(event) {
+    if (event.key === "?" && !isWriting(event)) this.keys.show();
+    else if (event.key === "Escape") closeOthers(null);
+    else this.view?.pressed?.(event);
   }
 
   // What is heard.
@@ -166,23 +194,21 @@ class Page {
         "p", {},
         "Ask for a link in a terminal on the team's machine, and open it within five minutes:"
       ),
-      make("pre", {}, make("code", {}, "estserve.py team link --state DIR")), again
+      make("pre", {}, make("code", {}, "estserve-client team link --state DIR")), again
     ));
   }
 
-  // Dark and light.
-
-  nextTheme() {
-    const now = localStorage.getItem("estserve-theme") ?? "system";
-    const next = THEMES[(THEMES.indexOf(now) + 1) % THEMES.length];
-    localStorage.setItem("estserve-theme", next);
-    this.showTheme(next);
+  /** Changes or shows the theme, and draws anew what has colours of its own. */
+  recolour(change) {
+    change(byId("theme"));
+    for (const view of this.slotViews.values()) view.recolour();
   }
+}
 
-  showTheme(theme) {
-    document.documentElement.dataset.theme = theme;
-    say(byId("theme"), `Colours: ${theme}`);
-    for (const view of this.slotViews.values()) view.wave.recolour();
+/** Closes what is open besides the place of a click: menus and lists. */
+function closeOthers(place) {
+  for (const open of document.querySelectorAll("details.menu[open], #menu[open]")) {
+    if (!open.contains(place)) open.open = false;
   }
 }
 

@@ -1,7 +1,7 @@
 /** Who is here, and what was done: the log of the record, and its archive. */
 
 import { button, field, fill, make, say, table } from "./dom.js";
-import { refusalPlace, trying } from "./trying.js";
+import { clearOnChange, refusalPlace, trying } from "./trying.js";
 
 const PAGE = 100; // entries that are shown at once
 
@@ -64,6 +64,7 @@ export class RecordView {
         "button", { type: "submit", id: "archive" }, "Archive"
       ), told, note
     );
+    clearOnChange(form, told);
     form.addEventListener("submit", async (event) => {
       event.preventDefault();
       const words = this.archived.value === "" ? {} : { slot: Number(this.archived.value) };

@@ -1,6 +1,7 @@
 /** The list of slots. */
 
 import { fill, make, say } from "./dom.js";
+import { spanWords } from "./missing.js";
 
 /** What a slot's line says of it. */
 const wordsOf = (slot) => (slot.loaded ? `${slot.main} · ${slot.instants}` : "empty");
@@ -24,7 +25,7 @@ export class SlotsList {
       fill(this.list, ...lines);
     }
     const others = slots.filter(({ visible }) => !visible).map(({ slot }) => slot);
-    say(this.others, others.length ? `no permission on ${others.join(" ")}` : "");
+    say(this.others, others.length ? `no permission on ${spanWords(others)}` : "");
   }
 
   lineOf(slot, chosen) {

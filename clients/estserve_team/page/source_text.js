@@ -1,6 +1,9 @@
-/** A module's text, line by line, with numbers; and the place of a fault under its line. */
+/** A module's text, line by line, with numbers and colours; and where a fault is in a line. */
 
 import { make } from "./dom.js";
+import { colouredLines } from "./keywords.js";
+
+const TAB = 8;
 
 /** How many letters of a line stand before the byte with this number, which counts from 1. */
 export function lettersBefore(line, column) {
@@ -8,27 +11,27 @@ export function lettersBefore(line, column) {
   return new TextDecoder().decode(bytes).replace(/\uFFFD$/, "").length;
 }
 
-/** The blanks that put a caret under a place of a line: tabs stay tabs. */
-function blanksBefore(line, column) {
-  return line.slice(0, lettersBefore(line, column)).replace(/[^\t]/g, " ");
+/** How many columns a line takes on the screen. */
+export function columnsOf(line) {
+  let columns = 0;
+  for (const letter of line) columns += letter === "\t" ? TAB - (columns % TAB) : 1;
+  return columns;
 }
 
-/** The element of a text. A fault has `line`, `column`, `sentence`. */
-export function sourceText(text, fault = null) {
-  const lines = text.replace(/\n$/, "").split("\n");
-  const list = make("ol", { class: "source", tabindex: "0", "aria-label": "module text" });
-  lines.forEach((line, at) => {
-    list.append(make("li", { value: at + 1 }, make("code", {}, line || " ")));
-    if (fault && fault.line === at + 1) list.append(faultUnder(line, fault));
-  });
-  if (fault && fault.line > lines.length) list.append(faultUnder("", fault));
-  return list;
+/** The pieces of a line as elements, in their colours. */
+export function colouredPieces(pieces) {
+  return pieces.map(([kind, written]) => (
+    kind ? make("span", { class: `word-${kind}` }, written) : written
+  ));
 }
 
-function faultUnder(line, { column, sentence }) {
+/** The element of a text that is read. */
+export function sourceText(text) {
+  const lines = colouredLines(text.replace(/\n$/, ""));
   return make(
-    "li", { class: "fault-line", "aria-label": sentence },
-    make("code", { "aria-hidden": "true" }, `${blanksBefore(line, column)}^`),
-    make("span", { class: "refusal" }, sentence)
+    "ol", { class: "source", tabindex: "0", "aria-label": "module text" },
+    ...lines.map((pieces, at) => make(
+      "li", { value: at + 1 }, make("code", {}, ...(pieces.length ? colouredPieces(pieces) : [" "]))
+    ))
   );
 }

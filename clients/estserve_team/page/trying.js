@@ -7,13 +7,15 @@ export function refusalPlace() {
   return make("p", { class: "refusal", role: "alert" });
 }
 
-/** Does something, and tells at the place why it was refused. Promises what came of it, or null. */
-export async function trying(place, act) {
+/** Does something, and tells at the place why it was refused. Promises what came of it, or null.
+ * `heard(fault)` is called with what was refused. */
+export async function trying(place, act, heard = () => {}) {
   say(place, "");
   try {
     return await act();
   } catch (fault) {
     say(place, fault.message);
+    heard(fault);
     return null;
   }
 }
@@ -21,8 +23,9 @@ export async function trying(place, act) {
 /** The words for a permission that is missing. */
 export const needs = (operation, object) => `needs ${operation} on ${object}`;
 
-/** Turns a control on or off; off, it says at the place which permission is missing. */
-export function allow(control, allowed, note, missing) {
-  control.disabled = !allowed;
-  say(note, allowed ? "" : missing);
+/** Takes a refusal away when something is typed or chosen anew in a form. */
+export function clearOnChange(form, ...places) {
+  const clear = () => { for (const place of places) say(place, ""); };
+  form.addEventListener("input", clear);
+  form.addEventListener("change", clear);
 }

@@ -5,6 +5,7 @@ export const CHUNK = 128; // instants that are asked for at once
 const ASKED_AT_ONCE = 3;
 const AGAIN = 500; // milliseconds after which instants that did not come are asked for again
 const CODES = { 0: ABSENT, 1: PRESENT, ".": HIDDEN };
+const LETTERS = ["0", "1", "."];
 
 export class WaveRows {
   /** `ask(first, last)` promises the rows of these instants, each a string with a letter a signal;
@@ -51,7 +52,7 @@ export class WaveRows {
   chunkOf(number) {
     if (!this.chunks.has(number)) {
       this.chunks.set(
-        number, { bytes: new Uint8Array(CHUNK * this.signals), filled: 0, asking: false }
+        number, { bytes: new Uint8Array(CHUNK * this.signals), filled: 0, asking: null }
       );
     }
     return this.chunks.get(number);
@@ -71,19 +72,49 @@ export class WaveRows {
     }
   }
 
-  async fetchChunk(number) {
-    const [chunk, life] = [this.chunkOf(number), this.life];
-    chunk.asking = true;
+  /** Asks for what a chunk lacks. Promises that it came, or can't be got now. */
+  fetchChunk(number) {
+    const chunk = this.chunkOf(number);
+    chunk.asking ??= this.fetchRows(number, chunk);
+    return chunk.asking;
+  }
+
+  async fetchRows(number, chunk) {
+    const { life } = this;
     this.asked += 1;
     const first = number * CHUNK + chunk.filled + 1;
     const last = Math.min(this.newest, (number + 1) * CHUNK);
     const rows = await this.ask(first, last).catch(() => []);
     if (life !== this.life) return;
-    chunk.asking = false;
+    chunk.asking = null;
     this.asked -= 1;
     this.keep(chunk, rows);
     if (rows.length) this.changed();
     else setTimeout(() => this.changed(), AGAIN);
+  }
+
+  /** Promises that what can be known of an instant, and of the one before, is known. */
+  async know(instant) {
+    for (const at of [instant - 1, instant]) {
+      const number = Math.floor((at - 1) / CHUNK);
+      if (at >= 1 && at <= this.newest && this.signals && this.status(at, 0) === UNKNOWN) {
+        await this.fetchChunk(number);
+        if (this.status(at, 0) === UNKNOWN) await this.fetchChunk(number);
+      }
+    }
+  }
+
+  /** Promises the rows of all instants, as far as they can be got: strings with a letter a
+   * signal. */
+  async takeAll() {
+    const rows = [];
+    for (let instant = 1; instant <= this.newest; instant += 1) {
+      if (this.signals && this.status(instant, 0) === UNKNOWN) await this.know(instant);
+      const codes = Array.from({ length: this.signals }, (_, at) => this.status(instant, at));
+      if (codes.includes(UNKNOWN)) return rows;
+      rows.push(codes.map((code) => LETTERS[code]).join(""));
+    }
+    return rows;
   }
 
   keep(chunk, rows) {

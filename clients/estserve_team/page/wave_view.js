@@ -1,84 +1,57 @@
-/** The wave of a slot: a canvas that shows the part which is scrolled to, and what one needs around
- * it. */
+/** A wave: a canvas that shows the part which is scrolled to, and what it says in words. */
 
-import { button, fill, make, say } from "./dom.js";
-import { coloursOf, drawWave, ROW, RULER, shownInstants } from "./wave_canvas.js";
+import { make, say } from "./dom.js";
+import { findEdge } from "./edges.js";
+import { instantWords } from "./missing.js";
 import { refusalPlace } from "./trying.js";
+import { coloursOf, drawWave, ROW, RULER, shownInstants } from "./wave_canvas.js";
+import { WaveLayout } from "./wave_layout.js";
+import { WaveMarks } from "./wave_marks.js";
 import { HIDDEN, PRESENT, UNKNOWN, WaveRows } from "./wave_rows.js";
+import { WaveTable } from "./wave_table.js";
+import { WaveTools } from "./wave_tools.js";
 
 const CELLS = [2, 4, 8, 16, 28, 44]; // widths of an instant that one can choose
-const TOLD = 8; // instants that the table for screen readers has
-const TOLD_AFTER = 400; // milliseconds after which it is written anew
-const TALLEST = 430; // pixels
+const TALLEST = 0.85; // of the window's height
+const MOVES = {
+  ArrowLeft: -1, ArrowRight: 1, PageUp: -10, PageDown: 10, Home: -Infinity,
+};
 
 export class WaveView {
-  /** `ask(first, last)` promises the rows of instants. */
-  constructor(ask) {
+  /** `ask(first, last)` promises the rows of instants; `title` is the wave's. */
+  constructor(ask, title = "Wave") {
     this.rows = new WaveRows(ask, () => this.redraw());
+    this.layout = new WaveLayout();
+    this.marks = new WaveMarks();
     this.all = [];
     this.instants = 0;
     this.cell = 28;
     this.cursor = 0;
+    this.chosen = null; // the name of a signal
     this.follows = true;
-    this.picked = null; // the names that are shown; null for all
-    this.element = this.build();
-    this.watchSizes();
+    this.element = this.build(title);
+    new ResizeObserver(() => this.sized()).observe(this.box);
+    matchMedia("(prefers-color-scheme: dark)").addEventListener("change", () => this.recolour());
   }
 
-  build() {
+  build(title) {
     this.canvas = make("canvas", { "aria-hidden": "true" });
     this.sizer = make("div", { class: "wave-sizer" }, this.canvas);
     this.box = make(
-      "div", {
-        class: "wave-box", tabindex: "0", role: "group", "aria-describedby": "wave-told",
-      }, this.sizer
+      "div", { class: "wave-box", tabindex: "0", role: "group", "aria-label": title }, this.sizer
     );
     this.box.addEventListener("scroll", () => this.scrolled(), { passive: true });
     this.box.addEventListener("keydown", (event) => this.pressed(event));
     this.canvas.addEventListener("click", (event) => this.pointed(event));
-    this.readout = make(
-      "p", { class: "readout", id: "wave-told", role: "status", "aria-live": "polite" }
-    );
-    this.told = make("div", { class: "unseen" });
+    this.readout = make("p", { class: "readout", role: "status", "aria-live": "polite" });
+    this.table = new WaveTable(title);
     this.refused = refusalPlace();
+    this.tools = new WaveTools(this, title);
     return make(
-      "section", { class: "card wave", "aria-label": "Wave" },
-      this.buildTools(), this.refused, this.box, this.readout, this.told
+      "section", { class: "card wave", "aria-label": title },
+      this.tools.element, this.refused, this.box, this.readout, this.tools.marks,
+      this.table.element
     );
-  }
-
-  buildTools() {
-    this.number = make("input", {
-      type: "number", min: "1", inputmode: "numeric", id: "wave-instant",
-      "aria-label": "instant to jump to", placeholder: "instant",
-    });
-    const jump = make(
-      "form", { class: "inline", novalidate: true }, this.number,
-      make("button", { type: "submit", id: "wave-jump" }, "Jump")
-    );
-    jump.addEventListener("submit", (event) => {
-      event.preventDefault();
-      this.jump(Number(this.number.value));
-      this.number.select();
-    });
-    this.newest = button(
-      "Newest", () => this.followNewest(), { id: "wave-newest", "aria-pressed": "true" }
-    );
-    this.picks = make("div", { class: "picks" });
-    return make(
-      "div", { class: "tools" },
-      make("h2", {}, "Wave"),
-      jump,
-      this.newest,
-      button("−", () => this.zoom(-1), { "aria-label": "narrower instants" }),
-      button("+", () => this.zoom(1), { "aria-label": "wider instants" }),
-      make("details", { id: "wave-pick" }, make("summary", {}, "Signals"), this.picks)
-    );
-  }
-
-  watchSizes() {
-    new ResizeObserver(() => this.redraw()).observe(this.box);
-    matchMedia("(prefers-color-scheme: dark)").addEventListener("change", () => this.recolour());
   }
 
   recolour() {
@@ -90,13 +63,15 @@ export class WaveView {
 
   /** Another load, or other permissions: nothing of before holds. Signals are pairs of a name and
    * its kind. */
-  show(signals, instants) {
+  show(module, signals, instants) {
+    this.module = module;
     this.all = signals.map(([name, kind], place) => ({ name, kind, place }));
     this.rows.reset(signals.length);
-    this.instants = 0;
-    this.cursor = 0;
-    this.picked = null;
-    this.buildPicks();
+    this.layout.reset(this.all);
+    this.marks.reset();
+    this.instants = this.cursor = 0;
+    this.chosen = null;
+    this.tools.refill();
     this.grow(instants);
   }
 
@@ -109,6 +84,7 @@ export class WaveView {
 
   /** Takes the number of instants. */
   grow(instants) {
+    if (instants !== this.instants) say(this.refused, "");
     this.instants = instants;
     this.rows.grow(instants);
     this.resize();
@@ -116,26 +92,8 @@ export class WaveView {
     this.redraw();
   }
 
-  signals() {
-    return this.all.filter(({ name }) => !this.picked || this.picked.has(name));
-  }
-
-  buildPicks() {
-    const boxes = this.all.map(({ name, kind }) => {
-      const box = make("input", { type: "checkbox", checked: true, value: name });
-      box.addEventListener("change", () => this.pick());
-      return make("label", {}, box, ` ${name} `, make("small", {}, kind));
-    });
-    const setAll = (on) => () => {
-      for (const box of this.picks.querySelectorAll("input")) box.checked = on;
-      this.pick();
-    };
-    fill(this.picks, button("All", setAll(true)), button("None", setAll(false)), ...boxes);
-  }
-
-  pick() {
-    const boxes = [...this.picks.querySelectorAll("input:checked")];
-    this.picked = new Set(boxes.map((box) => box.value));
+  /** Other signals are shown, or in another order. */
+  relayout() {
     this.resize();
     this.redraw();
   }
@@ -147,10 +105,18 @@ export class WaveView {
   }
 
   resize() {
-    const tall = RULER + this.signals().length * ROW + 2;
+    const tall = RULER + this.layout.lines().length * ROW + 2;
     this.sizer.style.width = `${this.names() + this.instants * this.cell + this.cell}px`;
     this.sizer.style.height = `${tall}px`;
-    this.box.style.height = `${Math.min(TALLEST, tall + 18)}px`;
+    this.box.style.height = `${Math.max(90, Math.min(TALLEST * innerHeight, tall + 18))}px`;
+  }
+
+  /** The box has another size. What was followed is followed still. */
+  sized() {
+    this.wide = this.box.clientWidth;
+    this.resize();
+    if (this.follows) this.toEnd();
+    this.redraw();
   }
 
   zoom(by) {
@@ -169,6 +135,7 @@ export class WaveView {
 
   centre(instant) {
     this.box.scrollLeft = (instant - 0.5) * this.cell - (this.box.clientWidth - this.names()) / 2;
+    this.expected = this.box.scrollLeft;
   }
 
   toEnd() {
@@ -185,7 +152,7 @@ export class WaveView {
 
   setFollowing(follows) {
     this.follows = follows;
-    this.newest.setAttribute("aria-pressed", String(follows));
+    this.tools.showFollowing(follows);
   }
 
   /** Shows an instant, in the middle where there is room. */
@@ -202,31 +169,81 @@ export class WaveView {
   }
 
   scrolled() {
+    if (this.box.clientWidth !== this.wide) {
+      this.sized(); // a smaller window scrolls by itself
+      return;
+    }
     const end = this.box.scrollLeft + this.box.clientWidth >= this.sizer.offsetWidth - this.cell;
     if (this.box.scrollLeft !== this.expected) this.setFollowing(end);
     this.redraw();
   }
 
+  // What is pointed at, and pressed.
+
   pointed(event) {
-    const { left } = this.canvas.getBoundingClientRect();
+    const { left, top } = this.canvas.getBoundingClientRect();
     const x = event.clientX - left - this.names();
+    const line = this.layout.lines()[
+      Math.floor((event.clientY - top - RULER + this.box.scrollTop) / ROW)
+    ];
     const instant = Math.floor((x + this.box.scrollLeft) / this.cell) + 1;
-    if (x >= 0 && instant <= this.instants) {
-      this.cursor = instant;
-      this.redraw();
-    }
+    if (line?.title !== undefined) this.layout.fold(line.title);
+    else if (x < 0) this.chosen = line?.name ?? this.chosen;
+    else if (instant <= this.instants) this.cursor = instant;
+    this.relayout();
   }
 
   pressed(event) {
-    const moves = {
-      ArrowLeft: -1, ArrowRight: 1, PageUp: -10, PageDown: 10, Home: -Infinity, End: Infinity,
-    };
-    if (!(event.key in moves) || event.target !== this.box || !this.instants) return;
+    if (event.target !== this.box || !this.act(event.key)) return;
     event.preventDefault();
-    if (event.key === "End") this.followNewest();
-    else this.jump(
-      Math.max(1, Math.min(this.instants, (this.cursor || this.instants) + moves[event.key]))
-    );
+    event.stopPropagation();
+  }
+
+  /** Does what a key stands for. True where it stands for something. */
+  act(key) {
+    const acts = {
+      ArrowUp: () => this.choose(-1), ArrowDown: () => this.choose(1),
+      "[": () => this.toEdge(-1), "]": () => this.toEdge(1), m: () => this.mark(),
+      "+": () => this.zoom(1), "-": () => this.zoom(-1), End: () => this.followNewest(),
+    };
+    if (key in acts) acts[key]();
+    else if (!(key in MOVES) || !this.instants) return false;
+    else this.jump(Math.max(1, Math.min(this.instants, this.here() + MOVES[key])));
+    return true;
+  }
+
+  /** The instant that is told of. */
+  here() {
+    return this.cursor || this.instants;
+  }
+
+  /** Chooses the signal before or after the chosen one. */
+  choose(by) {
+    const names = this.layout.signals().map(({ name }) => name);
+    const at = names.indexOf(this.chosen) + by;
+    this.chosen = names[Math.max(0, Math.min(names.length - 1, at))] ?? null;
+    this.tools.showChosen(this.chosen);
+    this.redraw();
+  }
+
+  /** Goes to the edge of the chosen signal before or after the instant. */
+  async toEdge(direction) {
+    const signal = this.all.find(({ name }) => name === this.chosen) ?? this.layout.signals()[0];
+    if (!signal) return;
+    this.chosen = signal.name;
+    this.tools.showChosen(signal.name);
+    const statusAt = (instant) => this.rows.status(instant, signal.place);
+    const known = (instant) => this.rows.know(instant);
+    const found = await findEdge(statusAt, known, this.here(), direction, this.instants);
+    if (found !== null) this.jump(found);
+    else say(this.refused, `${signal.name} has no edge ${direction < 0 ? "before" : "after"} that`);
+  }
+
+  mark(instant = this.here(), isParting = false) {
+    if (!instant) return;
+    this.marks.toggle(instant, isParting);
+    this.tools.showMarks(this.marks.marks);
+    this.redraw();
   }
 
   // Drawing, once a frame.
@@ -241,10 +258,10 @@ export class WaveView {
   view() {
     const { scrollLeft: left, scrollTop: top, clientWidth: width, clientHeight: height } = this.box;
     const scale = devicePixelRatio || 1;
-    const { cell, instants, cursor } = this;
+    const { cell, instants, cursor, chosen } = this;
     return {
-      left, top, width, height, scale, cell, instants, cursor, names: this.names(),
-      signals: this.signals(),
+      left, top, width, height, scale, cell, instants, cursor, chosen, names: this.names(),
+      lines: this.layout.lines(), marks: this.marks.marks,
     };
   }
 
@@ -257,7 +274,8 @@ export class WaveView {
     const margin = last - first + 1;
     this.rows.want(first - margin, last + margin);
     drawWave(this.canvas.getContext("2d"), view, this.rows, this.colours);
-    this.tell(view);
+    say(this.readout, this.instants ? this.words(this.here()) : "no instant yet");
+    this.table.showLater(this.layout.signals(), this.rows, last);
   }
 
   fitCanvas({ width, height, scale }) {
@@ -268,45 +286,14 @@ export class WaveView {
     }
   }
 
-  // In words.
-
   /** What an instant had, in words. */
   words(instant) {
-    const of = (status) => this.signals().filter(
+    const signals = this.layout.signals();
+    const of = (status) => signals.filter(
       ({ place }) => this.rows.status(instant, place) === status
-    );
-    if (
-      this.all.length && this.rows.status(instant, 0) === UNKNOWN
-    ) return `instant ${instant}: ..`;
-    const names = of(PRESENT).map(({ name }) => name).join(" ") || "nothing present";
-    const hidden = of(HIDDEN).map(({ name }) => name).join(" ");
-    return `instant ${instant}: ${names}${hidden ? `; may not be observed: ${hidden}` : ""}`;
-  }
-
-  tell(view) {
-    say(this.readout, this.instants ? this.words(this.cursor || this.instants) : "no instant yet");
-    clearTimeout(this.telling);
-    this.telling = setTimeout(() => this.tellTable(view), TOLD_AFTER);
-  }
-
-  /** The last of the instants that are seen, as a table for screen readers. */
-  tellTable(view) {
-    const last = Math.min(this.instants, shownInstants(view)[1]);
-    const seen = Array.from(
-      { length: TOLD }, (_, at) => last - TOLD + 1 + at
-    ).filter((one) => one > 0);
-    const letters = ["absent", "present", ". (may not be observed)", "not known yet"];
-    const rows = this.signals().map(({ name, kind, place }) => make(
-      "tr", {}, make("th", { scope: "row" }, `${name}, ${kind}`),
-      ...seen.map((instant) => make("td", {}, letters[this.rows.status(instant, place)]))
-    ));
-    fill(this.told, make(
-      "table", { id: "wave-table" }, make("caption", {}, "The wave, in words"),
-      make(
-        "tr", {}, make("th", { scope: "col" }, "signal"),
-        ...seen.map((one) => make("th", { scope: "col" }, String(one)))
-      ),
-      ...rows
-    ));
+    ).map(({ name }) => name);
+    if (this.all.length && this.rows.status(instant, 0) === UNKNOWN) return `instant ${instant}: ..`;
+    const told = instantWords(instant, of(PRESENT), of(HIDDEN), signals.length);
+    return told + this.marks.distanceWords(instant);
   }
 }

@@ -11,7 +11,7 @@ import socket
 from typing import Any, Dict, Iterator
 
 from estserve_client.connection import Disconnected, Refusal
-from estserve_client.running import Failed
+from estserve_client.texts import Failed
 from estserve_client.sentences import sentence
 
 from .printing import PRINTERS

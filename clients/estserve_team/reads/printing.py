@@ -1,6 +1,8 @@
 """The answers of the gateway's words, as lines for people."""
 from typing import Any, Callable, Dict, Iterable, Iterator, List, Sequence
 
+from estserve_client.texts import Failed
+
 from .filling import sentence_of
 from .policy_model import Filling
 
@@ -191,9 +193,18 @@ def visit_lines(answer: Answer) -> Iterator[str]:
     yield from columns(rows)
 
 
+def counted(number: int, what: str) -> str:
+    """A number of things, in words."""
+    return f"{number} {what}{'' if number == 1 else 's'}"
+
+
 def kick_lines(answer: Answer) -> Iterator[str]:
-    """What was ended."""
-    yield f"{answer['connections']} connections and {answer['visits']} visits are ended"
+    """What was ended. Raises Failed where nothing was."""
+    if not answer["connections"] and not answer["visits"]:
+        told = "a person is a Unix user, as in the column person of `who`"
+        raise Failed(f"this person has nothing open: {told}")
+    ended = counted(answer["connections"], "connection"), counted(answer["visits"], "visit")
+    yield f"{' and '.join(ended)} are ended"
 
 
 def close_lines(answer: Answer) -> Iterator[str]:

@@ -1,23 +1,22 @@
-"""What the page reads and does, each on the seat's own session."""
-import json
+"""What the page reads and does, each asked of the gateway on the seat that shows its secrets."""
 from typing import Any, Awaitable, Callable, Dict, List, Mapping
 
+from estserve_client.command_table import OF_TEXTS
 from estserve_client.connection import NotText, TooLong, line_of
 from estserve_client.module_text import main_of
 
-from .. import words
 from ..lines import LINE_BYTES
-from ..people import Person
 from ..refusals import Refused
-from .looks import rows_of
-from .page_slots import relations_of, text_of
+from . import trials
+from .core import Core
 from .refusing import refusal_of
-from .seats import Seat
 
 NOT_HERE = 1021  # the code of the refusal of what would change a login that others share
 SHARED = ("login", "logout", "activate", "drop")
 LOG_ENTRIES = 200  # at most this many entries of the log are told at once
 IDENTIFIERS = range(1, 65)  # letters that a request's id may have
+AWAY = (1004, 1005)  # refusals after which the same request may be sent again
+SLOTS = 16
 
 # The keys of a request in the order in which they are told.
 IN_WORDS = "user senior junior role op object name count roles main signal".split()
@@ -25,22 +24,19 @@ IN_WORDS = "user senior junior role op object name count roles main signal".spli
 Told = Dict[str, Any]
 
 
-def roles_of(gateway: Any, user: str) -> Told:
-    """The roles that a user may activate, and those of them that are assigned."""
-    model = gateway.reads.policy
-    if user not in model.users:
-        return {"known": False, "assigned": [], "authorized": []}
-    assigned = [role for one, role in model.assigned if one == user]
-    below = [
-        role for role in model.roles if role in model.authorized(user) and role not in assigned
-    ]
-    return {"known": True, "assigned": assigned, "authorized": assigned + below}
+class Seat:
+    """The seat of a tab, by the secrets that its visitor shows."""
 
+    def __init__(self, core: Core, secrets: Told, name: Any) -> None:
+        self.core, self.keys = core, {**secrets, "seat": name if isinstance(name, str) else None}
 
-def me(gateway: Any, person: Person) -> Told:
-    """Who a person is, and which users and roles are theirs."""
-    users = [{"user": user, **roles_of(gateway, user)} for user in person.users]
-    return {"person": person.name, "team": gateway.name, "users": users}
+    async def ask(self, request: str, **keys: Any) -> Told:
+        """What the gateway tells. Raises Denied, Refused."""
+        return await self.core.ask(request, **self.keys, **keys)
+
+    async def word(self, word: str, **keys: Any) -> Told:
+        """The answer to a word of the gateway's. Raises Denied, Refused."""
+        return await self.ask("word", asked={"word": word, **keys})
 
 
 # What changes something.
@@ -58,7 +54,7 @@ def completed(command: Told) -> Told:
 
 async def ask(seat: Seat, body: Told) -> Told:
     """One command of the program. One that bears an id which was recorded is answered from the
-    record. Raises Refused."""
+    record. Raises Denied, Refused."""
     command, identifier = body.get("command"), body.get("id")
     if (
         not isinstance(command, dict)
@@ -75,31 +71,43 @@ async def ask(seat: Seat, body: Told) -> Told:
         return refusal_of({"code": 1, "fault": "TooLong"}, command)
     except NotText:
         return refusal_of({"code": 2, "fault": "NotJson"}, {})
-    answer = json.loads(await seat.share.ask(command, request_id=identifier))
+    answer = (await seat.ask("ask", command=command, id=identifier))["answer"]
     if "code" not in answer:
         return {"reply": answer}
-    if answer["code"] in (1004, 1005):
+    if answer["code"] in AWAY:
         raise Refused(answer["code"], answer["fault"])
     relations = await relations_of(seat, command.get("slot")) if "relation" in answer else []
-    return refusal_of(answer, command, relations)
+    told = refusal_of(answer, command, relations)
+    if command.get("cmd") == "load" and answer["code"] in OF_TEXTS:
+        told["diagnosis"] = await trials.diagnosis(answer, command)
+    return told
+
+
+async def relations_of(seat: Seat, slot: Any) -> List[str]:
+    """The relations of the module in a slot, as far as the seat may know them."""
+    if type(slot) is not int or not 0 <= slot < SLOTS:
+        return []
+    try:
+        told = await seat.ask("text", slot=slot)
+    except Refused:
+        return []
+    return main_of(told["text"], told["main"]).relations if told["main"] else []
 
 
 async def archive(seat: Seat, body: Told) -> Told:
-    """Begins a new record. Raises Refused."""
-    asked = {"word": "archive"}
-    if "slot" in body:
-        asked["slot"] = body["slot"]
-    return await words.act_on(seat.context, asked)
+    """Begins a new record. Raises Denied, Refused."""
+    return await seat.word("archive", **{name: body[name] for name in ("slot",) if name in body})
 
 
 async def retract(seat: Seat, body: Told) -> Told:
-    """Takes one offer back, and leaves the others. Raises Refused."""
-    asked = {name: body[name] for name in ("slot", "signal") if name in body}
-    return await words.act_on(seat.context, {"word": "retract", **asked})
+    """Takes one offer back, and leaves the others. Raises Denied, Refused."""
+    keys = {name: body[name] for name in ("slot", "signal") if name in body}
+    return await seat.word("retract", **keys)
 
 
 ACTS: Dict[str, Callable[[Seat, Told], Awaitable[Told]]] = {
-    one.__name__: one for one in (ask, archive, retract)
+    **{one.__name__: one for one in (ask, archive, retract)},
+    **trials.ACTS,
 }
 
 
@@ -107,34 +115,35 @@ ACTS: Dict[str, Callable[[Seat, Told], Awaitable[Told]]] = {
 
 
 async def here(seat: Seat, query: Mapping[str, str]) -> Told:
-    """That the seat is there."""
-    return {"session": seat.share.number}
+    """That the seat is there. Raises Denied."""
+    return await seat.ask("here")
 
 
 def slot_of(query: Mapping[str, str]) -> int:
     """The slot that a query names. Raises ValueError."""
     slot = int(query.get("slot", ""))
-    if not 0 <= slot < 16:
+    if not 0 <= slot < SLOTS:
         raise ValueError
     return slot
 
 
 async def text(seat: Seat, query: Mapping[str, str]) -> Told:
-    """The text that was loaded. Raises ValueError, Refused."""
-    return await text_of(seat, slot_of(query))
+    """The text that was loaded. Raises ValueError, Denied, Refused."""
+    told = await seat.ask("text", slot=slot_of(query))
+    return {"load": told["load"], "text": told["text"]}
 
 
 async def looks(seat: Seat, query: Mapping[str, str]) -> Told:
-    """Instants for the wave. Raises ValueError, Refused."""
-    return await rows_of(
-        seat, slot_of(query), max(1, int(query.get("from", ""))), int(query.get("to", ""))
-    )
+    """Instants for the wave. Raises ValueError, Denied, Refused."""
+    span = {name: int(query.get(name, "")) for name in ("from", "to")}
+    return await seat.ask("looks", slot=slot_of(query), **span)
 
 
 async def policy(seat: Seat, query: Mapping[str, str]) -> Told:
-    """The policy, as far as the session may read it. Raises Refused."""
-    read = await words.act_on(seat.context, {"word": "policy"})
-    may = await seat.share.ask_answer({"cmd": "check", "op": "administer", "object": "policy"})
+    """The policy, as far as the session may read it. Raises Denied, Refused."""
+    read = await seat.word("policy")
+    asked = {"cmd": "check", "op": "administer", "object": "policy"}
+    may = (await seat.ask("ask", command=asked))["answer"]
     users = [
         {"user": user, "roles": [role for one, role in read["assigned"] if one == user]}
         for user in read["users"]
@@ -162,11 +171,10 @@ def way_in_words(user: str, way: Told, operation: str, thing: str) -> str:
 
 
 async def why(seat: Seat, query: Mapping[str, str]) -> Told:
-    """Through which role and edges somebody may do something, in sentences. Raises Refused."""
+    """Through which role and edges somebody may do something, in sentences. Raises Denied,
+    Refused."""
     user, operation, thing = (query.get(name, "") for name in ("user", "operation", "object"))
-    told = await words.act_on(
-        seat.context, {"word": "why", "user": user, "op": operation, "object": thing}
-    )
+    told = await seat.word("why", user=user, op=operation, object=thing)
     lines = [way_in_words(user, way, operation, thing) for way in told["ways"]]
     if not lines:
         lines = [
@@ -204,17 +212,14 @@ def log_line(entry: Told) -> Told:
 
 
 async def log(seat: Seat, query: Mapping[str, str]) -> Told:
-    """Entries of the record, the newest first. Raises ValueError, Refused."""
-    asked: Told = {
-        "word": "log",
-        "last": max(1, min(LOG_ENTRIES, int(query.get("limit", LOG_ENTRIES)))),
-    }
+    """Entries of the record, the newest first. Raises ValueError, Denied, Refused."""
+    asked: Told = {"last": max(1, min(LOG_ENTRIES, int(query.get("limit", LOG_ENTRIES))))}
     asked.update(
         {name: int(query[name]) for name in ("slot", "before", "instant") if name in query}
     )
     if "user" in query:
         asked["user"] = query["user"]
-    told = await words.act_on(seat.context, asked)
+    told = await seat.word("log", **asked)
     return {
         "entries": [log_line(entry) for entry in reversed(told["entries"])],
         "more": told["older"],
@@ -223,8 +228,8 @@ async def log(seat: Seat, query: Mapping[str, str]) -> Told:
 
 
 async def who(seat: Seat, query: Mapping[str, str]) -> Told:
-    """Who holds the sixteen logins. Raises Refused."""
-    return await words.act_on(seat.context, {"word": "who"})
+    """Who holds the sixteen logins. Raises Denied, Refused."""
+    return await seat.word("who")
 
 
 READS: Dict[str, Callable[[Seat, Mapping[str, str]], Awaitable[Told]]] = {

@@ -4,6 +4,7 @@ A connection is known once a request on it has shown a visit. One that isn't is 
 ended where others need its place."""
 import asyncio
 import time
+import weakref
 from typing import Any, Callable, Dict, Iterator, Optional
 
 from ..limits import Limits
@@ -11,6 +12,7 @@ from ..refusals import Refused, too_many
 
 AHEAD_BYTES = 1 << 20  # may come before an answer is whole
 AHEAD_HEADS = 8  # so may the heads of further requests, each of which takes memory
+AT_ONCE = 8  # requests of one person that the gateway carries out
 KEPT_SECONDS = 60  # a known connection may be silent so long between two requests
 REFUSED = b"HTTP/1.1 503 Service Unavailable\r\nContent-Length: 0\r\nConnection: close\r\n\r\n"
 
@@ -22,6 +24,7 @@ class Gate(asyncio.Protocol):
         self._gates, self._inner = gates, inner
         self.address = address  # empty for a Unix socket
         self.person: Optional[str] = None
+        self.shown: Optional[Dict[str, str]] = None  # the secrets of the person's visit
         self.transport: Any = None
         self.since = time.monotonic()  # when it began to wait for a head
         self.is_at_work = False  # a request is being answered
@@ -100,6 +103,9 @@ class Gates:
         self._limits, self._make = limits, make
         self._gates: Dict[Gate, None] = {}  # the oldest first
         self.by_transport: Dict[Any, Gate] = {}
+        self._turns: "weakref.WeakValueDictionary[Any, asyncio.Semaphore]" = (
+            weakref.WeakValueDictionary()
+        )
 
     def __len__(self) -> int:
         return len(self._gates)
@@ -125,15 +131,32 @@ class Gates:
     def _strangers(self) -> Iterator[Gate]:
         return (gate for gate in self._gates if gate.person is None)
 
-    def know(self, transport: Any, person: str) -> None:
+    def is_known(self, transport: Any, secrets: Dict[str, str]) -> bool:
+        """Whether the secrets were found to be those of a visit on this connection. The gateway
+        sees each time whether they still are."""
+        gate = self.by_transport.get(transport)
+        return gate is not None and gate.shown == secrets
+
+    def know(self, transport: Any, person: str, secrets: Dict[str, str]) -> None:
         """Notes whose connection it is. Raises Refused, where this person has too many."""
         gate = self.by_transport.get(transport)
-        if gate is None or gate.person == person:
+        if gate is None:
             return
         most = self._limits.person_http
-        if sum(other.person == person for other in self._gates) >= most:
-            raise too_many("connections of one person over HTTP", most)
-        gate.person = person
+        if gate.person != person:
+            if sum(other.person == person for other in self._gates) >= most:
+                raise too_many("connections of one person over HTTP", most)
+        gate.person, gate.shown = person, dict(secrets)
+
+    def turn_of(self, transport: Any) -> asyncio.Semaphore:
+        """What a request has to hold while the gateway carries it out: each person may have a few
+        under way, and those who are not known together too."""
+        gate = self.by_transport.get(transport)
+        person = gate.person if gate is not None else None
+        turn = self._turns.get(person)
+        if turn is None:
+            turn = self._turns[person] = asyncio.Semaphore(AT_ONCE)
+        return turn
 
     def forget(self, gate: Gate) -> None:
         """A connection has ended."""

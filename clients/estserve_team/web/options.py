@@ -2,12 +2,14 @@
 import argparse
 import ipaddress
 import pwd
-import re
 from typing import NamedTuple, Optional, Tuple
 from urllib.parse import urlsplit
 
-HEADER = re.compile(r"[A-Za-z][A-Za-z0-9-]{0,63}")
-PLACE = re.compile(r"(\[[0-9a-fA-F:]+\]|[^:\[\]]+):(\d{1,5})")
+from estserve_client.command_table import DIGITS, LETTERS, Form
+
+HERE = "127.0.0.1:8710"  # where `--http` serves that names no other place
+HEADER = Form(LETTERS, LETTERS + DIGITS + "-", 64)
+PORT = Form(DIGITS, DIGITS, 5)
 
 
 class Bad(Exception):
@@ -34,10 +36,11 @@ def read_place(text: Optional[str], has_origin: bool) -> Optional[Tuple[str, int
     """The host and the port of `--http`. Raises Bad."""
     if text is None:
         return None
-    match = PLACE.fullmatch(text)
-    if not match or int(match[2]) > 65_535:
-        raise Bad(f"--http {text}: a host and a port are expected, as 127.0.0.1:8710")
-    host = match[1].strip("[]")
+    name, _, port = text.rpartition(":")
+    host = name[1:-1] if name.startswith("[") and name.endswith("]") else name
+    is_plain = bool(host) and not set("[]") & set(host) and (host != name or ":" not in host)
+    if not is_plain or not PORT.fullmatch(port) or int(port) > 65_535:
+        raise Bad(f"--http {text}: a host and a port are expected, as {HERE}")
     try:
         is_loopback = host == "localhost" or ipaddress.ip_address(host).is_loopback
     except ValueError:
@@ -47,7 +50,7 @@ def read_place(text: Optional[str], has_origin: bool) -> Optional[Tuple[str, int
             f"--http {text}: others than this machine could reach it there; "
             "--origin has to say where browsers find it"
         )
-    return host, int(match[2])
+    return host, int(port)
 
 
 def read_origin(text: Optional[str]) -> Tuple[Optional[str], str]:
@@ -102,3 +105,32 @@ def read_options(options: argparse.Namespace) -> Optional[Options]:
         raise Bad("--http-socket is for a proxy: --origin has to say where browsers find it")
     place = read_place(options.http, origin is not None)
     return Options(place, options.http_socket, origin, prefix, options.user_header, proxy)
+
+
+def add_options(parser: argparse.ArgumentParser) -> None:
+    """Adds the options of HTTP to the command line."""
+    group = parser.add_argument_group("the page, over HTTP")
+    group.add_argument(
+        "--http",
+        nargs="?",
+        const=HERE,
+        metavar="HOST:PORT",
+        help=f"serve the page there ({HERE}); loopback only, unless --origin is given",
+    )
+    group.add_argument(
+        "--http-socket", metavar="PATH", help="serve the page on a Unix socket, for a reverse proxy"
+    )
+    group.add_argument(
+        "--origin", metavar="URL", help="where browsers find the page, as https://team.example.org"
+    )
+    group.add_argument(
+        "--user-header",
+        metavar="NAME",
+        help="the header by which the proxy names the person, as X-Remote-User; "
+        "on the Unix socket alone",
+    )
+    group.add_argument(
+        "--proxy-user",
+        metavar="USER",
+        help="the Unix user of the proxy, who alone may use the Unix socket then",
+    )

@@ -1,28 +1,29 @@
 """The site: the page's files, and what the page asks."""
 import asyncio
+import contextlib
 import json
+import math
 import os
 import pathlib
 import socket
-from typing import Any, Awaitable, Callable, Dict, List, Optional
+from typing import Any, AsyncIterator, Awaitable, Callable, Dict, List, Optional
 
 from aiohttp import web
 
-from ..counts import health
-from ..lines import LONGEST_NUMBER
+from ..limits import Limits
+from ..lines import read_int, refuse_constant
 from ..listening import Listener
-from ..people import Person
-from ..reads.who import time_text
+from ..log import Log
 from ..refusals import Refused
-from ..words import Context
+from ..watchdog import Reserve
 from . import asking
+from .core import Core, Denied
 from .gates import KEPT_SECONDS, Gates
 from .guard import HEADERS, TOKEN, Guard, told
 from .options import Options
 from .refusing import refusal_of
-from .seats import Changes, Seat, Seats
-from .stream import Watcher, changes_permissions
-from .visits import Links, Visit, Visits
+from .stream import Stream
+from .trials import Trials
 
 PAGE = pathlib.Path(__file__).resolve().parents[1] / "page"
 KINDS = {
@@ -34,11 +35,16 @@ KINDS = {
 BACKLOG = 128
 LINK_BYTES = 4_096  # of a request with a link
 LINGER_SECONDS = 2.0  # for the rest of a body that was refused
-NAME_LETTERS = 12  # of a visit's name
 LOOK_SECONDS = 1.0  # after which it is seen again which connections take too long
 BODY_BYTES = 512 * 1024  # a line of 65,536 bytes may take six times as many in a page's JSON
-AWAY = (1004, 1005)  # refusals after which the same request may be sent again
+DENIALS = {  # by what there isn't: the status, and the sentence
+    "visit": (401, "It is not known who you are: a link is needed."),
+    "person": (401, "This person is not known on the machine."),
+    "seat": (410, "The page's login is over."),
+    "link": (401, "This link was used, or its five minutes are over: ask for another."),
+}
 Handler = Callable[[web.Request], Awaitable[web.StreamResponse]]
+Told = Dict[str, Any]
 
 
 def files() -> Dict[str, "tuple[str, bytes]"]:
@@ -58,31 +64,35 @@ def remove_socket(path: str) -> None:
         place.unlink()
 
 
-def read_int(text: str) -> int:
-    """A whole number; long ones take long to read. Raises ValueError."""
-    if len(text) > LONGEST_NUMBER:
+def read_float(text: str) -> float:
+    """A number with fraction or exponent. Raises ValueError, where it is out of range."""
+    found = float(text)
+    if not math.isfinite(found):
         raise ValueError(text)
-    return int(text)
-
-
-def refuse_constant(name: str) -> None:
-    """NaN and Infinity are no JSON."""
-    raise ValueError(name)
+    return found
 
 
 class Site:
-    """The gateway over HTTP, from `start` to `stop`."""
+    """The team over HTTP, from `start` to `stop`."""
 
-    def __init__(self, gateway: Any, options: Options) -> None:
-        self._gateway, self._options = gateway, options
-        limits = gateway.limits
-        self._links, self._seats = Links(limits=limits), Seats(limits)
-        self._changes = Changes()
-        self._visits = Visits(gateway.private / "visits.json", limits=limits)
-        self._watchers: "set[Watcher]" = set()
+    def __init__(
+        self,
+        options: Options,
+        state: pathlib.Path,
+        core_socket: pathlib.Path,
+        limits: Limits,
+        log: Log,
+        program: Optional[str] = None,
+    ) -> None:
+        """`core_socket` is where the gateway listens; on `program` texts are tried."""
+        self._options, self._state, self._limits, self._log = options, state, limits, log
+        self._core = Core(core_socket, limits.page_seconds, lambda: {"address": self.address})
+        self._acts = {**asking.ACTS, "try": Trials(program).try_out}
+        self._streams: "set[Stream]" = set()
         self._files = files()
         self._runner: Optional[web.AppRunner] = None
-        self._is_stopping = False
+        self._tasks: "List[asyncio.Future[Any]]" = []
+        self._listeners: List[Listener] = []
 
     # From start to stop.
 
@@ -93,7 +103,7 @@ class Site:
             one.listen(BACKLOG)
         self.port = sockets[0].getsockname()[1] if self._options.place else None
         self._guard = Guard(self._options, self.port)
-        self._cookie = self._guard.cookie_name(str(self._gateway.state))
+        self._cookie = self._guard.cookie_name(str(self._state))
         app = web.Application(middlewares=[self._watch_over], client_max_size=BODY_BYTES)
         app.router.add_get("/{path:.*}", self._get)
         app.router.add_post("/api/{name}", self._post)
@@ -106,21 +116,17 @@ class Site:
             lingering_time=LINGER_SECONDS,
         )
         await self._runner.setup()
-        gateway = self._gateway
-        self._gates = Gates(gateway.limits, self._runner.server)
+        self._gates = Gates(self._limits, self._runner.server)
+        reserve = Reserve()
+        reserve.fill()
         self._listeners = [
-            Listener(one, self._gates.admit, gateway.log, gateway.reserve, Gates.told)
-            for one in sockets
+            Listener(one, self._gates.admit, self._log, reserve, Gates.told) for one in sockets
         ]
-        self._unlisten = self._gateway.listen(self._note)
-        self._gateway.on_restart(self._wake_all)
-        self._dropping = [
-            asyncio.get_running_loop().create_task(one)
-            for one in (self._seats.watch(), self._look_after())
-        ]
+        works = (self._core.keep(), self._look_after())
+        self._tasks = [asyncio.ensure_future(one) for one in works]
         places = [f"{self._options.place[0]}:{self.port}"] if self._options.place else []
         places += [self._options.socket] if self._options.socket else []
-        self._gateway.log(f"the page is at {self.address}, served on {' and '.join(places)}")
+        self._log(f"the page is at {self.address}, served on {' and '.join(places)}")
 
     async def _look_after(self) -> None:
         """Ends connections that take too long, again and again."""
@@ -153,21 +159,18 @@ class Site:
         return found
 
     async def stop(self) -> None:
-        """Ends all streams, gives up all seats, and serves no more."""
-        self._is_stopping = True
-        self._unlisten()
+        """Ends all streams, and serves no more."""
         for listener in self._listeners:
             listener.close()
-        for task in self._dropping:
-            task.cancel()
-        self._wake_all()
-        await self._seats.drop_all()
+        for stream in self._streams:
+            stream.stop()
         if self._runner:
             await self._runner.shutdown()
             if self._runner.server:
                 await self._runner.server.shutdown(1.0)
             await self._runner.cleanup()
-        self._visits.keep()
+        for task in self._tasks:
+            task.cancel()
         if self._options.socket:
             remove_socket(self._options.socket)
 
@@ -175,52 +178,6 @@ class Site:
     def address(self) -> str:
         """Where browsers find the page."""
         return self._guard.address(self.port)
-
-    def link_for(self, person: Person) -> str:
-        """A link for this person, which can be used once."""
-        return f"{self.address}#link={self._links.make(person.name)}"
-
-    def visits_of(self, person: Optional[str]) -> List[Dict[str, Any]]:
-        """The visits of a person, or of all: a name, the person, and when each was used last."""
-        return [
-            {"person": one.person, "used": time_text(one.used), "visit": one.cookie[:NAME_LETTERS]}
-            for one in self._visits.all()
-            if person in (None, one.person)
-        ]
-
-    def end_visits(self, person: Optional[str], name: Optional[str]) -> int:
-        """Ends the visits of a person, or of all, or the one of this name. Answers how many."""
-        ended = [
-            one
-            for one in self._visits.all()
-            if person in (None, one.person) and name in (None, one.cookie[:NAME_LETTERS])
-        ]
-        for visit in ended:
-            self._seats.drop_visit(visit.cookie)
-            self._visits.end(visit)
-        self._wake_all()
-        return len(ended)
-
-    def follow_people(self) -> None:
-        """Ends the seats whose login their person may no more have."""
-        for seat in self._seats.all():
-            try:
-                person = self._person(seat.context.person.name)
-                is_allowed = person.may_be(seat.share.user)
-            except web.HTTPException:
-                is_allowed = False
-            if not is_allowed:
-                self._seats.drop(seat)
-        self._wake_all()
-
-    def _note(self, entries: List[Any]) -> None:
-        self._changes.count += sum(map(changes_permissions, entries))
-        for watcher in self._watchers:
-            watcher.note(entries)
-
-    def _wake_all(self) -> None:
-        for watcher in self._watchers:
-            watcher.stop()
 
     # Each request.
 
@@ -236,10 +193,14 @@ class Site:
             answer = await handler(request) if fault is None else fault
         except web.HTTPException as raised:
             answer = told(raised.status, raised.text or raised.reason)
+        except Denied as denied:
+            answer = told(*DENIALS[str(denied)])
         except Refused as refused:
             answer = self._refused(refused)
-        except Exception as fault:  # a fault of the gateway's own: it is told, and others go on
-            self._gateway.log(f"the page's request {request.path} failed: {fault!r}")
+        except ConnectionError:
+            answer = told(400, "The connection has ended.")
+        except Exception as fault:  # a fault of the page's own: it is told, and others go on
+            self._log(f"the page's request {request.path} failed: {fault!r}", "fault")
             answer = told(500, "The gateway failed at this request.")
         finally:
             if gate is not None:
@@ -251,12 +212,21 @@ class Site:
 
     def _refused(self, refused: Refused) -> web.Response:
         told_of = refusal_of(refused.answer, {})
-        return web.json_response(told_of, status=503 if refused.code in AWAY else 200)
+        return web.json_response(told_of, status=503 if refused.code in asking.AWAY else 200)
+
+    @contextlib.asynccontextmanager
+    async def _turn(self, request: web.Request) -> AsyncIterator[None]:
+        """A turn of the one who asks. Raises ConnectionError, where nobody waits any more."""
+        async with self._gates.turn_of(request.transport):
+            if request.transport is None or request.transport.is_closing():
+                raise ConnectionResetError
+            yield
 
     async def _get(self, request: web.Request) -> web.StreamResponse:
         """A file of the page, or what the page reads, or whether the gateway is well."""
         if request.path == "/health":
-            told_of = health(self._gateway)
+            async with self._turn(request):
+                told_of = await self._core.ask("health")
             return web.json_response(told_of, status=200 if told_of["ready"] else 503)
         if request.path.startswith("/api/"):
             return await self._read(request, request.path[len("/api/") :])
@@ -268,16 +238,23 @@ class Site:
         )
 
     async def _read(self, request: web.Request, name: str) -> web.StreamResponse:
-        visit, person = self._visit_of(request)
-        if name == "me":
-            return web.json_response(asking.me(self._gateway, person))
-        seat = self._seat_of(request.query.get("seat"), visit)
+        secrets = await self._visit_of(request)
+        seat = asking.Seat(self._core, secrets, request.query.get("seat"))
         if name == "events":
             return await self._stream(request, seat)
+        async with self._turn(request):
+            return web.json_response(await self._told_of(name, seat, request, secrets))
+
+    async def _told_of(
+        self, name: str, seat: asking.Seat, request: web.Request, secrets: Told
+    ) -> Told:
+        """What the page reads under a name. Raises HTTPException, Denied, Refused."""
+        if name == "me":
+            return await self._core.ask("me", **secrets)
         if name not in asking.READS:
             raise web.HTTPNotFound(text="There is nothing of this name to read.")
         try:
-            return web.json_response(await asking.READS[name](seat, request.query))
+            return await asking.READS[name](seat, request.query)
         except ValueError:
             raise web.HTTPBadRequest(text="A number is expected.") from None
 
@@ -285,24 +262,26 @@ class Site:
         """What may change something. Of one who is not known no body is read but a link's."""
         name = request.match_info["name"]
         if name == "enter":
-            return self._enter(request, await self._body_of(request, LINK_BYTES))
-        visit, person = self._visit_of(request)
+            return await self._enter(request, await self._body_of(request, LINK_BYTES))
+        secrets = await self._visit_of(request)
         body = await self._body_of(request, BODY_BYTES)
-        if name == "login":
-            return await self._login(visit, person, body)
-        if name == "out":
-            self._seats.drop_visit(visit.cookie)
-            self._visits.end(visit)
-            return web.json_response({})
-        if name not in ("leave", *asking.ACTS):
-            raise web.HTTPNotFound(text="There is nothing of this name to do.")
-        seat = self._seat_of(body.get("seat"), visit)
-        if name == "leave":
-            self._seats.drop(seat)
-            return web.json_response({})
-        return web.json_response(await asking.ACTS[name](seat, body))
+        async with self._turn(request):
+            return await self._act(name, secrets, body)
 
-    async def _body_of(self, request: web.Request, most: int) -> Dict[str, Any]:
+    async def _act(self, name: str, secrets: Told, body: Told) -> web.Response:
+        """Does what may change something. Raises HTTPException, Denied, Refused."""
+        if name == "login":
+            return await self._login(secrets, body)
+        if name == "out":
+            return web.json_response(await self._core.ask("out", **secrets))
+        if name not in ("leave", *self._acts):
+            raise web.HTTPNotFound(text="There is nothing of this name to do.")
+        seat = asking.Seat(self._core, secrets, body.get("seat"))
+        if name == "leave":
+            return web.json_response(await seat.ask("leave"))
+        return web.json_response(await self._acts[name](seat, body))
+
+    async def _body_of(self, request: web.Request, most: int) -> Told:
         """The object that a request has, of at most so many bytes of UTF-8. Raises
         HTTPException."""
         charset = request.headers.get("Content-Type", "").lower().partition("charset=")[2]
@@ -315,11 +294,16 @@ class Site:
         if request.content_length > most:
             raise web.HTTPRequestEntityTooLarge(most, request.content_length)
         try:
-            raw = await asyncio.wait_for(request.read(), self._gateway.limits.body_seconds)
+            raw = await asyncio.wait_for(request.read(), self._limits.body_seconds)
         except asyncio.TimeoutError:
             raise web.HTTPRequestTimeout(text="The body takes too long.") from None
         try:
-            body = json.loads(raw.decode(), parse_constant=refuse_constant, parse_int=read_int)
+            body = json.loads(
+                raw.decode(),
+                parse_constant=refuse_constant,
+                parse_int=read_int,
+                parse_float=read_float,
+            )
         except (ValueError, RecursionError):
             body = None
         if not isinstance(body, dict):
@@ -328,21 +312,16 @@ class Site:
 
     # Who it is.
 
-    def _enter(self, request: web.Request, body: Dict[str, Any]) -> web.Response:
+    async def _enter(self, request: web.Request, body: Told) -> web.Response:
         """Begins a visit: of the person whom the proxy names, or of the one whose link it is."""
-        name = self._guard.named_person(request)
-        if name is None and isinstance(body.get("link"), str):
-            name = self._links.use(body["link"])
-            if name is None:
-                return told(
-                    401,
-                    "This link was used, or its five minutes are over: ask for another.",
-                )
-        if name is None:
+        name, link = self._guard.named_person(request), body.get("link")
+        if name is None and not isinstance(link, str):
             return told(401, "A link is needed.")
-        person = self._person(name)
-        cookie, token = self._visits.begin(person.name)
-        answer = web.json_response({**asking.me(self._gateway, person), "token": token})
+        async with self._turn(request):
+            keys = {"link": link} if name is None else {"named": name}
+            found = await self._core.ask("enter", **keys)
+        cookie = found.pop("cookie")
+        answer = web.json_response(found)
         answer.set_cookie(
             self._cookie,
             cookie,
@@ -353,32 +332,24 @@ class Site:
         )
         return answer
 
-    def _person(self, name: str) -> Person:
-        """The person of this name. Raises HTTPUnauthorized."""
-        try:
-            return self._gateway.people.named(name)
-        except Refused:
-            raise web.HTTPUnauthorized(text="This person is not known on the machine.") from None
-
-    def _visit_of(self, request: web.Request) -> "tuple[Visit, Person]":
-        """The visit of a request, by its cookie and its token, and the person. Raises
-        HTTPUnauthorized."""
-        visit = self._visits.find(request.cookies.get(self._cookie), request.headers.get(TOKEN))
+    async def _visit_of(self, request: web.Request) -> Told:
+        """The secrets that a request shows, which are those of a visit. Raises Denied,
+        Refused."""
+        cookie, token = request.cookies.get(self._cookie), request.headers.get(TOKEN)
+        if cookie is None or token is None:
+            raise Denied("visit")
+        secrets = {"cookie": cookie, "token": token}
         name = self._guard.named_person(request)
-        if visit is None or (name is not None and name != visit.person):
-            raise web.HTTPUnauthorized(text="It is not known who you are: a link is needed.")
-        self._gates.know(request.transport, visit.person)
-        return visit, self._person(visit.person)
+        if name is not None:
+            secrets["named"] = name
+        if not self._gates.is_known(request.transport, secrets):
+            async with self._turn(request):
+                person = (await self._core.ask("visit", **secrets))["person"]
+            self._gates.know(request.transport, person, secrets)
+        return secrets
 
-    def _seat_of(self, name: Any, visit: Visit) -> Seat:
-        """The seat that a page names. Raises HTTPGone."""
-        seat = self._seats.find(name if isinstance(name, str) else None, visit.cookie)
-        if seat is None:
-            raise web.HTTPGone(text="The page's login is over.")
-        return seat
-
-    async def _login(self, visit: Visit, person: Person, body: Dict[str, Any]) -> web.Response:
-        """Takes a seat. Raises Refused."""
+    async def _login(self, secrets: Told, body: Told) -> web.Response:
+        """Takes a seat. Raises Denied, Refused."""
         user, roles = body.get("user"), body.get("roles")
         if (
             not isinstance(user, str)
@@ -386,40 +357,30 @@ class Site:
             or not all(isinstance(role, str) for role in roles)
         ):
             raise web.HTTPBadRequest(text="A user and a list of roles are expected.")
-        share = await self._gateway.share(person, user, roles)
-        seat = Seat(visit.cookie, Context(self._gateway, person, share), self._changes)
-        self._seats.add(seat)
-        return web.json_response(
-            {
-                "seat": seat.name,
-                "user": share.user,
-                "roles": list(share.roles),
-                "session": share.number,
-            }
-        )
+        return web.json_response(await self._core.ask("login", user=user, roles=roles, **secrets))
 
     # Live events.
 
-    async def _stream(self, request: web.Request, seat: Seat) -> web.StreamResponse:
+    async def _stream(self, request: web.Request, seat: asking.Seat) -> web.StreamResponse:
+        await seat.ask("here")
         answer = web.StreamResponse(
             headers={**HEADERS, "Cache-Control": "no-store", "X-Accel-Buffering": "no"}
         )
         answer.content_type = "text/event-stream"
         await answer.prepare(request)
-        watcher = Watcher(self._gateway, seat)
-        self._watchers.add(watcher)
-        seat.streams += 1
+        stream = Stream(self._core, seat)
+        self._streams.add(stream)
         try:
-            async for event in watcher.events():
-                if self._is_stopping or request.transport is None or request.transport.is_closing():
+            async for event in stream.events():
+                if request.transport is None or request.transport.is_closing():
                     break
                 if event:
                     await answer.write(event)
         except (ConnectionError, asyncio.CancelledError):
             pass
         except Exception as fault:  # the page asks for another stream
-            self._gateway.log(f"a page's live events failed: {fault!r}")
+            self._log(f"a page's live events failed: {fault!r}", "fault")
         finally:
-            self._watchers.discard(watcher)
-            seat.streams -= 1
+            self._streams.discard(stream)
+            stream.close()
         return answer

@@ -1,33 +1,18 @@
-"""Live events of a page: what has changed, as its own session may see it.
-
-An entry says only which slot to look at again. What the page is told is asked anew on the page's
-own session, once for all pages that share it. Changes that come together are told once, and the
-more a telling costs, the longer the next one waits, but no longer than two seconds."""
+"""Live events of a tab: the news that the gateway has for its seat, as a stream of events."""
 import asyncio
+import itertools
 import json
-from typing import Any, AsyncIterator, List, Optional, Set, Tuple
+from typing import Any, AsyncIterator, Dict, List, Tuple
 
-from ..record import POLICY, Entry
 from ..refusals import Refused
-from .page_slots import page_slot
+from .asking import Seat
+from .core import Core, Denied, answer_of
 from .refusing import sentence_of
-from .seats import Seat
 
-SLOTS = 16
-PAUSE = 0.04  # seconds between two tellings
-LONGEST_PAUSE = 1.0  # after one that took long
-TURN = 2  # seconds after which it is seen whether the page has gone
+TURN = 2  # seconds after which it is seen whether the tab has gone
 BEATS = 5  # after this many such turns a stream without news tells that it is there
-QUIET = ("login", "logout")  # policy commands after which nobody else may do more or less
-NO_SESSION = 4
-
-Event = Tuple[str, Any]
 HERE = b": here\n\n"  # a sign of life
-
-
-def changes_permissions(entry: Entry) -> bool:
-    """Whether somebody may do more or less after an entry."""
-    return entry.slot == POLICY and entry.command not in QUIET
+NAMES = itertools.count(1)
 
 
 def event_bytes(name: str, value: Any) -> bytes:
@@ -36,94 +21,75 @@ def event_bytes(name: str, value: Any) -> bytes:
     return f"event: {name}\ndata: {text}\n\n".encode()
 
 
-class Watcher:
-    """What one stream has still to tell."""
+def events_of(news: Dict[str, Any]) -> bytes:
+    """News as events."""
+    if "ended" in news:
+        return event_bytes("ended", sentence_of(news["ended"], {}))
+    events: List[Tuple[str, Any]] = []
+    if "slots" in news:
+        events.append(("slots", news["slots"]))
+    events += [(name, {}) for name in ("policy", "record") if name in news]
+    if "warnings" in news:
+        events.append(("warnings", news["warnings"]))
+    return b"".join(event_bytes(*event) for event in events)
 
-    def __init__(self, gateway: Any, seat: Seat) -> None:
-        self._gateway, self._seat = gateway, seat
-        self._slots: Set[int] = set(range(SLOTS))
-        self._policy = self._record = True
-        self._warnings: List[str] = []
-        self._wake = asyncio.Event()
-        self._wake.set()
 
-    def note(self, entries: List[Entry]) -> None:
-        """New entries were recorded."""
-        for entry in entries:
-            self._record = True
-            if entry.slot != POLICY:
-                self._slots.add(entry.slot)
-            elif changes_permissions(entry):
-                self._slots.update(range(SLOTS))
-                self._policy = True
-        self._wake.set()
+class Rendered:
+    """The events of the last news; tabs that share a login mostly have the same."""
 
-    def stop(self) -> None:
-        """The seat is over, or the gateway stops."""
-        self._wake.set()
+    def __init__(self) -> None:
+        self._plain, self._events = b"", b""
+
+    def of(self, plain: bytes) -> bytes:
+        """The events of news that came so; none, where the seat is over. Raises Denied, Refused."""
+        if plain != self._plain:
+            news = answer_of(plain)
+            self._plain, self._events = plain, b"" if "over" in news else events_of(news)
+        return self._events
+
+
+RENDERED = Rendered()
+
+
+class Stream:
+    """The stream of one tab."""
+
+    def __init__(self, core: Core, seat: Seat) -> None:
+        self._core, self._seat = core, seat
+        self._name = next(NAMES)
+        self._is_over = False
+        self._waiting: "asyncio.Future[bytes]" = None  # type: ignore[assignment]
 
     async def events(self) -> AsyncIterator[bytes]:
         """What the stream has, as it comes, until the seat is over; nothing, now and then, to
-        see whether the page is there."""
-        loop, turns = asyncio.get_running_loop(), 0
-        while not self._seat.is_over:
-            try:
-                await asyncio.wait_for(self._wake.wait(), TURN)
-            except asyncio.TimeoutError:
+        see whether the tab is there."""
+        turns = 0
+        while not self._is_over:
+            if self._waiting is None:
+                asked = self._core.ask_plain("news", stream=self._name, **self._seat.keys)
+                self._waiting = asyncio.ensure_future(asked)
+            done, _ = await asyncio.wait({self._waiting}, timeout=TURN)
+            if not done:
                 turns = (turns + 1) % BEATS
                 yield b"" if turns else HERE
                 continue
-            self._wake.clear()
-            begun = loop.time()
-            yield await self._news()
-            await asyncio.sleep(min(LONGEST_PAUSE, max(PAUSE, 3 * (loop.time() - begun))))
+            try:
+                waiting, self._waiting = self._waiting, None  # type: ignore[assignment]
+                events = RENDERED.of(waiting.result())
+            except (Denied, Refused):
+                return
+            if not events:
+                return
+            yield events
 
-    async def _news(self) -> bytes:
-        """What there is to tell now."""
-        slots, policy, record = sorted(self._slots), self._policy, self._record
-        self._slots, self._policy, self._record = set(), False, False
-        try:
-            ended = await self._end_of_session() if policy else None
-            if ended:
-                await self._seat.leave()
-                return event_bytes("ended", ended)
-            told = [await page_slot(self._seat, number) for number in slots]
-        except Refused:  # it is told with the next news, if the seat isn't over
-            self._slots.update(slots)
-            self._policy, self._record = self._policy or policy, self._record or record
-            self._wake.set()
-            return b""
-        news: List[Event] = [("policy", {})] * policy + [("record", {})] * record
-        news += self._new_warnings()
-        return self._slots_event(told) + b"".join(event_bytes(*event) for event in news)
+    def stop(self) -> None:
+        """The page stops."""
+        self._is_over = True
+        if self._waiting is not None:
+            self._waiting.cancel()
 
-    def _slots_event(self, told: List[Any]) -> bytes:
-        """The news of slots, which pages that share a login mostly have in common."""
-        if not told:
-            return b""
-        board, made = self._seat.board, list(map(id, told))
-        if board.event[0] != made:
-            board.event = made, event_bytes("slots", told), told  # kept, so that no id comes again
-        return board.event[1]
-
-    async def _end_of_session(self) -> Optional[str]:
-        """The sentence of a session that the policy has ended; None of one that lives. It is asked
-        once for all who share it.
-
-        There is no slot 16, which is told only to a session that lives."""
-        asked = {"cmd": "look", "slot": SLOTS, "instant": 1}
-        board, count = self._seat.board, self._seat.changes.count
-        if board.life[0] != count:
-            board.life = count, asyncio.ensure_future(self._seat.share.ask_answer(asked))
-        answer = await asyncio.shield(board.life[1])
-        return sentence_of(answer, asked) if answer.get("code") == NO_SESSION else None
-
-    def _new_warnings(self) -> List[Event]:
-        """The warnings, where they are others than before."""
-        from ..reads import filling
-
-        warnings = filling.warnings(self._gateway)
-        if warnings == self._warnings:
-            return []
-        self._warnings = warnings
-        return [("warnings", warnings)]
+    def close(self) -> None:
+        """The tab has gone."""
+        if self._waiting is not None:
+            self._waiting.cancel()
+        self._core.send("hush", stream=self._name)

@@ -1,6 +1,6 @@
 -- One line of a connection: what it is answered, and the desk and the connection's login afterwards (this project's own
 -- form).
-use Rattle.std.specs.Prelude.{◌≡◌, ℕ, ◌<◌, ◌≤◌, ◌⊎◌, List, Option, Some, None, Err, length}
+use Rattle.std.specs.Prelude.{◌≡◌, ◌≢◌, ℕ, ◌<◌, ◌≤◌, ◌⊎◌, List, Option, Some, None, Err, length}
 use Rattle.rbac_policy.specs.declared.commands.AdminCommand.TheVariants.{CreateSession, DeleteSession}
 use Rattle.rbac_admin.specs.declared.refusals.Refusal.TheVariants as policy
 use Rattle.access_core.specs.declared.refusal.Refusal.{Refusal}
@@ -91,8 +91,10 @@ pub record Tells {D : Type 0} (answers : D → Ask → Reply → D → Type 0) (
   pub step : LineStep answers line before given after
   pub written : text ≡ line_of given
 
--- the line was answered, and no memory was found for the text of the reply: what the line did stands
+-- the line was answered, and no memory was found for the text of the reply: what the line did stands. The reply that
+-- tells want of memory is none of these, since its text is a constant
 pub record TellsNothing {D : Type 0} (answers : D → Ask → Reply → D → Type 0) (line : List ℕ)
     (before after : DeskAndLogin D) : Type 0 where
   pub given : Reply
   pub step : LineStep answers line before given after
+  pub other : given ≢ reply.Refused fault.Memory

@@ -6,10 +6,10 @@ use crate::answer::{Turn, respond};
 use crate::desk::Desk;
 use crate::gate::Gate;
 use crate::login::{Login, hold};
-use line_reader::serving::Answerer;
+use line_reader::serving::{Answerer, Text};
 use std::alloc::{AllocError, Global};
 use wire_lines::reading::RequestReader;
-use wire_lines::reply::reply_line;
+use wire_lines::reply::reply_text;
 
 /// The server's side of one connection: its login, if it holds one, what reads its lines, and the
 /// worker that answers them through a gate.
@@ -27,12 +27,12 @@ impl<'g, D: Desk, G: Gate> Answerer<D> for Client<'g, G> {
     ghost fails = { λ before line after.
         TellsNothing D.answers line (seen_of before) (seen_of after) };
 
-    fn answer(&mut self, alloc: Global, desk: &mut D, line: &[u8]) -> Result<Vec<u8>, AllocError> {
+    fn answer(&mut self, alloc: Global, desk: &mut D, line: &[u8]) -> Result<Text, AllocError> {
         self.gate.before(self.worker);
         let held = self.login.take();
         let Turn { reply, login } = respond(alloc, &mut self.requests, desk, held, line);
         hold(&mut self.login, login);
         self.gate.after(self.worker);
-        reply_line(alloc, &reply)
+        reply_text(alloc, &reply)
     }
 }

@@ -9,9 +9,8 @@ use crate::desk::Desk;
 use crate::gate::Gate;
 use crate::login::Login;
 use crate::serving::{End, serve_gated};
-use crate::source::Connection;
+use crate::source::{Connection, Served};
 use line_reader::meter::{MeteredMemory, MeteredReader, MeteredWriter};
-use line_reader::serving::Why;
 use std::alloc::Global;
 use std::io::{Read, Write};
 use std::sync::Wait;
@@ -27,19 +26,6 @@ pub fn log_out_left<R: Wait, D: Desk>(rt: &R, desk: &mut D, left: Option<Login>)
         }
         None => {}
     }
-}
-
-/// A connection that was served to its end.
-#[derive(Drop)]
-pub struct Served<I, O> {
-    /// Why it ended.
-    pub why: Why,
-    /// The lines of its client, in the meter through which they were read.
-    pub input: MeteredReader<I>,
-    /// The answers to its client, in the meter through which they were written.
-    pub output: MeteredWriter<O>,
-    /// The memory that its buffers were asked of.
-    pub memory: MeteredMemory,
 }
 
 /// Serves a connection to its end over this desk, and has this worker go through the gate around

@@ -1,4 +1,10 @@
 //! Where connections come from.
+ghost use Rattle.std.specs.Prelude.{ℕ, IfSome};
+ghost use Rattle.client_loop.specs.declared.source.Connection.{Connection};
+ghost use Rattle.client_loop.specs.declared.source.Served.{Served};
+
+use line_reader::meter::{MeteredMemory, MeteredReader, MeteredWriter};
+use line_reader::serving::Why;
 use std::io::{Read, Write};
 
 /// A connection: what its client writes is read here, and what is written here its client reads.
@@ -10,7 +16,23 @@ pub struct Connection<I, O> {
     pub writer: O,
 }
 
-/// Where workers get their connections.
+/// A connection that was served to its end.
+#[derive(Drop)]
+pub struct Served<I, O> {
+    /// Why it ended.
+    pub why: Why,
+    /// The lines of its client, in the meter through which they were read.
+    pub input: MeteredReader<I>,
+    /// The answers to its client, in the meter through which they were written.
+    pub output: MeteredWriter<O>,
+    /// The memory that its buffers were asked of.
+    pub memory: MeteredMemory,
+}
+
+/// Where workers get their connections. Workers, and the connections of each, are counted from 0.
+///
+/// A contract that speaks of any source knows nothing of `gave` and `took` but what `accept` and
+/// `take_back` say. So whoever claims one of them has made that very call.
 pub trait Source {
     /// The reading half of a connection.
     type Reader: Read + Send + Drop;
@@ -18,6 +40,17 @@ pub trait Source {
     /// The writing half of a connection.
     type Writer: Write + Send + Drop;
 
-    /// The next connection, for this worker; none at the end, or where it could not be accepted.
-    fn accept(&self, worker: usize) -> Option<Connection<Self::Reader, Self::Writer>>;
+    /// This worker was given this connection, as the one of this number.
+    ghost gave: { ℕ → ℕ → Connection Self.Reader Self.Writer → Type 0 };
+
+    /// What was left of this worker's connection of this number was taken back.
+    ghost took: { ℕ → ℕ → Served Self.Reader Self.Writer → Type 0 };
+
+    /// A worker's connection of this number; none at the end, or where it could not be accepted.
+    fn accept(&self, worker: usize, number: u64) -> Option<Connection<Self::Reader, Self::Writer>>
+        ensures { IfSome result (λ connection. gave worker number connection) };
+
+    /// Takes back what is left of a worker's connection of this number, which was served.
+    fn take_back(&self, worker: usize, number: u64, served: Served<Self::Reader, Self::Writer>)
+        ensures { took worker number served };
 }

@@ -56,10 +56,17 @@ impl<'a, B: BoardName + Send, L: Lends<Board<B>>, T: Lends<SlotTable<B>>, S: Sou
     for Service<'a, B, L, T, S, G> {
     type Seat = Seat<B>;
 
-    ghost turn = { λ before after. ServesNext before after };
+    ghost turn = { λ worker number before after. ServesNext S.Reader.remaining S.Writer.contents
+        S.gave S.took worker number before after };
 
-    fn take_turn<R: Wait>(&self, rt: &R, worker: usize, seat: Seat<B>) -> Turn<Seat<B>> {
-        let Some(connection) = self.source.accept(worker) else {
+    fn take_turn<R: Wait>(
+        &self,
+        rt: &R,
+        worker: usize,
+        number: u64,
+        seat: Seat<B>,
+    ) -> Turn<Seat<B>> {
+        let Some(connection) = self.source.accept(worker, number) else {
             return Turn::Over(seat);
         };
         let mut desk = SharedDesk {
@@ -68,9 +75,9 @@ impl<'a, B: BoardName + Send, L: Lends<Board<B>>, T: Lends<SlotTable<B>>, S: Sou
             table: self.table.lent(),
             seat,
         };
-        // The reason for which a connection ended is dropped: whatever it is, the worker goes on
-        // with the next one.
-        serve_connection(rt, self.alloc, connection, &mut desk, self.gate, worker);
+        // Whatever the reason for which it ended, the worker goes on with the next one.
+        let served = serve_connection(rt, self.alloc, connection, &mut desk, self.gate, worker);
+        self.source.take_back(worker, number, served);
         let SharedDesk {
             rt: _,
             board: _,
@@ -101,16 +108,18 @@ fn run_over<
     seats: Vec<Seat<B>>,
     connections: u64,
 ) -> Result<Back<Seat<B>>, AllocError>
-    ensures { IfOk result (λ back. AreBack ServesNext connections back.all_taken seats.items
-        back.seats.items) }
+    ensures { IfOk result (λ back. AreBack (λ worker number before after.
+        ServesNext S.Reader.remaining S.Writer.contents S.gave S.took worker number before after)
+        connections back.all_taken seats.items back.seats.items) }
 {
     run_each(rt, service.alloc, service, seats, connections)
 }
 
 /// Serves the connections of a source over this board and table, by a thread for each seat. All
 /// threads are started before the source is asked. Each serves this number of connections one after
-/// another, or as many as there are. The call waits for their ends, and tells whether each served
-/// all of its connections. The number of a worker is its seat's place, counted from 0.
+/// another, or as many as there are, and hands back to the source what is left of each. The call
+/// waits for their ends, and tells whether each served all of its connections. The number of a
+/// worker is its seat's place, counted from 0.
 ///
 /// # Errors
 ///
@@ -132,7 +141,9 @@ pub fn run_workers<
     connections: u64,
 ) -> Result<Back<Seat<B>>, Refusal>
     ensures { MatchResult result
-        (λ back. AreBack ServesNext connections back.all_taken seats.items back.seats.items)
+        (λ back. AreBack (λ worker number before after. ServesNext S.Reader.remaining
+        S.Writer.contents S.gave S.took worker number before after)
+        connections back.all_taken seats.items back.seats.items)
         (λ refusal. refusal ≡ Memory) }
 {
     let service = Service {

@@ -1,9 +1,23 @@
 //! Sets of pauses, one bit for each of the 2,048 that a kernel may have.
 
-ghost use Rattle.std.specs.Prelude.{◌≡◌, ◌≢◌, ℕ, true, false};
+ghost use Rattle.std.specs.Prelude.{◌≡◌, ◌≢◌, ◌<◌, ◌≤◌, ◌+◌, ℕ, true, false};
+ghost use Rattle.est_kernel.specs.Bits.{bits};
+ghost use Rattle.est_kernel.specs.Pauses.{some_from};
 
 use crate::mask;
 use crate::statement::PauseIndex;
+
+/// Whether one of `count` bits of a word from the bit `first` on is set.
+fn has_in_word(word: u64, first: usize, count: usize) -> bool
+    requires { first < 64 }
+    ensures { result ≡ some_from (bits word) first count }
+{
+    let rest = word >> first;
+    if rest == 0 {
+        return false;
+    }
+    (rest.trailing_zeros() as usize) < count
+}
 
 /// A set of pauses, one bit for each.
 #[derive(Clone, Copy, PartialEq, Eq, Hash)]
@@ -26,6 +40,20 @@ impl PauseSet {
         ensures { result ≡ pauses_of self.now n.index }
     {
         (self.words[(n.index / 64) as usize] >> (n.index % 64)) & 1 == 1
+    }
+
+    /// Whether one of `count` pauses from the number `first` on is in the set. It asks a word at a
+    /// time.
+    pub fn has_some(&self, first: usize, count: usize) -> bool
+        requires { first + count ≤ 2048 }
+        ensures { result ≡ some_from (pauses_of self.now) first count }
+    {
+        if count == 0 {
+            return false;
+        }
+        let bit = first % 64;
+        let here = count.min(64 - bit);
+        has_in_word(self.words[first / 64], bit, here) || self.has_some(first + here, count - here)
     }
 
     /// Puts the pause into the set.

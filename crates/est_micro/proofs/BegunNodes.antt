@@ -76,28 +76,31 @@ leaf_begun s at gate e old m0 new own r size parts owned learns is_left =
     old m0 m0 new own (at.cell + at.traps + 3) r learns parts (nothing_changes _ _ m0) owned is_left (omega arith)
 
 -- the place of a part
-abbrev pub part_at : Place → ℕ → Place
-part_at at d = record { main = at.main; cell = d; traps = at.traps; direction = at.direction }
+abbrev pub part_at : Place → (number cell : ℕ) → Place
+part_at at n d = record { number = n; main = at.main; cell = d; traps = at.traps; direction = at.direction }
 
 -- the place of a trap's body
 abbrev pub trapped_at : Place → Place
 trapped_at at = record {
+  number = at.number + 1;
   main = at.main;
   cell = at.cell + at.traps + 3;
   traps = at.traps + 1;
   direction = at.direction;
 }
 
-pub present_begun : (at : Place) (t : _) (a : _) (p : Statement) (b : _) (q : Statement)
+pub present_begun : (n : ℕ) (at : Place) (t : _) (a : _) (p : Statement) (b : _) (q : Statement)
     (gate asked g1 g2 o go : Status) (e : Known)
     (old m0 m1 m2 new : List Status) (r1 r2 r : Found) (own : Judgement)
     → asked ≡ status_of (env_of e) (query_of t) → Learns at.cell gate old m0 → go ≡ cell_at m0 at.cell
     → g1 ≡ and_status go asked → o ≡ opposite asked → g2 ≡ and_status go o
-    → IsBegun p (part_at at (at.cell + at.traps + 3)) g1 e m0 m1 r1 → IsBegun q (part_at at r1.past) g2 e m1 m2 r2
+    → IsBegun p (part_at at (at.number + 1) (at.cell + at.traps + 3)) g1 e m0 m1 r1
+    → IsBegun q (part_at at n r1.past) g2 e m1 m2 r2
     → IsPaired either_code r1.judged r2.judged own → IsLeft at.cell at.traps own r2.past m2 new r
     → IsBegun (Present' t a p b q) at gate e old new r
 unfolding IsBegun
-present_begun at t a p b q gate asked g1 g2 o go e old m0 m1 m2 new r1 r2 r own asks learns go_is g1_is o_is g2_is first
+present_begun n at t a p b q gate asked g1 g2 o go e old m0 m1 m2 new r1 r2 r own asks learns go_is g1_is o_is g2_is
+    first
     second pair is_left =
     let main = at.main in
     let way = at.direction in
@@ -127,16 +130,18 @@ pub inside_is : (main : Bool) (p : Statement) (E : Env) (f : Known) (S T : Sheet
     → env_of f ≡ told E (emits is_sure main p T)
 inside_is main p E f S T j h s e = e ∙ ap (λ (z : Signals). told E z) (h.emits ∙ ap (emits is_sure main p) s)
 
-pub seq_begun : (at : Place) (a : _) (p : Statement) (b : _) (q : Statement) (gate later go : Status) (e f : Known)
+pub seq_begun : (n : ℕ) (at : Place) (a : _) (p : Statement) (b : _) (q : Statement) (gate later go : Status)
+    (e f : Known)
     (old m0 m1 m2 new : List Status) (r1 r2 r : Found) (own : Judgement)
     → Learns at.cell gate old m0 → go ≡ cell_at m0 at.cell
     → later ≡ verdict (codes_of r1.judged.must.codes 0) (codes_of r1.judged.can.codes 0)
     → env_of f ≡ told (env_of e) (set_of r1.judged.must.signals)
-    → IsBegun p (part_at at (at.cell + at.traps + 3)) go e m0 m1 r1 → IsBegun q (part_at at r1.past) later f m1 m2 r2
+    → IsBegun p (part_at at (at.number + 1) (at.cell + at.traps + 3)) go e m0 m1 r1
+    → IsBegun q (part_at at n r1.past) later f m1 m2 r2
     → IsPaired then_codes r1.judged r2.judged own → IsLeft at.cell at.traps own r2.past m2 new r
     → IsBegun (Seq' a p b q) at gate e old new r
 unfolding IsBegun
-seq_begun at a p b q gate later go e f old m0 m1 m2 new r1 r2 r own learns go_is later_is f_is first second pair
+seq_begun n at a p b q gate later go e f old m0 m1 m2 new r1 r2 r own learns go_is later_is f_is first second pair
     is_left =
     let main = at.main in
     let way = at.direction in
@@ -162,15 +167,16 @@ seq_begun at a p b q gate later go e f old m0 m1 m2 new r1 r2 r own learns go_is
     (paired then_codes _ _ _ _ _ _ _ _ r1.judged r2.judged own w.first_found w.second_found pair) is_left
     (let x = w.past in omega arith)
 
-pub par_begun : (at : Place) (a : _) (p : Statement) (b : _) (q : Statement) (gate go : Status) (e f : Known)
+pub par_begun : (n : ℕ) (at : Place) (a : _) (p : Statement) (b : _) (q : Statement) (gate go : Status) (e f : Known)
     (old m0 m1 m2 new : List Status) (r1 r2 r : Found) (own : Judgement)
     → at.direction ≡ Forwards → Learns at.cell gate old m0 → go ≡ cell_at m0 at.cell
     → env_of f ≡ told (env_of e) (set_of r1.judged.must.signals)
-    → IsBegun p (part_at at (at.cell + at.traps + 3)) go e m0 m1 r1 → IsBegun q (part_at at r1.past) go f m1 m2 r2
+    → IsBegun p (part_at at (at.number + 1) (at.cell + at.traps + 3)) go e m0 m1 r1
+    → IsBegun q (part_at at n r1.past) go f m1 m2 r2
     → IsPaired max_codes r1.judged r2.judged own → IsLeft at.cell at.traps own r2.past m2 new r
     → IsBegun (Par' a p b q) at gate e old new r
 unfolding IsBegun
-par_begun at a p b q gate go e f old m0 m1 m2 new r1 r2 r own goes learns go_is f_is first second pair
+par_begun n at a p b q gate go e f old m0 m1 m2 new r1 r2 r own goes learns go_is f_is first second pair
     is_left =
     let main = at.main in
     let way = at.direction in
@@ -194,17 +200,18 @@ par_begun at a p b q gate go e f old m0 m1 m2 new r1 r2 r own goes learns go_is 
     (paired max_codes _ _ _ _ _ _ _ _ r1.judged r2.judged own w.first_found w.second_found pair) is_left
     (let x = w.past in omega arith)
 
-pub par_begun_back : (at : Place) (a : _) (p : Statement) (b : _) (q : Statement) (gate go : Status) (k : ℕ)
+pub par_begun_back : (n : ℕ) (at : Place) (a : _) (p : Statement) (b : _) (q : Statement) (gate go : Status) (k : ℕ)
     (e f : Known)
     (old m0 m1 m2 new : List Status) (r1 r2 r : Found) (own : Judgement)
     → at.direction ≡ Backwards → Learns at.cell gate old m0 → go ≡ cell_at m0 at.cell
     → k ≡ at.cell + at.traps + 3 + sheet_size at.main p at.traps
     → env_of f ≡ told (env_of e) (set_of r2.judged.must.signals)
-    → IsBegun q (part_at at k) go e m0 m1 r2 → IsBegun p (part_at at (at.cell + at.traps + 3)) go f m1 m2 r1
+    → IsBegun q (part_at at n k) go e m0 m1 r2
+    → IsBegun p (part_at at (at.number + 1) (at.cell + at.traps + 3)) go f m1 m2 r1
     → IsPaired max_codes r1.judged r2.judged own → IsLeft at.cell at.traps own r2.past m2 new r
     → IsBegun (Par' a p b q) at gate e old new r
 unfolding IsBegun
-par_begun_back at a p b q gate go k e f old m0 m1 m2 new r1 r2 r own goes learns go_is k_is f_is second first pair
+par_begun_back n at a p b q gate go k e f old m0 m1 m2 new r1 r2 r own goes learns go_is k_is f_is second first pair
     is_left =
     let main = at.main in
     let way = at.direction in
@@ -229,7 +236,8 @@ par_begun_back at a p b q gate go k e f old m0 m1 m2 new r1 r2 r own goes learns
 
 pub suspend_begun : (at : Place) (t : _) (a : _) (p : Statement) (gate go : Status) (e : Known)
     (old m0 m1 new : List Status) (r1 r : Found) → Learns at.cell gate old m0 → go ≡ cell_at m0 at.cell
-    → IsBegun p (part_at at (at.cell + at.traps + 3)) go e m0 m1 r1 → IsLeft at.cell at.traps r1.judged r1.past m1 new r
+    → IsBegun p (part_at at (at.number + 1) (at.cell + at.traps + 3)) go e m0 m1 r1
+    → IsLeft at.cell at.traps r1.judged r1.past m1 new r
     → IsBegun (Suspend' t a p) at gate e old new r
 unfolding IsBegun
 suspend_begun at t a p gate go e old m0 m1 new r1 r learns go_is body is_left =
@@ -298,14 +306,16 @@ emitting_found a b c d s u v w x y j h k l = record {
 }
 
 -- a loop that was begun again has no restart of its own
-pub again_begun : (way : Direction) (main : Bool) (c t : ℕ) (a : _) (p : Statement) (gate go : Status) (e : Known)
+pub again_begun : (m n : ℕ) (way : Direction) (main : Bool) (c t : ℕ) (a : _) (p : Statement) (gate go : Status)
+    (e : Known)
     (old m0 m1 new : List Status) (r1 r : Found) → main ≡ false → Learns c gate old m0 → go ≡ cell_at m0 c
-    → IsBegun p (record { main = main; cell = c + t + 3; traps = t; direction = way }) go e m0 m1 r1
+    → IsBegun p (record { number = n; main = main; cell = c + t + 3; traps = t; direction = way }) go e m0 m1 r1
     → IsLeft c t r1.judged r1.past m1 new r
-    → IsBegun (Loop' a p) (record { main = main; cell = c; traps = t; direction = way }) gate e old new r
+    → IsBegun (Loop' a p) (record { number = m; main = main; cell = c; traps = t; direction = way }) gate e old new r
 unfolding IsBegun
-again_begun way true c t a p gate go e old m0 m1 new r1 r h learns go_is body is_left = let z : true ≡ false = h in cc
-again_begun way false c t a p gate go e old m0 m1 new r1 r h learns go_is body is_left =
+again_begun m n way true c t a p gate go e old m0 m1 new r1 r h learns go_is body is_left = let z : true ≡ false = h
+    in cc
+again_begun m n way false c t a p gate go e old m0 m1 new r1 r h learns go_is body is_left =
     let d = c + t + 3 in
     let E = env_of e in
     let w = one_swept false p d t (swept way false p E go) old m0 m1 r1 (λ i l u. learns.later i (omega arith)) body in
@@ -323,17 +333,18 @@ again_begun way false c t a p gate go e old m0 m1 new r1 r h learns go_is body i
     is_left (let x = w.past in omega arith)
 
 -- a loop that can go on, with its body as the restart begins it
-pub loop_begun : (way : Direction) (main : Bool) (c t : ℕ) (a : _) (p : Statement) (gate go : Status) (e : Known)
+pub loop_begun : (m n : ℕ) (way : Direction) (main : Bool) (c t : ℕ) (a : _) (p : Statement) (gate go : Status)
+    (e : Known)
     (old m0 m1 m2 new : List Status) (r1 r2 r : Found) (own : Judgement) → main ≡ true → Learns c gate old m0
     → go ≡ cell_at m0 c
-    → IsBegun p (record { main = main; cell = c + t + 3; traps = t; direction = way }) go e m0 m1 r1
-    → IsBegun p (record { main = false; cell = r1.past; traps = t; direction = way }) Absent e m1 m2 r2
+    → IsBegun p (record { number = n; main = main; cell = c + t + 3; traps = t; direction = way }) go e m0 m1 r1
+    → IsBegun p (record { number = n; main = false; cell = r1.past; traps = t; direction = way }) Absent e m1 m2 r2
     → IsEmitting r1.judged r2.judged own → IsLeft c t own r2.past m2 new r
-    → IsBegun (Loop' a p) (record { main = main; cell = c; traps = t; direction = way }) gate e old new r
+    → IsBegun (Loop' a p) (record { number = m; main = main; cell = c; traps = t; direction = way }) gate e old new r
 unfolding IsBegun
-loop_begun way false c t a p gate go e old m0 m1 m2 new r1 r2 r own h learns go_is body restart pair is_left =
+loop_begun m n way false c t a p gate go e old m0 m1 m2 new r1 r2 r own h learns go_is body restart pair is_left =
     let z : false ≡ true = h in cc
-loop_begun way true c t a p gate go e old m0 m1 m2 new r1 r2 r own h learns go_is body restart pair is_left =
+loop_begun m n way true c t a p gate go e old m0 m1 m2 new r1 r2 r own h learns go_is body restart pair is_left =
     let d = c + t + 3 in
     let E = env_of e in
     let w = two_swept true false p p d t (swept way true p E go) (swept way false p E Absent) old m0 m1 m2 r1 r2
@@ -403,7 +414,7 @@ pub local_begun : (at : Place) (s : LocalSignal) (a : _) (p : Statement) (gate g
     (old m0 m1 m2 new : List Status) (r1 r : Found) (own : Judgement) → Learns at.cell gate old m0
     → go ≡ cell_at m0 at.cell
     → env_of inside ≡ with_local (env_of e) s.index (cell_at m0 (at.cell + at.traps + 3))
-    → IsBegun p (part_at at (at.cell + at.traps + 3 + 1)) go inside m0 m1 r1
+    → IsBegun p (part_at at (at.number + 1) (at.cell + at.traps + 3 + 1)) go inside m0 m1 r1
     → status ≡ verdict (set_of r1.judged.must.signals (inner s.index)) (set_of r1.judged.can.signals (inner s.index))
     → Learns (at.cell + at.traps + 3) status m1 m2
     → IsHidden s.index r1.judged own → IsLeft at.cell at.traps own r1.past m2 new r

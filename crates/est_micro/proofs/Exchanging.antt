@@ -19,6 +19,7 @@ use Rattle.est_net.specs.Cells.{cell_at, learned}
 use Rattle.est_rounds.specs.Views.{env_of, set_of}
 use Rattle.est_rounds.specs.declared.signal_set.Env.{Env as Known}
 use Rattle.est_micro.specs.Outputs.{AreSignalsTold, IsToldOne}
+use Rattle.est_micro.specs.Parts.{opened}
 use Rattle.est_micro.specs.Views.{Changes}
 use Rattle.est_micro.proofs.BegunNodes.{widen, nothing_changes}
 use Rattle.est_micro.proofs.Frames.{changes_then, learn_changes}
@@ -152,25 +153,40 @@ said false true false v h = let z : false ≡ true = h refl in cc
 said false false true v h = refl
 said false false false v h = refl
 
--- what is known by the cells of the signals and by what was offered
-abbrev pub IsKnownBy : (ℕ → Bool) → ℕ → (ℕ → Bool) → List Status → Known → Type 0
-IsKnownBy f m inputs cells e =
-    env_of e ≡ known (record { places = m; has = λ n. f n && not (inputs n) }) inputs
-    (λ n. cell_at cells (how_many f n))
+-- of an open signal nothing is known
+said_but : (o x y : Bool) → verdict (x && not o) (y || o) ≡ cond o Unknown (verdict x y)
+said_but true true true = refl
+said_but true true false = refl
+said_but true false true = refl
+said_but true false false = refl
+said_but false true y = refl
+said_but false false true = refl
+said_but false false false = refl
 
-pub known_is : (f : ℕ → Bool) (m : ℕ) (inputs p q : ℕ → Bool) (cells : List Status) (e : Known)
+-- what is known by the cells of the signals and by what was offered, where some inputs are open
+abbrev pub IsKnownBy : (ℕ → Bool) → (ℕ → Bool) → ℕ → (ℕ → Bool) → List Status → Known → Type 0
+IsKnownBy unasked f m inputs cells e =
+    env_of e ≡ opened unasked (known (record { places = m; has = λ n. f n && not (inputs n) }) inputs
+    (λ n. cell_at cells (how_many f n)))
+
+pub known_is : (unasked f : ℕ → Bool) (m : ℕ) (inputs p q a b : ℕ → Bool) (cells : List Status) (e : Known)
     → ((n : ℕ) → f n ≡ true → n < m)
-    → ((n : ℕ) → bits e.present.interface n ≡ (inputs n || p n))
-    → ((n : ℕ) → bits e.possible.interface n ≡ (inputs n || q n))
+    → ((n : ℕ) → a n ≡ (inputs n || p n)) → ((n : ℕ) → b n ≡ (inputs n || q n))
+    → ((n : ℕ) → bits e.present.interface n ≡ (a n && not (unasked n)))
+    → ((n : ℕ) → bits e.possible.interface n ≡ (b n || unasked n))
     → ((n : ℕ) → p n ≡ (ltb n m && (f n && is_sure (cell_at cells (how_many f n)))))
     → ((n : ℕ) → q n ≡ (ltb n m && (f n && is_possible (cell_at cells (how_many f n)))))
-    → e.present.local ≡ 0 → e.possible.local ≡ 0 → IsKnownBy f m inputs cells e
-unfolding env_of set_of known
-known_is f m inputs p q cells e inside a b c d l k = fun_ext (elim [
-  | outer n ↦ ap (λ (z : Bool). verdict z (bits e.possible.interface n)) (a n ∙ ap (λ (z : Bool). inputs n || z) (c n))
+    → e.present.local ≡ 0 → e.possible.local ≡ 0 → IsKnownBy unasked f m inputs cells e
+unfolding env_of set_of known opened
+known_is unasked f m inputs p q a b cells e inside x y u v c d l k = fun_ext (elim [
+  | outer n ↦ ap (λ (z : Bool). verdict z (bits e.possible.interface n)) (u n)
+      ∙ (ap (λ (z : Bool). verdict (a n && not (unasked n)) z) (v n)
+      ∙ (said_but (unasked n) (a n) (b n)
+      ∙ ap (λ (z : Status). cond (unasked n) Unknown z)
+      (ap (λ (z : Bool). verdict z (b n)) (x n ∙ ap (λ (z : Bool). inputs n || z) (c n))
       ∙ (ap (λ (z : Bool). verdict (inputs n || (ltb n m && (f n && is_sure (cell_at cells (how_many f n))))) z)
-      (b n ∙ ap (λ (z : Bool). inputs n || z) (d n))
-      ∙ said (inputs n) (f n) (ltb n m) (cell_at cells (how_many f n)) (λ h. lt-ltb n m (inside n h)))
+      (y n ∙ ap (λ (z : Bool). inputs n || z) (d n))
+      ∙ said (inputs n) (f n) (ltb n m) (cell_at cells (how_many f n)) (λ h. lt-ltb n m (inside n h))))))
   | inner n ↦ ap (λ (z : ℕ). verdict (bits z n) (bits e.possible.local n)) l
       ∙ (ap (λ (z : ℕ). verdict (bits 0 n) (bits z n)) k
       ∙ (ap (λ (z : Bool). verdict z (bits 0 n)) (bits_zero n) ∙ ap (λ (z : Bool). verdict false z) (bits_zero n)))

@@ -18,7 +18,7 @@ use Rattle.est_meaning.specs.declared.status.Status.TheVariants.{Present, Absent
 use Rattle.est_cells.proofs.MicrostepsAgree.{decided_back}
 use Rattle.est_cells.proofs.Order.{below_then}
 use Rattle.est_cells.proofs.WholeTable.{table_sound}
-use Rattle.est_cells.specs.Decided.{AgainDecided, NodeDecided, PartsDecided, SheetDecided}
+use Rattle.est_cells.specs.Decided.{AgainDecided, NodeDecided, PartsDecided, SheetDecided, TableDecided}
 use Rattle.est_cells.specs.Tables.{Again, AgainBelow, Below, Cells, CellsBelow, Sheet}
 use Rattle.est_cells.specs.Tables.{make_again, sheet_size, is_sure, is_possible}
 use Rattle.est_cells.specs.Whole.{TableBelow, table_gates, table_meaning}
@@ -228,6 +228,21 @@ known_back : (v w : Status) → IsBelow v w → v ≢ Unknown → IsBelow w v
 known_back v w (inl e) n = absurd (n e)
 known_back v w (inr e) n = inr (sym e)
 
+-- no cell of it is open
+pub full_decided : (k : Kernel) (inputs : ℕ → Bool) (cells : List Status)
+    → IsWithinPlaces (judged_signals k.interface inputs) → length cells ≡ cell_count k
+    → decided cells ≡ length cells
+    → TableDecided (judged_signals k.interface inputs) k.root (table_of k.interface k.root cells)
+full_decided k inputs cells w size all =
+    let i = k.interface in
+    let known : (n : ℕ) → n < length cells → cell_at cells n ≢ Unknown = each_known cells all in
+    record {
+      outputs = λ n l.
+          let r = rank_within (emittable i) (length i) n (w n l) (may_be i inputs n l) in
+          known (rank i n) (omega arith);
+      sheet = sheet_decided true k.root (cell_at cells) (output_count i) 0 (λ n l u. known n (omega arith));
+    }
+
 pub full_closed : (k : Kernel) (x : State) (inputs : ℕ → Bool) (cells : List Status)
     → IsWithinPlaces (judged_signals k.interface inputs) → length cells ≡ cell_count k
     → decided cells ≡ length cells
@@ -242,13 +257,10 @@ full_closed k x inputs cells w size all sound =
     let T = table_of i k.root cells in
     let M = table_meaning j inputs k.root x in
     let g = table_sound j w inputs k.root x T sound in
-    let known : (n : ℕ) → n < length cells → cell_at cells n ≢ Unknown = each_known cells all in
-    let d : SheetDecided true k.root T.sheet =
-    sheet_decided true k.root (cell_at cells) (output_count i) 0 (λ n l u. known n (omega arith)) in
+    let d = full_decided k inputs cells w size all in
     record {
-      outputs = λ n l.
-          let r = rank_within (emittable i) (length i) n (w n l) (may_be i inputs n l) in
-          below_then (g.outputs n l)
-          (known_back (T.outputs n) (M.outputs n) (sound.outputs n l) (known (rank i n) (omega arith)));
-      sheet = sheet_then true k.root _ M.sheet T.sheet g.sheet (decided_back true k.root T.sheet M.sheet sound.sheet d);
+      outputs = λ n l. below_then (g.outputs n l)
+          (known_back (T.outputs n) (M.outputs n) (sound.outputs n l) (d.outputs n l));
+      sheet = sheet_then true k.root _ M.sheet T.sheet g.sheet
+          (decided_back true k.root T.sheet M.sheet sound.sheet d.sheet);
     }

@@ -2,10 +2,13 @@ mod Told
 mod SweepsAreSound
 mod SweepsComeToRest
 mod Frames
+mod KeptExtents
 mod Telling
 mod Nodes
 mod BegunNodes
 mod ResumedNodes
+mod Unasked
+mod OpenTests
 mod Rounds
 mod DecidedSheets
 mod Emissions
@@ -16,6 +19,7 @@ mod FullTables
 mod Settling
 mod AllDecided
 mod Outcomes
+mod PartReactions
 mod Collecting
 mod IdleSheets
 mod Hearing

@@ -46,10 +46,11 @@ use Rattle.est_net.specs.Layout.{output_count, sheet_in, sure_codes}
 use Rattle.est_rounds.proofs.Reacting.{paused_state, paused_reacts, ended_reacts}
 use Rattle.est_rounds.specs.Contract.{IsReaction, HasNoReaction}
 use Rattle.est_rounds.specs.Views.{env_of, set_of}
+use Rattle.est_rounds.specs.declared.signal_set.Env.{Env as Known}
 use Rattle.est_rounds.specs.declared.signal_set.SignalSet.{SignalSet}
 use Rattle.est_micro.specs.Runs.{IsSettled, output_cells, table_of}
 use Rattle.est_micro.specs.Engine.{GoesOnFrom, HasValues, IsAsMeant}
-use Rattle.est_micro.specs.declared.run.Settled.{Settled}
+use Rattle.est_micro.specs.declared.cells.Found.{Found}
 use Rattle.est_micro.proofs.Settling.{within_places}
 use Rattle.est_micro.proofs.AllDecided.{all_cells_decided}
 
@@ -83,18 +84,18 @@ abbrev Meant : Kernel → State → (ℕ → Bool) → List Status → Type 0
 Meant k x inputs cells = TableBelow (judged_signals k.interface inputs) k.root
     (table_meaning (judged_signals k.interface inputs) inputs k.root x) (table_of k.interface k.root cells)
 
-least_of : (k : Kernel) (x : State) (inputs : ℕ → Bool) (cells : List Status) (r : Settled)
+least_of : (k : Kernel) (x : State) (inputs : ℕ → Bool) (cells : List Status) (r : Found)
     → IsSettled k x inputs cells r
     → Meant k x inputs cells
 least_of k x inputs cells r h = table_least (judged_signals k.interface inputs) inputs k.root x
     (table_of k.interface k.root cells) h.closed
 
-pub as_meant : (k : Kernel) (x : State) (inputs : ℕ → Bool) (cells : List Status) (r : Settled)
+pub as_meant : (k : Kernel) (x : State) (inputs : ℕ → Bool) (cells : List Status) (r : Found)
     → IsSettled k x inputs cells r → IsAsMeant k x inputs cells
 as_meant k x inputs cells r h = record { sound = h.sound; whole = least_of k x inputs cells r h }
 
 -- where there is a reaction, every cell is decided
-decided_by : (k : Kernel) (x : State) (inputs : ℕ → Bool) (cells : List Status) (r : Settled)
+decided_by : (k : Kernel) (x : State) (inputs : ℕ → Bool) (cells : List Status) (r : Found)
     → IsSettled k x inputs cells r
     → (o : Signals) (n : ℕ) (u : Term)
     → Gives (state_term k.root x) (last_env (judged_signals k.interface inputs) inputs (state_term k.root x)) o n u
@@ -119,7 +120,7 @@ decided_by k x inputs cells r h o n u g =
     known_below_is (inl h) d = absurd (d h)
     known_below_is (inr h) d = h
 
-values_of : (k : Kernel) (x : State) (inputs : ℕ → Bool) (cells : List Status) (r : Settled)
+values_of : (k : Kernel) (x : State) (inputs : ℕ → Bool) (cells : List Status) (r : Found)
     → IsLoopSafe (term_of k.root)
     → IsState k.root x → IsSettled k x inputs cells r
     → TableDecided (judged_signals k.interface inputs) k.root (table_of k.interface k.root cells)
@@ -133,9 +134,9 @@ values_of k x inputs cells r safe q h d = record {
 }
 
 -- where the table has a code, there is a reaction, and every cell has its value
-pub values_by_code : (k : Kernel) (x : State) (inputs : ℕ → Bool) (cells : List Status) (r : Settled)
+pub values_by_code : (k : Kernel) (x : State) (inputs : ℕ → Bool) (cells : List Status) (r : Found)
     → IsLoopSafe (term_of k.root)
-    → IsState k.root x → IsSettled k x inputs cells r → (n : ℕ) → codes_of r.found.judged.must.codes n ≡ true
+    → IsState k.root x → IsSettled k x inputs cells r → (n : ℕ) → codes_of r.judged.must.codes n ≡ true
     → HasValues k x inputs cells
 values_by_code k x inputs cells r safe q h n c =
     let e = last_env (judged_signals k.interface inputs) inputs (state_term k.root x) in
@@ -145,9 +146,9 @@ values_by_code k x inputs cells r safe q h n c =
     values_of k x inputs cells r safe q h (decided_by k x inputs cells r h rule.signals n rule.rest rule.gives)
 
 -- the signals that are emitted, and the code, are those of the reaction
-emitted_are : (k : Kernel) (x : State) (inputs : ℕ → Bool) (cells : List Status) (r : Settled)
+emitted_are : (k : Kernel) (x : State) (inputs : ℕ → Bool) (cells : List Status) (r : Found)
     → IsSettled k x inputs cells r
-    → (v : HasValues k x inputs cells) → set_of r.found.judged.must.signals ≡ v.values.signals
+    → (v : HasValues k x inputs cells) → set_of r.judged.must.signals ≡ v.values.signals
 emitted_are k x inputs cells r h v =
     let s = k.root in
     let e = last_env (judged_signals k.interface inputs) inputs (state_term s x) in
@@ -159,9 +160,9 @@ emitted_are k x inputs cells r h v =
     ∙ (sheet_sure s x e
     ∙ ap (λ a. a.signals) (gives_must (state_term s x) e v.values.signals v.values.code v.values.rest v.values.gives)))
 
-code_is : (k : Kernel) (x : State) (inputs : ℕ → Bool) (cells : List Status) (r : Settled)
+code_is : (k : Kernel) (x : State) (inputs : ℕ → Bool) (cells : List Status) (r : Found)
     → IsSettled k x inputs cells r
-    → (v : HasValues k x inputs cells) → (n : ℕ) → codes_of r.found.judged.must.codes n ≡ true → v.values.code ≡ n
+    → (v : HasValues k x inputs cells) → (n : ℕ) → codes_of r.judged.must.codes n ≡ true → v.values.code ≡ n
 code_is k x inputs cells r h v n c =
     let s = k.root in
     let e = last_env (judged_signals k.interface inputs) inputs (state_term s x) in
@@ -189,20 +190,20 @@ next_of k (Paused p) inputs from cells d q n g v =
     (next_pauses j inputs k.root d p q.live q.exclusive (table_of k.interface k.root cells) v.values)
 
 -- the kernel pauses
-pub reaction_paused : (k : Kernel) (x : State) (i : Inputs) (cells : List Status) (r : Settled) (from : ℕ → Bool)
+pub reaction_paused : (k : Kernel) (x : State) (i : Inputs) (cells : List Status) (r : Found) (from : ℕ → Bool)
     (next : PauseSet)
     → HasDistinctPauses k.root → IsLoopSafe (term_of k.root) → IsState k.root x → (x ≡ Done → ⊥) → GoesOnFrom x from
-    → IsSettled k x (bits i.signals) cells r → codes_of r.found.judged.must.codes 1 ≡ true
+    → IsSettled k x (bits i.signals) cells r → codes_of r.judged.must.codes 1 ≡ true
     → ((a : ℕ) → pauses_of next a ≡ stays true k.root from
     (sheet_in (cell_at cells) true k.root (output_count k.interface) 0) a)
-    → IsReaction k x i (record { outputs = r.found.judged.must.signals.interface; next = Paused next })
+    → IsReaction k x i (record { outputs = r.judged.must.signals.interface; next = Paused next })
 reaction_paused k x i cells r from next d safe q n g h c same =
     let inputs = bits i.signals in
     let j = judged_signals k.interface inputs in
     let s = k.root in
     let t = state_term s x in
     let last = last_env j inputs t in
-    let o = r.found.judged.must.signals in
+    let o = r.judged.must.signals in
     let v = values_by_code k x inputs cells r safe q h 1 c in
     let N = next_of k x inputs from cells d q n g v in
     let one = subst (λ (z : ℕ → Bool). StepsTo s t last v.values.signals v.values.code z)
@@ -217,17 +218,17 @@ reaction_paused k x i cells r from next d safe q n g h c same =
     }
 
 -- the kernel ends
-pub reaction_ended : (k : Kernel) (x : State) (i : Inputs) (cells : List Status) (r : Settled) (from : ℕ → Bool)
+pub reaction_ended : (k : Kernel) (x : State) (i : Inputs) (cells : List Status) (r : Found) (from : ℕ → Bool)
     → HasDistinctPauses k.root → IsLoopSafe (term_of k.root) → IsState k.root x → (x ≡ Done → ⊥) → GoesOnFrom x from
-    → IsSettled k x (bits i.signals) cells r → codes_of r.found.judged.must.codes 0 ≡ true
-    → IsReaction k x i (record { outputs = r.found.judged.must.signals.interface; next = Done })
+    → IsSettled k x (bits i.signals) cells r → codes_of r.judged.must.codes 0 ≡ true
+    → IsReaction k x i (record { outputs = r.judged.must.signals.interface; next = Done })
 reaction_ended k x i cells r from d safe q n g h c =
     let inputs = bits i.signals in
     let j = judged_signals k.interface inputs in
     let s = k.root in
     let t = state_term s x in
     let last = last_env j inputs t in
-    let o = r.found.judged.must.signals in
+    let o = r.judged.must.signals in
     let v = values_by_code k x inputs cells r safe q h 0 c in
     let N = next_of k x inputs from cells d q n g v in
     let pauses = stays true s from (sheet_in (cell_at cells) true s (output_count k.interface) 0) in
@@ -245,16 +246,16 @@ unfolding set_of
 set_seen a f n e = ap (λ (g : Signals). g (outer n)) e
 
 -- the kernel had ended
-pub done_values : (k : Kernel) (inputs : ℕ → Bool) (cells : List Status) (r : Settled) → IsLoopSafe (term_of k.root)
+pub done_values : (k : Kernel) (inputs : ℕ → Bool) (cells : List Status) (r : Found) → IsLoopSafe (term_of k.root)
     → IsSettled k Done inputs cells r → HasValues k Done inputs cells
 done_values k inputs cells r safe h =
     let last = last_env (judged_signals k.interface inputs) inputs nothing in
     let g : Gives nothing last no_signals 0 nothing = record { signals = refl; code = refl; rest = refl } in
     values_of k Done inputs cells r safe tt h (decided_by k Done inputs cells r h no_signals 0 nothing g)
 
-pub reaction_done : (k : Kernel) (i : Inputs) (cells : List Status) (r : Settled) → IsLoopSafe (term_of k.root)
+pub reaction_done : (k : Kernel) (i : Inputs) (cells : List Status) (r : Found) → IsLoopSafe (term_of k.root)
     → IsSettled k Done (bits i.signals) cells r
-    → IsReaction k Done i (record { outputs = r.found.judged.must.signals.interface; next = Done })
+    → IsReaction k Done i (record { outputs = r.judged.must.signals.interface; next = Done })
 reaction_done k i cells r safe h =
     let inputs = bits i.signals in
     let last = last_env (judged_signals k.interface inputs) inputs nothing in
@@ -265,7 +266,7 @@ reaction_done k i cells r safe h =
         code = v.values.code;
         gives = subst (λ (z : Term). Gives nothing last v.values.signals v.values.code z) v.values.gives.rest
             v.values.gives;
-        seen = λ n. set_seen r.found.judged.must.signals v.values.signals n (emitted_are k Done inputs cells r h v);
+        seen = λ n. set_seen r.judged.must.signals v.values.signals n (emitted_are k Done inputs cells r h v);
       };
       next = tt;
     }
@@ -301,41 +302,50 @@ left_unknown true i v w h = ap is_unknown (h refl)
 left_unknown false true v w h = refl
 left_unknown false false v w h = refl
 
-undecided_at : (k : Kernel) (x : State) (inputs : ℕ → Bool) (cells : List Status) (r : Settled) (u n : ℕ)
+undecided_at : (k : Kernel) (x : State) (inputs : ℕ → Bool) (cells : List Status) (r : Found) (e : Known) (u n : ℕ)
     → IsSettled k x inputs cells r
-    → bits u n ≡ (bits r.env.possible.interface n && not (bits r.env.present.interface n))
+    → env_of e ≡ known (judged_signals k.interface inputs) inputs (output_cells k.interface cells)
+    → bits u n ≡ (bits e.possible.interface n && not (bits e.present.interface n))
     → bits u n ≡ is_undecided (judged_signals k.interface inputs) inputs (state_term k.root x) n
 unfolding env_of set_of known
-undecided_at k x inputs cells r u n h e =
+undecided_at k x inputs cells r e u n h knows is =
     let j = judged_signals k.interface inputs in
-    e ∙ (unknown_is (bits r.env.present.interface n) (bits r.env.possible.interface n)
-    ∙ (ap (λ (f : Env). is_unknown (f (outer n))) h.knows
+    is ∙ (unknown_is (bits e.present.interface n) (bits e.possible.interface n)
+    ∙ (ap (λ (f : Env). is_unknown (f (outer n))) knows
     ∙ left_unknown (j.has n) (inputs n) (output_cells k.interface cells n) _
     (λ l. left_open j (within_places k.interface inputs) inputs k.root x
     (table_of k.interface k.root cells) h.sound h.closed n l)))
 
+-- a table without an open cell has one of the two codes
+pub some_code : (k : Kernel) (x : State) (inputs : ℕ → Bool) (cells : List Status) (r : Found)
+    → IsLoopSafe (term_of k.root)
+    → IsState k.root x → (x ≡ Done → ⊥) → IsSettled k x inputs cells r
+    → codes_of r.judged.must.codes 0 ≡ false → codes_of r.judged.must.codes 1 ≡ false
+    → TableDecided (judged_signals k.interface inputs) k.root (table_of k.interface k.root cells) → ⊥
+some_code k x inputs cells r safe q n h a b d =
+    let t = state_term k.root x in
+    let last = last_env (judged_signals k.interface inputs) inputs t in
+    let v = values_of k x inputs cells r safe q h d in
+    let c = v.values.code in
+    let g = ap (λ m. m.codes c) (gives_must t last v.values.signals c v.values.rest v.values.gives) in
+    let m = meant_code k.root x last c n (g ∙ code_self c) in
+    let there = (least_of k x inputs cells r h).sheet.cells.must c m in
+    no_code (codes_of r.judged.must.codes) c (few_codes (cell_at cells) _ c there) a b
+    (ap (λ (f : Codes). f c) h.found.must ∙ there)
+
 -- the kernel has no reaction
-pub no_reaction : (k : Kernel) (x : State) (i : Inputs) (cells : List Status) (r : Settled) (u : Stuck)
+pub no_reaction : (k : Kernel) (x : State) (i : Inputs) (cells : List Status) (r : Found) (e : Known) (u : Stuck)
     → IsLoopSafe (term_of k.root)
     → IsState k.root x → (x ≡ Done → ⊥) → IsSettled k x (bits i.signals) cells r
-    → codes_of r.found.judged.must.codes 0 ≡ false → codes_of r.found.judged.must.codes 1 ≡ false
-    → ((n : ℕ) → bits u.undecided n ≡ (bits r.env.possible.interface n && not (bits r.env.present.interface n)))
+    → env_of e ≡ known (judged_signals k.interface (bits i.signals)) (bits i.signals) (output_cells k.interface cells)
+    → codes_of r.judged.must.codes 0 ≡ false → codes_of r.judged.must.codes 1 ≡ false
+    → ((n : ℕ) → bits u.undecided n ≡ (bits e.possible.interface n && not (bits e.present.interface n)))
     → HasNoReaction k x i u
-no_reaction k x i cells r u safe q n h a b e =
+no_reaction k x i cells r e u safe q n h knows a b is =
     let inputs = bits i.signals in
     let j = judged_signals k.interface inputs in
-    let s = k.root in
-    let t = state_term s x in
-    let last = last_env j inputs t in
-    let T = table_of k.interface s cells in
     record {
-      cannot = some_open j (within_places k.interface inputs) inputs s x T h.closed (λ d.
-          let v = values_of k x inputs cells r safe q h d in
-          let c = v.values.code in
-          let g = ap (λ m. m.codes c) (gives_must t last v.values.signals c v.values.rest v.values.gives) in
-          let m = meant_code s x last c n (g ∙ code_self c) in
-          let there = (least_of k x inputs cells r h).sheet.cells.must c m in
-          no_code (codes_of r.found.judged.must.codes) c (few_codes (cell_at cells) _ c there) a b
-          (ap (λ (f : Codes). f c) h.found.must ∙ there));
-      undecided = λ m. undecided_at k x inputs cells r u.undecided m h (e m);
+      cannot = some_open j (within_places k.interface inputs) inputs k.root x (table_of k.interface k.root cells)
+          h.closed (some_code k x inputs cells r safe q n h a b);
+      undecided = λ m. undecided_at k x inputs cells r e u.undecided m h knows (is m);
     }

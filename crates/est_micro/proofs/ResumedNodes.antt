@@ -58,8 +58,8 @@ pub present_resumed : (at : Place) (t : _) (a : _) (p : Statement) (b : _) (q : 
     (own : Judgement)
     → asked ≡ status_of (env_of e) (query_of t) → on ≡ is_live p (pauses_of pauses) → Learns at.cell Absent old m0
     → go ≡ cell_at m0 at.cell → g1 ≡ and_status go asked → o ≡ opposite asked → g2 ≡ and_status go o
-    → IsChosen p (part_at at (at.cell + at.traps + 3)) pauses on g1 run e m0 m1 r1
-    → IsChosen q (part_at at r1.past) pauses (not on) g2 run e m1 m2 r2
+    → IsChosen p (part_at at (at.number + 1) (at.cell + at.traps + 3)) pauses on g1 run e m0 m1 r1
+    → IsChosen q (part_at at at.number r1.past) pauses (not on) g2 run e m1 m2 r2
     → IsPaired either_code r1.judged r2.judged own → IsLeft at.cell at.traps own r2.past m2 new r
     → IsResumed (Present' t a p b q) at pauses run e old new r
 unfolding IsResumed
@@ -98,8 +98,8 @@ pub seq_resumed : (at : Place) (a : _) (p : Statement) (b : _) (q : Statement) (
     → on ≡ is_live p (pauses_of pauses) → Learns at.cell Absent old m0 → go ≡ cell_at m0 at.cell
     → later ≡ verdict (codes_of r1.judged.must.codes 0) (codes_of r1.judged.can.codes 0)
     → env_of f ≡ told (env_of e) (set_of r1.judged.must.signals)
-    → IsChosen p (part_at at (at.cell + at.traps + 3)) pauses on go run e m0 m1 r1
-    → IsChosen q (part_at at r1.past) pauses (not on) later run f m1 m2 r2
+    → IsChosen p (part_at at (at.number + 1) (at.cell + at.traps + 3)) pauses on go run e m0 m1 r1
+    → IsChosen q (part_at at at.number r1.past) pauses (not on) later run f m1 m2 r2
     → IsPaired then_codes r1.judged r2.judged own → IsLeft at.cell at.traps own r2.past m2 new r
     → IsResumed (Seq' a p b q) at pauses run e old new r
 unfolding IsResumed
@@ -160,9 +160,9 @@ pub par_resumed : (at : Place) (a : _) (p : Statement) (b : _) (q : Statement) (
     → at.direction ≡ Forwards → on1 ≡ is_live p (pauses_of pauses) → on2 ≡ is_live q (pauses_of pauses)
     → Learns at.cell Absent old m0
     → go ≡ cell_at m0 at.cell
-    → IsChosen p (part_at at (at.cell + at.traps + 3)) pauses on1 go run e m0 m1 r1
+    → IsChosen p (part_at at (at.number + 1) (at.cell + at.traps + 3)) pauses on1 go run e m0 m1 r1
     → env_of f ≡ told (env_of e) (set_of r1.judged.must.signals)
-    → IsChosen q (part_at at r1.past) pauses on2 go run f m1 m2 r2
+    → IsChosen q (part_at at at.number r1.past) pauses on2 go run f m1 m2 r2
     → IsSide on1 run r1.judged x → IsSide on2 run r2.judged y
     → IsPaired max_codes x y own → IsLeft at.cell at.traps own r2.past m2 new r
     → IsResumed (Par' a p b q) at pauses run e old new r
@@ -203,9 +203,9 @@ pub par_resumed_back : (at : Place) (a : _) (p : Statement) (b : _) (q : Stateme
     → at.direction ≡ Backwards → on1 ≡ is_live p (pauses_of pauses) → on2 ≡ is_live q (pauses_of pauses)
     → Learns at.cell Absent old m0 → go ≡ cell_at m0 at.cell
     → k ≡ at.cell + at.traps + 3 + sheet_size true p at.traps
-    → IsChosen q (part_at at k) pauses on2 go run e m0 m1 r2
+    → IsChosen q (part_at at at.number k) pauses on2 go run e m0 m1 r2
     → env_of f ≡ told (env_of e) (set_of r2.judged.must.signals)
-    → IsChosen p (part_at at (at.cell + at.traps + 3)) pauses on1 go run f m1 m2 r1
+    → IsChosen p (part_at at (at.number + 1) (at.cell + at.traps + 3)) pauses on1 go run f m1 m2 r1
     → IsSide on1 run r1.judged x → IsSide on2 run r2.judged y
     → IsPaired max_codes x y own → IsLeft at.cell at.traps own r2.past m2 new r
     → IsResumed (Par' a p b q) at pauses run e old new r
@@ -252,7 +252,7 @@ pub suspend_resumed : (at : Place) (t : _) (a : _) (p : Statement) (pauses : Pau
     (old m0 m1 new : List Status) (r1 r : Found) (held own : Judgement)
     → asked ≡ status_of (env_of e) (query_of t) → Learns at.cell Absent old m0
     → o ≡ opposite asked → inside ≡ and_status run o → stays ≡ and_status run asked
-    → IsResumed p (part_at at (at.cell + at.traps + 3)) pauses inside e m0 m1 r1
+    → IsResumed p (part_at at (at.number + 1) (at.cell + at.traps + 3)) pauses inside e m0 m1 r1
     → IsJudged (sure_code stays 1) (may_code stays 1) no_signals no_signals held
     → HasCodes r1.judged held own → IsLeft at.cell at.traps own r1.past m1 new r
     → IsResumed (Suspend' t a p) at pauses run e old new r
@@ -290,9 +290,11 @@ suspend_resumed at t a p pauses run asked o inside stays e old m0 m1 new r1 r he
 pub loop_resumed : (at : Place) (a : _) (p : Statement) (pauses : PauseSet) (run later : Status) (e f : Known)
     (old m0 m1 m2 new : List Status) (r1 r2 r : Found) (own : Judgement) → Learns at.cell Absent old m0
     → later ≡ verdict (codes_of r1.judged.must.codes 0) (codes_of r1.judged.can.codes 0)
-    → IsResumed p (part_at at (at.cell + at.traps + 3)) pauses run e m0 m1 r1
+    → IsResumed p (part_at at (at.number + 1) (at.cell + at.traps + 3)) pauses run e m0 m1 r1
     → env_of f ≡ told (env_of e) (set_of r1.judged.must.signals)
-    → IsBegun p (record { main = false; cell = r1.past; traps = at.traps; direction = at.direction }) later f m1 m2 r2
+    → IsBegun p
+    (record { number = at.number + 1; main = false; cell = r1.past; traps = at.traps; direction = at.direction })
+    later f m1 m2 r2
     → IsPaired then_codes r1.judged r2.judged own → IsLeft at.cell at.traps own r2.past m2 new r
     → IsResumed (Loop' a p) at pauses run e old new r
 unfolding IsBegun IsResumed
@@ -349,7 +351,7 @@ trap_resumed at a p pauses run e old m0 m1 new r1 r own learns body trapped is_l
 pub local_resumed : (at : Place) (s : LocalSignal) (a : _) (p : Statement) (pauses : PauseSet) (run status : Status)
     (e inside : Known) (old m0 m1 m2 new : List Status) (r1 r : Found) (own : Judgement) → Learns at.cell Absent old m0
     → env_of inside ≡ with_local (env_of e) s.index (cell_at m0 (at.cell + at.traps + 3))
-    → IsResumed p (part_at at (at.cell + at.traps + 3 + 1)) pauses run inside m0 m1 r1
+    → IsResumed p (part_at at (at.number + 1) (at.cell + at.traps + 3 + 1)) pauses run inside m0 m1 r1
     → status ≡ verdict (set_of r1.judged.must.signals (inner s.index)) (set_of r1.judged.can.signals (inner s.index))
     → Learns (at.cell + at.traps + 3) status m1 m2
     → IsHidden s.index r1.judged own → IsLeft at.cell at.traps own r1.past m2 new r
@@ -376,18 +378,19 @@ local_resumed at s a p pauses run status e inside old m0 m1 m2 new r1 r own lear
     (hidden_found s.index _ _ _ _ r1.judged own w.found hidden) is_left (let x = w.past in omega arith)
 
 -- a part that is begun
-pub begun_chosen : (way : Direction) (main : Bool) (c t : ℕ) (p : Statement) (pauses : PauseSet) (is_on : Bool)
+pub begun_chosen : (n : ℕ) (way : Direction) (main : Bool) (c t : ℕ) (p : Statement) (pauses : PauseSet) (is_on : Bool)
     (gate run : Status)
     (e : Known)
     (old new : List Status) (r : Found) → main ≡ true → is_on ≡ false
-    → IsBegun p (record { main = main; cell = c; traps = t; direction = way }) gate e old new r
-    → IsChosen p (record { main = main; cell = c; traps = t; direction = way }) pauses is_on gate run e old new r
+    → IsBegun p (record { number = n; main = main; cell = c; traps = t; direction = way }) gate e old new r
+    → IsChosen p (record { number = n; main = main; cell = c; traps = t; direction = way }) pauses is_on gate run e
+    old new r
 unfolding IsBegun
-begun_chosen way true c t p pauses is_on gate run e old new r h off b =
+begun_chosen n way true c t p pauses is_on gate run e old new r h off b =
     subst (λ (z : Bool). IsSwept true p c t
     (λ T. cond z (live_swept way p (pauses_of pauses) run (env_of e) T) (swept way true p (env_of e) gate T))
     old new r) (sym off) b
-begun_chosen way false c t p pauses is_on gate run e old new r h off b = let z : false ≡ true = h in cc
+begun_chosen n way false c t p pauses is_on gate run e old new r h off b = let z : false ≡ true = h in cc
 
 -- a part that goes on
 pub resumed_chosen : (at : Place) (p : Statement) (pauses : PauseSet) (is_on : Bool) (gate run : Status) (e : Known)

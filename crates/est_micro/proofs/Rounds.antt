@@ -4,7 +4,9 @@ use Rattle.std.proofs.Common.{refl, ap, sym, ◌∙◌, arith, inl, inr, subst}
 use Rattle.est_kernel.specs.Bits.{bits}
 use Rattle.est_kernel.specs.Interfaces.{emittable}
 use Rattle.est_kernel.specs.Pauses.{pauses_of}
+use Rattle.est_kernel.specs.Scope.{IsClosed}
 use Rattle.est_kernel.specs.Term.{outer, inner}
+use Rattle.est_kernel.specs.View.{term_of}
 use Rattle.est_kernel.specs.declared.interface.Declaration.{Declaration}
 use Rattle.est_kernel.specs.declared.state.State.{State}
 use Rattle.est_kernel.specs.declared.state.State.TheVariants.{Fresh, Done, Paused}
@@ -18,9 +20,10 @@ use Rattle.est_meaning.specs.States.{state_term}
 use Rattle.est_meaning.specs.Environments.{Env, verdict}
 use Rattle.est_meaning.specs.declared.status.Status.{Status}
 use Rattle.est_meaning.specs.declared.status.Status.TheVariants.{Present, Absent, Unknown}
+use Rattle.est_cells.proofs.Order.{below_then}
 use Rattle.est_cells.proofs.WholeTable.{at_rest, judged_round, sheet_sure, table_known, table_sound}
 use Rattle.est_cells.specs.Tables.{Sheet, Below, emits, is_sure, is_possible}
-use Rattle.est_cells.specs.Whole.{Table, TableBelow, known, sheet_gates, sheet_meaning, table_gates, table_meaning}
+use Rattle.est_cells.specs.Whole.{Table, TableBelow, known, sheet_gates, sheet_meaning, table_meaning}
 use Rattle.est_net.specs.Cells.{cell_at, learned}
 use Rattle.est_net.specs.Layout.{output_count, rank, sheet_in}
 use Rattle.est_rounds.specs.Views.{env_of, set_of}
@@ -28,9 +31,11 @@ use Rattle.est_rounds.specs.declared.signal_set.Env.{Env as Known}
 use Rattle.est_rounds.specs.declared.signal_set.SignalSet.{SignalSet}
 use Rattle.est_micro.specs.Hearing.{Heard, Seen}
 use Rattle.est_micro.specs.declared.direction.Direction.{Direction}
+use Rattle.est_micro.specs.Parts.{AreInputsAlone, IsClosedBut, known_but, opened}
 use Rattle.est_micro.specs.Runs.{sheet_swept, output_cells, output_gate, IsRound, table_of}
 use Rattle.est_micro.specs.declared.cells.Found.{Found}
 use Rattle.est_micro.proofs.Frames.{sheet_same}
+use Rattle.est_micro.proofs.Unasked.{emitted_there, heard_but, opened_less, seen_but}
 use Rattle.est_micro.proofs.SweepsAreSound.{swept_sound, live_swept_sound}
 use Rattle.est_micro.proofs.SweepsComeToRest.{swept_quiet, live_swept_quiet}
 use Rattle.est_micro.proofs.Told.{learned_below, nothing_learnt}
@@ -124,20 +129,21 @@ pub gate_is : (inputs a b : ℕ → Bool) (n : ℕ) → inputs n ≡ false → o
 gate_is inputs a b n h = rw h refl
 
 -- the sheet after a round is the one after its sweep
-pub round_sheet : (way : Direction) (i : List Declaration) (inputs : ℕ → Bool) (s : Statement) (x : State) (e f : Known)
+pub round_sheet : (way : Direction) (i : List Declaration) (unasked inputs : ℕ → Bool) (s : Statement)
+    (x : State) (e f : Known)
     (old new : List Status)
-    (r : Found) → (h : IsRound way i inputs s x e f old new r)
+    (r : Found) → (h : IsRound way i unasked inputs s x e f old new r)
     → sheet_in (cell_at new) true s (output_count i) 0 ≡ sheet_in (cell_at h.mid) true s (output_count i) 0
-round_sheet way i inputs s x e f old new r h =
+round_sheet way i unasked inputs s x e f old new r h =
     sheet_same (cell_at new) (cell_at h.mid) true s (output_count i) 0 (λ k l u. h.exchange.changes.after k l)
 
 -- the signals' cells before the exchange are those before the round
-pub before_round : (way : Direction) (i : List Declaration) (inputs : ℕ
-    → Bool) (s : Statement) (x : State) (e f : Known)
+pub before_round : (way : Direction) (i : List Declaration) (unasked inputs : ℕ → Bool) (s : Statement)
+    (x : State) (e f : Known)
     (old new : List Status)
-    (r : Found) → (h : IsRound way i inputs s x e f old new r) → (n : ℕ) → rank i n < output_count i
+    (r : Found) → (h : IsRound way i unasked inputs s x e f old new r) → (n : ℕ) → rank i n < output_count i
     → output_cells i h.mid n ≡ output_cells i old n
-before_round way i inputs s x e f old new r h n l = h.sweep.changes.before (rank i n) l
+before_round way i unasked inputs s x e f old new r h n l = h.sweep.changes.before (rank i n) l
 
 -- an emittable signal's cell is one of the first
 pub rank_within : (f : ℕ → Bool) (m n : ℕ) → n < m → f n ≡ true → how_many f n < how_many f m
@@ -161,14 +167,14 @@ rank_within f (suc m) n l h = elim (last m n l) [
     more m k = omega arith
 
 -- the outputs after a round
-told_cell : (way : Direction) (i : List Declaration) (inputs : ℕ
-    → Bool) (s : Statement) (x : State) (e f : Known) (old new : List Status)
-    (r : Found)
-    → (h : IsRound way i inputs s x e f old new r) → (n : ℕ) → n < length i → (emittable i n && not (inputs n)) ≡ true
+told_cell : (way : Direction) (i : List Declaration) (unasked inputs : ℕ → Bool) (s : Statement)
+    (x : State) (e f : Known) (old new : List Status) (r : Found)
+    → (h : IsRound way i unasked inputs s x e f old new r) → (n : ℕ) → n < length i
+    → (emittable i n && not (inputs n)) ≡ true
     → output_cells i new n ≡ learned (output_cells i old n)
     (verdict (emits is_sure true s (sheet_in (cell_at h.mid) true s (output_count i) 0) (outer n))
     (emits is_possible true s (sheet_in (cell_at h.mid) true s (output_count i) 0) (outer n)))
-told_cell way i inputs s x e f old new r h n l j =
+told_cell way i unasked inputs s x e f old new r h n l j =
     let emitted = may_be i inputs n j in
     let a = bits r.judged.must.signals.interface in
     let b = bits r.judged.can.signals.interface in
@@ -176,71 +182,78 @@ told_cell way i inputs s x e f old new r h n l j =
     let found = h.sweep.found in
     h.exchange.told n l emitted
     ∙ (ap (λ (v : Status). learned v (output_gate inputs a b n))
-    (before_round way i inputs s x e f old new r h n (rank_within (emittable i) (length i) n l emitted))
+    (before_round way i unasked inputs s x e f old new r h n (rank_within (emittable i) (length i) n l emitted))
     ∙ ap (λ (v : Status). learned (output_cells i old n) v)
     (gate_is inputs a b n (not_input i inputs n j)
     ∙ (ap (λ (z : Bool). verdict z (b n)) (set_at r.judged.must.signals (emits is_sure true s S) n found.emits)
     ∙ ap (λ (z : Bool). verdict (emits is_sure true s S (outer n)) z)
     (set_at r.judged.can.signals (emits is_possible true s S) n found.may_emit))))
 
-pub round_sound : (way : Direction) (i : List Declaration) (inputs : ℕ → Bool) (s : Statement) (x : State) (e f : Known)
+pub round_sound : (way : Direction) (i : List Declaration) (unasked inputs : ℕ → Bool) (s : Statement)
+    (x : State) (e f : Known)
     (old new : List Status)
     (r : Found) → IsWithinPlaces (judged_signals i inputs)
-    → env_of e ≡ known (judged_signals i inputs) inputs (output_cells i old) → IsRound way i inputs s x e f old new r
+    → AreInputsAlone i unasked → IsClosed i 0 0 (term_of s)
+    → env_of e ≡ known_but unasked i inputs (output_cells i old) → IsRound way i unasked inputs s x e f old new r
     → TableBelow (judged_signals i inputs) s (table_of i s old) (table_meaning (judged_signals i inputs) inputs s x)
     → TableBelow (judged_signals i inputs) s (table_of i s new) (table_meaning (judged_signals i inputs) inputs s x)
-round_sound way i inputs s x e f old new r w k h c =
+round_sound way i unasked inputs s x e f old new r w a z k h c =
     let j = judged_signals i inputs in
     let last = last_env j inputs (state_term s x) in
     let S = sheet_in (cell_at h.mid) true s (output_count i) 0 in
+    let o = known j inputs (output_cells i old) in
     let less : KnowsLess (env_of e) last = subst (λ (z : Env). KnowsLess z last) (sym k)
-    (table_known j inputs s x (table_of i s old) c) in
+    (λ n. below_then (opened_less unasked o n) (table_known j inputs s x (table_of i s old) c n)) in
     let swept : Below true s S (sheet_meaning s x last) =
     subst (λ (z : Sheet true s). Below true s z (sheet_meaning s x last))
     (sym h.sweep.sheet)
     (sheet_swept_sound way s x last (env_of e) (sheet_in (cell_at old) true s (output_count i) 0) less
     (subst (λ (z : Env). Heard (emits is_sure true s (sheet_meaning s x last)) last z) (sym k)
-    (last_heard j w inputs (output_cells i old) s x)) c.sheet) in
+    (heard_but unasked i _ last o a (emitted_there is_sure true s i 0 0 z (sheet_meaning s x last))
+    (last_heard j w inputs (output_cells i old) s x))) c.sheet) in
     let T : Table s = record { outputs = output_cells i old; sheet = S } in
     let t : TableBelow j s T (table_meaning j inputs s x) = record { outputs = c.outputs; sheet = swept } in
     let g = table_sound j w inputs s x T t in
     record {
       outputs = λ n l. subst (λ (v : Status). IsBelow v (last (outer n)))
-          (sym (told_cell way i inputs s x e f old new r h n (w n l) l))
+          (sym (told_cell way i unasked inputs s x e f old new r h n (w n l) l))
           (learned_below (output_cells i old n) _ (last (outer n)) (c.outputs n l) (g.outputs n l));
       sheet = subst (λ (z : Sheet true s). Below true s z (sheet_meaning s x last))
-          (sym (round_sheet way i inputs s x e f old new r h)) swept;
+          (sym (round_sheet way i unasked inputs s x e f old new r h)) swept;
     }
 
-pub round_quiet : (way : Direction) (i : List Declaration) (inputs : ℕ → Bool) (s : Statement) (x : State) (e f : Known)
+pub round_quiet : (way : Direction) (i : List Declaration) (unasked inputs : ℕ → Bool) (s : Statement)
+    (x : State) (e f : Known)
     (old new : List Status)
     (r : Found) → IsWithinPlaces (judged_signals i inputs)
-    → env_of e ≡ known (judged_signals i inputs) inputs (output_cells i old)
-    → (h : IsRound way i inputs s x e f old new r)
+    → AreInputsAlone i unasked → IsClosed i 0 0 (term_of s) → env_of e ≡ known_but unasked i inputs (output_cells i old)
+    → (h : IsRound way i unasked inputs s x e f old new r)
     → TableBelow (judged_signals i inputs) s (table_of i s old) (table_meaning (judged_signals i inputs) inputs s x)
     → h.mid ≡ old → new ≡ old
-    → TableBelow (judged_signals i inputs) s (table_gates (judged_signals i inputs) inputs s x (table_of i s old))
-    (table_of i s old)
-round_quiet way i inputs s x e f old new r w k h c mid_is new_is =
+    → IsClosedBut unasked i inputs s x (table_of i s old)
+round_quiet way i unasked inputs s x e f old new r w a z k h c mid_is new_is =
     let j = judged_signals i inputs in
     let last = last_env j inputs (state_term s x) in
     let O = sheet_in (cell_at old) true s (output_count i) 0 in
-    let less = table_known j inputs s x (table_of i s old) c in
+    let o = known j inputs (output_cells i old) in
+    let less : KnowsLess (opened unasked o) last
+    = λ n. below_then (opened_less unasked o n) (table_known j inputs s x (table_of i s old) c n) in
     let same : sheet_in (cell_at h.mid) true s (output_count i) 0 ≡ O
     = ap (λ (z : List Status). sheet_in (cell_at z) true s (output_count i) 0) mid_is in
-    let rest : sheet_swept way s x (known j inputs (output_cells i old)) O ≡ O
+    let rest : sheet_swept way s x (opened unasked o) O ≡ O
     = ap (λ (z : Env). sheet_swept way s x z O) (sym k) ∙ (sym h.sweep.sheet ∙ same) in
     let g = table_sound j w inputs s x (table_of i s old) c in
     let told : (n : ℕ) → j.has n ≡ true → learned (output_cells i old n)
     (verdict (emits is_sure true s O (outer n)) (emits is_possible true s O (outer n))) ≡ output_cells i old n
     = λ n l. ap (λ (z : Sheet true s). learned (output_cells i old n)
     (verdict (emits is_sure true s z (outer n)) (emits is_possible true s z (outer n)))) (sym same)
-    ∙ (sym (told_cell way i inputs s x e f old new r h n (w n l) l)
+    ∙ (sym (told_cell way i unasked inputs s x e f old new r h n (w n l) l)
     ∙ ap (λ (z : List Status). output_cells i z n) new_is) in
     record {
       outputs = λ n l.
           nothing_learnt (output_cells i old n) _ (last (outer n)) (c.outputs n l) (g.outputs n l) (told n l);
-      sheet = sheet_swept_quiet way s x last (known j inputs (output_cells i old)) O less
-          (outputs_seen j inputs (output_cells i old) (emits is_sure true s O) (emits is_possible true s O) told)
+      sheet = sheet_swept_quiet way s x last (opened unasked o) O less
+          (seen_but unasked i (emits is_sure true s O) o a (emitted_there is_sure true s i 0 0 z O)
+          (outputs_seen j inputs (output_cells i old) (emits is_sure true s O) (emits is_possible true s O) told))
           c.sheet rest;
     }

@@ -25,20 +25,23 @@ use Rattle.est_cells.proofs.OpenTable.{opened_begun, opened_resumed}
 use Rattle.est_cells.proofs.WholeTable.{at_rest, judged_round}
 use Rattle.est_cells.specs.Opening.{open_sheet}
 use Rattle.est_cells.specs.Tables.{Sheet, Below}
-use Rattle.est_cells.specs.Whole.{TableBelow, known, sheet_meaning, table_gates, table_meaning}
+use Rattle.est_cells.specs.Whole.{TableBelow, known, sheet_gates, sheet_meaning, table_meaning}
 use Rattle.est_net.specs.Cells.{cell_at, decided, learned}
 use Rattle.est_net.specs.Layout.{cell_count, output_count, rank, sheet_in}
 use Rattle.est_net.specs.Reach.{HasEmissions}
 use Rattle.est_rounds.specs.Views.{env_of}
 use Rattle.est_rounds.specs.declared.signal_set.Env.{Env as Known}
 use Rattle.est_micro.specs.declared.direction.Direction.{Direction}
-use Rattle.est_micro.specs.Runs.{AreOfferedTrue, output_cells, output_gate, IsExchanged, IsRound, IsSettled, table_of}
+use Rattle.est_micro.specs.Parts.{AreInputsAlone, IsClosedBut, known_but}
+use Rattle.est_micro.specs.Runs.{AreOfferedTrue, output_cells, output_gate, IsExchanged, IsRound, IsSettled}
+use Rattle.est_micro.specs.Runs.{IsSettledBut, table_of}
 use Rattle.est_micro.specs.declared.cells.Found.{Found}
 use Rattle.est_micro.specs.declared.run.Settled.{Settled}
 use Rattle.est_micro.proofs.Exchanging.{emittable_within}
 use Rattle.est_micro.proofs.Frames.{sheet_same}
 use Rattle.est_micro.proofs.FullTables.{full_closed}
 use Rattle.est_micro.proofs.Nodes.{JudgedOf}
+use Rattle.est_micro.proofs.Unasked.{none_opened}
 use Rattle.est_micro.proofs.OpenTables.{all_open, sheet_open, open_there}
 use Rattle.est_micro.proofs.Rounds.{before_round, round_sheet, round_sound, round_quiet, rank_within, may_be, not_input}
 use Rattle.est_micro.proofs.Rounds.{gate_is}
@@ -46,48 +49,48 @@ use Rattle.est_micro.proofs.Rounds.{gate_is}
 pub within_places : (i : List Declaration) (inputs : ℕ → Bool) → IsWithinPlaces (judged_signals i inputs)
 within_places i inputs n h = emittable_within i n (may_be i inputs n h)
 
--- what holds before a round
-pub record Ready (k : Kernel) (x : State) (inputs : ℕ → Bool) (cells : List Status) (env : Known) : Type 0 where
+-- what holds before a round, where some inputs are not asked
+pub record Ready (unasked : ℕ → Bool) (k : Kernel) (x : State) (inputs : ℕ → Bool) (cells : List Status)
+    (env : Known) : Type 0 where
   pub size : length cells ≡ cell_count k
   pub sound : TableBelow (judged_signals k.interface inputs) k.root (table_of k.interface k.root cells)
       (table_meaning (judged_signals k.interface inputs) inputs k.root x)
-  pub knows : env_of env ≡ known (judged_signals k.interface inputs) inputs (output_cells k.interface cells)
+  pub knows : env_of env ≡ known_but unasked k.interface inputs (output_cells k.interface cells)
   pub offered : AreOfferedTrue k.interface inputs cells
 
 -- what holds after one
-pub record Settling (k : Kernel) (x : State) (inputs : ℕ → Bool) (before now : ℕ) (cells : List Status) (found : Found)
-    (env : Known)
-    : Type 0 where
-  pub ready : Ready k x inputs cells env
+pub record Settling (unasked : ℕ → Bool) (k : Kernel) (x : State) (inputs : ℕ → Bool) (before now : ℕ)
+    (cells : List Status) (found : Found) (env : Known) : Type 0 where
+  pub ready : Ready unasked k x inputs cells env
   pub counted : now ≡ decided cells
   pub rising : before ≤ now
   pub says : JudgedOf true k.root (sheet_in (cell_at cells) true k.root (output_count k.interface) 0) found.judged
-  pub rest : now ≡ before → TableBelow (judged_signals k.interface inputs) k.root
-      (table_gates (judged_signals k.interface inputs) inputs k.root x (table_of k.interface k.root cells))
-      (table_of k.interface k.root cells)
+  pub rest : now ≡ before → IsClosedBut unasked k.interface inputs k.root x (table_of k.interface k.root cells)
 
 -- a signal that was offered is told to be present, and what is present stays so
 told_offered : (inputs sure possible : ℕ → Bool) (n : ℕ) → inputs n ≡ true
     → learned Unknown (output_gate inputs sure possible n) ≡ Present
 told_offered inputs sure possible n h = rw h refl
 
-stay_true : (way : Direction) (i : List Declaration) (inputs : ℕ
-    → Bool) (s : Statement) (x : State) (e f : Known) (old new : List Status)
-    (r : Found) → IsRound way i inputs s x e f old new r → AreOfferedTrue i inputs old → AreOfferedTrue i inputs new
-stay_true way i inputs s x e f old new r h was n l o p =
+stay_true : (way : Direction) (i : List Declaration) (unasked inputs : ℕ → Bool) (s : Statement) (x : State)
+    (e f : Known) (old new : List Status) (r : Found) → IsRound way i unasked inputs s x e f old new r
+    → AreOfferedTrue i inputs old → AreOfferedTrue i inputs new
+stay_true way i unasked inputs s x e f old new r h was n l o p =
     let a = bits r.judged.must.signals.interface in
     let b = bits r.judged.can.signals.interface in
     h.exchange.told n l o
     ∙ ap (λ (v : Status). learned v (output_gate inputs a b n))
-    (before_round way i inputs s x e f old new r h n (rank_within (emittable i) (length i) n l o) ∙ was n l o p)
+    (before_round way i unasked inputs s x e f old new r h n (rank_within (emittable i) (length i) n l o) ∙ was n l o p)
 
-pub round_made : (way : Direction) (k : Kernel) (x : State) (inputs : ℕ
-    → Bool) (e f : Known) (old new : List Status) (r : Found)
+pub round_made : (unasked : ℕ → Bool) (way : Direction) (k : Kernel) (x : State) (inputs : ℕ → Bool) (e f : Known)
+    (old new : List Status) (r : Found)
     (before now : ℕ)
-    → Ready k x inputs old e → IsRound way k.interface inputs k.root x e f old new r → before ≤ decided old
+    → AreInputsAlone k.interface unasked
+    → Ready unasked k x inputs old e → IsRound way k.interface unasked inputs k.root x e f old new r
+    → before ≤ decided old
     → now ≡ decided new
-    → Settling k x inputs before now new r f
-round_made way k x inputs e f old new r before now ready h before_is now_is =
+    → Settling unasked k x inputs before now new r f
+round_made unasked way k x inputs e f old new r before now alone ready h before_is now_is =
     let j = judged_signals k.interface inputs in
     let w = within_places k.interface inputs in
     let sweep = h.sweep.changes in
@@ -97,38 +100,72 @@ round_made way k x inputs e f old new r before now ready h before_is now_is =
     record {
       ready = record {
         size = exchange.size ∙ (sweep.size ∙ ready.size);
-        sound = round_sound way k.interface inputs k.root x e f old new r w ready.knows h ready.sound;
+        sound = round_sound way k.interface unasked inputs k.root x e f old new r w alone k.closed ready.knows h
+            ready.sound;
         knows = h.exchange.knows;
-        offered = stay_true way k.interface inputs k.root x e f old new r h ready.offered;
+        offered = stay_true way k.interface unasked inputs k.root x e f old new r h ready.offered;
       };
       counted = now_is;
       rising = omega arith;
       says = subst (λ (z : Sheet true k.root). JudgedOf true k.root z r.judged)
-          (sym (round_sheet way k.interface inputs k.root x e f old new r h)) h.sweep.found;
+          (sym (round_sheet way k.interface unasked inputs k.root x e f old new r h)) h.sweep.found;
       rest = λ same.
           let m : h.mid ≡ old = sweep.quiet (omega arith) in
           let n : new ≡ h.mid = exchange.quiet (omega arith) in
-          subst (λ (z : List Status). TableBelow j k.root
-          (table_gates j inputs k.root x (table_of k.interface k.root z))
-          (table_of k.interface k.root z)) (sym (n ∙ m))
-          (round_quiet way k.interface inputs k.root x e f old new r w ready.knows h ready.sound m (n ∙ m));
+          subst (λ (z : List Status). IsClosedBut unasked k.interface inputs k.root x (table_of k.interface k.root z))
+          (sym (n ∙ m))
+          (round_quiet way k.interface unasked inputs k.root x e f old new r w alone k.closed
+          ready.knows h ready.sound m (n ∙ m));
     }
 
-pub settled : (k : Kernel) (x : State) (inputs : ℕ → Bool) (before now : ℕ) (cells : List Status) (r : Settled)
-    → Settling k x inputs before now cells r.found r.env → (now ≡ before) ⊎ (now ≡ length cells)
-    → IsSettled k x inputs cells r
-settled k x inputs before now cells r h e = record {
+pub settled : (unasked : ℕ → Bool) (k : Kernel) (x : State) (inputs : ℕ → Bool) (before now : ℕ) (cells : List Status)
+    (r : Settled) → Settling unasked k x inputs before now cells r.found r.env → (now ≡ before) ⊎ (now ≡ length cells)
+    → IsSettledBut unasked k x inputs cells r
+settled unasked k x inputs before now cells r h e = record {
   size = h.ready.size;
   sound = h.ready.sound;
-  closed = elim e [
-    | inl quiet ↦ h.rest quiet
-    | inr all ↦ full_closed k x inputs cells (within_places k.interface inputs) h.ready.size
-        (sym h.counted ∙ all) h.ready.sound
-  ];
+  closed = elim e [ inl quiet ↦ inr (h.rest quiet) | inr all ↦ inl (sym h.counted ∙ all) ];
   found = h.says;
   knows = h.ready.knows;
   offered = h.ready.offered;
 }
+
+-- a table without an open cell is settled
+pub full_settled : (unasked : ℕ → Bool) (k : Kernel) (x : State) (inputs : ℕ → Bool) (cells : List Status) (r : Settled)
+    → IsSettledBut unasked k x inputs cells r → decided cells ≡ length cells → IsSettled k x inputs cells r.found
+full_settled unasked k x inputs cells r h all = record {
+  size = h.size;
+  sound = h.sound;
+  closed = full_closed k x inputs cells (within_places k.interface inputs) h.size all h.sound;
+  found = h.found;
+  offered = h.offered;
+}
+
+-- and so is one where each input is asked
+pub none_settled : (unasked : ℕ → Bool) (k : Kernel) (x : State) (inputs : ℕ → Bool) (cells : List Status) (r : Settled)
+    → ((n : ℕ) → unasked n ≡ false) → IsSettledBut unasked k x inputs cells r → IsSettled k x inputs cells r.found
+none_settled unasked k x inputs cells r none h = elim h.closed [
+  | inl all ↦ full_settled unasked k x inputs cells r h all
+  | inr quiet ↦ record {
+    size = h.size;
+    sound = h.sound;
+    closed = record {
+      outputs = quiet.outputs;
+      sheet = subst
+          (λ (e : Env). Below true k.root (sheet_gates k.root x e (table_of k.interface k.root cells).sheet)
+          (table_of k.interface k.root cells).sheet)
+          (none_opened unasked (known (judged_signals k.interface inputs) inputs (output_cells k.interface cells)) none)
+          quiet.sheet;
+    };
+    found = h.found;
+    offered = h.offered;
+  }
+]
+
+pub none_knows : (unasked : ℕ → Bool) (k : Kernel) (x : State) (inputs : ℕ → Bool) (cells : List Status) (r : Settled)
+    → ((n : ℕ) → unasked n ≡ false) → IsSettledBut unasked k x inputs cells r
+    → env_of r.env ≡ known (judged_signals k.interface inputs) inputs (output_cells k.interface cells)
+none_knows unasked k x inputs cells r none h = h.knows ∙ none_opened unasked _ none
 
 -- the open table, with nothing told
 open_meaning : (k : Kernel) (x : State) (e : Env) → IsClosed k.interface 0 0 (term_of k.root)
@@ -160,12 +197,13 @@ possible_below j w inputs t possible m l f = go (possible m) refl
     go false i = inr (sym (is ∙ absent ((must t last).signals (outer m)) ((can t surely last).signals (outer m))
         ((must_can t last).signals (outer m)) (λ h. sym i ∙ f h)))
 
-pub start_ready : (k : Kernel) (x : State) (inputs sure possible : ℕ → Bool) (n : ℕ) (new : List Status) (e : Known)
+pub start_ready : (unasked : ℕ → Bool) (k : Kernel) (x : State) (inputs sure possible : ℕ → Bool) (n : ℕ)
+    (new : List Status) (e : Known)
     → IsClosed k.interface 0 0 (term_of k.root) → n ≡ cell_count k → ((i : ℕ) → sure i ≡ false)
     → HasEmissions k.root x possible
-    → IsExchanged k.interface inputs sure possible (replicate n Unknown) new e
-    → length (replicate n Unknown) ≡ n → Ready k x inputs new e
-start_ready k x inputs sure possible n new e closed size none all h long =
+    → IsExchanged k.interface unasked inputs sure possible (replicate n Unknown) new e
+    → length (replicate n Unknown) ≡ n → Ready unasked k x inputs new e
+start_ready unasked k x inputs sure possible n new e closed size none all h long =
     let i = k.interface in
     let j = judged_signals i inputs in
     let last = last_env j inputs (state_term k.root x) in

@@ -1,6 +1,6 @@
 -- A run of the engine: sweeps over the table of a kernel, each with what is known by the cells of the signals (this
 -- project's own form).
-use Rattle.std.specs.Prelude.{◌≡◌, ◌<◌, ℕ, Bool, true, cond, List, length}
+use Rattle.std.specs.Prelude.{◌≡◌, ◌<◌, ◌⊎◌, ℕ, Bool, true, cond, List, length}
 use Rattle.est_kernel.specs.Bits.{bits}
 use Rattle.est_kernel.specs.Interfaces.{emittable}
 use Rattle.est_kernel.specs.Pauses.{pauses_of}
@@ -14,11 +14,12 @@ use Rattle.est_meaning.specs.Environments.{Env, verdict}
 use Rattle.est_meaning.specs.declared.status.Status.{Status}
 use Rattle.est_meaning.specs.declared.status.Status.TheVariants.{Present, Absent}
 use Rattle.est_cells.specs.Tables.{Sheet, emits, is_sure, is_possible}
-use Rattle.est_cells.specs.Whole.{Table, TableBelow, known, table_gates, table_meaning}
-use Rattle.est_net.specs.Cells.{cell_at, learned}
+use Rattle.est_cells.specs.Whole.{Table, TableBelow, table_gates, table_meaning}
+use Rattle.est_net.specs.Cells.{cell_at, decided, learned}
 use Rattle.est_net.specs.Layout.{cell_count, output_count, rank, sheet_in, table_in}
 use Rattle.est_rounds.specs.Views.{env_of}
 use Rattle.est_rounds.specs.declared.signal_set.Env.{Env as Known}
+use Rattle.est_micro.specs.Parts.{IsClosedBut, known_but}
 use Rattle.est_micro.specs.Sweeps.{swept, live_swept}
 use Rattle.est_micro.specs.declared.direction.Direction.{Direction}
 use Rattle.est_micro.specs.Views.{Changes, IsJudged, IsSwept}
@@ -40,21 +41,21 @@ output_cells i cells n = cell_at cells (rank i n)
 abbrev pub output_gate : (ℕ → Bool) → (ℕ → Bool) → (ℕ → Bool) → ℕ → Status
 output_gate inputs sure possible n = cond (inputs n) Present (verdict (sure n) (possible n))
 
--- the cells of the signals are told what is emitted, and this is then known
-pub record IsExchanged (i : List Declaration) (inputs sure possible : ℕ → Bool) (old new : List Status)
+-- the cells of the signals are told what is emitted, and this is then known where some inputs are not asked
+pub record IsExchanged (i : List Declaration) (unasked inputs sure possible : ℕ → Bool) (old new : List Status)
     (e : Known) : Type 0 where
   pub changes : Changes 0 (output_count i) old new
   pub told : (n : ℕ) → n < length i → emittable i n ≡ true
       → output_cells i new n ≡ learned (output_cells i old n) (output_gate inputs sure possible n)
-  pub knows : env_of e ≡ known (judged_signals i inputs) inputs (output_cells i new)
+  pub knows : env_of e ≡ known_but unasked i inputs (output_cells i new)
 
 -- one round: a sweep by what is known, and then the cells of the signals
-pub record IsRound (d : Direction) (i : List Declaration) (inputs : ℕ → Bool) (s : Statement) (x : State)
+pub record IsRound (d : Direction) (i : List Declaration) (unasked inputs : ℕ → Bool) (s : Statement) (x : State)
     (e f : Known) (old new : List Status)
     (r : Found) : Type 0 where
   pub mid : List Status
   pub sweep : IsSwept true s (output_count i) 0 (sheet_swept d s x (env_of e)) old mid r
-  pub exchange : IsExchanged i inputs (bits r.judged.must.signals.interface)
+  pub exchange : IsExchanged i unasked inputs (bits r.judged.must.signals.interface)
       (bits r.judged.can.signals.interface) mid new f
 
 -- the table of a kernel's statement that a list of cells stands for
@@ -68,7 +69,7 @@ AreOfferedTrue i inputs cells = (n : ℕ) → n < length i → emittable i n ≡
 
 -- nothing more can be decided: each cell that is decided is as the meaning says, the gates decide nothing more, and
 -- this is what the cells say
-pub record IsSettled (k : Kernel) (x : State) (inputs : ℕ → Bool) (cells : List Status) (r : Settled) : Type 0 where
+pub record IsSettled (k : Kernel) (x : State) (inputs : ℕ → Bool) (cells : List Status) (r : Found) : Type 0 where
   pub size : length cells ≡ cell_count k
   pub sound : let j = judged_signals k.interface inputs in
       TableBelow j k.root (table_of k.interface k.root cells) (table_meaning j inputs k.root x)
@@ -76,6 +77,18 @@ pub record IsSettled (k : Kernel) (x : State) (inputs : ℕ → Bool) (cells : L
       TableBelow j k.root (table_gates j inputs k.root x (table_of k.interface k.root cells))
       (table_of k.interface k.root cells)
   pub found : let T = sheet_in (cell_at cells) true k.root (output_count k.interface) 0 in
+      IsJudged T.cells.must T.cells.may (emits is_sure true k.root T) (emits is_possible true k.root T) r.judged
+  pub offered : AreOfferedTrue k.interface inputs cells
+
+-- the same where some inputs are not asked: no cell is open, or the gates decide nothing more by what is known
+pub record IsSettledBut (unasked : ℕ → Bool) (k : Kernel) (x : State) (inputs : ℕ → Bool) (cells : List Status)
+    (r : Settled) : Type 0 where
+  pub size : length cells ≡ cell_count k
+  pub sound : let j = judged_signals k.interface inputs in
+      TableBelow j k.root (table_of k.interface k.root cells) (table_meaning j inputs k.root x)
+  pub closed : (decided cells ≡ length cells)
+      ⊎ IsClosedBut unasked k.interface inputs k.root x (table_of k.interface k.root cells)
+  pub found : let T = sheet_in (cell_at cells) true k.root (output_count k.interface) 0 in
       IsJudged T.cells.must T.cells.may (emits is_sure true k.root T) (emits is_possible true k.root T) r.found.judged
-  pub knows : env_of r.env ≡ known (judged_signals k.interface inputs) inputs (output_cells k.interface cells)
+  pub knows : env_of r.env ≡ known_but unasked k.interface inputs (output_cells k.interface cells)
   pub offered : AreOfferedTrue k.interface inputs cells

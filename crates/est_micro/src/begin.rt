@@ -16,14 +16,17 @@ ghost use Rattle.est_kernel.specs.declared.statement.Statement.TheVariants.{Trap
 ghost use Rattle.est_kernel.specs.declared.statement.Statement.TheVariants.{Local' as Binder'};
 ghost use Rattle.est_meaning.specs.Environments.{status_of};
 ghost use Rattle.est_cells.specs.Tables.{sheet_size};
+ghost use Rattle.est_net.specs.Extents.{HasExtents};
 ghost use Rattle.est_net.specs.Kept.{kept};
+ghost use Rattle.est_net.specs.Owners.{statements};
 ghost use Rattle.est_rounds.specs.Views.{env_of};
 ghost use Rattle.est_micro.specs.Views.{IsBegun};
 ghost use Rattle.est_micro.specs.declared.direction.Direction.TheVariants.{Forwards, Backwards};
 
 use crate::cells::{self, Found, Place};
 use crate::direction::Direction;
-use crate::idle::{past, past_idle};
+use crate::extents::{number_after, past};
+use crate::idle::past_idle;
 use crate::learning::{learn, make_false};
 use est_kernel::completion::Completion;
 use est_kernel::statement::{LocalSignal, Signal, Statement};
@@ -77,6 +80,10 @@ fn begin_present(
     env: &Env,
 ) -> Found
     requires fits { FitsMasks p.now × FitsMasks q.now }
+    requires first_extents { HasExtents net.old.extents.items (at.now.number + 1)
+        at.now.traps p.now }
+    requires second_extents { HasExtents net.old.extents.items
+        (at.now.number + 1 + statements p.now) at.now.traps q.now }
     requires within { at.now.cell + at.now.traps + 3 + sheet_size at.now.main p.now at.now.traps
         + sheet_size at.now.main q.now at.now.traps
         ≤ length net.old.cells.items }
@@ -89,6 +96,7 @@ fn begin_present(
 {
     let go = learn(net, at.cell, gate);
     let place = Place {
+        number: at.number + 1,
         main: at.main,
         direction: at.direction,
         cell: at.cell + at.traps + 3,
@@ -96,6 +104,7 @@ fn begin_present(
     };
     let first = begin(net, &place, p, go.and(asked), env);
     let place = Place {
+        number: number_after(net, &place, p),
         main: at.main,
         direction: at.direction,
         cell: first.past,
@@ -110,6 +119,8 @@ fn begin_present(
 #[cycle(begin)]
 fn begin_suspend(net: &mut Net, at: &Place, p: &Statement, gate: Status, env: &Env) -> Found
     requires fits { FitsMasks p.now }
+    requires extents { HasExtents net.old.extents.items (at.now.number + 1)
+        at.now.traps p.now }
     requires within { at.now.cell + at.now.traps + 3 + sheet_size at.now.main p.now at.now.traps
         ≤ length net.old.cells.items }
     requires traps { at.now.traps + trap_depth (term_of p.now) ≤ 62 }
@@ -121,6 +132,7 @@ fn begin_suspend(net: &mut Net, at: &Place, p: &Statement, gate: Status, env: &E
 {
     let go = learn(net, at.cell, gate);
     let place = Place {
+        number: at.number + 1,
         main: at.main,
         direction: at.direction,
         cell: at.cell + at.traps + 3,
@@ -141,6 +153,10 @@ fn begin_seq(
     env: &Env,
 ) -> Found
     requires fits { FitsMasks p.now × FitsMasks q.now }
+    requires first_extents { HasExtents net.old.extents.items (at.now.number + 1)
+        at.now.traps p.now }
+    requires second_extents { HasExtents net.old.extents.items
+        (at.now.number + 1 + statements p.now) at.now.traps q.now }
     requires within { at.now.cell + at.now.traps + 3 + sheet_size at.now.main p.now at.now.traps
         + sheet_size at.now.main q.now at.now.traps
         ≤ length net.old.cells.items }
@@ -154,6 +170,7 @@ fn begin_seq(
 {
     let go = learn(net, at.cell, gate);
     let place = Place {
+        number: at.number + 1,
         main: at.main,
         direction: at.direction,
         cell: at.cell + at.traps + 3,
@@ -163,6 +180,7 @@ fn begin_seq(
     let inside = cells::told(env, first.judged.must.signals);
     let later = cells::ends(&first.judged);
     let place = Place {
+        number: number_after(net, &place, p),
         main: at.main,
         direction: at.direction,
         cell: first.past,
@@ -178,6 +196,8 @@ fn begin_seq(
 fn begin_loop(net: &mut Net, at: &Place, p: &Statement, gate: Status, env: &Env) -> Found
     requires main { at.now.main ≡ true }
     requires fits { FitsMasks p.now }
+    requires extents { HasExtents net.old.extents.items (at.now.number + 1)
+        at.now.traps p.now }
     requires within { at.now.cell + at.now.traps + 3 + sheet_size true p.now at.now.traps
         + sheet_size false p.now at.now.traps
         ≤ length net.old.cells.items }
@@ -189,6 +209,7 @@ fn begin_loop(net: &mut Net, at: &Place, p: &Statement, gate: Status, env: &Env)
 {
     let go = learn(net, at.cell, gate);
     let place = Place {
+        number: at.number + 1,
         main: at.main,
         direction: at.direction,
         cell: at.cell + at.traps + 3,
@@ -196,6 +217,7 @@ fn begin_loop(net: &mut Net, at: &Place, p: &Statement, gate: Status, env: &Env)
     };
     let first = begin(net, &place, p, go, env);
     let place = Place {
+        number: at.number + 1,
         main: false,
         direction: at.direction,
         cell: first.past,
@@ -211,6 +233,8 @@ fn begin_loop(net: &mut Net, at: &Place, p: &Statement, gate: Status, env: &Env)
 fn begin_again(net: &mut Net, at: &Place, p: &Statement, gate: Status, env: &Env) -> Found
     requires main { at.now.main ≡ false }
     requires fits { FitsMasks p.now }
+    requires extents { HasExtents net.old.extents.items (at.now.number + 1)
+        at.now.traps p.now }
     requires within { at.now.cell + at.now.traps + 3 + sheet_size false p.now at.now.traps
         ≤ length net.old.cells.items }
     requires traps { at.now.traps + trap_depth (term_of p.now) ≤ 62 }
@@ -221,6 +245,7 @@ fn begin_again(net: &mut Net, at: &Place, p: &Statement, gate: Status, env: &Env
 {
     let go = learn(net, at.cell, gate);
     let place = Place {
+        number: at.number + 1,
         main: at.main,
         direction: at.direction,
         cell: at.cell + at.traps + 3,
@@ -242,6 +267,10 @@ fn begin_par(
 ) -> Found
     requires direction { at.now.direction ≡ Forwards }
     requires fits { FitsMasks p.now × FitsMasks q.now }
+    requires first_extents { HasExtents net.old.extents.items (at.now.number + 1)
+        at.now.traps p.now }
+    requires second_extents { HasExtents net.old.extents.items
+        (at.now.number + 1 + statements p.now) at.now.traps q.now }
     requires within { at.now.cell + at.now.traps + 3 + sheet_size at.now.main p.now at.now.traps
         + sheet_size at.now.main q.now at.now.traps
         ≤ length net.old.cells.items }
@@ -255,6 +284,7 @@ fn begin_par(
 {
     let go = learn(net, at.cell, gate);
     let place = Place {
+        number: at.number + 1,
         main: at.main,
         direction: at.direction,
         cell: at.cell + at.traps + 3,
@@ -263,6 +293,7 @@ fn begin_par(
     let first = begin(net, &place, p, go, env);
     let inside = cells::told(env, first.judged.must.signals);
     let place = Place {
+        number: number_after(net, &place, p),
         main: at.main,
         direction: at.direction,
         cell: first.past,
@@ -285,6 +316,10 @@ fn begin_par_back(
 ) -> Found
     requires direction { at.now.direction ≡ Backwards }
     requires fits { FitsMasks p.now × FitsMasks q.now }
+    requires first_extents { HasExtents net.old.extents.items (at.now.number + 1)
+        at.now.traps p.now }
+    requires second_extents { HasExtents net.old.extents.items
+        (at.now.number + 1 + statements p.now) at.now.traps q.now }
     requires within { at.now.cell + at.now.traps + 3 + sheet_size at.now.main p.now at.now.traps
         + sheet_size at.now.main q.now at.now.traps
         ≤ length net.old.cells.items }
@@ -298,15 +333,17 @@ fn begin_par_back(
 {
     let go = learn(net, at.cell, gate);
     let place = Place {
+        number: at.number + 1,
         main: at.main,
         direction: at.direction,
         cell: at.cell + at.traps + 3,
         traps: at.traps,
     };
     let later = Place {
+        number: number_after(net, &place, p),
         main: at.main,
         direction: at.direction,
-        cell: past(place.cell, at.main, p, at.traps),
+        cell: past(net, &place, p),
         traps: at.traps,
     };
     let second = begin(net, &later, q, go, env);
@@ -320,6 +357,8 @@ fn begin_par_back(
 #[cycle(begin)]
 fn begin_trap(net: &mut Net, at: &Place, p: &Statement, gate: Status, env: &Env) -> Found
     requires fits { FitsMasks p.now }
+    requires extents { HasExtents net.old.extents.items (at.now.number + 1)
+        (at.now.traps + 1) p.now }
     requires within { at.now.cell + at.now.traps + 3 + sheet_size at.now.main p.now
         (at.now.traps + 1) ≤ length net.old.cells.items }
     requires traps { at.now.traps + 1 + trap_depth (term_of p.now) ≤ 62 }
@@ -330,6 +369,7 @@ fn begin_trap(net: &mut Net, at: &Place, p: &Statement, gate: Status, env: &Env)
 {
     let go = learn(net, at.cell, gate);
     let place = Place {
+        number: at.number + 1,
         main: at.main,
         direction: at.direction,
         cell: at.cell + at.traps + 3,
@@ -352,6 +392,8 @@ fn begin_local(
     env: &Env,
 ) -> Found
     requires fits { (s.index < 64) × FitsMasks p.now }
+    requires extents { HasExtents net.old.extents.items (at.now.number + 1)
+        at.now.traps p.now }
     requires within { at.now.cell + at.now.traps + 4 + sheet_size at.now.main p.now at.now.traps
         ≤ length net.old.cells.items }
     requires traps { at.now.traps + trap_depth (term_of p.now) ≤ 62 }
@@ -365,6 +407,7 @@ fn begin_local(
     let cell = at.cell + at.traps + 3;
     let inside = signal_set::set_local(env, s, net.status(cell));
     let place = Place {
+        number: at.number + 1,
         main: at.main,
         direction: at.direction,
         cell: cell + 1,
@@ -380,6 +423,8 @@ fn begin_local(
 #[cycle(begin)]
 fn begin_each(net: &mut Net, at: &Place, s: &Statement, gate: Status, env: &Env) -> Found
     requires fits { FitsMasks s.now }
+    requires extents { HasExtents net.old.extents.items at.now.number at.now.traps
+        s.now }
     requires within { at.now.cell + sheet_size at.now.main s.now at.now.traps
         ≤ length net.old.cells.items }
     requires traps { at.now.traps + trap_depth (term_of s.now) ≤ 62 }
@@ -419,6 +464,8 @@ fn begin_each(net: &mut Net, at: &Place, s: &Statement, gate: Status, env: &Env)
 #[cycle(begin)]
 pub fn begin(net: &mut Net, at: &Place, s: &Statement, gate: Status, env: &Env) -> Found
     requires fits { FitsMasks s.now }
+    requires extents { HasExtents net.old.extents.items at.now.number at.now.traps
+        s.now }
     requires within { at.now.cell + sheet_size at.now.main s.now at.now.traps
         ≤ length net.old.cells.items }
     requires traps { at.now.traps + trap_depth (term_of s.now) ≤ 62 }

@@ -30,9 +30,11 @@ use est_net::net::Net;
 use est_rounds::acts::{Acts, Judgement};
 use est_rounds::signal_set::{self, Env, SignalSet};
 
-/// Where the cells of a statement stand, and which way a sweep goes over them.
+/// Where a statement and its cells stand, and which way a sweep goes over them.
 #[derive(Clone, Copy)]
 pub struct Place {
+    /// Its number, in the order of the text.
+    pub number: usize,
     /// Whether they are those of the incarnation that can go on from its pauses.
     pub main: bool,
     /// Which side of a `||` is visited first.

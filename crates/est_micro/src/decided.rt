@@ -12,12 +12,13 @@ ghost use Rattle.est_kernel.specs.declared.statement.Statement.TheVariants.{Loca
 ghost use Rattle.est_meaning.specs.Signals.{union};
 ghost use Rattle.est_cells.specs.Tables.{if_run, is_sure, sheet_size};
 ghost use Rattle.est_net.specs.Cells.{AllDecided, cell_at};
+ghost use Rattle.est_net.specs.Extents.{HasExtents};
 ghost use Rattle.est_net.specs.Layout.{sure_codes};
 ghost use Rattle.est_rounds.specs.Views.{set_of};
 ghost use Rattle.est_micro.specs.Views.{AddsBoth, AddsEmitted, IsRead};
 
 use crate::cells::{self, Found, Place};
-use crate::idle::past;
+use crate::extents::past;
 use est_kernel::code_set::CodeSet;
 use est_kernel::statement::{LocalSignal, Signal, Statement};
 use est_net::net::Net;
@@ -164,7 +165,8 @@ fn read_codes(net: &Net, cell: usize, count: usize) -> CodeSet
 /// are decided: as a rule all others are decided then too.
 #[inline(always)]
 pub fn is_decided(net: &Net, at: &Place, s: &Statement) -> bool
-    requires { at.now.cell + sheet_size at.now.main s.now at.now.traps
+    requires extents { HasExtents net.now.extents.items at.now.number at.now.traps s.now }
+    requires within { at.now.cell + sheet_size at.now.main s.now at.now.traps
         ≤ length net.now.cells.items }
     ensures { (result ≡ true) ↔ AllDecided at.now.cell
         (at.now.cell + sheet_size at.now.main s.now at.now.traps)
@@ -176,7 +178,7 @@ pub fn is_decided(net: &Net, at: &Place, s: &Statement) -> bool
     if !net.is_decided(at.cell + 1) {
         return false;
     }
-    net.all_decided(at.cell, past(at.cell, at.main, s, at.traps))
+    net.all_decided(at.cell, past(net, at, s))
 }
 
 /// What is found of a statement all of whose cells are decided.

@@ -1,43 +1,17 @@
-//! Statements that take no part in an instant. `main` tells whether the cells are those of the
-//! incarnation that can go on from its pauses.
+//! Statements that take no part in an instant.
 
 ghost use Rattle.std.specs.Prelude.{◌≡◌, ◌≤◌, ◌+◌, true, length, IfSome};
 ghost use Rattle.est_cells.specs.Tables.{sheet_size};
 ghost use Rattle.est_meaning.specs.declared.status.Status.TheVariants.{Absent};
 ghost use Rattle.est_net.specs.Cells.{learned};
+ghost use Rattle.est_net.specs.Extents.{HasExtents};
 ghost use Rattle.est_micro.specs.Views.{IsIdle};
 
 use crate::cells::Place;
+use crate::extents::past;
 use est_kernel::statement::Statement;
 use est_meaning::status::Status;
 use est_net::net::Net;
-
-/// The first place after the cells of a statement whose first cell stands at this one. Recursion is
-/// as deep as the statement is.
-pub fn past(cell: usize, main: bool, s: &Statement, traps: usize) -> usize
-    requires { cell + sheet_size main s.now traps ≤ 18446744073709551615 }
-    ensures { result ≡ cell + sheet_size main s.now traps }
-{
-    match s {
-        Statement::Nothing | Statement::Pause(_) | Statement::Emit(_) | Statement::Exit(_) => {
-            cell + (traps + 3)
-        }
-        Statement::Present(_, p, q) | Statement::Seq(p, q) | Statement::Par(p, q) => {
-            past(past(cell + (traps + 3), main, p, traps), main, q, traps)
-        }
-        Statement::Suspend(_, p) => past(cell + (traps + 3), main, p, traps),
-        Statement::Loop(p) => {
-            let body = past(cell + (traps + 3), main, p, traps);
-            if main {
-                past(body, false, p, traps)
-            } else {
-                body
-            }
-        }
-        Statement::Trap(p) => past(cell + (traps + 3), main, p, traps + 1),
-        Statement::Local(_, p) => past(cell + (traps + 4), main, p, traps),
-    }
-}
 
 /// Whether a statement has parts. One that has none is swept as fast as it is passed over.
 fn has_parts(s: &Statement) -> bool {
@@ -70,14 +44,15 @@ fn is_off(go: Status, gate: Status) -> bool
 /// The first place after the cells of a statement with parts that is not begun, by its go cell and
 /// the gate, if none of its cells is true.
 pub fn past_idle(net: &Net, at: &Place, s: &Statement, gate: Status) -> Option<usize>
-    requires { at.now.cell + sheet_size at.now.main s.now at.now.traps
+    requires extents { HasExtents net.now.extents.items at.now.number at.now.traps s.now }
+    requires within { at.now.cell + sheet_size at.now.main s.now at.now.traps
         ≤ length net.now.cells.items }
     ensures { IfSome result (IsIdle s.now at.now gate net.now.cells.items) }
 {
     if !has_parts(s) || !is_off(net.status(at.cell), gate) {
         return None;
     }
-    let past = past(at.cell, at.main, s, at.traps);
+    let past = past(net, at, s);
     if net.has_no_true(at.cell, past) {
         Some(past)
     } else {

@@ -1,17 +1,21 @@
 //! The microstep engine.
 
-ghost use Rattle.std.specs.Prelude.{◌≡◌, ◌≤◌, length, IfOk, IfErr, OnOk};
+ghost use Rattle.std.specs.Prelude.{◌≡◌, ◌≤◌, length, IfOk, IfErr, IfSome, IfNone, OnOk, ℕ, Bool};
 ghost use Rattle.est_kernel.specs.Bits.{bits};
 ghost use Rattle.est_kernel.specs.Pauses.{pauses_of};
 ghost use Rattle.est_kernel.specs.declared.state.State.TheVariants.{Done};
 ghost use Rattle.est_meaning.specs.States.{IsState};
 ghost use Rattle.est_net.specs.Cells.{decided};
+ghost use Rattle.est_net.specs.Extents.{HasExtents};
 ghost use Rattle.est_net.specs.Kept.{kept, reopened};
-ghost use Rattle.est_net.specs.Layout.{output_count};
+ghost use Rattle.est_net.specs.Layout.{cell_count, output_count};
 ghost use Rattle.est_rounds.specs.Contract.{HasNoReaction, IsReaction};
 ghost use Rattle.est_micro.specs.Engine.{GoesOnFrom, HasValues, IsAsMeant, IsNetOf};
-ghost use Rattle.est_micro.specs.Runs.{IsSettled};
+ghost use Rattle.est_micro.specs.Outcomes.{HasNoCode, IsOutcomeOf};
+ghost use Rattle.est_micro.specs.Parts.{AgreeBut, AreInputsAlone};
+ghost use Rattle.est_micro.specs.Runs.{IsSettledBut};
 
+use crate::cells::{Found, Place};
 use crate::direction::Direction;
 use crate::next::collect;
 use crate::run::{Settled, settle};
@@ -31,49 +35,75 @@ pub struct Micro {
     direction: Direction,
 }
 
-/// The outcome of a kernel that has not ended, where nothing more can be decided: its pauses are
-/// read off the cells.
+/// The outcome of a kernel that had not ended, where its cells give a code: its pauses are read off
+/// the cells.
 fn outcome(
     net: &Net,
     kernel: &Kernel,
     outputs: usize,
     state: &State,
     from: &PauseSet,
-    inputs: &Inputs,
-    settled: &Settled,
-) -> Result<Outcome, Stuck>
+    found: &Found,
+) -> Option<Outcome>
     requires state { IsState kernel.now.root state.now }
     requires lives { state.now ≡ Done → ⊥ }
     requires from { GoesOnFrom state.now (pauses_of from.now) }
     requires outputs { outputs ≡ output_count kernel.now.interface }
-    requires settled { IsSettled kernel.now state.now (bits inputs.now.signals)
-        net.now.cells.items settled.now }
-    ensures ok { IfOk result (λ o. IsReaction kernel.now state.now inputs.now o) }
-    ensures values { OnOk result
-        (HasValues kernel.now state.now (bits inputs.now.signals) net.now.cells.items) }
-    ensures stuck { IfErr result (λ s. HasNoReaction kernel.now state.now inputs.now s) }
+    requires size { length net.now.cells.items ≡ cell_count kernel.now }
+    requires extents { HasExtents net.now.extents.items 0 0 kernel.now.root }
+    ensures some { IfSome result
+        (λ o. IsOutcomeOf kernel.now state.now net.now.cells.items found.now o) }
+    ensures none { IfNone result (HasNoCode state.now found.now) }
 {
-    let must = settled.found.judged.must;
+    let must = found.judged.must;
     if must.codes.has(Completion::Pause) {
+        let place = Place {
+            number: 0,
+            main: true,
+            direction: Direction::Forwards,
+            cell: outputs,
+            traps: 0,
+        };
         let mut next = PauseSet::new();
-        collect(net, true, outputs, 0, kernel.root(), true, from, &mut next);
-        return Ok(Outcome {
+        collect(net, &place, kernel.root(), from, &mut next);
+        return Some(Outcome {
             outputs: must.signals.interface,
             next: State::Paused(next),
         });
     }
     if must.codes.has(Completion::End) {
-        return Ok(Outcome {
+        return Some(Outcome {
             outputs: must.signals.interface,
             next: State::Done,
         });
     }
-    Err(Stuck {
-        undecided: mask::minus(
-            settled.env.possible.interface,
-            settled.env.present.interface,
-        ),
-    })
+    None
+}
+
+/// The outcome that the cells tell, where they tell one.
+pub(crate) fn told(
+    net: &Net,
+    kernel: &Kernel,
+    outputs: usize,
+    state: &State,
+    found: &Found,
+) -> Option<Outcome>
+    requires state { IsState kernel.now.root state.now }
+    requires outputs { outputs ≡ output_count kernel.now.interface }
+    requires size { length net.now.cells.items ≡ cell_count kernel.now }
+    requires extents { HasExtents net.now.extents.items 0 0 kernel.now.root }
+    ensures some { IfSome result
+        (λ o. IsOutcomeOf kernel.now state.now net.now.cells.items found.now o) }
+    ensures none { IfNone result (HasNoCode state.now found.now) }
+{
+    match state {
+        State::Done => Some(Outcome {
+            outputs: found.judged.must.signals.interface,
+            next: State::Done,
+        }),
+        State::Fresh => outcome(net, kernel, outputs, state, &PauseSet::new(), found),
+        State::Paused(from) => outcome(net, kernel, outputs, state, from, found),
+    }
 }
 
 impl Micro {
@@ -102,6 +132,39 @@ impl Micro {
         self.net.steps()
     }
 
+    /// Decides the cells by these inputs, of which some are not asked.
+    pub(crate) fn settle_by(
+        &mut self,
+        kernel: &Kernel,
+        state: &State,
+        inputs: u64,
+        unasked: u64,
+    ) -> Settled
+        requires net { IsNetOf self.old.net kernel.now }
+        requires state { IsState kernel.now.root state.now }
+        requires apart { AreInputsAlone kernel.now.interface (bits unasked) }
+        ensures net { IsNetOf self.new.net kernel.now }
+        ensures settled { (others : ℕ → Bool) → AgreeBut (bits unasked) (bits inputs) others
+            → IsSettledBut (bits unasked) kernel.now state.now others self.new.net.cells.items
+            result }
+        ensures once { kept self.new.net ≡ reopened self.old.net }
+    {
+        let outputs = self.net.outputs();
+        let possible = self.net.reach().from_state(state);
+        let settled = settle(
+            &mut self.net,
+            kernel,
+            outputs,
+            state,
+            possible,
+            inputs,
+            unasked,
+            self.direction,
+        );
+        self.direction = settled.direction;
+        settled
+    }
+
     /// Reacts to the inputs of an instant, for the kernel of its table. Where there is a reaction,
     /// each cell is decided, with its value in it, so `steps` is then the number of cells. Where
     /// there is none, exactly those cells are open that the meaning leaves open. The table is
@@ -119,30 +182,16 @@ impl Micro {
             self.new.net.cells.items }
         ensures once { kept self.new.net ≡ reopened self.old.net }
     {
+        let settled = self.settle_by(kernel, state, inputs.signals, 0);
         let outputs = self.net.outputs();
-        let possible = self.net.reach().from_state(state);
-        let settled = settle(
-            &mut self.net,
-            kernel,
-            outputs,
-            state,
-            possible,
-            inputs.signals,
-            self.direction,
-        );
-        self.direction = settled.direction;
-        match state {
-            State::Done => Ok(Outcome {
-                outputs: settled.found.judged.must.signals.interface,
-                next: State::Done,
+        match told(&self.net, kernel, outputs, state, &settled.found) {
+            Some(outcome) => Ok(outcome),
+            None => Err(Stuck {
+                undecided: mask::minus(
+                    settled.env.possible.interface,
+                    settled.env.present.interface,
+                ),
             }),
-            State::Fresh => {
-                let from = PauseSet::new();
-                outcome(&self.net, kernel, outputs, state, &from, inputs, &settled)
-            }
-            State::Paused(from) => {
-                outcome(&self.net, kernel, outputs, state, from, inputs, &settled)
-            }
         }
     }
 }

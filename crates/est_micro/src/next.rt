@@ -1,7 +1,5 @@
-//! The pauses at which a statement stands after an instant, read off its cells.
-//!
-//! `main` tells whether the cells are those of the incarnation that can go on from its pauses.
-//! `on` is false where a `||` around the statement exits: its pauses are then left.
+//! The pauses at which a statement stands after an instant, read off its cells. A part that does
+//! not give code 1 stands at none, and is passed over.
 //!
 //! What calls itself here does so on a part of the statement that it was given, and goes as deep as
 //! the statement is.
@@ -9,15 +7,17 @@
 ghost use Rattle.std.specs.Prelude.{◌≡◌, ◌≤◌, ◌+◌, ◌||◌, ◌&&◌, ℕ, nat_eq, length, true, false};
 ghost use Rattle.est_kernel.specs.PauseNumbers.{has_pause};
 ghost use Rattle.est_kernel.specs.Pauses.{pauses_of};
-ghost use Rattle.est_kernel.specs.declared.statement.Statement.TheVariants.{Pause, Suspend', Loop'};
-ghost use Rattle.est_kernel.specs.declared.statement.Statement.TheVariants.{Par', Trap'};
-ghost use Rattle.est_kernel.specs.declared.statement.Statement.TheVariants.{Local' as Binder'};
+ghost use Rattle.est_kernel.specs.declared.statement.Statement.TheVariants.{Present', Suspend'};
+ghost use Rattle.est_kernel.specs.declared.statement.Statement.TheVariants.{Seq', Loop', Par'};
 ghost use Rattle.est_cells.specs.Tables.{sheet_size};
 ghost use Rattle.est_net.specs.Cells.{cell_at};
+ghost use Rattle.est_net.specs.Extents.{HasExtents};
 ghost use Rattle.est_net.specs.Layout.{sure_codes};
-ghost use Rattle.est_micro.specs.Pausing.{Collects, CollectsTwo};
+ghost use Rattle.est_net.specs.Owners.{statements};
+ghost use Rattle.est_micro.specs.Pausing.{Collects, CollectsIn};
 
-use crate::cells::is_true;
+use crate::cells::{Place, is_true};
+use crate::extents::{number_after, past};
 use est_kernel::pause_set::PauseSet;
 use est_kernel::statement::{PauseIndex, Statement};
 use est_net::net::Net;
@@ -79,239 +79,160 @@ fn keep(on: bool, s: &Statement, pauses: &PauseSet, next: &mut PauseSet)
     }
 }
 
-/// Puts the pauses at which a part stands into `next`, if it is on. One that has no parts and no
-/// pause is passed over without a call. Answers the first place after its cells.
+/// Puts the pauses of two parts into `next`.
 #[cycle(collect)]
-#[inline(always)]
-fn collect_part(
+fn collect_two(
     net: &Net,
-    main: bool,
-    cell: usize,
-    traps: usize,
-    s: &Statement,
-    on: bool,
+    at: &Place,
+    p: &Statement,
+    q: &Statement,
     pauses: &PauseSet,
     next: &mut PauseSet,
-) -> usize
-    requires { cell + sheet_size main s.now traps ≤ length net.now.cells.items }
-    ensures { Collects s.now main cell traps net.now.cells.items on pauses.now next.old
-        next.new result }
+)
+    requires first_extents { HasExtents net.now.extents.items (at.now.number + 1)
+        at.now.traps p.now }
+    requires second_extents { HasExtents net.now.extents.items
+        (at.now.number + 1 + statements p.now) at.now.traps q.now }
+    requires within { at.now.cell + at.now.traps + 3 + sheet_size at.now.main p.now at.now.traps
+        + sheet_size at.now.main q.now at.now.traps
+        ≤ length net.now.cells.items }
+    ensures present { (t a b : _) → CollectsIn (Present' t a p.now b q.now) at.now.main at.now.cell
+        at.now.traps net.now.cells.items pauses.now next.old next.new }
+    ensures seq { (a b : _) → CollectsIn (Seq' a p.now b q.now) at.now.main at.now.cell
+        at.now.traps net.now.cells.items pauses.now next.old next.new }
+    ensures par { (a b : _) → CollectsIn (Par' a p.now b q.now) at.now.main at.now.cell
+        at.now.traps net.now.cells.items pauses.now next.old next.new }
 {
-    match s {
-        Statement::Nothing => cell + traps + 3,
-        Statement::Emit(_) => cell + traps + 3,
-        Statement::Exit(_) => cell + traps + 3,
-        _ => collect(net, main, cell, traps, s, on, pauses, next),
+    let first = Place {
+        number: at.number + 1,
+        main: at.main,
+        direction: at.direction,
+        cell: at.cell + at.traps + 3,
+        traps: at.traps,
+    };
+    collect(net, &first, p, pauses, next);
+    let second = Place {
+        number: number_after(net, &first, p),
+        main: at.main,
+        direction: at.direction,
+        cell: past(net, &first, p),
+        traps: at.traps,
+    };
+    collect(net, &second, q, pauses, next);
+}
+
+/// Puts the pauses of a suspended statement into `next`: where the suspension alone pauses, those
+/// that it had.
+#[cycle(collect)]
+fn collect_suspend(net: &Net, at: &Place, p: &Statement, pauses: &PauseSet, next: &mut PauseSet)
+    requires extents { HasExtents net.now.extents.items (at.now.number + 1) at.now.traps p.now }
+    requires within { at.now.cell + at.now.traps + 3 + sheet_size at.now.main p.now at.now.traps
+        ≤ length net.now.cells.items }
+    ensures { (t a : _) → CollectsIn (Suspend' t a p.now) at.now.main at.now.cell at.now.traps
+        net.now.cells.items pauses.now next.old next.new }
+{
+    let body = Place {
+        number: at.number + 1,
+        main: at.main,
+        direction: at.direction,
+        cell: at.cell + at.traps + 3,
+        traps: at.traps,
+    };
+    if gives_pause(net, body.cell, at.traps) {
+        collect(net, &body, p, pauses, next);
+    } else {
+        keep(true, p, pauses, next);
     }
 }
 
-/// Puts the pauses at which two parts stand into `next`, if they are on. Answers the first place
-/// after their cells.
+/// Puts the pauses of a loop's body into `next`, and those of its restart.
 #[cycle(collect)]
-#[inline(always)]
-fn collect_two(
-    net: &Net,
-    main: bool,
-    cell: usize,
-    traps: usize,
-    p: &Statement,
-    q: &Statement,
-    on: bool,
-    pauses: &PauseSet,
-    next: &mut PauseSet,
-) -> usize
-    requires { cell + sheet_size main p.now traps
-        + sheet_size main q.now traps ≤ length net.now.cells.items }
-    ensures { CollectsTwo p.now q.now main cell traps net.now.cells.items on pauses.now
-        next.old next.new result }
-{
-    let past = collect_part(net, main, cell, traps, p, on, pauses, next);
-    collect_part(net, main, past, traps, q, on, pauses, next)
-}
-
-/// Puts the pauses at which a suspended statement stands into `next`, if it is on: where the
-/// suspension alone pauses, those that it had.
-#[cycle(collect)]
-fn collect_suspend(
-    net: &Net,
-    main: bool,
-    cell: usize,
-    traps: usize,
-    p: &Statement,
-    on: bool,
-    pauses: &PauseSet,
-    next: &mut PauseSet,
-) -> usize
-    requires { cell + traps + 3 + sheet_size main p.now traps
+fn collect_loop(net: &Net, at: &Place, p: &Statement, pauses: &PauseSet, next: &mut PauseSet)
+    requires main { at.now.main ≡ true }
+    requires extents { HasExtents net.now.extents.items (at.now.number + 1) at.now.traps p.now }
+    requires within { at.now.cell + at.now.traps + 3 + sheet_size true p.now at.now.traps
+        + sheet_size false p.now at.now.traps
         ≤ length net.now.cells.items }
-    ensures { (t a : _)
-        → Collects (Suspend' t a p.now) main cell traps net.now.cells.items on pauses.now next.old
-        next.new result }
+    ensures { (a : _) → CollectsIn (Loop' a p.now) at.now.main at.now.cell at.now.traps
+        net.now.cells.items pauses.now next.old next.new }
 {
-    let inside = cell + traps + 3;
-    let past = collect(net, main, inside, traps, p, on, pauses, next);
-    let pauses_itself = gives_pause(net, cell, traps);
-    let body_pauses = gives_pause(net, inside, traps);
-    let held = both(pauses_itself, !body_pauses);
-    keep(both(on, held), p, pauses, next);
-    past
+    let body = Place {
+        number: at.number + 1,
+        main: at.main,
+        direction: at.direction,
+        cell: at.cell + at.traps + 3,
+        traps: at.traps,
+    };
+    collect(net, &body, p, pauses, next);
+    let again = Place {
+        number: at.number + 1,
+        main: false,
+        direction: at.direction,
+        cell: past(net, &body, p),
+        traps: at.traps,
+    };
+    collect(net, &again, p, pauses, next);
 }
 
-/// Puts the pauses at which a loop stands into `next`, if it is on.
+/// Puts the pauses of a statement that gives code 1 into `next`.
 #[cycle(collect)]
-fn collect_loop(
-    net: &Net,
-    main: bool,
-    cell: usize,
-    traps: usize,
-    p: &Statement,
-    on: bool,
-    pauses: &PauseSet,
-    next: &mut PauseSet,
-) -> usize
-    requires main { main ≡ true }
-    requires within { cell + traps + 3 + sheet_size true p.now traps
-        + sheet_size false p.now traps
+fn collect_in(net: &Net, at: &Place, s: &Statement, pauses: &PauseSet, next: &mut PauseSet)
+    requires extents { HasExtents net.now.extents.items at.now.number at.now.traps s.now }
+    requires within { at.now.cell + sheet_size at.now.main s.now at.now.traps
         ≤ length net.now.cells.items }
-    ensures { (a : _)
-        → Collects (Loop' a p.now) main cell traps net.now.cells.items on pauses.now next.old
-        next.new result }
+    ensures { CollectsIn s.now at.now.main at.now.cell at.now.traps net.now.cells.items pauses.now
+        next.old next.new }
 {
-    let past = collect(net, main, cell + traps + 3, traps, p, on, pauses, next);
-    collect(net, false, past, traps, p, on, pauses, next)
-}
-
-/// Puts a pause into `next`, if it is on and gives code 1.
-fn collect_pause(
-    net: &Net,
-    cell: usize,
-    traps: usize,
-    n: PauseIndex,
-    on: bool,
-    next: &mut PauseSet,
-) -> usize
-    requires { cell + traps + 3 ≤ length net.now.cells.items }
-    ensures { (main pauses : _)
-        → Collects (Pause n) main cell traps net.now.cells.items on pauses next.old
-        next.new result }
-{
-    let gives = gives_pause(net, cell, traps);
-    put(next, n, both(on, gives));
-    cell + traps + 3
-}
-
-/// Puts the pauses at which a `||` stands into `next`, if it is on and gives code 1.
-#[cycle(collect)]
-fn collect_par(
-    net: &Net,
-    main: bool,
-    cell: usize,
-    traps: usize,
-    p: &Statement,
-    q: &Statement,
-    on: bool,
-    pauses: &PauseSet,
-    next: &mut PauseSet,
-) -> usize
-    requires { cell + traps + 3 + sheet_size main p.now traps
-        + sheet_size main q.now traps
-        ≤ length net.now.cells.items }
-    ensures { (a b : _)
-        → Collects (Par' a p.now b q.now) main cell traps net.now.cells.items on pauses.now
-        next.old
-        next.new result }
-{
-    let gives = gives_pause(net, cell, traps);
-    collect_two(
-        net,
-        main,
-        cell + traps + 3,
-        traps,
-        p,
-        q,
-        both(on, gives),
-        pauses,
-        next,
-    )
-}
-
-/// Puts the pauses at which the body of a trap stands into `next`, if it is on.
-#[cycle(collect)]
-fn collect_trap(
-    net: &Net,
-    main: bool,
-    cell: usize,
-    traps: usize,
-    p: &Statement,
-    on: bool,
-    pauses: &PauseSet,
-    next: &mut PauseSet,
-) -> usize
-    requires { cell + traps + 3 + sheet_size main p.now
-        (traps + 1) ≤ length net.now.cells.items }
-    ensures { (a : _)
-        → Collects (Trap' a p.now) main cell traps net.now.cells.items on pauses.now next.old
-        next.new result }
-{
-    collect(net, main, cell + traps + 3, traps + 1, p, on, pauses, next)
-}
-
-/// Puts the pauses at which the body of a local signal's binder stands into `next`, if it is on.
-#[cycle(collect)]
-fn collect_local(
-    net: &Net,
-    main: bool,
-    cell: usize,
-    traps: usize,
-    p: &Statement,
-    on: bool,
-    pauses: &PauseSet,
-    next: &mut PauseSet,
-) -> usize
-    requires { cell + traps + 4 + sheet_size main p.now traps
-        ≤ length net.now.cells.items }
-    ensures { (s a : _)
-        → Collects (Binder' s a p.now) main cell traps net.now.cells.items on pauses.now next.old
-        next.new result }
-{
-    collect(net, main, cell + traps + 4, traps, p, on, pauses, next)
-}
-
-/// Puts the pauses at which a statement stands into `next`, if it is on. Answers the first place
-/// after its cells.
-#[cycle(collect)]
-pub fn collect(
-    net: &Net,
-    main: bool,
-    cell: usize,
-    traps: usize,
-    s: &Statement,
-    on: bool,
-    pauses: &PauseSet,
-    next: &mut PauseSet,
-) -> usize
-    requires { cell + sheet_size main s.now traps ≤ length net.now.cells.items }
-    ensures { Collects s.now main cell traps net.now.cells.items on pauses.now next.old
-        next.new result }
-{
-    let parts = cell + traps + 3;
+    let inside = Place {
+        number: at.number + 1,
+        main: at.main,
+        direction: at.direction,
+        cell: at.cell + at.traps + 3,
+        traps: at.traps,
+    };
     match s {
-        Statement::Nothing => parts,
-        Statement::Emit(_) => parts,
-        Statement::Exit(_) => parts,
-        Statement::Pause(n) => collect_pause(net, cell, traps, *n, on, next),
-        Statement::Present(_, p, q) => collect_two(net, main, parts, traps, p, q, on, pauses, next),
-        Statement::Seq(p, q) => collect_two(net, main, parts, traps, p, q, on, pauses, next),
-        Statement::Par(p, q) => collect_par(net, main, cell, traps, p, q, on, pauses, next),
-        Statement::Suspend(_, p) => collect_suspend(net, main, cell, traps, p, on, pauses, next),
+        Statement::Nothing => {}
+        Statement::Emit(_) => {}
+        Statement::Exit(_) => {}
+        Statement::Pause(n) => put(next, *n, true),
+        Statement::Present(_, p, q) => collect_two(net, at, p, q, pauses, next),
+        Statement::Seq(p, q) => collect_two(net, at, p, q, pauses, next),
+        Statement::Par(p, q) => collect_two(net, at, p, q, pauses, next),
+        Statement::Suspend(_, p) => collect_suspend(net, at, p, pauses, next),
         Statement::Loop(p) => {
-            if main {
-                collect_loop(net, main, cell, traps, p, on, pauses, next)
+            if at.main {
+                collect_loop(net, at, p, pauses, next);
             } else {
-                collect(net, main, parts, traps, p, on, pauses, next)
+                collect(net, &inside, p, pauses, next);
             }
         }
-        Statement::Trap(p) => collect_trap(net, main, cell, traps, p, on, pauses, next),
-        Statement::Local(_, p) => collect_local(net, main, cell, traps, p, on, pauses, next),
+        Statement::Trap(p) => {
+            let body = Place {
+                traps: at.traps + 1,
+                ..inside
+            };
+            collect(net, &body, p, pauses, next);
+        }
+        Statement::Local(_, p) => {
+            let body = Place {
+                cell: inside.cell + 1,
+                ..inside
+            };
+            collect(net, &body, p, pauses, next);
+        }
+    }
+}
+
+/// Puts the pauses at which a statement stands into `next`: none if it does not give code 1.
+#[cycle(collect)]
+pub fn collect(net: &Net, at: &Place, s: &Statement, pauses: &PauseSet, next: &mut PauseSet)
+    requires extents { HasExtents net.now.extents.items at.now.number at.now.traps s.now }
+    requires within { at.now.cell + sheet_size at.now.main s.now at.now.traps
+        ≤ length net.now.cells.items }
+    ensures { Collects s.now at.now.main at.now.cell at.now.traps net.now.cells.items pauses.now
+        next.old next.new }
+{
+    if gives_pause(net, at.cell, at.traps) {
+        collect_in(net, at, s, pauses, next);
     }
 }

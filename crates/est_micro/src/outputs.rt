@@ -117,11 +117,17 @@ fn exchange_all(
 }
 
 /// Tells the cells of the signals what the statement emits. Answers what is then known, by the
-/// cells and by what was offered.
-pub fn exchange(net: &mut Net, kernel: &Kernel, inputs: u64, judged: &Judgement) -> Env
+/// cells and by what was offered. Of the inputs that are not asked nothing is.
+pub fn exchange(
+    net: &mut Net,
+    kernel: &Kernel,
+    inputs: u64,
+    unasked: u64,
+    judged: &Judgement,
+) -> Env
     requires room { output_count kernel.now.interface ≤ length net.old.cells.items }
     requires signals { bits net.old.signals ≡ emittable kernel.now.interface }
-    ensures exchanged { IsExchanged kernel.now.interface (bits inputs)
+    ensures exchanged { IsExchanged kernel.now.interface (bits unasked) (bits inputs)
         (bits judged.now.must.signals.interface)
         (bits judged.now.can.signals.interface) net.old.cells.items net.new.cells.items result }
     ensures kept { kept net.new ≡ kept net.old }
@@ -130,11 +136,11 @@ pub fn exchange(net: &mut Net, kernel: &Kernel, inputs: u64, judged: &Judgement)
     let read = exchange_all(net, signals, kernel.interface().len(), inputs, judged);
     Env {
         present: SignalSet {
-            interface: mask::either(inputs, read.sure),
+            interface: mask::minus(mask::either(inputs, read.sure), unasked),
             local: 0,
         },
         possible: SignalSet {
-            interface: mask::either(inputs, read.possible),
+            interface: mask::either(mask::either(inputs, read.possible), unasked),
             local: 0,
         },
     }

@@ -17,7 +17,9 @@ ghost use Rattle.est_meaning.specs.States.{is_live};
 ghost use Rattle.est_meaning.specs.Environments.{status_of};
 ghost use Rattle.est_cells.specs.Gates.{sure_code, may_code};
 ghost use Rattle.est_cells.specs.Tables.{sheet_size};
+ghost use Rattle.est_net.specs.Extents.{HasExtents};
 ghost use Rattle.est_net.specs.Kept.{kept};
+ghost use Rattle.est_net.specs.Owners.{statements};
 ghost use Rattle.est_rounds.specs.Views.{env_of, set_of};
 ghost use Rattle.est_micro.specs.Views.{IsChosen, IsJudged, IsResumed};
 ghost use Rattle.est_micro.specs.declared.direction.Direction.TheVariants.{Forwards, Backwards};
@@ -26,7 +28,7 @@ use crate::begin::begin;
 use crate::cells::{self, Found, Place};
 use crate::decided;
 use crate::direction::Direction;
-use crate::idle::past;
+use crate::extents::{is_live, number_after, past};
 use crate::learning::learn;
 use est_kernel::completion::Completion;
 use est_kernel::pause_set::PauseSet;
@@ -35,7 +37,6 @@ use est_meaning::status::Status;
 use est_net::net::Net;
 use est_rounds::acts::Judgement;
 use est_rounds::answer::answer_to;
-use est_rounds::resume::has_live;
 use est_rounds::signal_set::{self, Env};
 
 /// Sweeps a pause, which ends where it is run.
@@ -69,6 +70,8 @@ fn part(
     requires main { at.now.main ≡ true }
     requires live { is_on ≡ true → is_live p.now (pauses_of pauses.now) ≡ true }
     requires fits { FitsMasks p.now }
+    requires extents { HasExtents net.old.extents.items at.now.number at.now.traps
+        p.now }
     requires within { at.now.cell + sheet_size true p.now at.now.traps
         ≤ length net.old.cells.items }
     requires traps { at.now.traps + trap_depth (term_of p.now) ≤ 62 }
@@ -99,6 +102,10 @@ fn resume_present(
     requires live { (is_live p.now (pauses_of pauses.now) || is_live q.now (pauses_of pauses.now))
         ≡ true }
     requires fits { FitsMasks p.now × FitsMasks q.now }
+    requires first_extents { HasExtents net.old.extents.items (at.now.number + 1)
+        at.now.traps p.now }
+    requires second_extents { HasExtents net.old.extents.items
+        (at.now.number + 1 + statements p.now) at.now.traps q.now }
     requires within { at.now.cell + at.now.traps + 3 + sheet_size true p.now at.now.traps
         + sheet_size true q.now at.now.traps
         ≤ length net.old.cells.items }
@@ -110,15 +117,17 @@ fn resume_present(
     ensures kept { kept net.new ≡ kept net.old }
 {
     let go = learn(net, at.cell, Status::Absent);
-    let is_on = has_live(p, pauses);
     let place = Place {
+        number: at.number + 1,
         main: at.main,
         direction: at.direction,
         cell: at.cell + at.traps + 3,
         traps: at.traps,
     };
+    let is_on = is_live(net, place.number, at.traps, p, pauses);
     let first = part(net, &place, p, pauses, is_on, go.and(asked), run, env);
     let place = Place {
+        number: number_after(net, &place, p),
         main: at.main,
         direction: at.direction,
         cell: first.past,
@@ -152,6 +161,8 @@ fn resume_suspend(
     requires main { at.now.main ≡ true }
     requires live { is_live p.now (pauses_of pauses.now) ≡ true }
     requires fits { FitsMasks p.now }
+    requires extents { HasExtents net.old.extents.items (at.now.number + 1)
+        at.now.traps p.now }
     requires within { at.now.cell + at.now.traps + 3 + sheet_size true p.now at.now.traps
         ≤ length net.old.cells.items }
     requires traps { at.now.traps + trap_depth (term_of p.now) ≤ 62 }
@@ -162,6 +173,7 @@ fn resume_suspend(
 {
     learn(net, at.cell, Status::Absent);
     let place = Place {
+        number: at.number + 1,
         main: at.main,
         direction: at.direction,
         cell: at.cell + at.traps + 3,
@@ -188,6 +200,10 @@ fn resume_seq(
     requires live { (is_live p.now (pauses_of pauses.now) || is_live q.now (pauses_of pauses.now))
         ≡ true }
     requires fits { FitsMasks p.now × FitsMasks q.now }
+    requires first_extents { HasExtents net.old.extents.items (at.now.number + 1)
+        at.now.traps p.now }
+    requires second_extents { HasExtents net.old.extents.items
+        (at.now.number + 1 + statements p.now) at.now.traps q.now }
     requires within { at.now.cell + at.now.traps + 3 + sheet_size true p.now at.now.traps
         + sheet_size true q.now at.now.traps
         ≤ length net.old.cells.items }
@@ -199,17 +215,19 @@ fn resume_seq(
     ensures kept { kept net.new ≡ kept net.old }
 {
     let go = learn(net, at.cell, Status::Absent);
-    let is_on = has_live(p, pauses);
     let place = Place {
+        number: at.number + 1,
         main: at.main,
         direction: at.direction,
         cell: at.cell + at.traps + 3,
         traps: at.traps,
     };
+    let is_on = is_live(net, place.number, at.traps, p, pauses);
     let first = part(net, &place, p, pauses, is_on, go, run, env);
     let inside = cells::told(env, first.judged.must.signals);
     let later = cells::ends(&first.judged);
     let place = Place {
+        number: number_after(net, &place, p),
         main: at.main,
         direction: at.direction,
         cell: first.past,
@@ -233,6 +251,8 @@ fn resume_loop(
     requires main { at.now.main ≡ true }
     requires live { is_live p.now (pauses_of pauses.now) ≡ true }
     requires fits { FitsMasks p.now }
+    requires extents { HasExtents net.old.extents.items (at.now.number + 1)
+        at.now.traps p.now }
     requires within { at.now.cell + at.now.traps + 3 + sheet_size true p.now at.now.traps
         + sheet_size false p.now at.now.traps
         ≤ length net.old.cells.items }
@@ -244,6 +264,7 @@ fn resume_loop(
 {
     learn(net, at.cell, Status::Absent);
     let place = Place {
+        number: at.number + 1,
         main: at.main,
         direction: at.direction,
         cell: at.cell + at.traps + 3,
@@ -253,6 +274,7 @@ fn resume_loop(
     let inside = cells::told(env, first.judged.must.signals);
     let later = cells::ends(&first.judged);
     let place = Place {
+        number: at.number + 1,
         main: false,
         direction: at.direction,
         cell: first.past,
@@ -279,11 +301,19 @@ fn side(is_on: bool, found: &Found, run: Status) -> Judgement
 
 /// Whether a pause of the second side of a `||` is set, where one side has a pause that is set. If
 /// the first side has none, the second has one, and is not searched.
-fn second_lives(first_on: bool, q: &Statement, pauses: &PauseSet) -> bool
-    requires { first_on ≡ false → is_live q.now (pauses_of pauses.now) ≡ true }
+fn second_lives(
+    net: &Net,
+    number: usize,
+    traps: usize,
+    first_on: bool,
+    q: &Statement,
+    pauses: &PauseSet,
+) -> bool
+    requires extents { HasExtents net.now.extents.items number traps q.now }
+    requires live { first_on ≡ false → is_live q.now (pauses_of pauses.now) ≡ true }
     ensures { result ≡ is_live q.now (pauses_of pauses.now) }
 {
-    !first_on || has_live(q, pauses)
+    !first_on || is_live(net, number, traps, q, pauses)
 }
 
 /// Sweeps a `||`, the first side before the second.
@@ -302,6 +332,10 @@ fn resume_par(
     requires live { (is_live p.now (pauses_of pauses.now) || is_live q.now (pauses_of pauses.now))
         ≡ true }
     requires fits { FitsMasks p.now × FitsMasks q.now }
+    requires first_extents { HasExtents net.old.extents.items (at.now.number + 1)
+        at.now.traps p.now }
+    requires second_extents { HasExtents net.old.extents.items
+        (at.now.number + 1 + statements p.now) at.now.traps q.now }
     requires within { at.now.cell + at.now.traps + 3 + sheet_size true p.now at.now.traps
         + sheet_size true q.now at.now.traps
         ≤ length net.old.cells.items }
@@ -313,17 +347,20 @@ fn resume_par(
     ensures kept { kept net.new ≡ kept net.old }
 {
     let go = learn(net, at.cell, Status::Absent);
-    let first_on = has_live(p, pauses);
-    let second_on = second_lives(first_on, q, pauses);
     let place = Place {
+        number: at.number + 1,
         main: at.main,
         direction: at.direction,
         cell: at.cell + at.traps + 3,
         traps: at.traps,
     };
+    let number = number_after(net, &place, p);
+    let first_on = is_live(net, place.number, at.traps, p, pauses);
+    let second_on = second_lives(net, number, at.traps, first_on, q, pauses);
     let first = part(net, &place, p, pauses, first_on, go, run, env);
     let inside = cells::told(env, first.judged.must.signals);
     let place = Place {
+        number,
         main: at.main,
         direction: at.direction,
         cell: first.past,
@@ -352,6 +389,10 @@ fn resume_par_back(
     requires live { (is_live p.now (pauses_of pauses.now) || is_live q.now (pauses_of pauses.now))
         ≡ true }
     requires fits { FitsMasks p.now × FitsMasks q.now }
+    requires first_extents { HasExtents net.old.extents.items (at.now.number + 1)
+        at.now.traps p.now }
+    requires second_extents { HasExtents net.old.extents.items
+        (at.now.number + 1 + statements p.now) at.now.traps q.now }
     requires within { at.now.cell + at.now.traps + 3 + sheet_size true p.now at.now.traps
         + sheet_size true q.now at.now.traps
         ≤ length net.old.cells.items }
@@ -363,18 +404,21 @@ fn resume_par_back(
     ensures kept { kept net.new ≡ kept net.old }
 {
     let go = learn(net, at.cell, Status::Absent);
-    let first_on = has_live(p, pauses);
-    let second_on = second_lives(first_on, q, pauses);
     let place = Place {
+        number: at.number + 1,
         main: at.main,
         direction: at.direction,
         cell: at.cell + at.traps + 3,
         traps: at.traps,
     };
+    let number = number_after(net, &place, p);
+    let first_on = is_live(net, place.number, at.traps, p, pauses);
+    let second_on = second_lives(net, number, at.traps, first_on, q, pauses);
     let later = Place {
+        number,
         main: at.main,
         direction: at.direction,
-        cell: past(place.cell, true, p, at.traps),
+        cell: past(net, &place, p),
         traps: at.traps,
     };
     let second = part(net, &later, q, pauses, second_on, go, run, env);
@@ -399,6 +443,8 @@ fn resume_trap(
     requires main { at.now.main ≡ true }
     requires live { is_live p.now (pauses_of pauses.now) ≡ true }
     requires fits { FitsMasks p.now }
+    requires extents { HasExtents net.old.extents.items (at.now.number + 1)
+        (at.now.traps + 1) p.now }
     requires within { at.now.cell + at.now.traps + 3 + sheet_size true p.now
         (at.now.traps + 1) ≤ length net.old.cells.items }
     requires traps { at.now.traps + 1 + trap_depth (term_of p.now) ≤ 62 }
@@ -409,6 +455,7 @@ fn resume_trap(
 {
     learn(net, at.cell, Status::Absent);
     let place = Place {
+        number: at.number + 1,
         main: at.main,
         direction: at.direction,
         cell: at.cell + at.traps + 3,
@@ -434,6 +481,8 @@ fn resume_local(
     requires main { at.now.main ≡ true }
     requires live { is_live p.now (pauses_of pauses.now) ≡ true }
     requires fits { (s.index < 64) × FitsMasks p.now }
+    requires extents { HasExtents net.old.extents.items (at.now.number + 1)
+        at.now.traps p.now }
     requires within { at.now.cell + at.now.traps + 4 + sheet_size true p.now at.now.traps
         ≤ length net.old.cells.items }
     requires traps { at.now.traps + trap_depth (term_of p.now) ≤ 62 }
@@ -446,6 +495,7 @@ fn resume_local(
     let cell = at.cell + at.traps + 3;
     let inside = signal_set::set_local(env, s, net.status(cell));
     let place = Place {
+        number: at.number + 1,
         main: at.main,
         direction: at.direction,
         cell: cell + 1,
@@ -470,6 +520,8 @@ fn resume_each(
     requires main { at.now.main ≡ true }
     requires live { is_live s.now (pauses_of pauses.now) ≡ true }
     requires fits { FitsMasks s.now }
+    requires extents { HasExtents net.old.extents.items at.now.number at.now.traps
+        s.now }
     requires within { at.now.cell + sheet_size true s.now at.now.traps
         ≤ length net.old.cells.items }
     requires traps { at.now.traps + trap_depth (term_of s.now) ≤ 62 }
@@ -517,6 +569,8 @@ pub fn resume(
     requires main { at.now.main ≡ true }
     requires live { is_live s.now (pauses_of pauses.now) ≡ true }
     requires fits { FitsMasks s.now }
+    requires extents { HasExtents net.old.extents.items at.now.number at.now.traps
+        s.now }
     requires within { at.now.cell + sheet_size true s.now at.now.traps
         ≤ length net.old.cells.items }
     requires traps { at.now.traps + trap_depth (term_of s.now) ≤ 62 }

@@ -1,6 +1,7 @@
 //! Rounds over the table of a kernel, until nothing more can be decided.
 
-ghost use Rattle.std.specs.Prelude.{◌≡◌, ◌≢◌, ◌≤◌, ◌+◌, ◌⊎◌, true, false, length};
+ghost use Rattle.std.specs.Prelude.{◌≡◌, ◌≢◌, ◌≤◌, ◌+◌, ◌⊎◌, ℕ, Bool, true, false};
+ghost use Rattle.std.specs.Prelude.{length};
 ghost use Rattle.est_kernel.specs.Bits.{bits};
 ghost use Rattle.est_kernel.specs.Interfaces.{emittable};
 ghost use Rattle.est_kernel.specs.Limits.{trap_depth};
@@ -8,11 +9,13 @@ ghost use Rattle.est_kernel.specs.Masks.{FitsMasks};
 ghost use Rattle.est_kernel.specs.View.{term_of};
 ghost use Rattle.est_meaning.specs.States.{IsState};
 ghost use Rattle.est_cells.specs.Tables.{sheet_size};
+ghost use Rattle.est_net.specs.Extents.{HasExtents};
 ghost use Rattle.est_net.specs.Kept.{kept, reopened};
 ghost use Rattle.est_net.specs.Layout.{cell_count, output_count};
 ghost use Rattle.est_net.specs.Reach.{HasEmissions};
 ghost use Rattle.est_rounds.specs.Views.{env_of};
-ghost use Rattle.est_micro.specs.Runs.{IsRound, IsSettled, sheet_swept};
+ghost use Rattle.est_micro.specs.Parts.{AgreeBut, AreInputsAlone};
+ghost use Rattle.est_micro.specs.Runs.{IsRound, IsSettledBut, sheet_swept};
 ghost use Rattle.est_micro.specs.Views.{IsSwept};
 
 use crate::begin::begin;
@@ -39,6 +42,7 @@ fn sweep(
     requires state { IsState root.now state.now }
     requires fits { FitsMasks root.now }
     requires traps { 0 + trap_depth (term_of root.now) ≤ 62 }
+    requires extents { HasExtents net.old.extents.items 0 0 root.now }
     requires within { outputs + sheet_size true root.now 0 ≤ length net.old.cells.items }
     ensures swept { IsSwept true root.now outputs 0
         (sheet_swept direction root.now state.now (env_of env.now))
@@ -47,6 +51,7 @@ fn sweep(
     ensures kept { kept net.new ≡ kept net.old }
 {
     let place = Place {
+        number: 0,
         main: true,
         cell: outputs,
         traps: 0,
@@ -66,6 +71,7 @@ fn round(
     outputs: usize,
     state: &State,
     inputs: u64,
+    unasked: u64,
     env: &mut Env,
     direction: Direction,
 ) -> Found
@@ -73,13 +79,14 @@ fn round(
     requires outputs { outputs ≡ output_count kernel.now.interface }
     requires size { length net.old.cells.items ≡ cell_count kernel.now }
     requires signals { bits net.old.signals ≡ emittable kernel.now.interface }
+    requires extents { HasExtents net.old.extents.items 0 0 kernel.now.root }
     ensures made { IsRound direction kernel.now.interface
-        (bits inputs) kernel.now.root state.now env.old env.new
+        (bits unasked) (bits inputs) kernel.now.root state.now env.old env.new
         net.old.cells.items net.new.cells.items result }
     ensures kept { kept net.new ≡ kept net.old }
 {
     let found = sweep(net, kernel.root(), outputs, state, env, direction);
-    *env = exchange(net, kernel, inputs, &found.judged);
+    *env = exchange(net, kernel, inputs, unasked, &found.judged);
     found
 }
 
@@ -114,7 +121,8 @@ fn next_direction(direction: Direction, now: usize, before: usize, cells: usize)
 }
 
 /// Opens the table, and makes rounds until nothing more can be decided. `possible` has every signal
-/// that may be emitted from this state. The first sweep goes the way of `first`.
+/// that may be emitted from this state. Of the inputs in `unasked` nothing is known: what is
+/// decided is so whatever they are. The first sweep goes the way of `first`.
 pub fn settle(
     net: &mut Net,
     kernel: &Kernel,
@@ -122,28 +130,37 @@ pub fn settle(
     state: &State,
     possible: u64,
     inputs: u64,
+    unasked: u64,
     first: Direction,
 ) -> Settled
     requires state { IsState kernel.now.root state.now }
     requires outputs { outputs ≡ output_count kernel.now.interface }
     requires size { length net.old.cells.items ≡ cell_count kernel.now }
     requires signals { bits net.old.signals ≡ emittable kernel.now.interface }
+    requires extents { HasExtents net.old.extents.items 0 0 kernel.now.root }
     requires possible { HasEmissions kernel.now.root state.now (bits possible) }
-    ensures settled { IsSettled kernel.now state.now (bits inputs) net.new.cells.items result }
+    requires apart { AreInputsAlone kernel.now.interface (bits unasked) }
+    ensures size { length net.new.cells.items ≡ cell_count kernel.now }
+    ensures settled { (others : ℕ → Bool) → AgreeBut (bits unasked) (bits inputs) others
+        → IsSettledBut (bits unasked) kernel.now state.now others net.new.cells.items result }
     ensures kept { kept net.new ≡ reopened net.old }
 {
     let cells = net.cells();
     net.clear();
     let doubt = in_doubt(possible);
-    let mut env = exchange(net, kernel, inputs, &doubt);
+    let mut env = exchange(net, kernel, inputs, unasked, &doubt);
     let mut before = 0;
     let mut direction = first;
-    let mut found = round(net, kernel, outputs, state, inputs, &mut env, direction);
+    let mut found = round(
+        net, kernel, outputs, state, inputs, unasked, &mut env, direction,
+    );
     let mut now = net.steps();
     while goes_on(now, before, cells) {
         direction = next_direction(direction, now, before, cells);
         before = now;
-        found = round(net, kernel, outputs, state, inputs, &mut env, direction);
+        found = round(
+            net, kernel, outputs, state, inputs, unasked, &mut env, direction,
+        );
         now = net.steps();
     }
     Settled {

@@ -1,5 +1,6 @@
 pub mod Deciding
 mod Covering
+mod Extending
 pub mod Ranges
 mod Reaching
 mod Finding

@@ -1,6 +1,7 @@
 -- What a write leaves of a table (this project's own form).
-use Rattle.std.specs.Prelude.{ℕ, ◌+◌, ◌%◌, ◌^◌}
+use Rattle.std.specs.Prelude.{ℕ, ◌+◌, ◌%◌, ◌^◌, List}
 use Rattle.est_net.specs.Cells.{decided}
+use Rattle.est_net.specs.declared.extents.Extent.{Extent}
 use Rattle.est_net.specs.declared.net.Net.{Net}
 use Rattle.est_net.specs.declared.reach.Reach.{Reach}
 
@@ -10,10 +11,16 @@ pub record Kept : Type 0 where
   pub signals : ℕ
   pub outputs : ℕ
   pub reach : Reach
+  pub extents : List Extent
 
 abbrev pub kept : Net → Kept
-kept net =
-    record { earlier = net.earlier; signals = net.signals; outputs = net.outputs; reach = net.reach }
+kept net = record {
+  earlier = net.earlier;
+  signals = net.signals;
+  outputs = net.outputs;
+  reach = net.reach;
+  extents = net.extents.items;
+}
 
 -- what is left of it once its cells are opened: those that were decided count among the earlier ones
 abbrev pub reopened : Net → Kept
@@ -22,4 +29,5 @@ reopened net = record {
   signals = net.signals;
   outputs = net.outputs;
   reach = net.reach;
+  extents = net.extents.items;
 }

@@ -6,9 +6,11 @@
 //! all of them open. A cell is decided once, by one assignment, which changes no other cell.
 #![tactic(auto)]
 
+pub mod extents;
 pub mod laws;
 mod lay;
 pub mod net;
 pub mod owners;
+pub mod pause_run;
 pub mod reach;
 mod table;

@@ -8,9 +8,11 @@ ghost use Rattle.est_meaning.specs.Rounds.{how_many};
 ghost use Rattle.est_meaning.specs.declared.status.Status.TheVariants.{Unknown};
 ghost use Rattle.est_net.specs.Cells.{AllDecided, AllOpen, AreFalse, NoneTrue, cell_at, decided};
 ghost use Rattle.est_net.specs.Cells.{is_known, known_as, value_of};
+ghost use Rattle.est_net.specs.Extents.{HasExtents, extent_at};
 ghost use Rattle.est_net.specs.Layout.{cell_count, output_count};
 ghost use Rattle.est_net.specs.Reach.{IsReachOf};
 
+use crate::extents::{Extent, extents_of};
 use crate::lay::lay;
 use crate::reach::Reach;
 use crate::table;
@@ -34,6 +36,8 @@ pub struct Net {
     outputs: usize,
     /// What may be emitted in an instant.
     reach: Reach,
+    /// What is known of each statement, in the order of the text.
+    extents: Vec<Extent>,
     /// All others are decided.
     ghost counted: { decided cells.items + left_open ≡ length cells.items },
 }
@@ -74,6 +78,7 @@ impl Net {
         ensures signals { IfOk result (λ net. bits net.signals ≡ emittable kernel.now.interface) }
         ensures outputs { IfOk result (λ net. net.outputs ≡ output_count kernel.now.interface) }
         ensures reach { IfOk result (λ net. IsReachOf net.reach kernel.now.root) }
+        ensures extents { IfOk result (λ net. HasExtents net.extents.items 0 0 kernel.now.root) }
     {
         let signals = kernel.interface().emittable();
         let outputs = rank(signals, kernel.interface().len());
@@ -81,6 +86,7 @@ impl Net {
         lay(&mut cells, true, kernel.root(), 0)?;
         table::open_all(cells.as_mut_slice());
         let reach = Reach::of(alloc, kernel.root())?;
+        let extents = extents_of(alloc, kernel.root())?;
         Ok(Net {
             left_open: cells.len(),
             cells,
@@ -88,6 +94,7 @@ impl Net {
             signals,
             outputs,
             reach,
+            extents,
         })
     }
 
@@ -117,6 +124,15 @@ impl Net {
         ensures { result.now ≡ self.now.reach }
     {
         &self.reach
+    }
+
+    /// What is known of the statement of this number, in the order of the text.
+    #[inline(always)]
+    pub fn extent(&self, number: usize) -> &Extent
+        requires { number < length self.now.extents.items }
+        ensures { result.now ≡ extent_at self.now.extents.items number }
+    {
+        &self.extents[number]
     }
 
     /// How many cells are decided.

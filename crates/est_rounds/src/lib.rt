@@ -9,6 +9,7 @@ pub mod acts;
 pub mod answer;
 pub mod engine;
 mod judged;
+pub mod part_engine;
 pub mod resume;
 mod resume_step;
 pub mod rounds;

@@ -26,6 +26,8 @@ mod openers;
 #[cfg(test)]
 mod owners;
 #[cfg(test)]
+mod parts;
+#[cfg(test)]
 mod pending;
 #[cfg(test)]
 mod reductions;

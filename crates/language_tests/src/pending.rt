@@ -7,8 +7,9 @@ use std::process::Abort;
 
 /// Relations of a module of the inputs A and B, which have to be over the inputs of another
 /// interface, and whether they are.
-const OVER_INPUTS: [(&str, &str, bool); 3] = [
+const OVER_INPUTS: [(&str, &str, bool); 4] = [
     ("A # B", "input A, B;", true),
+    ("A # B", "input A; inputoutput B;", true),
     ("A # B", "input A; output B;", false),
     ("A => B", "input A; output B;", false),
 ];

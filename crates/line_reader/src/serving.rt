@@ -2,6 +2,7 @@
 //! lines.
 ghost use Rattle.std.specs.Prelude.{◌≡◌, ◌<◌, ◌⊎◌, ℕ, List, [], true, map, MatchResult, IfOk, OnOk};
 ghost use Rattle.std.specs.Prelude.{OnErr, Ok, Err};
+ghost use Rattle.std.specs.Cow.{cow_slice_items};
 ghost use Rattle.std.specs.Io.KnownBytes.{prepend_known};
 ghost use Rattle.line_reader.specs.Meters.{IsStopped, has_failed};
 ghost use Rattle.line_reader.specs.Readers.{held_bytes, last_line, weight};
@@ -19,7 +20,11 @@ use crate::lines::{Line, LineFault, LineReader};
 use crate::meter::{MeteredMemory, MeteredReader, MeteredWriter};
 use crate::replies::{Replies, WriteFault};
 use std::alloc::{AllocError, Global};
+use std::borrow::CowSlice;
 use std::io::{Read, Write};
+
+/// The text of an answer: a constant, which takes no memory, or bytes that were made for it.
+pub type Text = CowSlice<'static, u8, Global>;
 
 /// What answers the lines of a connection; for each it is lent a desk to ask.
 pub trait Answerer<D> {
@@ -35,9 +40,10 @@ pub trait Answerer<D> {
     /// # Errors
     ///
     /// Where memory was refused for the text of the answer.
-    fn answer(&mut self, alloc: Global, desk: &mut D, line: &[u8]) -> Result<Vec<u8>, AllocError>
+    fn answer(&mut self, alloc: Global, desk: &mut D, line: &[u8]) -> Result<Text, AllocError>
         ensures { MatchResult result
-            (λ text. tells (self.old, desk.old) line.now text.items (self.new, desk.new))
+            (λ text. tells (self.old, desk.old) line.now (cow_slice_items text)
+            (self.new, desk.new))
             (λ _. fails (self.old, desk.old) line.now (self.new, desk.new)) };
 }
 

@@ -1,7 +1,8 @@
-//! Linked modules and their flat bodies.
+//! Linked modules, their sizes and their flat bodies.
 ghost use Rattle.std.specs.Prelude.{◌≡◌, ℕ, Bool, List, None, Some, IfOk, map};
 ghost use Rattle.est_link.specs.Bodies.{HasSoundNames};
 ghost use Rattle.est_link.specs.Linking.{IsLinked};
+ghost use Rattle.est_checks.specs.Counting.{IsCountOf};
 ghost use Rattle.est_checks.specs.Duplicates.{first_duplicate};
 ghost use Rattle.est_link.specs.FlatModules.{IsLinkOf};
 ghost use Rattle.est_link.specs.MainModule.{declarations_of};
@@ -13,6 +14,7 @@ ghost use Rattle.est_reduce.specs.Views.{body_of};
 ghost use Rattle.est_syntax.specs.Views.{library_view};
 
 use est_checks::fault::LinkFault;
+use est_checks::statement_count;
 use est_link::{link, linked_module};
 use est_modules::head_tree::Heads;
 use est_order::place_order::Order;
@@ -43,6 +45,24 @@ pub fn linked_body(
         → IsBound (declarations_of p) 0 0 (body_of b)) }
 {
     linked_module::linked_body(alloc, heads, order, main)
+}
+
+/// The number of statements that the linked module `main` has before reduction, or `None` if it
+/// has more than the limit.
+///
+/// # Errors
+///
+/// `AllocError` where memory is refused.
+pub fn count_statements(
+    alloc: Global,
+    heads: &Heads<'_>,
+    order: &Order,
+    main: &Identifier,
+) -> Result<Option<u16>, AllocError>
+    requires { IsOrderOf (map program_of heads.now) order.now }
+    ensures { IfOk result (λ answer. IsCountOf (map program_of heads.now) main.now answer) }
+{
+    statement_count::count_statements(alloc, heads, order, main)
 }
 
 /// Links a library: its flat main module, or the first fault of its checks.

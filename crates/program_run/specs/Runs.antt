@@ -12,7 +12,7 @@ use Rattle.program_run.specs.declared.fault.Fault.{Fault}
 use Rattle.program_run.specs.declared.fault.Fault.TheVariants as fault
 use Rattle.program_run.specs.Reports.{Reports}
 use Rattle.program_run.specs.Faults.{status_of, IsOfWords, IsOutcome}
-use Rattle.program_run.specs.Serving.{ServesSocket}
+use Rattle.program_run.specs.Serving.{ServesSource, ServesOverSocket}
 use Rattle.command_line.specs.Words.{IsOrder, IsRefused}
 use Rattle.command_line.specs.declared.fault.WordFault.{WordFault}
 use Rattle.command_line.specs.declared.order.Order.{Order}
@@ -78,7 +78,7 @@ abbrev pub Does : Order → (refused : Bool) → (ahead : Option (List ℕ)) →
     → (written after : Option (List ℕ)) → Type 0
 Does (Script log report) refused ahead answer written after = RunsScript refused report ahead answer written after
 Does (Serve service) refused ahead answer written after =
-    ServesSocket service.workers service.connections answer written after
+    ServesSource ServesOverSocket service.workers service.connections answer written after
 
 -- the command line spells an order, and it is carried out
 pub record DoesOrder (words : List Text) (refused : Bool) (ahead : Option (List ℕ)) (answer : Result ⊤ Fault)

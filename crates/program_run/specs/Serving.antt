@@ -1,6 +1,7 @@
 -- What serving the connections of a socket comes to (this project's own form).
-use Rattle.std.specs.Prelude.{◌≡◌, ℕ, ◌-◌, ◌^◌, List, ◌⊎◌, Option, Result, Err, ⊤, true, replicate, unwrap_or}
+use Rattle.std.specs.Prelude.{◌≡◌, ℕ, ◌-◌, ◌^◌, List, ◌⊎◌, Option, None, Result, Err, ⊤, true, replicate, unwrap_or}
 use Rattle.std.specs.Io.KnownBytes.{Keeps}
+use Rattle.std.specs.declared.net.unix.UnixStream.{UnixStream}
 use Rattle.rbac_policy.specs.declared.commands.Entry.{Entry}
 use Rattle.reactor_core.specs.declared.entry.SlotEntry.{SlotEntry}
 use Rattle.seat_receipts.specs.declared.mismatch.Mismatch.{Mismatch}
@@ -19,10 +20,21 @@ use Rattle.program_run.specs.Reports.{Reports}
 abbrev pub quota_of : (connections : Option ℕ) → ℕ
 quota_of connections = unwrap_or connections (2 ^ 64 - 1)
 
+-- what one connection of a worker, by its number, does to the worker's seat
+abbrev pub Turn : Type 1
+Turn = (worker number : ℕ) → (before after : SeatState) → Type 0
+
+-- a connection of a socket, over whatever bytes, since its streams tell none, and of whichever client
+abbrev pub ServesOverSocket : Turn
+ServesOverSocket worker number before after =
+    ServesNext {I = UnixStream} {O = UnixStream} (λ r. None) (λ w. None) (λ w n c. ⊤) (λ w n s. ⊤) worker number before
+    after
+
 -- each of n workers served its connections to their ends, one after another, at a new seat of its own: exactly as many
 -- as are asked for. These are the seats afterwards
-abbrev pub ServesAll : (workers : ℕ) → (connections : Option ℕ) → (seats : List SeatState) → Type 0
-ServesAll workers connections seats = AreBack ServesNext (quota_of connections) true (replicate workers new_seat) seats
+abbrev pub ServesAll : Turn → (workers : ℕ) → (connections : Option ℕ) → (seats : List SeatState) → Type 0
+ServesAll turn workers connections seats =
+    AreBack turn (quota_of connections) true (replicate workers new_seat) seats
 
 -- the journals of a server that is closed with these seats. They are those of one run of the calls whose receipts the
 -- seats keep. One list of events has the journals, and what the seats keep, as its parts. What each seat keeps is in
@@ -55,10 +67,10 @@ ClosesSo seats answer written after = ReportsHistories seats answer written afte
     ⊎ TellsMismatch seats answer written after
 
 -- all connections that are asked for are served to their ends, and the server is closed
-pub record ServesAndCloses (workers : ℕ) (connections : Option ℕ) (answer : Result ⊤ Fault)
+pub record ServesAndCloses (turn : Turn) (workers : ℕ) (connections : Option ℕ) (answer : Result ⊤ Fault)
     (written after : Option (List ℕ)) : Type 0 where
   pub seats : List SeatState
-  pub back : ServesAll workers connections seats
+  pub back : ServesAll turn workers connections seats
   pub closes : ClosesSo seats answer written after
 
 -- a fault of memory or of the socket, and nothing is written
@@ -68,9 +80,9 @@ pub record FailsToServe (answer : Result ⊤ Fault) (written after : Option (Lis
   pub named : given ≡ fault.Memory ⊎ given ≡ fault.Socket
   pub silent : Keeps written after
 
--- each worker serves as many connections of a socket as are asked for, and the server is closed; or memory was refused
--- before, or the socket failed
-abbrev pub ServesSocket : (workers : ℕ) → (connections : Option ℕ) → Result ⊤ Fault
+-- each worker serves as many connections as are asked for, and the server is closed; or memory was refused before, or
+-- the source had no connection more
+abbrev pub ServesSource : Turn → (workers : ℕ) → (connections : Option ℕ) → Result ⊤ Fault
     → (written after : Option (List ℕ)) → Type 0
-ServesSocket workers connections answer written after = ServesAndCloses workers connections answer written after
-    ⊎ FailsToServe answer written after
+ServesSource turn workers connections answer written after =
+    ServesAndCloses turn workers connections answer written after ⊎ FailsToServe answer written after

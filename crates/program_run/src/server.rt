@@ -3,11 +3,12 @@ ghost use Rattle.std.specs.Prelude.{◌≡◌, ◌≤◌, Err, true, vec_len};
 ghost use Rattle.seat_receipts.specs.declared.receipt_list.TheConstants.{SEATS};
 ghost use Rattle.line_reader.specs.Meters.{has_failed};
 ghost use Rattle.program_run.specs.declared.fault.Fault.TheVariants as fault;
-ghost use Rattle.program_run.specs.Serving.{ClosesSo, ServesSocket};
+ghost use Rattle.client_loop.specs.Workers.{ServesNext};
+ghost use Rattle.program_run.specs.Serving.{ClosesSo, ServesSource, ServesOverSocket};
 
 use crate::fault::Fault;
 use crate::reports::write_report;
-use crate::socket::{Socket, SocketSource};
+use crate::socket::{ClosableSource, Socket, SocketSource};
 use client_loop::gate::OpenGate;
 use client_loop::workers::run_workers;
 use command_line::order::{Service, WorkerCount};
@@ -49,19 +50,30 @@ fn close<B: BoardName, R: Wait, O: Write>(
 
 /// Serves the connections of a source over a new board of this name, with a seat for each worker.
 /// Each worker serves as many connections as are asked for. When all workers have ended, it closes
-/// the source's socket, and then the server, so that no client comes to a server that will not
-/// answer.
-fn serve_source<B: BoardName + Send + Sync, R: Threads + Wait + Net + Files + Sync, O: Write>(
+/// the source, and then the server, so that no client comes to a server that will not answer.
+///
+/// # Errors
+///
+/// - Socket, where the source gave a worker no connection more;
+/// - Memory, Mismatch and Write, as `serve` has them.
+pub fn serve_source<
+    B: BoardName + Send + Sync,
+    R: Threads + Wait + Files + Sync,
+    S: ClosableSource + Sync,
+    O: Write,
+>(
     rt: &R,
     alloc: Global,
     fresh: Fresh,
     workers: WorkerCount,
     connections: Option<u64>,
-    source: SocketSource<'_>,
+    source: S,
     output: &mut MeteredWriter<O>,
 ) -> Result<(), Fault>
     requires { fresh.seen.book ≡ B.book }
-    ensures serves { ServesSocket workers connections result (O.contents output.old.device)
+    ensures serves { ServesSource (λ worker number before after. ServesNext S.Reader.remaining
+        S.Writer.contents S.gave S.took worker number before after)
+        workers connections result (O.contents output.old.device)
         (O.contents output.new.device) }
     ensures failed { result ≡ Err fault.Write →
         has_failed output.old.faults output.new.faults ≡ true }
@@ -107,15 +119,15 @@ pub fn serve<R: Threads + Wait + Net + Files + Sync, O: Write>(
     service: &Service<'_>,
     output: &mut MeteredWriter<O>,
 ) -> Result<(), Fault>
-    ensures serves { ServesSocket service.now.workers service.now.connections result
-        (O.contents output.old.device) (O.contents output.new.device) }
+    ensures serves { ServesSource ServesOverSocket service.now.workers service.now.connections
+        result (O.contents output.old.device) (O.contents output.new.device) }
     ensures failed { result ≡ Err fault.Write →
         has_failed output.old.faults output.new.faults ≡ true }
 {
     let source = SocketSource::new(Socket::bind(rt, service.path)?);
     let (workers, connections) = (service.workers, service.connections);
     // `Brand` is the name of the new board: the proof has it stand for the list of `Fresh::new()`.
-    serve_source::<Brand, R, O>(
+    serve_source::<Brand, R, SocketSource<'_>, O>(
         rt,
         alloc,
         Fresh::new(),

@@ -1,9 +1,9 @@
 //! Connections over a Unix socket, for many workers.
-ghost use Rattle.std.specs.Prelude.{◌≡◌, IfErr};
+ghost use Rattle.std.specs.Prelude.{◌≡◌, IfErr, ⊤};
 ghost use Rattle.program_run.specs.declared.fault.Fault.TheVariants as fault;
 
 use crate::fault::Fault;
-use client_loop::source::{Connection, Source};
+use client_loop::source::{Connection, Served, Source};
 use std::fs;
 use std::fs::Files;
 use std::net::Net;
@@ -70,6 +70,13 @@ impl<'a> Socket<'a> {
     }
 }
 
+/// A source that can be closed.
+pub trait ClosableSource: Source {
+    /// Closes the source: a client that comes then is refused, and one that waits finds its
+    /// connection closed.
+    fn close<R: Files>(self, rt: &R);
+}
+
 /// The connections that come to a socket. All workers accept at the one socket.
 #[derive(Drop)]
 pub struct SocketSource<'a> {
@@ -81,12 +88,6 @@ impl<'a> SocketSource<'a> {
     pub fn new(socket: Socket<'a>) -> SocketSource<'a> {
         SocketSource { socket }
     }
-
-    /// Takes the socket's file away, and closes the socket: a client that comes then is refused,
-    /// and one that waits finds its connection closed.
-    pub fn close<R: Files>(self, rt: &R) {
-        self.socket.close(rt);
-    }
 }
 
 impl<'a> Source for SocketSource<'a> {
@@ -94,7 +95,12 @@ impl<'a> Source for SocketSource<'a> {
 
     type Writer = UnixStream;
 
-    fn accept(&self, _worker: usize) -> Option<Connection<UnixStream, UnixStream>> {
+    // No contract can say which connections come to a socket.
+    ghost gave = { λ worker number connection. ⊤ };
+
+    ghost took = { λ worker number served. ⊤ };
+
+    fn accept(&self, _worker: usize, _number: u64) -> Option<Connection<UnixStream, UnixStream>> {
         // Bounded, so that the loop is proved to end.
         for _ in 0..u64::MAX {
             let (writer, _) = self.socket.listener.accept().ok()?;
@@ -104,5 +110,17 @@ impl<'a> Source for SocketSource<'a> {
             }
         }
         None
+    }
+
+    fn take_back(&self, _worker: usize, _number: u64, served: Served<UnixStream, UnixStream>)
+        ensures { ⊤ }
+    {
+        drop(served);
+    }
+}
+
+impl<'a> ClosableSource for SocketSource<'a> {
+    fn close<R: Files>(self, rt: &R) {
+        self.socket.close(rt);
     }
 }

@@ -12,9 +12,9 @@
 pub mod entry;
 pub mod journal;
 pub mod laws;
-mod loaded;
+pub mod loaded;
 pub mod nesting;
 pub mod reactor;
-mod reading;
+pub mod reading;
 pub mod refusal;
 pub mod text;

@@ -2,4 +2,5 @@ mod connections;
 mod devices;
 mod lines;
 mod logins;
+mod opening;
 mod requests;

@@ -27,6 +27,7 @@ use reactor_core::journal::Journal;
 use seat_receipts::mismatch::Mismatch;
 use seat_receipts::receipt_list::SEATS;
 use std::alloc::Global;
+use std::hint::spin_loop;
 use std::sync::{Mutex, MutexGuard, Wait};
 
 /// The sixteen slots, each under its lock. A lock's type has the slot's number as a parameter,
@@ -97,6 +98,26 @@ fn open_slot<B: BoardName, const NUMBER: u8>(
     Mutex::new(LockedSlot::new(alloc, reader))
 }
 
+// How often a lock that is taken is tried again before the thread sleeps: for about as long as
+// three commands take. To sleep and be woken takes far longer than a command.
+const TRIES: u32 = 64;
+
+// How long a thread waits between two tries.
+const PAUSES: u32 = 8;
+
+// Takes a lock. If it is taken, tries again a number of times, and then sleeps until it is free.
+fn lock_soon<'a, T, R: Wait>(rt: &R, lock: &'a Mutex<T>) -> MutexGuard<'a, T> {
+    for _ in 0..TRIES {
+        if let Some(guard) = lock.try_lock() {
+            return guard;
+        }
+        for _ in 0..PAUSES {
+            spin_loop();
+        }
+    }
+    lock.lock(rt)
+}
+
 // Answers a command on the slot under this lock.
 fn answer<B: BoardName, const NUMBER: u8, R: Wait>(
     rt: &R,
@@ -109,7 +130,7 @@ fn answer<B: BoardName, const NUMBER: u8, R: Wait>(
     requires { NUMBER < SLOTS }
     ensures { IsAnswered NUMBER session command seat.old result seat.new }
 {
-    let mut locked = slot.lock(rt);
+    let mut locked = lock_soon(rt, slot);
     let reply = locked.command(rt, board, seat, session, command);
     MutexGuard::unlock(locked);
     reply

@@ -1,5 +1,7 @@
 //! Reply lines, as exact bytes.
-ghost use Rattle.std.specs.Prelude.{◌≡◌, ◌++◌, ◌∷◌, ℕ, List, codes, decimal, IfOk, OnOk, true};
+ghost use Rattle.std.specs.Prelude.{◌≡◌, ◌≢◌, ◌++◌, ◌∷◌, ℕ, List, codes, decimal, IfOk, OnOk};
+ghost use Rattle.std.specs.Prelude.{OnErr, true};
+ghost use Rattle.std.specs.Cow.{cow_slice_items};
 ghost use Rattle.json.specs.Print.{quoted};
 ghost use Rattle.serde_json.specs.Data.{no_members};
 ghost use Rattle.rbac_admin.specs.Refusals.{row_of as policy_row};
@@ -29,6 +31,7 @@ use est_text::place::Place;
 use rbac_admin::refusals::{Refusal as PolicyRefusal, table_text};
 use reactor_core::refusal::{ModuleRefusal, limit_text};
 use std::alloc::{AllocError, Global};
+use std::borrow::CowSlice;
 
 /// Writes what a refusal of the policy says.
 fn write_policy_refusal(
@@ -237,6 +240,28 @@ pub fn reply_line(alloc: Global, reply: &Reply) -> Result<Vec<u8>, AllocError>
             version,
         } => audit_line(alloc, *entries, *instants, *version),
         Reply::Check { allowed } => check_line(alloc, *allowed),
+    }
+}
+
+/// The line that tells want of memory, with its LF. It takes no memory.
+pub fn memory_line() -> &'static [u8]
+    ensures { result.now ≡ line_of (Refused refusal.Memory) }
+{
+    b"{\"code\":90,\"fault\":\"Memory\"}\n"
+}
+
+/// The line of a reply, with its LF. Where the reply is want of memory, it is a constant.
+///
+/// # Errors
+///
+/// Where memory was refused for the line of another reply.
+pub fn reply_text(alloc: Global, reply: &Reply) -> Result<CowSlice<'static, u8, Global>, AllocError>
+    ensures line { IfOk result (λ line. cow_slice_items line ≡ line_of reply.now) }
+    ensures memory { OnErr result (reply.now ≢ Refused refusal.Memory) }
+{
+    match reply {
+        Reply::Refused(Refusal::Memory) => Ok(CowSlice::Borrowed(memory_line())),
+        _ => Ok(CowSlice::Owned(reply_line(alloc, reply)?)),
     }
 }
 

@@ -1,49 +1,67 @@
 -- Seats that come back, of threads in their order, and how many turns their workers took.
-use Rattle.std.proofs.Common.{◌≡◌, ◌+◌, ℕ, Bool, true, List, [], ◌∷◌, ◌++◌, map, sym, subst, All, suc, arith}
+use Rattle.std.proofs.Common.{◌≡◌, ◌∙◌, ◌+◌, ℕ, Bool, true, List, [], ◌∷◌, ◌++◌, map, length, refl, ap, All, suc}
+use Rattle.std.proofs.Common.{arith}
 use Rattle.std.specs.List.{AllZip}
-use Rattle.std.proofs.lemmas.List.{map-append}
-use Rattle.std.proofs.lemmas.List.Elements.{AllZip-push}
 use Rattle.worker_threads.specs.declared.workers.Job.{Job}
-use Rattle.worker_threads.specs.Turns.{Turns, none_yet, one_more, SomeTurns, AreBack}
+use Rattle.worker_threads.specs.declared.workers.Done.{Done}
+use Rattle.worker_threads.specs.Inner.Jobs.{HasWorked, jobs_of}
+use Rattle.worker_threads.specs.Turns.{AreBackFrom}
 
--- one thread more gives its seat back
-pub back_more : {Thread Seat : Type 0} (turn : Seat → Seat → Type 0) (began : Thread → Seat) (threads : List Thread)
-    (seats : List Seat) (thread : Thread) (seat : Seat)
-    → AllZip (λ old new. SomeTurns turn old new) (map began threads) seats → SomeTurns turn (began thread) seat
-    → AllZip (λ old new. SomeTurns turn old new) (map began (threads ++ thread ∷ [])) (seats ++ seat ∷ [])
-back_more turn began threads seats thread seat back turns =
-    subst (λ before. AllZip (λ old new. SomeTurns turn old new) before (seats ++ seat ∷ []))
-    (sym (map-append began threads (thread ∷ [])))
-    (AllZip-push (λ old new. SomeTurns turn old new) (map began threads) seats (began thread) seat back turns)
+-- one thread more ends as its job asks
+pub back_more : {Thread Work Worked : Type 0} (Ends : Work → Worked → Type 0) (began : Thread → Work)
+    (threads : List Thread) (ended : List Worked) (thread : Thread) (last : Worked)
+    → AllZip Ends (map began threads) ended → Ends (began thread) last
+    → AllZip Ends (map began (threads ++ thread ∷ [])) (ended ++ last ∷ [])
+back_more Ends began [] [] thread last back more = (more, tt)
+back_more Ends began [] (one ∷ ended) thread last back more = absurd back
+back_more Ends began (one ∷ threads) [] thread last back more = absurd back
+back_more Ends began (one ∷ threads) (first ∷ ended) thread last back more =
+    (back.0, back_more Ends began threads ended thread last back.1 more)
 
-module _ {Seat : Type 0} (turn : Seat → Seat → Type 0) where
-  -- a turn of a worker that counts: one fewer is left
-  abbrev pub Counts : Job Seat → Job Seat → Type 0
-  Counts before after = (before.left ≡ after.left + 1) × turn before.seat after.seat
+-- there are as many jobs as seats
+pub jobs_long : {Seat : Type 0} (worker turns : ℕ) (seats : List Seat)
+    → length (jobs_of worker turns seats) ≡ length seats
+jobs_long worker turns [] = refl
+jobs_long worker turns (seat ∷ seats) = ap suc (jobs_long (worker + 1) turns seats)
 
-  -- n turns of a worker that counts are n turns at its seat, and n fewer are left
-  counted : (count : ℕ) (before after : Job Seat) → Turns Counts count before after
-      → Turns turn count before.seat after.seat × (before.left ≡ after.left + count)
-  counted _ _ _ (none_yet job) = (none_yet job.seat, omega arith)
-  counted _ _ _ (one_more count before now after turns more) =
-      let r = counted count before now turns in
-      (one_more count before.seat now.seat after.seat r.0 more.1, (let a = r.1 in let b = more.0 in omega arith))
+-- one seat more has the next worker's number
+pub jobs_push : {Seat : Type 0} (worker turns : ℕ) (seats : List Seat) (seat : Seat)
+    → jobs_of worker turns (seats ++ seat ∷ [])
+    ≡ jobs_of worker turns seats
+    ++ record { worker = worker + length seats; seat = seat; turns = turns } ∷ []
+jobs_push {Seat} worker turns [] seat =
+    let same : worker ≡ worker + length {A = Seat} [] = omega arith in
+    ap (λ n. record { worker = n; seat = seat; turns = turns } ∷ []) same
+jobs_push worker turns (one ∷ seats) seat =
+    let same : (worker + 1) + length seats ≡ worker + suc (length seats) = omega arith in
+    ap (λ jobs. record { worker = worker; seat = one; turns = turns } ∷ jobs)
+    (jobs_push (worker + 1) turns seats seat
+    ∙ ap (λ n. jobs_of (worker + 1) turns seats ++ record { worker = n; seat = seat; turns = turns } ∷ []) same)
 
-  -- the seats of workers that counted, each of which was to take this number of turns
-  pub each_took : (turns : ℕ) (all : Bool) (seats : List Seat) (jobs : List (Job Seat))
-      → AllZip (λ old new. SomeTurns Counts old new) (map (λ seat. record { seat = seat; left = turns }) seats) jobs
-      → (all ≡ true → All (λ job. job.left ≡ 0) jobs)
-      → AreBack turn turns all seats (map (λ job. job.seat) jobs)
-  each_took turns all [] [] back none = tt
-  each_took turns all [] (job ∷ jobs) back none = absurd back
-  each_took turns all (seat ∷ seats) [] back none = absurd back
-  each_took turns all (seat ∷ seats) (job ∷ jobs) back none =
-      let took = counted back.0.0 _ _ back.0.1 in (
-        record {
-          count = back.0.0;
-          taken = took.0;
-          most = (let a = took.1 in omega arith);
-          exactly = λ is. let a = took.1 in let b = none is 0 job (omega arith) in omega arith;
-        },
-        each_took turns all seats jobs back.1 (λ is k d below. none is (suc k) d (omega arith)),
-      )
+-- as many end as there are seats
+pub ended_long : {Seat Worked : Type 0} (Ends : Job Seat → Worked → Type 0) (worker turns : ℕ) (seats : List Seat)
+    (ended : List Worked) → AllZip Ends (jobs_of worker turns seats) ended → length ended ≡ length seats
+ended_long Ends worker turns [] [] back = refl
+ended_long Ends worker turns [] (one ∷ ended) back = absurd back
+ended_long Ends worker turns (seat ∷ seats) [] back = absurd back
+ended_long Ends worker turns (seat ∷ seats) (one ∷ ended) back =
+    ap suc (ended_long Ends (worker + 1) turns seats ended back.1)
+
+module _ {Seat : Type 0} (turn : (worker number : ℕ) → Seat → Seat → Type 0) where
+  -- the seats of workers that ended, each of which was to take this number of turns
+  pub each_took : (turns : ℕ) (all : Bool) (worker : ℕ) (seats : List Seat) (ended : List (Done Seat))
+      → AllZip (λ job done. HasWorked turn job done) (jobs_of worker turns seats) ended
+      → (all ≡ true → All (λ done. done.taken ≡ turns) ended)
+      → AreBackFrom turn turns all worker seats (map (λ done. done.seat) ended)
+  each_took turns all worker [] [] back whole = tt
+  each_took turns all worker [] (done ∷ ended) back whole = absurd back
+  each_took turns all worker (seat ∷ seats) [] back whole = absurd back
+  each_took turns all worker (seat ∷ seats) (done ∷ ended) back whole = (
+    record {
+      count = done.taken;
+      taken = back.0.taken;
+      most = back.0.most;
+      exactly = λ is. whole is 0 done (omega arith);
+    },
+    each_took turns all (worker + 1) seats ended back.1 (λ is k d below. whole is (suc k) d (omega arith)),
+  )

@@ -1,7 +1,8 @@
 //! One thread for each seat.
-ghost use Rattle.std.specs.Prelude.{◌≡◌, ◌≤◌, true, [], map, IfOk, All, vec_capacity, vec_len};
+ghost use Rattle.std.specs.Prelude.{◌≡◌, ◌≤◌, ℕ, true, [], map, IfOk, All, vec_capacity, vec_len};
 ghost use Rattle.std.specs.List.{AllZip};
-ghost use Rattle.worker_threads.specs.Turns.{IsTurn, SomeTurns, AreBack};
+ghost use Rattle.worker_threads.specs.Turns.{IsTurn, AreBack};
+ghost use Rattle.worker_threads.specs.Inner.Jobs.{HasWorked, jobs_of};
 
 use core::thread::Stack;
 use std::alloc::{AllocError, Global};
@@ -27,106 +28,133 @@ pub trait Work {
     /// What a worker needs for its turns, and no other worker has.
     type Seat: Send + Drop;
 
-    /// A turn takes a seat from this state to that.
-    ghost turn: { Self.Seat → Self.Seat → Type 0 };
+    /// This worker's turn of this number takes a seat from this state to that.
+    ghost turn: { ℕ → ℕ → Self.Seat → Self.Seat → Type 0 };
 
-    /// Takes a turn of this worker.
-    fn take_turn<R: Wait>(&self, rt: &R, worker: usize, seat: Self::Seat) -> Turn<Self::Seat>
-        ensures { IsTurn turn seat result };
+    /// Takes a turn of this worker. Workers and the turns of each are counted from 0.
+    fn take_turn<R: Wait>(
+        &self,
+        rt: &R,
+        worker: usize,
+        number: u64,
+        seat: Self::Seat,
+    ) -> Turn<Self::Seat>
+        ensures { IsTurn (turn worker number) seat result };
 }
 
-/// A worker's promise: its seat comes back, after any number of turns. `seat` is the seat as it was
-/// handed out: a `Snapshot` keeps a value for the proofs alone.
+/// A worker's number, its seat, and how many turns it is to take.
+#[derive(Drop)]
+struct Job<S: Drop> {
+    worker: usize,
+    seat: S,
+    turns: u64,
+}
+
+/// A worker's seat when it has ended, and how many turns it took.
+#[derive(Drop)]
+struct Done<S: Drop> {
+    seat: S,
+    taken: u64,
+}
+
+/// A worker's promise: its seat comes back, after no more turns than it is to take. `job` is the
+/// job as it was handed out: a `Snapshot` keeps a value for the proofs alone.
 struct GivesBack<W: Work> {
-    seat: Snapshot<W::Seat>,
+    job: Snapshot<Job<W::Seat>>,
     of: PhantomData<W>,
 }
 
 impl<W: Work> Drop for GivesBack<W> {
     fn drop(self) {
-        let Self { seat: _, of: _ } = self;
+        let Self { job: _, of: _ } = self;
     }
 }
 
-impl<W: Work> Promise<W::Seat> for GivesBack<W> {
-    ghost kept_by = { λ promise seat. SomeTurns W.turn promise.seat.value seat };
+impl<W: Work> Promise<Done<W::Seat>> for GivesBack<W> {
+    ghost kept_by = { λ promise done. HasWorked W.turn promise.job.value done };
 }
 
-/// Takes turns for as long as there are any.
-fn work_on<W: Work, R: Wait>(rt: &R, work: &W, worker: usize, seat: W::Seat) -> W::Seat
-    ensures { SomeTurns W.turn seat result }
+/// Takes the turns of a worker, or as many as there are.
+fn work_on<W: Work, R: Wait>(rt: &R, work: &W, job: Job<W::Seat>) -> Done<W::Seat>
+    ensures { HasWorked W.turn job result }
 {
+    let Job {
+        worker,
+        seat,
+        turns,
+    } = job;
     let mut seat = seat;
-    for _ in rt.forever() {
-        match work.take_turn(rt, worker, seat) {
+    for taken in 0..turns {
+        match work.take_turn(rt, worker, taken, seat) {
             Turn::Taken(next) => seat = next,
-            Turn::Over(last) => return last,
+            Turn::Over(last) => return Done { seat: last, taken },
         }
     }
-    unreachable!()
+    Done { seat, taken: turns }
 }
 
-/// Waits until it is told whether all threads were started. If they were, takes turns for as long
-/// as there are any.
+/// Waits until it is told whether all threads were started. If they were, takes the turns of a
+/// worker.
 fn begin<W: Work, R: Wait>(
     rt: &R,
     all_started: &Mutex<bool>,
     work: &W,
-    worker: usize,
-    seat: W::Seat,
-) -> W::Seat
-    ensures { SomeTurns W.turn seat result }
+    job: Job<W::Seat>,
+) -> Done<W::Seat>
+    ensures { HasWorked W.turn job result }
 {
     if *all_started.lock(rt) {
-        work_on(rt, work, worker, seat)
+        work_on(rt, work, job)
     } else {
-        seat
+        Done {
+            seat: job.seat,
+            taken: 0,
+        }
     }
 }
 
-/// Starts a thread for a worker, which promises to give this seat back.
+/// A thread that was started for a worker.
+type Started<W> = PromisedHandle<Done<<W as Work>::Seat>, GivesBack<W>>;
+
+/// Starts a thread for a worker, which promises to give its seat back.
 fn start<'s, E, W: Work + Sync, R: Threads + Wait + Sync>(
     scope: &Scope<'s, E>,
     rt: &'s R,
     all_started: &'s Mutex<bool>,
     work: &'s W,
-    worker: usize,
-    seat: W::Seat,
-) -> Result<PromisedHandle<W::Seat, GivesBack<W>>, AllocError>
-    ensures { IfOk result (λ handle. handle.promise.seat.value ≡ seat) }
+    job: Job<W::Seat>,
+) -> Result<Started<W>, AllocError>
+    ensures { IfOk result (λ handle. handle.promise.job.value ≡ job) }
 {
     let promise = GivesBack {
-        seat: Snapshot::of(&seat),
+        job: Snapshot::of(&job),
         of: PhantomData,
     };
-    let work_here = move || begin(rt, all_started, work, worker, seat);
+    let work_here = move || begin(rt, all_started, work, job);
     let handle = Stack::new()
         .stack_size(WORKER_STACK_BYTES)
         .spawn_scoped_with(scope, promise, work_here)?;
     Ok(handle)
 }
 
-/// A thread that was started for a worker.
-type Started<W> = PromisedHandle<<W as Work>::Seat, GivesBack<W>>;
-
-/// Starts a thread for each seat, in room that was made for them, until one can't be started. Tells
+/// Starts a thread for each job, in room that was made for them, until one can't be started. Tells
 /// whether all were.
 fn start_each<'s, E, W: Work + Sync, R: Threads + Wait + Sync>(
     scope: &Scope<'s, E>,
     rt: &'s R,
     all_started: &'s Mutex<bool>,
     work: &'s W,
-    seats: Vec<W::Seat>,
+    jobs: Vec<Job<W::Seat>>,
     room: Vec<Started<W>>,
 ) -> (Vec<Started<W>>, bool)
-    requires room { (room.items ≡ []) × (vec_len seats ≤ vec_capacity room) }
-    ensures few { vec_len result.0 ≤ vec_len seats }
+    requires room { (room.items ≡ []) × (vec_len jobs ≤ vec_capacity room) }
+    ensures few { vec_len result.0 ≤ vec_len jobs }
     ensures all { result.1 ≡ true
-        → map (λ thread. thread.promise.seat.value) result.0.items ≡ seats.items }
+        → map (λ thread. thread.promise.job.value) result.0.items ≡ jobs.items }
 {
     let mut threads = room;
-    for seat in seats {
-        match start(scope, rt, all_started, work, threads.len(), seat) {
+    for job in jobs {
+        match start(scope, rt, all_started, work, job) {
             Ok(thread) => threads.push_reserved(thread),
             Err(_) => return (threads, false),
         }
@@ -138,96 +166,65 @@ fn start_each<'s, E, W: Work + Sync, R: Threads + Wait + Sync>(
 fn join_each<W: Work, R: Threads>(
     rt: &R,
     threads: Vec<Started<W>>,
-    room: Vec<W::Seat>,
-) -> Vec<W::Seat>
+    room: Vec<Done<W::Seat>>,
+) -> Vec<Done<W::Seat>>
     requires room { (room.items ≡ []) × (vec_len threads ≤ vec_capacity room) }
-    ensures { AllZip (λ old new. SomeTurns W.turn old new)
-        (map (λ thread. thread.promise.seat.value) threads.items) result.items }
+    ensures { AllZip (λ job done. HasWorked W.turn job done)
+        (map (λ thread. thread.promise.job.value) threads.items) result.items }
 {
-    let mut seats = room;
+    let mut ended = room;
     for thread in threads {
-        seats.push_reserved(thread.join(rt));
+        ended.push_reserved(thread.join(rt));
     }
-    seats
+    ended
 }
 
-/// Starts a thread for each seat, lets all of them take turns once each is started, for as long as
-/// there are any, and takes the seats back.
+/// Starts a thread for each job, lets all of them take their turns once each is started, and takes
+/// the seats back.
 fn run_all<W: Work + Sync, R: Threads + Wait + Sync>(
     rt: &R,
     alloc: Global,
     work: &W,
-    seats: Vec<W::Seat>,
-) -> Result<Vec<W::Seat>, AllocError>
-    ensures { IfOk result (λ back. AllZip (λ old new. SomeTurns W.turn old new) seats.items
-        back.items) }
+    jobs: Vec<Job<W::Seat>>,
+) -> Result<Vec<Done<W::Seat>>, AllocError>
+    ensures { IfOk result (λ ended. AllZip (λ job done. HasWorked W.turn job done) jobs.items
+        ended.items) }
 {
-    let thread_room = Vec::with_capacity(alloc, seats.len())?;
-    let seat_room = Vec::with_capacity(alloc, seats.len())?;
+    let thread_room = Vec::with_capacity(alloc, jobs.len())?;
+    let ended_room = Vec::with_capacity(alloc, jobs.len())?;
     let all_started = Mutex::new(false);
     let told = &all_started;
     thread::scope(
         thread::scope_env(),
         rt,
-        |scope| -> Result<Vec<W::Seat>, AllocError>
-            requires { (thread_room.items ≡ []) × (vec_len seats ≤ vec_capacity thread_room)
-                × (seat_room.items ≡ []) × (vec_len seats ≤ vec_capacity seat_room) }
-            ensures { IfOk result (λ back. AllZip (λ old new. SomeTurns W.turn old new) seats.items
-                back.items) }
+        |scope| -> Result<Vec<Done<W::Seat>>, AllocError>
+            requires { (thread_room.items ≡ []) × (vec_len jobs ≤ vec_capacity thread_room)
+                × (ended_room.items ≡ []) × (vec_len jobs ≤ vec_capacity ended_room) }
+            ensures { IfOk result (λ ended. AllZip (λ job done. HasWorked W.turn job done)
+                jobs.items ended.items) }
         {
             let mut tell = told.lock(rt);
-            let (threads, all) = start_each(scope, rt, told, work, seats, thread_room);
+            let (threads, all) = start_each(scope, rt, told, work, jobs, thread_room);
             *tell = all;
             MutexGuard::unlock(tell);
-            let back = join_each(rt, threads, seat_room);
-            if all { Ok(back) } else { Err(AllocError) }
+            let ended = join_each(rt, threads, ended_room);
+            if all { Ok(ended) } else { Err(AllocError) }
         },
     )
 }
 
-/// A seat, and how many turns its worker may still take.
-#[derive(Drop)]
-struct Job<S: Drop> {
-    seat: S,
-    left: u64,
-}
-
-/// Work of which each worker takes a number of turns.
-#[derive(Drop)]
-struct Counted<'a, W> {
-    work: &'a W,
-}
-
-impl<'a, W: Work + Sync> Work for Counted<'a, W> {
-    ghost use Rattle.std.specs.Prelude.{◌≡◌, ◌+◌};
-
-    type Seat = Job<W::Seat>;
-
-    ghost turn = { λ before after. (before.left ≡ after.left + 1) × W.turn before.seat after.seat };
-
-    fn take_turn<R: Wait>(&self, rt: &R, worker: usize, seat: Job<W::Seat>) -> Turn<Job<W::Seat>> {
-        let Job { seat, left } = seat;
-        if left == 0 {
-            return Turn::Over(Job { seat, left });
-        }
-        match self.work.take_turn(rt, worker, seat) {
-            Turn::Taken(seat) => Turn::Taken(Job {
-                seat,
-                left: left - 1,
-            }),
-            Turn::Over(seat) => Turn::Over(Job { seat, left }),
-        }
-    }
-}
-
-/// Gives each seat this number of turns, in room that was made for them.
+/// Gives each seat a worker's number and this number of turns, in room that was made for them.
 fn give_turns<S: Drop>(seats: Vec<S>, turns: u64, room: Vec<Job<S>>) -> Vec<Job<S>>
     requires room { (room.items ≡ []) × (vec_len seats ≤ vec_capacity room) }
-    ensures { result.items ≡ map (λ seat. record { seat = seat; left = turns }) seats.items }
+    ensures { result.items ≡ jobs_of 0 turns seats.items }
 {
     let mut jobs = room;
     for seat in seats {
-        jobs.push_reserved(Job { seat, left: turns });
+        jobs.push_reserved(Job {
+            worker: jobs.len(),
+            seat,
+            turns,
+        });
     }
     jobs
 }
@@ -242,23 +239,23 @@ pub struct Back<S: Drop> {
 }
 
 /// Takes the seats back, in room that was made for them.
-fn take_back<S: Drop>(jobs: Vec<Job<S>>, room: Vec<S>) -> Back<S>
-    requires room { (room.items ≡ []) × (vec_len jobs ≤ vec_capacity room) }
-    ensures seats { result.seats.items ≡ map (λ job. job.seat) jobs.items }
-    ensures all { result.all_taken ≡ true → All (λ job. job.left ≡ 0) jobs.items }
+fn take_back<S: Drop>(ended: Vec<Done<S>>, turns: u64, room: Vec<S>) -> Back<S>
+    requires room { (room.items ≡ []) × (vec_len ended ≤ vec_capacity room) }
+    ensures seats { result.seats.items ≡ map (λ done. done.seat) ended.items }
+    ensures all { result.all_taken ≡ true → All (λ done. done.taken ≡ turns) ended.items }
 {
     let mut seats = room;
     let mut all_taken = true;
-    for job in jobs {
-        let Job { seat, left } = job;
+    for done in ended {
+        let Done { seat, taken } = done;
         seats.push_reserved(seat);
-        all_taken = all_taken && left == 0;
+        all_taken = all_taken && taken == turns;
     }
     Back { seats, all_taken }
 }
 
 /// Starts a thread for each seat, lets each worker take this number of turns once all are started,
-/// or as many as it finds, and takes the seats back.
+/// or as many as it finds, and takes the seats back. A worker's number is its seat's place.
 ///
 /// # Errors
 ///
@@ -277,6 +274,6 @@ pub fn run_each<W: Work + Sync, R: Threads + Wait + Sync>(
     let seat_room = Vec::with_capacity(alloc, seats.len())?;
     let job_room = Vec::with_capacity(alloc, seats.len())?;
     let jobs = give_turns(seats, turns, job_room);
-    let back = run_all(rt, alloc, &Counted { work }, jobs)?;
-    Ok(take_back(back, seat_room))
+    let ended = run_all(rt, alloc, work, jobs)?;
+    Ok(take_back(ended, turns, seat_room))
 }

@@ -1,14 +1,17 @@
 """After each restart the gateway's world is what its clients were answered: a server alone is
 given the same commands, and both are asked the same, byte for byte.
 
-Gateway, server or both are killed at random, or the disk is full for a while, or the gateway is
-told to end. The variable GATEWAY_RESTARTS says how often.
+Gateway, server or both are killed at random, or the disk is full for a while, or another process
+holds the record, or the gateway is told to end. The variable GATEWAY_RESTARTS says how often;
+without it twenty seconds are taken.
 """
 import contextlib
+import itertools
 import json
 import os
 import pathlib
 import signal
+import sqlite3
 import tempfile
 import time
 import unittest
@@ -18,7 +21,10 @@ from teams import Server, Talker, Team, line_of, login_line, program_file, rando
 from estserve_team.server import Lost
 from test_failures import END_SECONDS, setUpModule, small_disk
 
-RESTARTS = int(os.environ.get("GATEWAY_RESTARTS", "12"))
+RESTARTS = int(os.environ.get("GATEWAY_RESTARTS", "0"))
+SECONDS, FEWEST = 20, 6  # where it is not said how often; each kind of fault comes once
+OF_A_RECORD = 50  # restarts, after which another team begins: each start replays its whole record
+SHOWN = 40  # instants, of which each is asked for after a restart
 COMMANDS = 25  # between two restarts, at most
 MODULE = "module M: input A, B; output O; loop [ await A || await B ]; emit O; pause end end module"
 LOGOUT = line_of(cmd="logout")
@@ -114,15 +120,32 @@ class Worlds:
     def probe(self):
         """Asks both what there is to see."""
         for slot in (0, 1):
-            for instant in range(1, self.instants[slot] + 2):
+            newest = self.instants[slot] + 1
+            for instant in range(max(1, newest - SHOWN), newest + 1):
                 self.both(line_of(cmd="look", instant=instant, slot=slot))
         for op, object in PAIRS:
             self.both(line_of(cmd="check", object=object, op=op))
 
 
+def faults_of(numbers, disk):
+    """Faults at random, of which each kind comes as often as the others."""
+    while True:
+        kinds = ["gateway", "server", "both", "end", "lock", *["disk"] * bool(disk)]
+        numbers.shuffle(kinds)
+        yield from kinds
+
+
 class Restarts(unittest.TestCase):
     def test_each_restart_is_what_was_answered(self):
-        numbers, kinds = random_of("restarts"), []
+        numbers, until = random_of("restarts"), time.monotonic() + SECONDS
+        self.kinds, compared = [], 0
+        while self.goes_on(until):
+            compared += self.of_a_record(numbers, until)
+        told = (f"{kind} {self.kinds.count(kind)}" for kind in sorted(set(self.kinds)))
+        print(f"{len(self.kinds)} restarts ({', '.join(told)}): {compared} answers compared")
+
+    def of_a_record(self, numbers, until):
+        """The restarts of one team. Answers how many answers were compared."""
         with tempfile.TemporaryDirectory(
             prefix="gateway-"
         ) as folder, contextlib.ExitStack() as held:
@@ -134,19 +157,23 @@ class Restarts(unittest.TestCase):
             worlds.begin()
             for op, object in PAIRS:
                 worlds.both(line_of(cmd="grant", object=object, op=op, role="root"))
-            for _ in range(RESTARTS):
-                kinds.append(self.once(team, worlds, disk))
+            for kind in itertools.islice(faults_of(numbers, disk), OF_A_RECORD):
+                if not self.goes_on(until):
+                    break
+                self.once(kind, team, worlds, disk)
+                self.kinds.append(kind)
             worlds.talker.close(), worlds.mirror.close()
             self.assertEqual(team.end(), 0, team.told())
-        told = ", ".join(f"{kind} {kinds.count(kind)}" for kind in sorted(set(kinds)))
-        print(f"{RESTARTS} restarts ({told}): {worlds.compared} answers compared")
+            return worlds.compared
 
-    def once(self, team, worlds, disk):
-        """One fault at some moment, the restart, and the comparison. Answers which fault."""
-        numbers = worlds.numbers
-        kind = numbers.choice(["gateway", "server", "both", "end", *(["disk"] if disk else [])])
-        count = numbers.randrange(COMMANDS)
-        self.assertIsNone(worlds.work(count))
+    def goes_on(self, until):
+        """Whether there is to be another restart."""
+        done = len(self.kinds)
+        return done < (RESTARTS or FEWEST) or (not RESTARTS and time.monotonic() < until)
+
+    def once(self, kind, team, worlds, disk):
+        """One fault at some moment, the restart, and the comparison."""
+        self.assertIsNone(worlds.work(worlds.numbers.randrange(COMMANDS)))
         line = self.strike(kind, team, worlds, disk)
         if team.process.poll() is not None:
             team.wait()
@@ -155,13 +182,14 @@ class Restarts(unittest.TestCase):
         worlds.settle(line)
         worlds.begin()
         worlds.probe()
-        return kind
 
     def strike(self, kind, team, worlds, disk):
         """Makes the fault, with a command under way. Answers the command that was not answered."""
         server, line = team.server(), worlds.command()
         if kind == "disk":
             return self.fill(team, worlds, disk)
+        if kind == "lock":
+            return self.lock(team, worlds)
         worlds.talker._socket.sendall(line + b"\n")
         time.sleep(worlds.numbers.choice([0, 0, 0.001, 0.005]))
         if kind in ("server", "both"):
@@ -205,6 +233,13 @@ class Restarts(unittest.TestCase):
         with contextlib.suppress(Exception):
             team.process.wait(0.5)
         return line
+
+    @staticmethod
+    def lock(team, worlds):
+        """Holds the record until a command is not answered, and lets it go again."""
+        with contextlib.closing(sqlite3.connect(team.record, isolation_level=None)) as database:
+            database.execute("BEGIN IMMEDIATE")
+            return worlds.work(400)
 
     @staticmethod
     def is_back(team):

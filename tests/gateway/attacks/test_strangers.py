@@ -3,8 +3,12 @@ import contextlib
 import gzip
 import http.client
 import json
+import os
+import pathlib
 import select
 import socket
+import subprocess
+import sys
 import threading
 import time
 import unittest
@@ -12,9 +16,12 @@ import unittest
 import teams
 import visitors
 from teams import Team, line_of, login_line
+from test_places import NOBODY
 from visitors import Visitor, visitor_of
 
 SECONDS = 20  # a freeze took twenty, or was for ever; a loaded machine is slow too
+FLOODED_SECONDS = 2  # it took 23
+READING_SECONDS = 3  # it took 6
 MEGABYTES = 150_000  # kilobytes that a gateway may grow by
 PEOPLE = f'[people]\nroot = ["{teams.ME}"]\nann = ["{teams.ME}"]\n'
 LOGOUT = line_of(cmd="logout")
@@ -183,6 +190,26 @@ class OverHttp(unittest.TestCase):
         print(f"60 streams, 20 changes a second: the longest silence was {longest:.2f} s")
         self.assertLess(longest, SECONDS)
 
+    def test_one_who_reads_instants_without_end_leaves_others_theirs(self):
+        team = self.serving()
+        visitor, place = visitor_of(team, "ann", "lead"), place_of(team)
+        with team.root() as client, contextlib.ExitStack() as held:
+            client.grant("root", "step", "0")
+            for _ in range(260):
+                client.step(0)
+            asked = f"GET /api/looks?seat={visitor.seat}&slot=0&from=1&to=256 HTTP/1.1\r\n"
+            asked += f"Host: {visitor.host}\r\nCookie: {visitor.cookie}\r\n"
+            asked += f"X-Estserve-Token: {visitor.token}\r\n\r\n"
+            for _ in range(150):
+                held.enter_context(opened(place, asked.encode() * 4))
+            until, taken = time.monotonic() + 4, []
+            while time.monotonic() < until:
+                began = time.monotonic()
+                client.check("step", "0")
+                taken.append(time.monotonic() - began)
+            print(f"beside 150 that read instants a check took {max(taken):.2f} s at most")
+            self.assertLess(max(taken), READING_SECONDS)
+
 
 class OverTheSockets(unittest.TestCase):
     def test_who_asks_and_does_not_read_takes_no_memory(self):
@@ -236,6 +263,54 @@ class OverTheSockets(unittest.TestCase):
                     return talker.ask(b"x") == b'{"code":2,"fault":"NotJson"}'
 
             teams.wait_for(is_free)
+
+
+FLOOD = """
+import contextlib, os, socket, sys
+os.setgid(int(sys.argv[1])), os.setuid(int(sys.argv[2]))
+lines = [
+    b'[' + b'1,' * 32_000 + b'1]\\n',
+    b'{"cmd":"step",' + b'"slot":1,' * 7_000 + b'"slot":0}\\n',
+    b'{' + b','.join(b'"k%d":1' % at for at in range(6_000)) + b'}\\n',
+]
+held = []
+for at in range(100):
+    connection = socket.socket(socket.AF_UNIX)
+    connection.connect(sys.argv[3 + at % 2])
+    connection.setblocking(False)
+    held.append([connection, lines[at % 3] * 8, 0])
+print("ready", flush=True)
+while True:
+    for one in held:
+        with contextlib.suppress(BlockingIOError, OSError):
+            one[2] = (one[2] + one[0].send(one[1][one[2] :])) % len(one[1])
+        with contextlib.suppress(BlockingIOError, OSError):
+            one[0].recv(65_536)
+"""
+
+
+@unittest.skipUnless(os.geteuid() == 0, "only root can be another Unix user")
+class Floods(unittest.TestCase):
+    def test_long_lines_over_a_hundred_connections_leave_others_their_turns(self):
+        people = '[people]\nroot = ["root"]\nann = ["nobody"]\n'
+        with Team(people=people) as team, team.root() as client:
+            pathlib.Path(team.state).parent.chmod(0o711)
+            words = [sys.executable, "-c", FLOOD, str(team.state.stat().st_gid), str(NOBODY)]
+            words += [str(team.path), str(team.state / "gateway.sock")]
+            flood = subprocess.Popen(words, stdout=subprocess.PIPE)
+            self.addCleanup(flood.stdout.close)
+            try:
+                self.assertEqual(flood.stdout.readline(), b"ready\n")
+                until, taken = time.monotonic() + 4, []
+                while time.monotonic() < until:
+                    began = time.monotonic()
+                    client.check("step", "0")
+                    taken.append(time.monotonic() - began)
+            finally:
+                flood.kill()
+                flood.wait()
+            print(f"beside a flood a check took {max(taken):.2f} s at most")
+            self.assertLess(max(taken), FLOODED_SECONDS)
 
 
 class Places(unittest.TestCase):

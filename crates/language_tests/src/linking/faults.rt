@@ -80,6 +80,10 @@ const FAULTS: [(&str, Kind, &str); 9] = [
     ),
 ];
 
+/// An inputoutput, which may be emitted, and be bound to what a module emits.
+const EMITTED: &str = "module M: inputoutput B; run N [signal B/A] end module \
+    module N: inputoutput A; emit A end module";
+
 /// The fault of a kind and a name.
 fn fault(kind: Kind, name: Identifier) -> LinkFault {
     match kind {
@@ -103,18 +107,18 @@ fn first_fault(
     before.or(after)
 }
 
-/// Fails where the first fault of a library is another.
+/// Fails where the first fault of a library is another, or there is none or should be none.
 fn expect_fault(
     rt: &impl Abort,
     alloc: Global,
     table: &Emissions<'_>,
     text: &str,
-    wanted: LinkFault,
+    wanted: Option<LinkFault>,
 ) {
     let library = library_of(rt, alloc, text);
     let heads = heads_of(alloc, &library).expect(rt, "room");
     let found = first_fault(rt, alloc, &heads, &*table);
-    expect_holds(rt, found == Some(wanted), text);
+    expect_holds(rt, found == wanted, text);
 }
 
 #[test]
@@ -127,6 +131,8 @@ fn first_faults_are_named(rt: HostRuntime) {
     let mut table = Emissions::new(alloc);
     table.add(&run, signals).expect(&rt, "room");
     for (text, kind, wanted) in &FAULTS {
-        expect_fault(&rt, alloc, &table, text, fault(*kind, name(&rt, wanted)));
+        let wanted = Some(fault(*kind, name(&rt, wanted)));
+        expect_fault(&rt, alloc, &table, text, wanted);
     }
+    expect_fault(&rt, alloc, &table, EMITTED, None);
 }

@@ -1,15 +1,16 @@
 //! Libraries that are linked. Faults of linking are dialogues.
-use crate::openers::library_of;
-use crate::told::expect_told;
+use crate::openers::{library_of, name, order_of};
+use crate::told::{expect_holds, expect_told};
 use est_checks::fault::LinkFault;
+use est_modules::library_heads::heads_of;
 use est_reduce::flat::Flat;
-use link_mistakes::bodies::link;
+use link_mistakes::bodies::{count_statements, link};
 use std::alloc::Global;
 use std::process::Abort;
 
 /// Libraries, the name of their main module, and the numbers of signals and of relations that it
 /// has, or their first fault.
-const LINKED: [(&str, &str, &str); 13] = [
+const LINKED: [(&str, &str, &str); 14] = [
     ("module M: nothing end module", "M", "0 and 0"),
     (
         "module N: input A; output O; await A; emit O end module \
@@ -32,6 +33,13 @@ const LINKED: [(&str, &str, &str); 13] = [
          emit B end module",
         "M",
         "1 and 0",
+    ),
+    // an inputoutput may be emitted, be bound by a run, and stand in a relation
+    (
+        "module N: inputoutput A; emit A end module module M: input I; inputoutput B; \
+        relation I # B, I => B; emit B; run N [signal B/A] end module",
+        "M",
+        "2 and 2",
     ),
     // a relation over one input, written twice
     (
@@ -101,4 +109,27 @@ fn derived_statements_are_counted_once(rt: HostRuntime) {
     let halts = "; halt".repeat(alloc, 1023).expect(&rt, "room");
     let text = format!(in alloc; "module M: halt{halts} end module").expect(&rt, "room");
     expect_linked(&rt, alloc, text.as_str(), "M", "0 and 0");
+}
+
+/// Modules, and their numbers of statements: each `not`, `and` and `or` of a test is one.
+const COUNTED: [(&str, u16); 3] = [
+    ("module M: input A; await A end module", 1),
+    ("module M: input A, B; await [A or B] end module", 2),
+    (
+        "module M: input A, B; await not A or B and not B; run N end module \
+        module N: pause end module",
+        7,
+    ),
+];
+
+#[test]
+fn words_of_tests_are_counted(rt: HostRuntime) {
+    let alloc = rt.alloc();
+    for (text, wanted) in &COUNTED {
+        let library = library_of(&rt, alloc, text);
+        let heads = heads_of(alloc, &library).expect(&rt, "room");
+        let order = order_of(&rt, alloc, &heads);
+        let count = count_statements(alloc, &heads, &order, &name(&rt, "M")).expect(&rt, "room");
+        expect_holds(&rt, count == Some(*wanted), text);
+    }
 }

@@ -6,8 +6,9 @@ use line_reader::exchange::next_line;
 use line_reader::lines::{LINE_BYTES, Line, LineFault, LineReader};
 use line_reader::meter::{MeteredMemory, MeteredReader, MeteredWriter, READS};
 use line_reader::replies::{Replies, WriteFault};
-use line_reader::serving::{Answerer, Why, answer_connection};
+use line_reader::serving::{Answerer, Text, Why, answer_connection};
 use std::alloc::{AllocError, Global};
+use std::borrow::CowSlice;
 use std::io;
 use std::io::{ErrorKind, Read, Write};
 use std::test::Fail;
@@ -206,15 +207,10 @@ impl Answerer<()> for Echo {
 
     ghost fails = { λ _ _ _. ⊤ };
 
-    fn answer(
-        &mut self,
-        alloc: Global,
-        _desk: &mut (),
-        line: &[u8],
-    ) -> Result<Vec<u8>, AllocError> {
+    fn answer(&mut self, alloc: Global, _desk: &mut (), line: &[u8]) -> Result<Text, AllocError> {
         let mut text = Vec::from_slice(alloc, line)?;
         text.extend_from_slice(b".\n")?;
-        Ok(text)
+        Ok(CowSlice::Owned(text))
     }
 }
 

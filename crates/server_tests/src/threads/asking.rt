@@ -16,8 +16,11 @@ use std::alloc::{AllocError, Global};
 use std::process::Abort;
 use std::sync::Wait;
 
-/// An output in the first instant, and nothing more.
-const ONCE: &str = "module M: output O; emit O end module";
+/// An output in the first instant, and an input that nothing asks for.
+const ONCE: &str = "module M: input A; output O; emit O end module";
+
+/// The input.
+pub(crate) const INPUT: &str = "A";
 
 /// The session that root logs in with, the first of all.
 pub(crate) fn root() -> SessionId {
@@ -35,21 +38,21 @@ fn login(alloc: Global, user: Name, role: Name) -> Result<AdminCommand, AllocErr
     Ok(AdminCommand::CreateSession { user, roles })
 }
 
-/// The permission for the operation on the slot, given to the role.
-pub(crate) fn grant(role: Name, operation: Operation, slot: SlotNumber) -> AdminCommand {
+/// The permission for the operation on the object, given to the role.
+pub(crate) fn grant(role: Name, operation: Operation, object: Object) -> AdminCommand {
     AdminCommand::GrantPermission {
         role,
         operation,
-        object: Object::Slot(slot),
+        object,
     }
 }
 
-/// The permission for the operation on the slot, taken from the role.
-pub(crate) fn revoke(role: Name, operation: Operation, slot: SlotNumber) -> AdminCommand {
+/// The permission for the operation on the object, taken from the role.
+pub(crate) fn revoke(role: Name, operation: Operation, object: Object) -> AdminCommand {
     AdminCommand::RevokePermission {
         role,
         operation,
-        object: Object::Slot(slot),
+        object,
     }
 }
 
@@ -104,7 +107,12 @@ pub(crate) fn begin<B: BoardName, R: Wait + Abort>(
 ) {
     let slot = SlotNumber::new(number).expect(rt, "a slot");
     for operation in [Operation::Load, Operation::Step] {
-        order(rt, board, seat, grant(Name::root(), operation, slot));
+        order(
+            rt,
+            board,
+            seat,
+            grant(Name::root(), operation, Object::Slot(slot)),
+        );
     }
     let load = SlotCommand::Load {
         main: Identifier::from_text("M").expect(rt, "a name"),

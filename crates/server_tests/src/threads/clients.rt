@@ -1,14 +1,19 @@
 //! Clients over memory: one for each worker.
-use client_loop::source::{Connection, Source};
+ghost use Rattle.std.specs.Prelude.{⊤};
+
+use client_loop::source::{Connection, Served, Source};
+use line_reader::serving::Why;
 use std::io;
 use std::io::{Read, Write};
 use std::sync::atomic::{AtomicBool, AtomicU64, Ordering};
 
-/// A client: what it sends, whether a worker has its connection, and how many answers it got.
+/// A client: what it sends, whether a worker has its connection, whether that was served to the end
+/// of its lines, and how many answers it got.
 #[derive(Drop)]
 pub(crate) struct Client {
     lines: &'static str,
     is_served: AtomicBool,
+    is_closed: AtomicBool,
     accepted: AtomicU64,
     refused: AtomicU64,
 }
@@ -19,9 +24,15 @@ impl Client {
         Client {
             lines,
             is_served: AtomicBool::new(false),
+            is_closed: AtomicBool::new(false),
             accepted: AtomicU64::new(0),
             refused: AtomicU64::new(0),
         }
+    }
+
+    /// Whether its connection was served to the end of its lines.
+    pub(crate) fn is_closed(&self) -> bool {
+        self.is_closed.load(Ordering::SeqCst)
     }
 
     /// How many of its commands were accepted, and how many were refused.
@@ -109,7 +120,11 @@ impl<'a> Source for Clients<'a> {
 
     type Writer = Answers<'a>;
 
-    fn accept(&self, worker: usize) -> Option<Connection<Lines, Answers<'a>>> {
+    ghost gave = { λ worker number connection. ⊤ };
+
+    ghost took = { λ worker number served. ⊤ };
+
+    fn accept(&self, worker: usize, _number: u64) -> Option<Connection<Lines, Answers<'a>>> {
         let client = self.clients.get(worker)?;
         if client.is_served.swap(true, Ordering::SeqCst) {
             return None;
@@ -122,5 +137,14 @@ impl<'a> Source for Clients<'a> {
                 last: 0,
             },
         })
+    }
+
+    fn take_back(&self, worker: usize, _number: u64, served: Served<Lines, Answers<'a>>)
+        ensures { ⊤ }
+    {
+        if let Some(client) = self.clients.get(worker) {
+            let is_closed = served.why == Why::Closed;
+            client.is_closed.store(is_closed, Ordering::SeqCst);
+        }
     }
 }

@@ -12,7 +12,7 @@ use policy_board::history::{BoardName, Fresh};
 use policy_board::reader::SlotReader;
 use policy_board::seat::Seat;
 use rbac_policy::names::Name;
-use rbac_policy::objects::{Operation, SLOTS, SlotNumber};
+use rbac_policy::objects::{Object, Operation, SLOTS, SlotNumber};
 use slot_table::closing::Histories;
 use slot_table::table::SlotTable;
 use std::alloc::{AllocError, Global};
@@ -71,11 +71,11 @@ fn change<B: BoardName, R: Wait>(rt: &R, board: &Board<B>, mut worker: Worker<B>
     if worker.asked >= CHANGES {
         return Turn::Over(worker);
     }
-    let slot = SlotNumber::new(SLOTS - 1).unwrap();
+    let object = Object::Slot(SlotNumber::new(SLOTS - 1).unwrap());
     let command = if worker.asked % 2 == 0 {
-        revoke(Name::root(), Operation::Step, slot)
+        revoke(Name::root(), Operation::Step, object)
     } else {
-        grant(Name::root(), Operation::Step, slot)
+        grant(Name::root(), Operation::Step, object)
     };
     let answer = board.admin(rt, &mut worker.seat, Some(root()), command);
     worker.asked(answer.is_ok());
@@ -110,10 +110,16 @@ struct Service<'a, B: BoardName, T> {
 impl<'a, B: BoardName + Send, T: Lends<SlotTable<B>>> Work for Service<'a, B, T> {
     type Seat = Worker<B>;
 
-    ghost turn = { λ before after. Unit {0} };
+    ghost turn = { λ worker number before after. Unit {0} };
 
-    fn take_turn<R: Wait>(&self, rt: &R, number: usize, worker: Worker<B>) -> Turn<Worker<B>> {
-        if number == 0 {
+    fn take_turn<R: Wait>(
+        &self,
+        rt: &R,
+        place: usize,
+        _number: u64,
+        worker: Worker<B>,
+    ) -> Turn<Worker<B>> {
+        if place == 0 {
             change(rt, self.board, worker)
         } else {
             step(rt, self.board, self.table.lent(), worker)

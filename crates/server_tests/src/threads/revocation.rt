@@ -1,13 +1,14 @@
 //! A revocation that is answered in one thread, and obeyed in another that was told of it.
 ghost use Rattle.std.specs.Prelude.{◌≡◌};
 
-use crate::threads::asking::{begin, enter, grant, name, order, revoke, root};
+use crate::threads::asking::{INPUT, begin, enter, grant, name, order, revoke, root};
 use crate::threads::lending::{Lends, may_cross};
 use crate::threads::server::{Server, open};
 use access_core::command::SlotCommand;
 use access_core::refusal::Refusal;
 use access_core::reply::Reply;
 use audit_report::audit::check;
+use est_text::identifier::Identifier;
 use policy_board::board::Board;
 use policy_board::history::{BoardName, Fresh};
 use policy_board::reader::SlotReader;
@@ -15,7 +16,8 @@ use policy_board::seat::{Receipt, Seat};
 use rbac_admin::refusals::Refusal as PolicyRefusal;
 use rbac_policy::commands::{AdminCommand, SessionId};
 use rbac_policy::names::Name;
-use rbac_policy::objects::{Operation, SlotNumber};
+use rbac_policy::objects::{Object, Operation, SlotNumber};
+use reactor_core::entry::{Action, SlotEntry};
 use slot_table::closing::Histories;
 use slot_table::table::SlotTable;
 use std::alloc::Global;
@@ -25,8 +27,8 @@ use std::sync::Wait;
 use std::test::Fail;
 use std::thread::{Threads, join};
 
-/// How many steps each of two threads gives while the policy is changed.
-const STEPS: u32 = 3;
+/// How many commands each of two threads gives while the policy is changed.
+const COMMANDS: u32 = 3;
 
 /// What a policy opens with, and what is given before the first round: root's login and two grants,
 /// a user, a role, its assignment, and a login.
@@ -64,28 +66,59 @@ fn prepare<B: BoardName, R: Wait + Abort>(
     assert_eq!(rt; session, ann());
 }
 
-/// What the session is answered to a step of slot 0.
-fn step<B: BoardName, R: Wait>(
+/// The input of the module in slot 0.
+fn input<R: Abort>(rt: &R) -> Object {
+    let slot = SlotNumber::new(0).expect(rt, "a slot");
+    Object::Signal(slot, Identifier::from_text(INPUT).expect(rt, "a name"))
+}
+
+/// What ann is answered to an offer of the input.
+fn offer<B: BoardName, R: Wait + Abort>(
     rt: &R,
     board: &Board<B>,
     table: &SlotTable<B>,
     seat: &mut Seat<B>,
-    session: SessionId,
 ) -> Reply {
-    table.command(rt, board, seat, session, 0, SlotCommand::Step)
+    let command = SlotCommand::Offer {
+        signal: Identifier::from_text(INPUT).expect(rt, "a name"),
+    };
+    table.command(rt, board, seat, ann(), 0, command)
 }
 
-/// The session steps slot 0, as far as it may. What its seat has seen never falls.
+/// Whether ann may offer the input, as her seat is told.
+fn may_offer<B: BoardName, R: Abort>(rt: &R, board: &Board<B>, seat: &mut Seat<B>) -> bool {
+    board
+        .check_access(seat, ann(), Operation::Offer, &input(rt))
+        .ok()
+        .expect(rt, "an answer")
+}
+
+/// Ann offers, as far as she may. What her seat has seen never falls.
+fn offer_on<B: BoardName, R: Wait + Abort>(
+    rt: &R,
+    board: &Board<B>,
+    table: &SlotTable<B>,
+    mut seat: Seat<B>,
+) -> Seat<B> {
+    for _ in 0..COMMANDS {
+        let before = seat.seen();
+        offer(rt, board, table, &mut seat);
+        assert!(rt; before <= seat.seen());
+    }
+    seat
+}
+
+/// Root steps slot 0. What its seat has seen never falls.
 fn step_on<B: BoardName, R: Wait + Abort>(
     rt: &R,
     board: &Board<B>,
     table: &SlotTable<B>,
     mut seat: Seat<B>,
-    session: SessionId,
 ) -> Seat<B> {
-    for _ in 0..STEPS {
+    for _ in 0..COMMANDS {
         let before = seat.seen();
-        step(rt, board, table, &mut seat, session);
+        let reply = table.command(rt, board, &mut seat, root(), 0, SlotCommand::Step);
+        assert!(rt; matches!(reply, Reply::Step { .. }));
         assert!(rt; before <= seat.seen());
     }
     seat
@@ -102,8 +135,8 @@ fn change<B: BoardName, R: Wait + Abort>(
     (seat, receipt)
 }
 
-/// Root gives the command in a thread of its own, while two more threads step. When they have
-/// joined, ann is told. It answers the version, too.
+/// Root gives the command in a thread of its own, while ann offers in a second one, and a third
+/// steps. When they have joined, ann is told. It answers the version, too.
 fn change_at_once<
     B: BoardName + Send + Sync,
     T: Lends<SlotTable<B>> + Sync,
@@ -120,8 +153,8 @@ fn change_at_once<
         || {
             join(
                 rt,
-                || step_on(rt, board, table.lent(), asker, ann()),
-                || step_on(rt, board, table.lent(), third, root()),
+                || offer_on(rt, board, table.lent(), asker),
+                || step_on(rt, board, table.lent(), third),
             )
         },
     );
@@ -135,25 +168,42 @@ fn change_at_once<
     (seats, version)
 }
 
-/// Ann is told of a grant, and then of a revocation: her next step is accepted, and then refused.
+/// Ann is told of a grant, and then of a revocation: she may offer the input, and her next offer is
+/// accepted; then she may not, and it is refused.
 fn play_round<
     B: BoardName + Send + Sync,
     T: Lends<SlotTable<B>> + Sync,
     R: Threads + Wait + Abort + Sync,
 >(rt: &R, board: &Board<B>, table: &T, seats: Seats<B>) -> Seats<B> {
     let role = name(rt, "driver");
-    let slot = SlotNumber::new(0).expect(rt, "a slot");
-    let granted = grant(role, Operation::Step, slot);
-    let (mut seats, told) = change_at_once(rt, board, table, seats, granted);
-    let reply = step(rt, board, table.lent(), &mut seats.asker, ann());
-    assert!(rt; matches!(reply, Reply::Step { version, .. } if version == told));
-    let revoked = revoke(role, Operation::Step, slot);
+    let granted = grant(role, Operation::Offer, input(rt));
+    let (seats, told) = change_at_once(rt, board, table, seats, granted);
+    let Seats {
+        giver,
+        mut asker,
+        third,
+    } = seats;
+    // What she offered meanwhile is pending no longer.
+    let third = step_on(rt, board, table.lent(), third);
+    assert!(rt; may_offer(rt, board, &mut asker));
+    let reply = offer(rt, board, table.lent(), &mut asker);
+    assert!(rt; matches!(reply, Reply::Offer { version, .. } if version == told));
+    let seats = Seats {
+        giver,
+        asker,
+        third,
+    };
+    let revoked = revoke(role, Operation::Offer, input(rt));
     let (mut seats, told) = change_at_once(rt, board, table, seats, revoked);
-    let reply = step(rt, board, table.lent(), &mut seats.asker, ann());
+    assert!(rt; !may_offer(rt, board, &mut seats.asker));
+    let reply = offer(rt, board, table.lent(), &mut seats.asker);
     assert!(rt;
         matches!(
             reply,
-            Reply::Refused(Refusal::Policy(PolicyRefusal::Permission { .. }))
+            Reply::Refused(Refusal::Policy(PolicyRefusal::Permission {
+                operation: Operation::Offer,
+                object: Object::Signal(..),
+            }))
         )
     );
     assert_eq!(rt; seats.asker.seen(), told);
@@ -174,7 +224,7 @@ fn play<
         user: name(rt, "ann"),
     };
     let (mut seats, told) = change_at_once(rt, board, table, seats, removed);
-    let reply = step(rt, board, table.lent(), &mut seats.asker, ann());
+    let reply = offer(rt, board, table.lent(), &mut seats.asker);
     assert!(rt;
         matches!(
             reply,
@@ -185,7 +235,18 @@ fn play<
     seats
 }
 
-/// After n rounds the server is closed, and an audit finds nothing in its histories.
+/// How many of the entries are offers of ann.
+fn offers_of_ann(entries: &[SlotEntry]) -> usize {
+    entries
+        .iter()
+        .filter(|entry| {
+            entry.stamp.session == ann().number() && matches!(entry.action, Action::Offer(_))
+        })
+        .count()
+}
+
+/// After n rounds the server is closed, and an audit finds nothing in its histories. Ann's offers
+/// are in the slot's journal, though she is gone.
 fn serve<B: BoardName + Send + Sync, R: Threads + Wait + Abort + Sync>(
     rt: &R,
     alloc: Global,
@@ -217,10 +278,12 @@ fn serve<B: BoardName + Send + Sync, R: Threads + Wait + Abort + Sync>(
         .ok()
         .expect(rt, "histories");
     assert!(rt; check(alloc, &histories.policy, &histories.slots).is_ok());
+    assert!(rt; offers_of_ann(histories.slots[0].entries()) >= rounds as usize);
     histories
 }
 
-/// A step that is refused, since its permission was taken, or its session ended, in another thread.
+/// An offer that is refused, since its permission was taken, or its session ended, in another
+/// thread.
 #[test]
 fn revoked_is_denied(rt: HostRuntime) -> Result<(), Fail> {
     let histories = serve::<Brand, _>(&rt, rt.alloc(), Fresh::new(), 1);

@@ -19,9 +19,9 @@ impl Work for Rounds {
     /// The turns that a worker took, on top of what it began with.
     type Seat = u64;
 
-    ghost turn = { λ before after. before ≤ after };
+    ghost turn = { λ worker number before after. before ≤ after };
 
-    fn take_turn<R: Wait>(&self, _rt: &R, _worker: usize, seat: u64) -> Turn<u64> {
+    fn take_turn<R: Wait>(&self, _rt: &R, _worker: usize, _number: u64, seat: u64) -> Turn<u64> {
         if self.begun.fetch_add(1, Ordering::SeqCst) < TURNS {
             Turn::Taken(seat.saturating_add(1))
         } else {

@@ -72,11 +72,16 @@ fn serve_two<B: BoardName + Send + Sync, R: Threads + Wait + Abort + Clock + Syn
     let clients = [Client::new(ON_SLOT_0), Client::new(ON_SLOT_1)];
     let source = Clients { clients: &clients };
     let gate = Meeting::new(rt);
-    let back = run_workers(rt, alloc, &table, &board, seats, &source, &gate, 1)
+    let served = run_workers(rt, alloc, &table, &board, seats, &source, &gate, 1)
         .ok()
         .expect(rt, "room for two workers");
     assert!(rt; gate.is_met());
-    assert!(rt; back.all_taken);
+    assert!(rt; served.all_taken);
+    // Each client has one connection: there is none for a second turn.
+    let back = run_workers(rt, alloc, &table, &board, served.seats, &source, &gate, 1)
+        .ok()
+        .expect(rt, "room for two workers");
+    assert!(rt; !back.all_taken);
     let seats = back.seats;
     assert_eq!(rt; seats.len(), 2);
     for seat in &seats {
@@ -84,6 +89,7 @@ fn serve_two<B: BoardName + Send + Sync, R: Threads + Wait + Abort + Clock + Syn
         assert_eq!(rt; seat.kept().len(), RECEIPTS);
     }
     for client in &clients {
+        assert!(rt; client.is_closed());
         assert_eq!(rt; client.counts(), (LINES, 0));
     }
     table

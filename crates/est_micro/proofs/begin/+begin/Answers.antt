@@ -8,11 +8,13 @@ use Rattle.est_micro.proofs.BegunNodes.{suspend_begun, trap_begun, again_begun}
 use Rattle.est_micro.proofs.BegunNodes.{loop_begun, local_begun, within_one, within_two, within_next, within_local}
 use Rattle.est_micro.proofs.BegunNodes.{within_back, within_told}
 use Rattle.est_micro.proofs.IdleSheets.{idle_begun}
+use Rattle.est_micro.proofs.KeptExtents.{still, still_at}
 use Rattle.est_micro.proofs.begin.+begin.Goals as goal
 
 pub begin_present-returns-clause-swept : goal.begin_present-returns-clause-swept
 begin_present-returns-clause-swept t c = λ q a b asks.
-    present_begun c.args.at.now q a c.args.p.now b c.args.q.now c.args.gate c.args.asked _ _ _ _ c.args.env.now _ _ _ _
+    present_begun c.number_after.result c.args.at.now q a c.args.p.now b c.args.q.now c.args.gate c.args.asked _ _ _
+    _ c.args.env.now _ _ _ _
     _ _
     _ _ _ asks
     c.learn-go.ensures.learns c.learn-go.ensures.known c.and.ensures c.opposite.ensures c.and-2.ensures
@@ -26,7 +28,8 @@ begin_suspend-returns-clause-swept t c = λ q a.
 
 pub begin_seq-returns-clause-swept : goal.begin_seq-returns-clause-swept
 begin_seq-returns-clause-swept t c = λ a b.
-    seq_begun c.args.at.now a c.args.p.now b c.args.q.now c.args.gate _ _ c.args.env.now _ _ _ _ _ _ _ _ _ _
+    seq_begun c.number_after.result c.args.at.now a c.args.p.now b c.args.q.now c.args.gate _ _ c.args.env.now _ _ _
+    _ _ _ _ _ _ _
     c.learn-go.ensures.learns c.learn-go.ensures.known c.ends-later.ensures c.told-inside.ensures
     c.begin-first.ensures.swept
     c.begin-second.ensures.swept
@@ -34,7 +37,8 @@ begin_seq-returns-clause-swept t c = λ a b.
 
 pub begin_par-returns-clause-swept : goal.begin_par-returns-clause-swept
 begin_par-returns-clause-swept t c = λ a b.
-    par_begun c.args.at.now a c.args.p.now b c.args.q.now c.args.gate _ c.args.env.now _ _ _ _ _ _ _ _ _ _
+    par_begun c.number_after.result c.args.at.now a c.args.p.now b c.args.q.now c.args.gate _ c.args.env.now _ _ _ _
+    _ _ _ _ _ _
     c.requires.direction c.learn-go.ensures.learns c.learn-go.ensures.known c.told-inside.ensures
     c.begin-first.ensures.swept
     c.begin-second.ensures.swept
@@ -42,7 +46,8 @@ begin_par-returns-clause-swept t c = λ a b.
 
 pub begin_par_back-returns-clause-swept : goal.begin_par_back-returns-clause-swept
 begin_par_back-returns-clause-swept t c = λ a b.
-    par_begun_back c.args.at.now a c.args.p.now b c.args.q.now c.args.gate _ _ c.args.env.now _ _ _ _ _ _ _ _ _ _
+    par_begun_back c.number_after.result c.args.at.now a c.args.p.now b c.args.q.now c.args.gate _ _ c.args.env.now _
+    _ _ _ _ _ _ _ _ _
     c.requires.direction c.learn-go.ensures.learns c.learn-go.ensures.known c.past.ensures c.told-inside.ensures
     c.begin-second.ensures.swept
     c.begin-first.ensures.swept
@@ -55,14 +60,16 @@ begin_trap-returns-clause-swept t c = λ a.
 
 pub begin_again-returns-clause-swept : goal.begin_again-returns-clause-swept
 begin_again-returns-clause-swept t c = λ a.
-    again_begun c.args.at.now.direction c.args.at.now.main c.args.at.now.cell c.args.at.now.traps a c.args.p.now
+    again_begun c.args.at.now.number (c.args.at.now.number + 1) c.args.at.now.direction c.args.at.now.main
+    c.args.at.now.cell c.args.at.now.traps a c.args.p.now
     c.args.gate _
     c.args.env.now _ _ _ _ _ _
     c.requires.main c.learn-go.ensures.learns c.learn-go.ensures.known c.begin-body.ensures.swept c.leave.ensures.left
 
 pub begin_loop-returns-clause-swept : goal.begin_loop-returns-clause-swept
 begin_loop-returns-clause-swept t c = λ a.
-    loop_begun c.args.at.now.direction c.args.at.now.main c.args.at.now.cell c.args.at.now.traps a c.args.p.now
+    loop_begun c.args.at.now.number (c.args.at.now.number + 1) c.args.at.now.direction c.args.at.now.main
+    c.args.at.now.cell c.args.at.now.traps a c.args.p.now
     c.args.gate _
     c.args.env.now _ _ _ _ _ _ _ _
     _
@@ -112,9 +119,13 @@ begin_seq-begin-second-requires t c = (
   (
     c.requires.fits.1,
     (
-      within_next c.args.net.now.cells.items _ _ _ _ _ _ _ _ c.begin-first.ensures.swept c.requires.within
-          c.learn-go.ensures.learns.size,
-      c.requires.second_traps,
+      still_at _ _ _ _ _ _ c.number_after.ensures (c.begin-first.ensures.kept ∙ c.learn-go.ensures.kept)
+          c.requires.second_extents,
+      (
+        within_next c.args.net.now.cells.items _ _ _ _ _ _ _ _ c.begin-first.ensures.swept c.requires.within
+            c.learn-go.ensures.learns.size,
+        c.requires.second_traps,
+      ),
     ),
   ),
 )
@@ -131,9 +142,13 @@ begin_par-begin-second-requires t c = (
   (
     c.requires.fits.1,
     (
-      within_next c.args.net.now.cells.items _ _ _ _ _ _ _ _ c.begin-first.ensures.swept c.requires.within
-          c.learn-go.ensures.learns.size,
-      c.requires.second_traps,
+      still_at _ _ _ _ _ _ c.number_after.ensures (c.begin-first.ensures.kept ∙ c.learn-go.ensures.kept)
+          c.requires.second_extents,
+      (
+        within_next c.args.net.now.cells.items _ _ _ _ _ _ _ _ c.begin-first.ensures.swept c.requires.within
+            c.learn-go.ensures.learns.size,
+        c.requires.second_traps,
+      ),
     ),
   ),
 )
@@ -150,9 +165,12 @@ begin_par_back-begin-second-requires t c = (
   (
     c.requires.fits.1,
     (
-      within_back _ _ _ _ c.args.net.now.cells.items _ c.past.ensures c.requires.within
-          c.learn-go.ensures.learns.size,
-      c.requires.second_traps,
+      still_at _ _ _ _ _ _ c.number_after.ensures (c.learn-go.ensures.kept) c.requires.second_extents,
+      (
+        within_back _ _ _ _ c.args.net.now.cells.items _ c.past.ensures c.requires.within
+            c.learn-go.ensures.learns.size,
+        c.requires.second_traps,
+      ),
     ),
   ),
 )
@@ -163,9 +181,12 @@ begin_par_back-begin-first-requires t c = (
   (
     c.requires.fits.0,
     (
-      within_one _ _ c.args.net.now.cells.items _ _ _ _ _ _ _ c.requires.within c.learn-go.ensures.learns.size
-          c.begin-second.ensures.swept,
-      c.requires.first_traps,
+      still _ _ _ _ _ (c.begin-second.ensures.kept ∙ c.learn-go.ensures.kept) c.requires.first_extents,
+      (
+        within_one _ _ c.args.net.now.cells.items _ _ _ _ _ _ _ c.requires.within c.learn-go.ensures.learns.size
+            c.begin-second.ensures.swept,
+        c.requires.first_traps,
+      ),
     ),
   ),
 )
@@ -182,9 +203,13 @@ begin_present-begin-second-requires t c = (
   (
     c.requires.fits.1,
     (
-      within_next c.args.net.now.cells.items _ _ _ _ _ _ _ _ c.begin-first.ensures.swept c.requires.within
-          c.learn-go.ensures.learns.size,
-      c.requires.second_traps,
+      still_at _ _ _ _ _ _ c.number_after.ensures (c.begin-first.ensures.kept ∙ c.learn-go.ensures.kept)
+          c.requires.second_extents,
+      (
+        within_next c.args.net.now.cells.items _ _ _ _ _ _ _ _ c.begin-first.ensures.swept c.requires.within
+            c.learn-go.ensures.learns.size,
+        c.requires.second_traps,
+      ),
     ),
   ),
 )
@@ -195,9 +220,12 @@ begin_loop-begin-again-requires t c = (
   (
     c.requires.fits,
     (
-      within_next c.args.net.now.cells.items _ _ _ _ _ _ _ _ c.begin-first.ensures.swept
-          (rw c.requires.main c.requires.within) c.learn-go.ensures.learns.size,
-      c.requires.traps,
+      still _ _ _ _ _ (c.begin-first.ensures.kept ∙ c.learn-go.ensures.kept) c.requires.extents,
+      (
+        within_next c.args.net.now.cells.items _ _ _ _ _ _ _ _ c.begin-first.ensures.swept
+            (rw c.requires.main c.requires.within) c.learn-go.ensures.learns.size,
+        c.requires.traps,
+      ),
     ),
   ),
 )

@@ -1,45 +1,49 @@
 use Rattle.std.proofs.Common.{sym, ◌∙◌, arith}
+use Rattle.est_kernel.specs.Bits.{bits}
 use Rattle.est_kernel.specs.Pauses.{pauses_of}
 use Rattle.est_micro.proofs.Collecting.{all_collected}
-use Rattle.est_micro.proofs.Outcomes.{reaction_paused, reaction_ended, values_by_code, no_reaction}
+use Rattle.est_micro.proofs.Outcomes.{reaction_paused, reaction_ended, values_by_code}
 use Rattle.est_micro.proofs.micro.outcome.Goals as goal
 
-pub collect-requires : goal.collect-requires
-collect-requires c =
-    let n = c.requires.settled.size in
+pub collect-requires-clause-within : goal.collect-requires-clause-within
+collect-requires-clause-within c =
+    let n = c.requires.size in
     rw c.root.ensures (omega (arith, n, c.requires.outputs))
 
-pub returns-then-has-clause-ok : goal.returns-then-has-clause-ok
-returns-then-has-clause-ok c =
-    let k = c.args.kernel.now in
-    reaction_paused k c.args.state.now c.args.inputs.now _ c.args.settled.now
-    (pauses_of c.args.from.now) _ k.distinct k.loop_safe
-    c.requires.state c.requires.lives c.requires.from c.requires.settled (sym c.has.ensures ∙ c.if-has.true)
-    (all_collected k _ c.args.outputs _ c.args.from.now _ _ _ c.root.ensures c.requires.outputs c.new-next.ensures
-    c.collect.ensures)
+pub collect-requires-clause-extents : goal.collect-requires-clause-extents
+collect-requires-clause-extents c = rw c.root.ensures c.requires.extents
 
-pub returns-then-has-clause-values : goal.returns-then-has-clause-values
-returns-then-has-clause-values c =
+pub returns-then-has-clause-some : goal.returns-then-has-clause-some
+returns-then-has-clause-some c =
     let k = c.args.kernel.now in
-    values_by_code k c.args.state.now _ _ c.args.settled.now k.loop_safe c.requires.state c.requires.settled 1
-    (sym c.has.ensures ∙ c.if-has.true)
+    let one = sym c.has.ensures ∙ c.if-has.true in
+    record {
+      reaction = λ i h.
+          reaction_paused k c.args.state.now i _ c.args.found.now
+          (pauses_of c.args.from.now) _ k.distinct k.loop_safe
+          c.requires.state c.requires.lives c.requires.from h one
+          (all_collected k _ c.args.outputs _ c.args.from.now _ _ c.root.ensures c.requires.outputs
+          c.new-next.ensures c.collect.ensures);
+      values = λ i h. values_by_code k c.args.state.now (bits i.signals) _ c.args.found.now k.loop_safe
+          c.requires.state h 1 one;
+    }
 
-pub returns-then-has-2-clause-ok : goal.returns-then-has-2-clause-ok
-returns-then-has-2-clause-ok c =
+pub returns-then-has-2-clause-some : goal.returns-then-has-2-clause-some
+returns-then-has-2-clause-some c =
     let k = c.args.kernel.now in
-    reaction_ended k c.args.state.now c.args.inputs.now _ c.args.settled.now
-    (pauses_of c.args.from.now) k.distinct k.loop_safe
-    c.requires.state c.requires.lives c.requires.from c.requires.settled (sym c.has-2.ensures ∙ c.if-has-2.true)
+    let zero = sym c.has-2.ensures ∙ c.if-has-2.true in
+    record {
+      reaction = λ i h.
+          reaction_ended k c.args.state.now i _ c.args.found.now
+          (pauses_of c.args.from.now) k.distinct k.loop_safe
+          c.requires.state c.requires.lives c.requires.from h zero;
+      values = λ i h. values_by_code k c.args.state.now (bits i.signals) _ c.args.found.now k.loop_safe
+          c.requires.state h 0 zero;
+    }
 
-pub returns-then-has-2-clause-values : goal.returns-then-has-2-clause-values
-returns-then-has-2-clause-values c =
-    let k = c.args.kernel.now in
-    values_by_code k c.args.state.now _ _ c.args.settled.now k.loop_safe c.requires.state c.requires.settled 0
-    (sym c.has-2.ensures ∙ c.if-has-2.true)
-
-pub returns-clause-stuck : goal.returns-clause-stuck
-returns-clause-stuck c =
-    let k = c.args.kernel.now in
-    no_reaction k c.args.state.now c.args.inputs.now _ c.args.settled.now _ k.loop_safe c.requires.state
-    c.requires.lives
-    c.requires.settled (sym c.has-2.ensures ∙ c.if-has-2.false) (sym c.has.ensures ∙ c.if-has.false) c.minus.ensures
+pub returns-clause-none : goal.returns-clause-none
+returns-clause-none c = record {
+  lives = c.requires.lives;
+  ends = sym c.has-2.ensures ∙ c.if-has-2.false;
+  pauses = sym c.has.ensures ∙ c.if-has.false;
+}

@@ -1,106 +1,99 @@
-use Rattle.std.proofs.Common.{arith, rules, sym}
+use Rattle.std.proofs.Common.{◌∙◌, ℕ, arith, rules, sym}
 use Rattle.est_kernel.specs.Pauses.{pauses_of}
-use Rattle.est_micro.proofs.Collecting.{or_nothing, two_collected, par_collected}
-use Rattle.est_micro.proofs.Collecting.{suspend_collected, loop_collected, trap_collected, local_collected}
+use Rattle.est_cells.specs.Next.{stays}
+use Rattle.est_net.specs.Cells.{cell_at}
+use Rattle.est_net.specs.Layout.{sheet_in}
+use Rattle.est_micro.proofs.Collecting.{or_nothing, two_collected, body_goes_on, body_stays, loop_collected}
+use Rattle.est_micro.proofs.Collecting.{again_collected, local_collected, none_collected, some_collected}
 use Rattle.est_micro.proofs.Frames.{size_least}
 use Rattle.est_micro.proofs.next.+collect.Goals as goal
 
-pub collect_two-returns : goal.collect_two-returns
-collect_two-returns t c =
-    two_collected c.args.main c.args.cell c.args.traps c.args.p.now c.args.q.now _ c.args.on c.args.pauses.now _ _ _ _
-    _ c.collect_part-past.ensures
-    c.collect_part.ensures
+pub collect_two-returns-clause-present : goal.collect_two-returns-clause-present
+collect_two-returns-clause-present t c = λ x a b. record {
+  put_in = λ i. two_collected _ _ _ _
+      (λ (z : ℕ). stays c.args.at.now.main c.args.q.now (pauses_of c.args.pauses.now)
+      (sheet_in (cell_at c.args.net.now.cells.items) c.args.at.now.main c.args.q.now z c.args.at.now.traps) i) _ _
+      (c.collect-2.ensures i) (c.collect.ensures i) c.past.ensures;
+}
 
-pub collect_par-returns : goal.collect_par-returns
-collect_par-returns t c = λ a b.
-    par_collected c.args.main c.args.cell c.args.traps a c.args.p.now b c.args.q.now _ c.args.on _ _ c.args.pauses.now
-    _ _ _
-    c.gives_pause-gives.ensures
-    c.both.ensures c.collect_two.ensures
+pub collect_two-returns-clause-seq : goal.collect_two-returns-clause-seq
+collect_two-returns-clause-seq t c = λ a b. record {
+  put_in = λ i. two_collected _ _ _ _
+      (λ (z : ℕ). stays c.args.at.now.main c.args.q.now (pauses_of c.args.pauses.now)
+      (sheet_in (cell_at c.args.net.now.cells.items) c.args.at.now.main c.args.q.now z c.args.at.now.traps) i) _ _
+      (c.collect-2.ensures i) (c.collect.ensures i) c.past.ensures;
+}
 
-pub collect_suspend-returns : goal.collect_suspend-returns
-collect_suspend-returns t c = λ q a.
-    suspend_collected c.args.main c.args.cell c.args.traps q a c.args.p.now _ c.args.on _ _ _ _ c.args.pauses.now _ _ _
-    _
-    c.gives_pause-pauses_itself.ensures
-    c.gives_pause-body_pauses.ensures c.both-held.ensures c.both.ensures c.collect-past.ensures c.keep.ensures
+pub collect_two-returns-clause-par : goal.collect_two-returns-clause-par
+collect_two-returns-clause-par t c = λ a b. record {
+  put_in = λ i. two_collected _ _ _ _
+      (λ (z : ℕ). stays c.args.at.now.main c.args.q.now (pauses_of c.args.pauses.now)
+      (sheet_in (cell_at c.args.net.now.cells.items) c.args.at.now.main c.args.q.now z c.args.at.now.traps) i) _ _
+      (c.collect-2.ensures i) (c.collect.ensures i) c.past.ensures;
+}
+
+pub collect_suspend-returns-then-gives_pause : goal.collect_suspend-returns-then-gives_pause
+collect_suspend-returns-then-gives_pause t c = λ x a. record {
+  put_in = λ i. body_goes_on _ _ _ _ _ (sym c.gives_pause.ensures ∙ c.if-gives_pause.true) (c.collect.ensures i);
+}
+
+pub collect_suspend-returns-else-gives_pause : goal.collect_suspend-returns-else-gives_pause
+collect_suspend-returns-else-gives_pause t c = λ x a. record {
+  put_in = λ i. body_stays _ _ _ _ _ (sym c.gives_pause.ensures ∙ c.if-gives_pause.false) (c.keep.ensures i);
+}
 
 pub collect_loop-returns : goal.collect_loop-returns
 collect_loop-returns t c = λ a.
-    loop_collected c.args.main c.args.cell c.args.traps a c.args.p.now _ c.args.on
-    c.args.pauses.now _ _ _ _ _
-    c.requires.main
-    c.collect-past.ensures c.collect.ensures
+    loop_collected c.args.at.now.main c.args.at.now.cell c.args.at.now.traps a c.args.p.now _ c.args.pauses.now _ _ _ _
+    c.requires.main c.past.ensures c.collect.ensures c.collect-2.ensures
 
-pub collect_trap-returns : goal.collect_trap-returns
-collect_trap-returns t c = λ a. trap_collected c.args.main c.args.cell c.args.traps a c.args.p.now _ c.args.on
-    c.args.pauses.now _ _ _
-    c.collect.ensures
+pub collect-returns-then-gives_pause : goal.collect-returns-then-gives_pause
+collect-returns-then-gives_pause t c = λ i.
+    some_collected _ _ _ _ (sym c.gives_pause.ensures ∙ c.if-gives_pause.true) (c.collect_in.ensures.put_in i)
 
-pub collect_local-returns : goal.collect_local-returns
-collect_local-returns t c = λ s a. local_collected c.args.main c.args.cell c.args.traps s a c.args.p.now _ c.args.on
-    c.args.pauses.now _ _ _
-    c.collect.ensures
+pub collect-returns-else-gives_pause : goal.collect-returns-else-gives_pause
+collect-returns-else-gives_pause t c = λ i.
+    none_collected _ _ _ (sym c.gives_pause.ensures ∙ c.if-gives_pause.false)
 
-pub collect-returns-in-Nothing : goal.collect-returns-in-Nothing
-collect-returns-in-Nothing t c =
-    rw c.in-Nothing.is
-    (record { put_in = λ i. or_nothing (pauses_of c.args.next.now i) c.args.on; past_is = omega arith })
+pub collect_in-returns-then-at : goal.collect_in-returns-then-at
+collect_in-returns-then-at t c = rw (c.in-Loop.is, sym c.deref-then-at.ensures) (c.collect_loop.ensures _)
 
-pub collect-returns-in-Emit : goal.collect-returns-in-Emit
-collect-returns-in-Emit t c =
-    rw c.in-Emit.is (record { put_in = λ i. or_nothing (pauses_of c.args.next.now i) c.args.on; past_is = omega arith })
+pub collect_in-returns-else-at : goal.collect_in-returns-else-at
+collect_in-returns-else-at t c =
+    rw (c.in-Loop.is, sym c.deref-else-at.ensures)
+    (again_collected c.args.at.now.main c.args.at.now.cell c.args.at.now.traps _ _ _ c.args.pauses.now _ _
+    c.if-at.false c.collect.ensures)
 
-pub collect-returns-in-Exit : goal.collect-returns-in-Exit
-collect-returns-in-Exit t c =
-    rw c.in-Exit.is (record { put_in = λ i. or_nothing (pauses_of c.args.next.now i) c.args.on; past_is = omega arith })
+pub collect-gives_pause-requires : goal.collect-gives_pause-requires
+collect-gives_pause-requires t c =
+    let least = size_least c.args.at.now.main c.args.s.now c.args.at.now.traps in
+    omega (arith, least, c.requires.within)
 
-pub collect-returns-in-Pause : goal.collect-returns-in-Pause
-collect-returns-in-Pause t c = rw c.in-Pause.is (c.collect_pause.ensures c.args.main c.args.pauses.now)
+pub collect_suspend-gives_pause-requires : goal.collect_suspend-gives_pause-requires
+collect_suspend-gives_pause-requires t c =
+    let least = size_least c.args.at.now.main c.args.p.now c.args.at.now.traps in
+    omega (arith, least, c.requires.within)
 
-pub collect-returns-in-Par : goal.collect-returns-in-Par
-collect-returns-in-Par t c = rw (c.in-Par.is, sym c.deref-in-Par.ensures, sym c.deref-in-Par-2.ensures)
-    (c.collect_par.ensures _ _)
+pub collect_in-overflow_add-inside-2 : goal.collect_in-overflow_add-inside-2
+collect_in-overflow_add-inside-2 t c =
+    let least = size_least c.args.at.now.main c.args.s.now c.args.at.now.traps in
+    omega (arith, least, c.requires.within, c.args.net.now.cells.ok.0)
 
-pub collect-returns-in-Suspend : goal.collect-returns-in-Suspend
-collect-returns-in-Suspend t c = rw (c.in-Suspend.is, sym c.deref-in-Suspend.ensures) (c.collect_suspend.ensures _ _)
+pub collect_in-overflow_add-inside-3 : goal.collect_in-overflow_add-inside-3
+collect_in-overflow_add-inside-3 t c =
+    let least = size_least c.args.at.now.main c.args.s.now c.args.at.now.traps in
+    omega (arith, least, c.requires.within, c.args.net.now.cells.ok.0)
 
-pub collect-returns-in-Trap : goal.collect-returns-in-Trap
-collect-returns-in-Trap t c = rw (c.in-Trap.is, sym c.deref-in-Trap.ensures) (c.collect_trap.ensures _)
+pub collect_in-returns-in-Suspend : goal.collect_in-returns-in-Suspend
+collect_in-returns-in-Suspend t c =
+    rw (c.in-Suspend.is, sym c.deref-in-Suspend.ensures) (c.collect_suspend.ensures _ _)
 
-pub collect-returns-then-main : goal.collect-returns-then-main
-collect-returns-then-main t c = rw (c.in-Loop.is, sym c.deref-then-main.ensures) (c.collect_loop.ensures _)
+pub collect_in-returns-in-Trap : goal.collect_in-returns-in-Trap
+collect_in-returns-in-Trap t c =
+    rw (c.in-Trap.is, sym c.deref-in-Trap.ensures) (record { put_in = c.collect-in-Trap.ensures })
 
-pub collect-returns-in-Local : goal.collect-returns-in-Local
-collect-returns-in-Local t c = rw (c.in-Local.is, sym c.deref-in-Local.ensures) (c.collect_local.ensures _ _)
-
-pub collect-overflow_add-parts : goal.collect-overflow_add-parts
-collect-overflow_add-parts t c =
-    let least = size_least c.args.main c.args.s.now c.args.traps in
-    search rules
-
-pub collect-overflow_add-parts-2 : goal.collect-overflow_add-parts-2
-collect-overflow_add-parts-2 t c =
-    let least = size_least c.args.main c.args.s.now c.args.traps in
-    omega (arith, least, c.requires, c.args.net.now.cells.ok.0)
-
-pub collect_suspend-gives_pause-body_pauses-requires : goal.collect_suspend-gives_pause-body_pauses-requires
-collect_suspend-gives_pause-body_pauses-requires t c =
-    let least = size_least c.args.main c.args.p.now c.args.traps in
-    let within = c.requires in
-    omega arith
-
-pub collect_part-returns-in-Nothing : goal.collect_part-returns-in-Nothing
-collect_part-returns-in-Nothing t c =
-    rw c.in-Nothing.is
-    (record { put_in = λ i. or_nothing (pauses_of c.args.next.now i) c.args.on; past_is = omega arith })
-
-pub collect_part-returns-in-Emit : goal.collect_part-returns-in-Emit
-collect_part-returns-in-Emit t c =
-    rw c.in-Emit.is
-    (record { put_in = λ i. or_nothing (pauses_of c.args.next.now i) c.args.on; past_is = omega arith })
-
-pub collect_part-returns-in-Exit : goal.collect_part-returns-in-Exit
-collect_part-returns-in-Exit t c =
-    rw c.in-Exit.is
-    (record { put_in = λ i. or_nothing (pauses_of c.args.next.now i) c.args.on; past_is = omega arith })
+pub collect_in-returns-in-Local : goal.collect_in-returns-in-Local
+collect_in-returns-in-Local t c =
+    rw (c.in-Local.is, sym c.deref-in-Local.ensures)
+    (local_collected c.args.at.now.main c.args.at.now.cell c.args.at.now.traps
+    _ _ _ _ _ _ _ c.collect-in-Local.ensures)

@@ -12,14 +12,15 @@ use Rattle.est_micro.specs.Runs.{IsExchanged}
 use Rattle.est_micro.proofs.Exchanging.{IsKnownBy, emittable_within, known_is}
 use Rattle.est_micro.proofs.outputs.exchange.Goals as goal
 
-exchanged : (i : List Declaration) (f : ℕ → Bool) (m inputs : ℕ) (j : Judgement) (old new : List Status) (e : Known)
-    → f ≡ emittable i → m ≡ length i → AreSignalsTold f m (told_of inputs j) old new → IsKnownBy f m (bits inputs) new e
-    → IsExchanged i (bits inputs) (bits j.must.signals.interface) (bits j.can.signals.interface) old new e
-exchanged i f m inputs j old new e a b t k =
+exchanged : (i : List Declaration) (unasked f : ℕ → Bool) (m inputs : ℕ) (j : Judgement) (old new : List Status)
+    (e : Known) → f ≡ emittable i → m ≡ length i → AreSignalsTold f m (told_of inputs j) old new
+    → IsKnownBy unasked f m (bits inputs) new e
+    → IsExchanged i unasked (bits inputs) (bits j.must.signals.interface) (bits j.can.signals.interface) old new e
+exchanged i unasked f m inputs j old new e a b t k =
     let t2 = subst (λ (z : ℕ). AreSignalsTold (emittable i) z (told_of inputs j) old new) b
     (subst (λ (g : ℕ → Bool). AreSignalsTold g m (told_of inputs j) old new) a t) in
-    let k2 = subst (λ (z : ℕ). IsKnownBy (emittable i) z (bits inputs) new e) b
-    (subst (λ (g : ℕ → Bool). IsKnownBy g m (bits inputs) new e) a k) in
+    let k2 = subst (λ (z : ℕ). IsKnownBy unasked (emittable i) z (bits inputs) new e) b
+    (subst (λ (g : ℕ → Bool). IsKnownBy unasked g m (bits inputs) new e) a k) in
     record { changes = t2.changes; told = t2.told; knows = k2 }
 
 count_is : (i : List Declaration) (f : ℕ → Bool) (m size : ℕ) → f ≡ emittable i → m ≡ length i → output_count i ≤ size
@@ -41,7 +42,7 @@ returns-clause-exchanged c =
     let f = ap bits c.signals-signals.ensures ∙ c.requires.signals in
     let m = c.len.ensures.len ∙ ap length c.interface.ensures in
     let r = c.exchange_all-read.ensures in
-    exchanged c.args.kernel.now.interface _ _ c.args.inputs c.args.judged.now _ _ _ f m r.told
-    (known_is _ _ (bits c.args.inputs) (bits c.exchange_all-read.result.sure)
-    (bits c.exchange_all-read.result.possible) _ _ (inside c.args.kernel.now.interface _ _ f m) c.either.ensures
-    c.either-2.ensures r.sure r.possible refl refl)
+    exchanged c.args.kernel.now.interface (bits c.args.unasked) _ _ c.args.inputs c.args.judged.now _ _ _ f m r.told
+    (known_is (bits c.args.unasked) _ _ (bits c.args.inputs) (bits c.exchange_all-read.result.sure)
+    (bits c.exchange_all-read.result.possible) _ _ _ _ (inside c.args.kernel.now.interface _ _ f m) c.either.ensures
+    c.either-2.ensures c.minus.ensures c.either-3.ensures r.sure r.possible refl refl)

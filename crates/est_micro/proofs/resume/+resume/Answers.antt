@@ -17,7 +17,8 @@ part-returns-then-is_on-clause-swept t c =
 
 pub part-returns-else-is_on-clause-swept : goal.part-returns-else-is_on-clause-swept
 part-returns-else-is_on-clause-swept t c =
-    begun_chosen c.args.at.now.direction c.args.at.now.main c.args.at.now.cell c.args.at.now.traps c.args.p.now
+    begun_chosen c.args.at.now.number c.args.at.now.direction c.args.at.now.main c.args.at.now.cell
+    c.args.at.now.traps c.args.p.now
     c.args.pauses.now
     c.args.is_on c.args.gate
     c.args.run
@@ -27,21 +28,21 @@ pub resume_present-returns-clause-swept : goal.resume_present-returns-clause-swe
 resume_present-returns-clause-swept t c = λ q a b asks.
     present_resumed c.args.at.now q a c.args.p.now b c.args.q.now c.args.pauses.now c.args.run c.args.asked _ _ _ _ _
     c.args.env.now
-    _ _ _ _ _ _ _ _ _ asks c.has_live-is_on.ensures c.learn-go.ensures.learns c.learn-go.ensures.known c.and.ensures
+    _ _ _ _ _ _ _ _ _ asks c.is_live-is_on.ensures c.learn-go.ensures.learns c.learn-go.ensures.known c.and.ensures
     c.opposite.ensures c.and-2.ensures c.part-first.ensures.swept c.part-second.ensures.swept c.either-own.ensures
     c.leave.ensures.left
 
 pub resume_seq-returns-clause-swept : goal.resume_seq-returns-clause-swept
 resume_seq-returns-clause-swept t c = λ a b.
     seq_resumed c.args.at.now a c.args.p.now b c.args.q.now c.args.pauses.now c.args.run _ _ _ c.args.env.now
-    _ _ _ _ _ _ _ _ _ _ c.has_live-is_on.ensures c.learn-go.ensures.learns c.learn-go.ensures.known
+    _ _ _ _ _ _ _ _ _ _ c.is_live-is_on.ensures c.learn-go.ensures.learns c.learn-go.ensures.known
     c.ends-later.ensures c.told-inside.ensures
     c.part-first.ensures.swept c.part-second.ensures.swept c.followed-own.ensures c.leave.ensures.left
 
 pub resume_par-returns-clause-swept : goal.resume_par-returns-clause-swept
 resume_par-returns-clause-swept t c = λ a b.
     par_resumed c.args.at.now a c.args.p.now b c.args.q.now c.args.pauses.now c.args.run _ _ _ c.args.env.now
-    _ _ _ _ _ _ _ _ _ _ _ _ c.requires.direction c.has_live-first_on.ensures c.second_lives-second_on.ensures
+    _ _ _ _ _ _ _ _ _ _ _ _ c.requires.direction c.is_live-first_on.ensures c.second_lives-second_on.ensures
     c.learn-go.ensures.learns
     c.learn-go.ensures.known c.part-first.ensures.swept c.told-inside.ensures c.part-second.ensures.swept
     c.side-left.ensures
@@ -51,9 +52,10 @@ resume_par-returns-clause-swept t c = λ a b.
 pub resume_par_back-returns-clause-swept : goal.resume_par_back-returns-clause-swept
 resume_par_back-returns-clause-swept t c = λ a b.
     par_resumed_back c.args.at.now a c.args.p.now b c.args.q.now c.args.pauses.now c.args.run _ _ _ _ c.args.env.now
-    _ _ _ _ _ _ _ _ _ _ _ _ c.requires.direction c.has_live-first_on.ensures c.second_lives-second_on.ensures
+    _ _ _ _ _ _ _ _ _ _ _ _ c.requires.direction c.is_live-first_on.ensures c.second_lives-second_on.ensures
     c.learn-go.ensures.learns
-    c.learn-go.ensures.known c.past.ensures c.part-second.ensures.swept c.told-inside.ensures c.part-first.ensures.swept
+    c.learn-go.ensures.known (rw c.requires.main at c.past.ensures) c.part-second.ensures.swept c.told-inside.ensures
+    c.part-first.ensures.swept
     c.side-left.ensures
     c.side-right.ensures
     c.beside-own.ensures c.leave.ensures.left

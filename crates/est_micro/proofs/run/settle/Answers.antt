@@ -1,4 +1,4 @@
-use Rattle.std.proofs.Common.{◌≡◌, ◌⊎◌, ◌∙◌, ℕ, List, length, subst, sym, arith}
+use Rattle.std.proofs.Common.{◌≡◌, ◌⊎◌, ◌∙◌, ℕ, List, length, refl, subst, sym, arith}
 use Rattle.std.proofs.lemmas.List.{length-replicate}
 use Rattle.est_kernel.specs.Bits.{bits}
 use Rattle.est_meaning.specs.declared.status.Status.{Status}
@@ -6,59 +6,77 @@ use Rattle.est_meaning.specs.declared.status.Status.TheVariants.{Unknown}
 use Rattle.est_net.specs.Reach.{HasEmissions}
 use Rattle.est_micro.specs.Runs.{IsExchanged}
 use Rattle.est_net.proofs.Ranges.{decided_within}
+use Rattle.est_micro.proofs.Unasked.{exchange_by, round_by}
 use Rattle.est_micro.proofs.Settling.{start_ready, round_made, settled}
 use Rattle.est_micro.proofs.run.settle.Goals as goal
 
 pub loop-found-init : goal.loop-found-init
 loop-found-init c =
     let k = c.args.kernel.now in
+    let i = k.interface in
+    let unasked = bits c.args.unasked in
     let n = length c.args.net.now.cells.items in
     let h = subst
-    (λ (z : List Status). IsExchanged k.interface (bits c.args.inputs)
+    (λ (z : List Status). IsExchanged i unasked (bits c.args.inputs)
     (bits c.in_doubt-doubt.result.must.signals.interface)
     (bits c.in_doubt-doubt.result.can.signals.interface) z c.exchange-env.new.net.cells.items c.exchange-env.result)
     c.clear.ensures.cells
     c.exchange-env.ensures.exchanged in
     record {
-      settling = round_made _ k c.args.state.now (bits c.args.inputs) _ _ _ _ _ _ _
-          (start_ready k c.args.state.now (bits c.args.inputs) _ _ n _ _ k.closed c.requires.size
+      settling = λ others a. round_made unasked _ k c.args.state.now others _ _ _ _ _ _ _ c.requires.apart
+          (start_ready unasked k c.args.state.now others _ _ n _ _ k.closed c.requires.size
           c.in_doubt-doubt.ensures.sure
           (subst (λ (z : ℕ). HasEmissions k.root c.args.state.now (bits z)) (sym c.in_doubt-doubt.ensures.possible)
-          c.requires.possible) h (length-replicate n Unknown))
-          c.round-found.ensures.made (omega arith) c.steps-now.ensures.count;
+          c.requires.possible) (exchange_by i unasked (bits c.args.inputs) _ _ _ _ _ c.requires.apart h others a)
+          (length-replicate n Unknown))
+          (round_by _ i unasked (bits c.args.inputs) _ _ _ _ _ _ _ c.requires.apart c.round-found.ensures.made others a)
+          (omega arith) c.steps-now.ensures.count;
       once = c.round-found.ensures.kept ∙ (c.exchange-env.ensures.kept ∙ c.clear.ensures.kept);
     }
 
+pub round-found-requires-in-loop-found-clause-size : goal.round-found-requires-in-loop-found-clause-size
+round-found-requires-in-loop-found-clause-size c =
+    (c.loop-found.invariant.settling (bits c.args.inputs) (λ n h. refl)).ready.size
+
 pub loop-found-preserved : goal.loop-found-preserved
 loop-found-preserved c =
+    let i = c.args.kernel.now.interface in
+    let unasked = bits c.args.unasked in
     record {
-      settling = round_made _ c.args.kernel.now c.args.state.now (bits c.args.inputs) _ _ _ _ _ _ _
-          c.loop-found.invariant.settling.ready
-          c.round-found-in-loop-found.ensures.made
-          (let counted = c.loop-found.invariant.settling.counted in omega arith)
+      settling = λ others a.
+          let was = c.loop-found.invariant.settling others a in
+          round_made unasked _ c.args.kernel.now c.args.state.now others _ _ _ _ _ _ _ c.requires.apart was.ready
+          (round_by _ i unasked (bits c.args.inputs) _ _ _ _ _ _ _ c.requires.apart
+          c.round-found-in-loop-found.ensures.made others a)
+          (let counted = was.counted in omega arith)
           c.steps-now-in-loop-found.ensures.count;
       once = c.round-found-in-loop-found.ensures.kept ∙ c.loop-found.invariant.once;
     }
 
 pub loop-found-smaller : goal.loop-found-smaller
 loop-found-smaller c =
-    let m = round_made _ c.args.kernel.now c.args.state.now (bits c.args.inputs) _ _ c.loop-found.net.cells.items _ _
-    c.loop-found.now _ c.loop-found.invariant.settling.ready
+    let was = c.loop-found.invariant.settling (bits c.args.inputs) (λ n h. refl) in
+    let m = round_made (bits c.args.unasked) _ c.args.kernel.now c.args.state.now (bits c.args.inputs) _ _
+    c.loop-found.net.cells.items _ _ c.loop-found.now _ c.requires.apart was.ready
     c.round-found-in-loop-found.ensures.made
-    (let counted = c.loop-found.invariant.settling.counted in omega arith) c.steps-now-in-loop-found.ensures.count in
+    (let counted = was.counted in omega arith) c.steps-now-in-loop-found.ensures.count in
     let a = m.ready.size in
-    let b = c.loop-found.invariant.settling.ready.size in
-    let d = c.loop-found.invariant.settling.rising in
-    let e = c.loop-found.invariant.settling.counted in
+    let b = was.ready.size in
+    let d = was.rising in
+    let e = was.counted in
     let f = decided_within c.loop-found.net.cells.items in
     let g = c.goes_on.ensures.more c.loop-found-test.true in
     omega arith
 
+pub returns-clause-size : goal.returns-clause-size
+returns-clause-size c = (c.loop-found.invariant.settling (bits c.args.inputs) (λ n h. refl)).ready.size
+
 pub returns-clause-settled : goal.returns-clause-settled
-returns-clause-settled c =
+returns-clause-settled c = λ others a.
     let now = c.loop-found.now in
+    let settling = c.loop-found.invariant.settling others a in
     let count : c.cells-cells.result ≡ length c.loop-found.net.cells.items
-    = c.cells-cells.ensures ∙ (c.requires.size ∙ sym c.loop-found.invariant.settling.ready.size) in
-    settled c.args.kernel.now c.args.state.now (bits c.args.inputs) _ _ _ _ c.loop-found.invariant.settling
+    = c.cells-cells.ensures ∙ (c.requires.size ∙ sym settling.ready.size) in
+    settled (bits c.args.unasked) c.args.kernel.now c.args.state.now others _ _ _ _ settling
     (subst (λ (z : ℕ). (now ≡ c.loop-found.before) ⊎ (now ≡ z)) count
     (c.goes_on.ensures.rest c.loop-found-test.false))

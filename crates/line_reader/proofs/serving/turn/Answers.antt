@@ -1,4 +1,5 @@
 use Rattle.std.proofs.Common.{refl, inl, inr}
+use Rattle.std.specs.Cow.{cow_slice_items}
 use Rattle.std.specs.Io.KnownBytes.{prepend_known}
 use Rattle.line_reader.specs.Readers.{held_bytes, last_line}
 use Rattle.line_reader.proofs.Turning.{silent, refused, in_part, front_then}
@@ -52,7 +53,7 @@ returns-in_default-add-clause-turns g c =
           (g.R.Read.remaining c.take_line.new.reader.device);
       desk = (c.answer.new.self, c.answer.new.desk);
     })
-    (last_line c.take_line.new.lines) c.in-Ok-answer.text.items _ _ _ _
+    (last_line c.take_line.new.lines) (cow_slice_items c.in-Ok-answer.text) _ _ _ _
     (record { takes = takes; told = rw c.line.ensures at c.in-Ok-answer.ensures })
     (front_then _ _ _ _ _ _ c.in-Ok-Ok-Whole.ensures.writes
     (rw c.as_slice.ensures.value at c.in_default-add.ensures.err))
@@ -63,7 +64,7 @@ returns-clause-turns g c =
     c.take_line.ensures.next in
     record {
       line = last_line c.take_line.new.lines;
-      text = c.in-Ok-answer.text.items;
+      text = cow_slice_items c.in-Ok-answer.text;
       answered = record { takes = takes; told = rw c.line.ensures at c.in-Ok-answer.ensures };
       puts = up_to_more _ _ _ _ _ _ _ c.in-Ok-Ok-Whole.ensures.writes
           (rw c.as_slice.ensures.value at c.in-Ok-add.ensures.ok);

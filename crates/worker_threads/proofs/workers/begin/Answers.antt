@@ -1,5 +1,6 @@
+use Rattle.std.proofs.Common.{arith}
 use Rattle.worker_threads.specs.Turns.{none_yet}
 use Rattle.worker_threads.proofs.workers.begin.Goals as goal
 
 pub returns-else-deref : goal.returns-else-deref
-returns-else-deref g c = (0, none_yet _)
+returns-else-deref g c = record { taken = none_yet _; most = omega arith }

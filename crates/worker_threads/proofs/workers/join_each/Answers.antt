@@ -8,6 +8,6 @@ loop-thread-init g c = record { back = rw c.requires.room.0 tt; room = search ru
 pub loop-thread-preserved : goal.loop-thread-preserved
 loop-thread-preserved g c = record {
   back = rw c.push_reserved.ensures.items
-      (back_more g.W.Work.turn _ _ _ _ _ c.loop-thread.invariant.back c.join.ensures);
+      (back_more _ _ _ _ _ _ c.loop-thread.invariant.back c.join.ensures);
   room = search rules;
 }

@@ -1,43 +1,49 @@
+use Rattle.std.proofs.Common.{◌≡◌, false, true, refl, sym, ◌∙◌}
+use Rattle.est_kernel.proofs.Masks.{bits_zero}
 use Rattle.est_kernel.specs.Bits.{bits}
-use Rattle.est_micro.proofs.Outcomes.{as_meant, done_values, reaction_done}
+use Rattle.est_micro.proofs.Outcomes.{as_meant, no_reaction}
+use Rattle.est_micro.proofs.Settling.{none_knows, none_settled}
 use Rattle.est_micro.proofs.micro.Micro.run.Goals as goal
 
-pub returns-in-Done-clause-ok : goal.returns-in-Done-clause-ok
-returns-in-Done-clause-ok c =
-    rw c.in-Done.is
-    (reaction_done c.args.kernel.now c.args.inputs.now _ c.settle-settled.result c.args.kernel.now.loop_safe
-    (rw c.in-Done.is at c.settle-settled.ensures.settled))
+pub settle_by-settled-requires-clause-apart : goal.settle_by-settled-requires-clause-apart
+settle_by-settled-requires-clause-apart c = λ n h. let z : false ≡ true = sym (bits_zero n) ∙ h in cc
 
-pub returns-in-Done-clause-values : goal.returns-in-Done-clause-values
-returns-in-Done-clause-values c =
-    rw c.in-Done.is (done_values c.args.kernel.now _ _ c.settle-settled.result c.args.kernel.now.loop_safe
-    (rw c.in-Done.is at c.settle-settled.ensures.settled))
+pub returns-in-Some-clause-ok : goal.returns-in-Some-clause-ok
+returns-in-Some-clause-ok c =
+    let inputs = bits c.args.inputs.now.signals in
+    let s = none_settled (bits 0) c.args.kernel.now c.args.state.now inputs _ _ bits_zero
+    (c.settle_by-settled.ensures.settled inputs (λ n h. refl)) in
+    c.in-Some.ensures.some.reaction c.args.inputs.now s
 
-pub outcome-requires-clause-lives : goal.outcome-requires-clause-lives
-outcome-requires-clause-lives c = λ h. cc (c.in-Fresh.is, h)
+pub returns-in-Some-clause-values : goal.returns-in-Some-clause-values
+returns-in-Some-clause-values c =
+    let inputs = bits c.args.inputs.now.signals in
+    let s = none_settled (bits 0) c.args.kernel.now c.args.state.now inputs _ _ bits_zero
+    (c.settle_by-settled.ensures.settled inputs (λ n h. refl)) in
+    c.in-Some.ensures.some.values c.args.inputs.now s
 
-pub outcome-requires-clause-from : goal.outcome-requires-clause-from
-outcome-requires-clause-from c = λ p h. cc (c.in-Fresh.is, h)
+pub returns-in-Some-clause-meant : goal.returns-in-Some-clause-meant
+returns-in-Some-clause-meant c =
+    let inputs = bits c.args.inputs.now.signals in
+    let s = none_settled (bits 0) c.args.kernel.now c.args.state.now inputs _ _ bits_zero
+    (c.settle_by-settled.ensures.settled inputs (λ n h. refl)) in
+    as_meant c.args.kernel.now c.args.state.now inputs _ _ s
 
-pub outcome-requires-in-Paused-clause-lives : goal.outcome-requires-in-Paused-clause-lives
-outcome-requires-in-Paused-clause-lives c = λ h. cc (c.in-Paused.is, h)
+pub returns-in-None-clause-meant : goal.returns-in-None-clause-meant
+returns-in-None-clause-meant c =
+    let inputs = bits c.args.inputs.now.signals in
+    let s = none_settled (bits 0) c.args.kernel.now c.args.state.now inputs _ _ bits_zero
+    (c.settle_by-settled.ensures.settled inputs (λ n h. refl)) in
+    as_meant c.args.kernel.now c.args.state.now inputs _ _ s
 
-pub settle-settled-requires-clause-possible : goal.settle-settled-requires-clause-possible
-settle-settled-requires-clause-possible c =
-    c.from_state-possible.ensures.emissions c.args.kernel.now.root (rw c.reach.ensures c.requires.net.reach)
-    c.requires.state
-
-pub returns-in-Done-clause-meant : goal.returns-in-Done-clause-meant
-returns-in-Done-clause-meant c =
-    as_meant c.args.kernel.now c.args.state.now (bits c.args.inputs.now.signals) _ c.settle-settled.result
-    c.settle-settled.ensures.settled
-
-pub returns-in-Fresh-clause-meant : goal.returns-in-Fresh-clause-meant
-returns-in-Fresh-clause-meant c =
-    as_meant c.args.kernel.now c.args.state.now (bits c.args.inputs.now.signals) _ c.settle-settled.result
-    c.settle-settled.ensures.settled
-
-pub returns-in-Paused-clause-meant : goal.returns-in-Paused-clause-meant
-returns-in-Paused-clause-meant c =
-    as_meant c.args.kernel.now c.args.state.now (bits c.args.inputs.now.signals) _ c.settle-settled.result
-    c.settle-settled.ensures.settled
+pub returns-in-None-clause-stuck : goal.returns-in-None-clause-stuck
+returns-in-None-clause-stuck c =
+    let inputs = bits c.args.inputs.now.signals in
+    let s = none_settled (bits 0) c.args.kernel.now c.args.state.now inputs _ _ bits_zero
+    (c.settle_by-settled.ensures.settled inputs (λ n h. refl)) in
+    let none = c.in-None.ensures.none in
+    no_reaction c.args.kernel.now c.args.state.now c.args.inputs.now _ _ c.settle_by-settled.result.env _
+    c.args.kernel.now.loop_safe c.requires.state none.lives s
+    (none_knows (bits 0) c.args.kernel.now c.args.state.now inputs _ _ bits_zero
+    (c.settle_by-settled.ensures.settled inputs (λ n h. refl)))
+    none.ends none.pauses c.minus.ensures

@@ -1,0 +1,1 @@
+"""What is right for every run of a module: questions to the program `estlab`, and their answers."""

@@ -1,0 +1,166 @@
+"""Questions to the program `estlab`, which is started for one command of the client."""
+from __future__ import annotations
+
+import dataclasses
+import io
+import subprocess
+import sys
+from typing import TYPE_CHECKING, Any, Dict, List, Optional, Sequence
+
+from ..colours import has_colours
+from ..command_table import OF_TEXTS
+from ..connection import Client, Disconnected, Refusal, close_all, find_program
+from ..load_faults import load_fault
+from ..module_text import Module, main_of
+from ..programs import unproved_program
+from ..texts import Failed, read_library
+from .table import Table
+
+if TYPE_CHECKING:
+    import argparse
+
+    from ..connection import Path
+    from ..library_text import LibraryText
+
+    Word = List[Dict[str, Any]]  # instants as the program writes them: inputs, outputs or undecided
+
+MOST = 1_000_000  # states, and reactions, unless another number is asked for
+FIRST, GROWTH = 20_000, 10  # where a search is first told of, and by how much it goes on then
+
+
+@dataclasses.dataclass(frozen=True)
+class Subject:
+    """A module of which something is asked, and the library that it stands in."""
+
+    library: LibraryText
+    module: Module
+
+
+@dataclasses.dataclass(frozen=True)
+class Verdict:
+    """What is answered to a claim: `holds`, `fails` with a shortest word, or `toomany`."""
+
+    name: str
+    word: Word
+
+
+@dataclasses.dataclass(frozen=True)
+class Explored:
+    """What a search answers: on `never Stuck`, on each claim, and how much it found."""
+
+    stuck: Verdict
+    verdicts: List[Verdict]
+    states: int
+    reactions: int
+
+
+def verdict_of(told: Dict[str, Any]) -> Verdict:
+    """A verdict as the program writes it."""
+    return Verdict(told["verdict"], told.get("word", []))
+
+
+def read_subject(paths: Sequence[Path], main: Optional[str]) -> Subject:
+    """The module that is asked for by files and a name. Raises Failed."""
+    library = read_library(paths)
+    return Subject(library, main_of(library.text, main))
+
+
+def end_search(child: subprocess.Popen[bytes]) -> None:
+    """Ends the program at once, also in the midst of a search: nothing is kept in it."""
+    child.kill()
+    close_all((child.stdin, child.stdout))
+    child.wait()
+
+
+def start_lab(named: Optional[Path] = None) -> Lab:
+    """The program that is named, or the one that is found, started. Raises Disconnected."""
+    program = find_program(named, "estlab")
+    try:
+        child = subprocess.Popen(
+            [program], stdin=subprocess.PIPE, stdout=subprocess.PIPE, start_new_session=True
+        )
+    except (OSError, ValueError) as fault:
+        told = getattr(fault, "strerror", None) or fault
+        raise Disconnected(f"{program} cannot be started: {told}") from fault
+    assert isinstance(child.stdout, io.BufferedReader) and child.stdin
+    client = Client(child.stdout, child.stdin, lambda: end_search(child))
+    client.program = program
+    return Lab(client)
+
+
+def lab_of(arguments: argparse.Namespace) -> Lab:
+    """The program that the arguments name, or one that is built without proof. Raises
+    Disconnected.
+    """
+    return start_lab(unproved_program("estlab") if arguments.unproved else arguments.estlab)
+
+
+def tell_search(states: int, reactions: int) -> None:
+    """Tells a person at a terminal how far a long search has come."""
+    if sys.stderr.isatty() and has_colours(sys.stderr):
+        told = f"{states:,} states and {reactions:,} reactions are found; searching on"
+        print(f"\r{told}", end="", file=sys.stderr, flush=True)
+
+
+def clear_line() -> None:
+    """Takes away what was told of a search."""
+    if sys.stderr.isatty() and has_colours(sys.stderr):
+        print("\r\033[K", end="", file=sys.stderr, flush=True)
+
+
+class Lab:
+    """The program estlab, which has one module loaded. Used with `with`."""
+
+    def __init__(self, client: Client) -> None:
+        self.client = client
+
+    def __enter__(self) -> Lab:
+        return self
+
+    def __exit__(self, *_: object) -> None:
+        self.client.close()
+
+    def load(self, subject: Subject) -> None:
+        """Loads a module. Raises Failed where its text is refused, and TooLong."""
+        main, text = subject.module.name, subject.library.text
+        try:
+            self.client.ask("load", main=main, text=text)
+        except Refusal as refusal:
+            if refusal.code in OF_TEXTS:
+                raise load_fault(refusal, subject.library, main) from refusal
+            raise
+
+    def explore(self, claims: Sequence[str], inputs: Sequence[str], most: int) -> Explored:
+        """Judges claims in every run in which these inputs may be offered. Raises Refusal."""
+        limit = min(FIRST, most)
+        while True:
+            told = self.client.ask("explore", claims=list(claims), inputs=list(inputs), most=limit)
+            verdicts = [verdict_of(one) for one in (told["stuck"], *told["verdicts"])]
+            if limit == most or all(one.name != "toomany" for one in verdicts):
+                clear_line()
+                return Explored(verdicts[0], verdicts[1:], told["states"], told["reactions"])
+            tell_search(told["states"], told["reactions"])
+            limit = min(limit * GROWTH, most)
+
+    def same(self, other: Subject, inputs: Sequence[str], most: int) -> Dict[str, Any]:
+        """Whether the module that is loaded does the same as another one. Raises Failed where that
+        one's text is refused, and Refusal.
+        """
+        words = {"main": other.module.name, "text": other.library.text}
+        try:
+            return self.client.ask("same", inputs=list(inputs), most=most, **words)
+        except Refusal as refusal:
+            if refusal.code in OF_TEXTS:
+                raise load_fault(refusal, other.library, other.module.name) from refusal
+            raise
+
+    def table(self, inputs: Sequence[str], most: int) -> Table:
+        """The closed table of what is loaded. Raises Failed where it is too large, and Refusal."""
+        try:
+            told = self.client.ask("table", inputs=list(inputs), most=most)
+        except Refusal as refusal:
+            if refusal.fault != "TooMany":
+                raise
+            found = f"{most:,} states or reactions: --most allows more"
+            raise Failed(f"there are more than {found}") from refusal
+        return Table(told["states"], told["rows"])

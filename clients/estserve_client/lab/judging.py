@@ -1,0 +1,148 @@
+"""What is asked of a module, and what is found: a verdict on each claim."""
+from __future__ import annotations
+
+import dataclasses
+from typing import TYPE_CHECKING, Any, Dict, List, Optional, Sequence, Tuple
+
+from ..connection import Refusal
+from ..sentences import sentence
+from ..texts import Failed, Placed
+from .asking import Subject
+from .claims import Claim
+
+if TYPE_CHECKING:
+    from .asking import Explored, Lab, Word
+
+STUCK = "it is never Stuck"
+
+
+@dataclasses.dataclass(frozen=True)
+class Question:
+    """What is asked: claims of a module, alone and with its observers beside it; the inputs that
+    may be offered; what else is to do the same; how many states and reactions may be found.
+    """
+
+    module: Subject
+    subject: Subject
+    claims: List[Claim]
+    inputs: List[str]
+    same: List[Subject]
+    most: int
+
+
+@dataclasses.dataclass(frozen=True)
+class Finding:
+    """What is found of one claim: `holds`, `fails` with a shortest word, or `toomany`. `other` is
+    the module that does otherwise, where that was asked.
+    """
+
+    claim: str
+    name: str
+    word: Word
+    other: Optional[Subject] = None
+
+
+@dataclasses.dataclass(frozen=True)
+class Found:
+    """All that is found, and how many states and reactions the search for the claims found."""
+
+    findings: List[Finding]
+    states: int
+    reactions: int
+
+    def of(self, name: str) -> List[Finding]:
+        """The findings of a verdict."""
+        return [finding for finding in self.findings if finding.name == name]
+
+    @property
+    def status(self) -> int:
+        """0 where all holds, 1 where something fails, else 3."""
+        return 1 if self.of("fails") else 3 if self.of("toomany") else 0
+
+
+def place_told(claim: Claim, why: Dict[str, Any]) -> str:
+    """The claim with a caret under the place of a fault; what ends too early has it at its end."""
+    column = why["column"] if why["line"] == 1 else len(claim.text) + 1
+    return f"{claim.text}\n{' ' * (column - 1)}^"
+
+
+def why_wrong(claim: Claim, why: Dict[str, Any], subject: Subject) -> str:
+    """What is said of the fault of a claim."""
+    from ..close_words import meant
+
+    if why["fault"] == "UnknownName":
+        question = meant(why["name"], subject.module.kinds())
+        told = f"{subject.module.name} has no signal {why['name']}"
+        return told + (f"; {question}" if question else "")
+    if "column" in why:
+        told = "no token stands here" if why["fault"] == "Lexical" else "a test can't go on so"
+        return f"{told}\n{place_told(claim, why)}"
+    return sentence(Refusal(why)).partition(": ")[2]
+
+
+def wrong_claim(refusal: Refusal, claims: Sequence[Claim], subject: Subject) -> Failed:
+    """What a command ends with whose claim can't be read."""
+    claim = claims[refusal.fields["claim"] - 1]
+    told = why_wrong(claim, refusal.fields["why"], subject)
+    text = f"the claim `{claim.text}` cannot be read: {told}"
+    return Placed(f"{claim.place}: {text}") if claim.place else Failed(text)
+
+
+def explored(lab: Lab, question: Question) -> Explored:
+    """The verdicts on the claims of what is loaded. Raises Failed."""
+    texts = [claim.text for claim in question.claims]
+    try:
+        return lab.explore(texts, question.inputs, question.most)
+    except Refusal as refusal:
+        if refusal.fault != "Claim":
+            raise
+        raise wrong_claim(refusal, question.claims, question.subject) from refusal
+
+
+def compared(lab: Lab, question: Question, other: Subject) -> Finding:
+    """What is found of a module that is to do the same. Raises Failed."""
+    told = f"the same as {' '.join(other.library.paths)}"
+    try:
+        answer = lab.same(other, question.inputs, question.most)
+    except Refusal as refusal:
+        if refusal.fault != "Interface":
+            raise
+        names = f"{question.module.module.name} and {other.module.name}"
+        why = f"{names} don't declare the same signals in the same order"
+        raise Failed(f"{told}: {why}") from refusal
+    name = {"same": "holds", "differ": "fails"}.get(answer["verdict"], answer["verdict"])
+    return Finding(told, name, answer.get("word", []), other)
+
+
+def judge(lab: Lab, question: Question) -> Found:
+    """What is found of each claim. Raises Failed, Refusal."""
+    lab.load(question.module)
+    findings = [compared(lab, question, other) for other in question.same]
+    if question.subject is not question.module:
+        lab.load(question.subject)
+    answer = explored(lab, question)
+    verdicts = [(STUCK, answer.stuck)]
+    verdicts += [(claim.text, one) for claim, one in zip(question.claims, answer.verdicts)]
+    own = [Finding(told, one.name, one.word) for told, one in verdicts]
+    return Found(own + findings, answer.states, answer.reactions)
+
+
+def check_inputs(subject: Subject, named: Optional[List[str]]) -> List[str]:
+    """What may be offered: the inputs that are named, or all. Raises Failed."""
+    inputs = subject.module.inputs()
+    wrong = [name for name in named or () if name not in inputs]
+    if wrong:
+        from ..close_words import meant
+
+        question = meant(wrong[0], inputs)
+        told = f"{subject.module.name} has no input {wrong[0]}"
+        raise Failed(told + (f"; {question}" if question else ""))
+    return inputs if named is None else [name for name in inputs if name in named]
+
+
+def sides_of(word: Word) -> Tuple[Word, Word]:
+    """What each of two modules does with a word by which they differ."""
+    first, second = (
+        [{"inputs": told["inputs"], **told[side]} for told in word] for side in ("first", "second")
+    )
+    return first, second

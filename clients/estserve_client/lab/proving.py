@@ -1,0 +1,194 @@
+"""The command `prove`: claims of all runs of a module, or of each module of a folder."""
+from __future__ import annotations
+
+import argparse
+import pathlib
+import sys
+from typing import Iterator, List, Optional
+
+from ..colours import Colours
+from ..texts import Failed, read_text, write_lines
+from ..texts_beside import texts_beside
+from .asking import Lab, Subject, lab_of, read_subject
+from .claims import Claim, Claims, names_listed, read_claims
+from .judging import Finding, Found, Question, check_inputs, judge, sides_of
+from .observing import alarm_claims, observed
+from .words import inputs_line, seen_of, stuck_lines, wave_of
+
+WORDS = {"holds": "ok", "fails": "FAILED", "toomany": "?"}
+SUFFIX = ".counterexample"
+HOW = "name the module by --main, or by a line `main MODULE`"
+
+
+def question_of(paths: List[str], wanted: Claims, most: int) -> Question:
+    """What is asked of the module of these files. Raises Failed."""
+    module = read_subject(paths, wanted.main)
+    subject = observed(module, wanted.observers)
+    claims = [*wanted.claims, *alarm_claims(module, wanted.observers)]
+    same = [read_subject([path], wanted.main) for path in wanted.same]
+    return Question(module, subject, claims, check_inputs(module, wanted.inputs), same, most)
+
+
+def counted(found: Found) -> str:
+    """How much the search has found, in words."""
+    return f"{found.states:,} states, {found.reactions:,} reactions"
+
+
+def summary(found: Found) -> str:
+    """What is said of all findings."""
+    fail, open_ = found.of("fails"), found.of("toomany")
+    if fail:
+        return f"{len(fail)} of {len(found.findings)} fail: {counted(found)}"
+    if open_:
+        ended = f"the search ended at {counted(found)}"
+        return f"{len(open_)} of {len(found.findings)} undecided: {ended}"
+    return f"holds in every run: {counted(found)}"
+
+
+def told_of(finding: Finding) -> str:
+    """A finding in a line, without its word."""
+    if finding.name == "fails":
+        return f"{finding.claim}: fails in instant {len(finding.word)}"
+    if finding.name == "toomany":
+        return f"{finding.claim}: undecided, since there are too many states or reactions"
+    return finding.claim
+
+
+def differing_lines(finding: Finding, subject: Subject) -> List[str]:
+    """The waves of a word by which two modules differ, the second one's below the first one's."""
+    assert finding.other
+    lines = []
+    for side, of in zip(sides_of(finding.word), (subject, finding.other)):
+        lines += [f"{' '.join(of.library.paths)}:", *drawn(side, of)]
+    return lines
+
+
+def drawn(word: List[dict], subject: Subject) -> List[str]:
+    """The wave of a word, and what stays undecided at its end."""
+    lines = wave_of(seen_of(word, subject))
+    if "undecided" in word[-1]:
+        lines += stuck_lines(word[-1]["undecided"], subject, len(word))
+    return lines
+
+
+def lines_of(finding: Finding, question: Question) -> List[str]:
+    """The wave of a finding that fails."""
+    if finding.other:
+        return differing_lines(finding, question.module)
+    return drawn(finding.word, question.subject)
+
+
+def write_word(finding: Finding, path: pathlib.Path) -> str:
+    """Writes the inputs of a counterexample. Answers what is said of it. Raises Failed."""
+    head = f"% {finding.claim}: fails in the last of these instants."
+    write_lines(path, [head, *(inputs_line(told["inputs"]) for told in finding.word)])
+    return f"its inputs are in {path}"
+
+
+def paths_for(path: pathlib.Path) -> Iterator[pathlib.Path]:
+    """Where counterexamples are written: the file, and further ones with a number."""
+    yield path
+    number = 1
+    while True:
+        number += 1
+        yield path.with_name(f"{path.stem}{number}{path.suffix}")
+
+
+def report(found: Found, question: Question, where: pathlib.Path) -> None:
+    """Tells each finding, and writes the words of those that fail. Raises Failed."""
+    colours, paths = Colours(sys.stdout), paths_for(where)
+    for finding in found.findings:
+        word = WORDS[finding.name]
+        print(colours.word(f"{word:<7}", word == "ok"), told_of(finding))
+        if finding.name == "fails":
+            print("\n".join([*lines_of(finding, question), write_word(finding, next(paths))]))
+    print(summary(found), flush=True)
+
+
+def where_of(arguments: argparse.Namespace, file: str) -> pathlib.Path:
+    """The file of a first counterexample."""
+    if arguments.write:
+        return pathlib.Path(arguments.write)
+    named = pathlib.Path("module" if file == "-" else file)
+    return named.with_name(f"{named.stem}{SUFFIX}.inputs")
+
+
+def given(arguments: argparse.Namespace) -> Claims:
+    """What the words of the command claim."""
+    pairs = [("never", test) for test in arguments.never]
+    pairs += [("always", test) for test in arguments.always]
+    claims = [Claim(word, " ".join(test.split())) for word, test in pairs]
+    inputs = names_listed(arguments.inputs)
+    return Claims(claims, arguments.main, arguments.observer, inputs, arguments.same)
+
+
+def added(first: Claims, second: Claims) -> Claims:
+    """The claims of a file, and those of the command, whose main module and inputs count more."""
+    return Claims(
+        first.claims + second.claims,
+        second.main or first.main,
+        first.observers + second.observers,
+        first.inputs if second.inputs is None else second.inputs,
+        first.same + second.same,
+        first.texts,
+    )
+
+
+def files_of(path: pathlib.Path) -> Optional[List[pathlib.Path]]:
+    """The files of claims that a path names: those of a folder, or the one; None of a module text.
+    Raises Failed.
+    """
+    if path.suffix == ".claims":
+        return [path]
+    if not path.is_dir():
+        return None
+    found = sorted(path.glob("*.claims"))
+    if not found:
+        raise Failed(f"there is no NAME.claims in {path}")
+    return found
+
+
+def prove_file(lab: Lab, path: pathlib.Path, arguments: argparse.Namespace) -> int:
+    """Judges a file of claims, with a line for each. Answers its status. Raises Failed."""
+    listed = read_claims(read_text(path, "the list of claims"), str(path))
+    listed.same = [str(path.parent / other) for other in listed.same]
+    wanted = added(listed, given(arguments))
+    texts = [*texts_beside(path, wanted.main, HOW), *(path.parent / one for one in listed.texts)]
+    question = question_of(list(map(str, texts)), wanted, arguments.most)
+    found = judge(lab, question)
+    print(f"{path.stem} ({question.module.module.name}):")
+    report(found, question, where_of(arguments, str(path)))
+    return found.status
+
+
+def prove_files(lab: Lab, files: List[pathlib.Path], arguments: argparse.Namespace) -> int:
+    """Judges each file of claims. Answers 1 where a claim fails, else 3 where one is undecided."""
+    statuses = []
+    for path in files:
+        try:
+            statuses.append(prove_file(lab, path, arguments))
+        except Failed as fault:
+            print(f"{path.stem}:\n{Colours(sys.stdout).word('FAILED ', False)} {fault}")
+            statuses.append(1)
+    failed = sum(status != 0 for status in statuses)
+    print(f"{len(statuses) - failed} passed, {failed} failed", flush=True)
+    return 1 if 1 in statuses else max(statuses)
+
+
+def prove(arguments: argparse.Namespace) -> int:
+    """Judges claims in every run. Answers 0 where all hold, 1 where one fails, 3 where one is
+    undecided. Raises Failed.
+    """
+    files = files_of(pathlib.Path(arguments.file[0]))
+    if files and len(arguments.file) > 1:
+        raise Failed("of several files each is a module text: name a folder alone")
+    if files and len(files) > 1 and arguments.write:
+        raise Failed("--write names one file, and the folder has several lists of claims")
+    question = None if files else question_of(arguments.file, given(arguments), arguments.most)
+    with lab_of(arguments) as lab:
+        if files:
+            return prove_files(lab, files, arguments)
+        assert question
+        found = judge(lab, question)
+    report(found, question, where_of(arguments, arguments.file[0]))
+    return found.status

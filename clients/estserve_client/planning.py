@@ -1,0 +1,72 @@
+"""What a policy file would change of a policy that is known whole, before anything is sent."""
+from __future__ import annotations
+
+from typing import Any, Dict, List, Tuple
+
+from .command_table import KEYS, back_of
+from .policy_file import BadPolicy, Wish, read_file
+from .pruning import exact
+
+Command = Dict[str, Any]
+PLACES = {"assign": "assigned", "grant": "granted", "inherit": "edges"}
+NAMES = {"addrole": "roles", "adduser": "users"}
+
+
+def is_there(command: Command, known: Dict[str, Any]) -> bool:
+    """Whether a policy has what a command would make."""
+    cmd = command["cmd"]
+    if cmd in NAMES:
+        return command[KEYS[cmd][0]] in known[NAMES[cmd]]
+    if cmd == "dsd":
+        return command["name"] in [one["name"] for one in known["sets"]]
+    return [command[key] for key in KEYS[cmd]] in [list(one) for one in known[PLACES[cmd]]]
+
+
+def is_other_set(command: Command, known: Dict[str, Any]) -> bool:
+    """Whether a policy has a separation set of this command's name that is another one."""
+    if command["cmd"] != "dsd":
+        return False
+    wanted = command["count"], sorted(command["roles"])
+    sets = {one["name"]: (one["count"], sorted(one["roles"])) for one in known["sets"]}
+    return sets.get(command["name"], wanted) != wanted
+
+
+def remade(wishes: List[Wish], known: Dict[str, Any]) -> List[Wish]:
+    """The wishes, and before each separation set that is there as another one that it is taken
+    away, which is taken back by making that one.
+    """
+    sets, found = {one["name"]: one for one in known["sets"]}, []
+    for wish in wishes:
+        if is_other_set(wish.command, known):
+            old = {key: sets[wish.command["name"]][key] for key in KEYS["dsd"]}
+            found.append(Wish(wish.line, back_of(wish.command), {"cmd": "dsd", **old}))
+        found.append(wish)
+    return found
+
+
+def changes_of(commands: List[Command], known: Dict[str, Any]) -> Tuple[List[Command], int]:
+    """The commands that would make something, and how many would not."""
+    made: List[Command] = []
+    for command in commands:
+        if is_other_set(command, known):
+            made += [back_of(command), command]
+        elif not is_there(command, known):
+            made.append(command)
+    return made, sum(is_there(one, known) and not is_other_set(one, known) for one in commands)
+
+
+def plan(text: Any, known: Dict[str, Any]) -> Dict[str, Any]:
+    """The commands by which the policy that is known becomes what a file asks for: those that `add`,
+    those that `take` away what the file doesn't ask for, and how many things are `there`.
+
+    A file that is none has a `fault`, with its `line`.
+    """
+    if not isinstance(text, str):
+        return {"fault": "there is no text", "line": 1}
+    try:
+        policy = read_file(text)
+    except BadPolicy as bad:
+        return {"fault": bad.what, "line": bad.line}
+    commands = [wish.command for wish in policy.wishes]
+    made, there = changes_of(commands, known)
+    return {"add": made, "take": exact(policy, known), "there": there}

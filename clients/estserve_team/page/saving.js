@@ -1,0 +1,58 @@
+/** What is saved as files: waves, scenarios, policies. */
+
+import { button, make, say } from "./dom.js";
+import { expectedText, inputsText, vcdText } from "./exports.js";
+import { drivenOf } from "./parting.js";
+
+const KEPT = 60_000; // milliseconds for which a file that is saved can be fetched
+
+/** Has the browser save a text as a file of this name. */
+export function saveText(name, text, kind = "text/plain") {
+  const address = URL.createObjectURL(new Blob([text], { type: kind }));
+  make("a", { href: address, download: name }).click();
+  setTimeout(() => URL.revokeObjectURL(address), KEPT);
+}
+
+/** The files of a scenario, which `estserve-client test` runs: pairs of a name and a text. */
+export function scenarioFiles(name, wave) {
+  return [
+    [`${name}.inputs`, inputsText(wave.inputs ?? drivenOf(wave).inputs)],
+    [`${name}.expected`, expectedText(wave)],
+  ];
+}
+
+/** What can be saved of a wave. */
+const FORMS = {
+  VCD: (wave) => [[`${wave.module}.vcd`, vcdText(wave)]],
+  ".inputs": (wave) => scenarioFiles(wave.module, wave).slice(0, 1),
+  "Scenario": (wave) => scenarioFiles(wave.module, wave),
+};
+
+/** What is said of inputs that are not saved, since one may not observe them. */
+function leftWords(wave) {
+  const { hidden } = drivenOf(wave);
+  return hidden.length ? `without what you may not observe: ${hidden.join(" ")}` : "";
+}
+
+/** The menu by which a wave is saved. */
+export function saveMenu(view) {
+  const told = make("p", { class: "quiet", role: "status" });
+  const save = (filesOf) => async () => {
+    say(told, "..");
+    const rows = await view.rows.takeAll();
+    const wave = {
+      module: view.module, signals: view.all.map(({ name, kind }) => [name, kind]), rows,
+      ended: view.ended,
+    };
+    for (const [name, text] of filesOf(wave)) saveText(name, text);
+    const missing = rows.length < view.instants ? `only ${rows.length} instants came; ` : "";
+    say(told, missing + leftWords(wave));
+  };
+  const buttons = Object.entries(FORMS).map(([word, filesOf]) => button(
+    word, save(filesOf), { "data-save": word }
+  ));
+  return make(
+    "details", { class: "menu save" }, make("summary", {}, "Save"),
+    make("div", { class: "pop" }, ...buttons, told)
+  );
+}

@@ -1,0 +1,38 @@
+/** The last of the instants that are seen, as a table for screen readers. */
+
+import { fill, make } from "./dom.js";
+
+const TOLD = 8; // instants that the table has
+const TOLD_AFTER = 400; // milliseconds after which it is written anew
+const WORDS = ["absent", "present", ". (may not be observed)", "not known yet"];
+
+export class WaveTable {
+  constructor(title) {
+    this.title = title;
+    this.element = make("div", { class: "unseen" });
+  }
+
+  /** Writes the table soon, of these signals, up to the last instant that is seen. */
+  showLater(signals, rows, last) {
+    clearTimeout(this.telling);
+    this.telling = setTimeout(() => this.show(signals, rows, last), TOLD_AFTER);
+  }
+
+  show(signals, rows, last) {
+    const seen = Array.from({ length: TOLD }, (_, at) => last - TOLD + 1 + at).filter(
+      (one) => one > 0
+    );
+    const lines = signals.map(({ name, kind, place }) => make(
+      "tr", {}, make("th", { scope: "row" }, `${name}, ${kind}`),
+      ...seen.map((instant) => make("td", {}, WORDS[rows.status(instant, place)]))
+    ));
+    fill(this.element, make(
+      "table", { class: "wave-table" }, make("caption", {}, `${this.title}, in words`),
+      make(
+        "tr", {}, make("th", { scope: "col" }, "signal"),
+        ...seen.map((one) => make("th", { scope: "col" }, String(one)))
+      ),
+      ...lines
+    ));
+  }
+}

@@ -1,0 +1,68 @@
+use Rattle.std.proofs.Common.{◌≡◌, refl, ap, List, length, ℕ, subst, arith, rules, slice_set}
+use Rattle.est_kernel.specs.declared.statement.Statement.TheFolds.{the_lemmas}
+use Rattle.est_kernel.specs.declared.statement.Statement.TheVariants.{Present', Seq', Par'}
+use Rattle.est_net.specs.Inner.Extending.{ArePartsAdded}
+use Rattle.est_net.specs.declared.extents.Extent.{Extent}
+use Rattle.est_net.proofs.Extending.{extended, two_added, par_extent, present_extent, seq_extent}
+use Rattle.est_net.proofs.extents.+add.Goals as goal
+
+pub add-returns : goal.add-returns
+add-returns t c =
+    extended c.args.s.now c.args.traps c.args.extents.now.items c.add_parts.new.extents.items _ c.leaf.result
+    c.in_ok-extent.extent
+    (subst (λ (z : List Extent). ArePartsAdded c.args.s.now c.args.traps z c.add_parts.new.extents.items
+    c.in_ok-extent.extent) c.in_ok-push.ensures.items c.in_ok-extent.ensures)
+    (ap (λ (n : ℕ). slice_set c.add_parts.new.extents.items n c.in_ok-extent.extent)
+    (let number : c.len-number.result ≡ length c.args.extents.now.items
+    = omega (arith, c.len-number.ensures, c.args.extents.now.ok.0) in number))
+
+pub add_two-add-requires-2 : goal.add_two-add-requires-2
+add_two-add-requires-2 t c = (
+  search (rules, the_lemmas),
+  (omega (arith, c.requires.main), (omega (arith, c.requires.again), omega (arith, c.requires.statements))),
+)
+
+pub add_two-returns-clause-present : goal.add_two-returns-clause-present
+add_two-returns-clause-present t c = λ x a b.
+    two_added (Present' x a c.args.p.now b c.args.q.now) c.args.p.now c.args.q.now c.args.traps
+    c.args.extents.now.items c.add.new.extents.items
+    c.add-2.new.extents.items c.in_ok-first.first c.in_ok-second.second c.with_parts.result refl (λ n f g. (f, g))
+    c.in_ok-first.ensures c.in_ok-second.ensures
+    (present_extent c.args.p.now c.args.q.now c.args.traps c.in_ok-first.first c.in_ok-second.second c.with_parts.result
+    c.in_ok-first.ensures.own c.in_ok-second.ensures.own
+    (record {
+      main = c.with_parts.ensures.main;
+      again = c.with_parts.ensures.again;
+      statements = c.with_parts.ensures.statements;
+      pauses = c.with_parts.ensures.pauses;
+    }) x a b)
+
+pub add_two-returns-clause-seq : goal.add_two-returns-clause-seq
+add_two-returns-clause-seq t c = λ a b.
+    two_added (Seq' a c.args.p.now b c.args.q.now) c.args.p.now c.args.q.now c.args.traps c.args.extents.now.items
+    c.add.new.extents.items
+    c.add-2.new.extents.items c.in_ok-first.first c.in_ok-second.second c.with_parts.result refl (λ n f g. (f, g))
+    c.in_ok-first.ensures c.in_ok-second.ensures
+    (seq_extent c.args.p.now c.args.q.now c.args.traps c.in_ok-first.first c.in_ok-second.second c.with_parts.result
+    c.in_ok-first.ensures.own c.in_ok-second.ensures.own
+    (record {
+      main = c.with_parts.ensures.main;
+      again = c.with_parts.ensures.again;
+      statements = c.with_parts.ensures.statements;
+      pauses = c.with_parts.ensures.pauses;
+    }) a b)
+
+pub add_two-returns-clause-par : goal.add_two-returns-clause-par
+add_two-returns-clause-par t c = λ a b.
+    two_added (Par' a c.args.p.now b c.args.q.now) c.args.p.now c.args.q.now c.args.traps c.args.extents.now.items
+    c.add.new.extents.items
+    c.add-2.new.extents.items c.in_ok-first.first c.in_ok-second.second c.with_parts.result refl (λ n f g. (f, g))
+    c.in_ok-first.ensures c.in_ok-second.ensures
+    (par_extent c.args.p.now c.args.q.now c.args.traps c.in_ok-first.first c.in_ok-second.second c.with_parts.result
+    c.in_ok-first.ensures.own c.in_ok-second.ensures.own
+    (record {
+      main = c.with_parts.ensures.main;
+      again = c.with_parts.ensures.again;
+      statements = c.with_parts.ensures.statements;
+      pauses = c.with_parts.ensures.pauses;
+    }) a b)

@@ -1,0 +1,234 @@
+//! What is known of each statement before any instant.
+
+ghost use Rattle.std.specs.Prelude.{◌≡◌, ◌≤◌, ◌+◌, ◌||◌, ℕ, Bool, true, false, Some, IfOk, IfSome};
+ghost use Rattle.est_cells.specs.Tables.{sheet_size};
+ghost use Rattle.est_kernel.specs.declared.statement.Statement.TheVariants.{Present', Seq', Par'};
+ghost use Rattle.est_net.specs.Extents.{HasExtents, IsExtent, IsRunOf};
+ghost use Rattle.est_net.specs.Owners.{statements};
+ghost use Rattle.est_net.specs.Inner.Extending.{ArePartsAdded, IsExtended};
+
+use crate::pause_run::PauseRun;
+use est_kernel::statement::{PauseIndex, Statement};
+use std::alloc::{AllocError, Global};
+
+/// What is known of a statement before any instant.
+#[derive(Clone, Copy)]
+pub struct Extent {
+    /// How many cells it has in the incarnation that can go on from its pauses.
+    pub main: usize,
+    /// How many cells it has in a restart.
+    pub again: usize,
+    /// How many statements there are in it, itself counted.
+    pub statements: usize,
+    /// Its pauses, where their numbers are a run.
+    pub pauses: Option<PauseRun>,
+}
+
+impl Extent {
+    /// How many cells the statement has in one incarnation: `main` if it can go on from its pauses.
+    #[inline(always)]
+    pub fn cells(&self, main: bool) -> usize
+        ensures { (s : _) (t : _) → IsExtent self.now s t → result ≡ sheet_size main s t }
+    {
+        if main { self.main } else { self.again }
+    }
+}
+
+/// The pauses of two parts, where their numbers are a run.
+fn joined(p: Option<PauseRun>, q: Option<PauseRun>) -> Option<PauseRun>
+    ensures { (f g : (ℕ → Bool) → Bool) → IfSome p (IsRunOf f) → IfSome q (IsRunOf g)
+        → IfSome result (IsRunOf (λ set. f set || g set)) }
+{
+    let p = p?;
+    let q = q?;
+    if p.count == 0 {
+        return Some(q);
+    }
+    if q.count == 0 {
+        return Some(p);
+    }
+    if p.first + p.count == q.first {
+        Some(PauseRun {
+            first: p.first,
+            count: p.count + q.count,
+        })
+    } else {
+        None
+    }
+}
+
+/// The pause with this number alone.
+fn one_pause(pause: PauseIndex) -> PauseRun
+    ensures { IsRunOf (λ set. set pause.index) result }
+{
+    PauseRun {
+        first: pause.index,
+        count: 1,
+    }
+}
+
+/// No pause.
+fn no_pause() -> PauseRun
+    ensures { IsRunOf (λ set. false) result }
+{
+    PauseRun { first: 0, count: 0 }
+}
+
+/// What is known of a statement without parts that has these cells.
+fn leaf(cells: usize, pauses: PauseRun) -> Extent
+    ensures main { result.main ≡ cells }
+    ensures again { result.again ≡ cells }
+    ensures statements { result.statements ≡ 1 }
+    ensures pauses { result.pauses ≡ Some pauses }
+{
+    Extent {
+        main: cells,
+        again: cells,
+        statements: 1,
+        pauses: Some(pauses),
+    }
+}
+
+/// What is known of a statement that has these cells of its own and this part.
+fn with_part(own: usize, p: &Extent) -> Extent
+    requires main { own + p.now.main ≤ 18446744073709551615 }
+    requires again { own + p.now.again ≤ 18446744073709551615 }
+    requires statements { 1 + p.now.statements ≤ 18446744073709551615 }
+    ensures main { result.main ≡ own + p.now.main }
+    ensures again { result.again ≡ own + p.now.again }
+    ensures statements { result.statements ≡ 1 + p.now.statements }
+    ensures pauses { result.pauses ≡ p.now.pauses }
+{
+    Extent {
+        main: own + p.main,
+        again: own + p.again,
+        statements: 1 + p.statements,
+        pauses: p.pauses,
+    }
+}
+
+/// What is known of a loop that has these cells of its own and this body.
+fn with_body(own: usize, p: &Extent) -> Extent
+    requires main { own + p.now.main + p.now.again ≤ 18446744073709551615 }
+    requires statements { 1 + p.now.statements ≤ 18446744073709551615 }
+    ensures main { result.main ≡ own + p.now.main + p.now.again }
+    ensures again { result.again ≡ own + p.now.again }
+    ensures statements { result.statements ≡ 1 + p.now.statements }
+    ensures pauses { result.pauses ≡ p.now.pauses }
+{
+    Extent {
+        main: own + p.main + p.again,
+        again: own + p.again,
+        statements: 1 + p.statements,
+        pauses: p.pauses,
+    }
+}
+
+/// What is known of a statement that has these cells of its own and these two parts.
+fn with_parts(own: usize, p: &Extent, q: &Extent) -> Extent
+    requires main { own + p.now.main + q.now.main ≤ 18446744073709551615 }
+    requires again { own + p.now.again + q.now.again ≤ 18446744073709551615 }
+    requires statements { 1 + p.now.statements + q.now.statements ≤ 18446744073709551615 }
+    ensures main { result.main ≡ own + p.now.main + q.now.main }
+    ensures again { result.again ≡ own + p.now.again + q.now.again }
+    ensures statements { result.statements ≡ 1 + p.now.statements + q.now.statements }
+    ensures pauses { (f g : (ℕ → Bool) → Bool) → IfSome p.now.pauses (IsRunOf f)
+        → IfSome q.now.pauses (IsRunOf g)
+        → IfSome result.pauses (IsRunOf (λ set. f set || g set)) }
+{
+    Extent {
+        main: own + p.main + q.main,
+        again: own + p.again + q.again,
+        statements: 1 + p.statements + q.statements,
+        pauses: joined(p.pauses, q.pauses),
+    }
+}
+
+/// Adds the entries of the parts of a statement, or memory was refused. Answers what is known of
+/// the statement.
+#[cycle(add)]
+fn add_parts(extents: &mut Vec<Extent>, s: &Statement, traps: usize) -> Result<Extent, AllocError>
+    requires main { sheet_size true s.now traps ≤ 18446744073709551615 }
+    requires again { sheet_size false s.now traps ≤ 18446744073709551615 }
+    requires statements { statements s.now ≤ 18446744073709551615 }
+    ensures { IfOk result (ArePartsAdded s.now traps extents.old.items extents.new.items) }
+{
+    match s {
+        Statement::Nothing => Ok(leaf(traps + 3, no_pause())),
+        Statement::Emit(_) => Ok(leaf(traps + 3, no_pause())),
+        Statement::Exit(_) => Ok(leaf(traps + 3, no_pause())),
+        Statement::Pause(pause) => Ok(leaf(traps + 3, one_pause(*pause))),
+        Statement::Present(_, p, q) => add_two(extents, p, q, traps),
+        Statement::Seq(p, q) => add_two(extents, p, q, traps),
+        Statement::Par(p, q) => add_two(extents, p, q, traps),
+        Statement::Suspend(_, p) => {
+            let body = add(extents, p, traps)?;
+            Ok(with_part(traps + 3, &body))
+        }
+        Statement::Loop(p) => {
+            let body = add(extents, p, traps)?;
+            Ok(with_body(traps + 3, &body))
+        }
+        Statement::Trap(p) => {
+            let body = add(extents, p, traps + 1)?;
+            Ok(with_part(traps + 3, &body))
+        }
+        Statement::Local(_, p) => {
+            let body = add(extents, p, traps)?;
+            Ok(with_part(traps + 4, &body))
+        }
+    }
+}
+
+/// Adds the entries of two parts, or memory was refused. Answers what is known of the statement
+/// that has these parts.
+#[cycle(add)]
+fn add_two(
+    extents: &mut Vec<Extent>,
+    p: &Statement,
+    q: &Statement,
+    traps: usize,
+) -> Result<Extent, AllocError>
+    requires main { traps + 3 + sheet_size true p.now traps + sheet_size true q.now traps
+        ≤ 18446744073709551615 }
+    requires again { traps + 3 + sheet_size false p.now traps + sheet_size false q.now traps
+        ≤ 18446744073709551615 }
+    requires statements { 1 + statements p.now + statements q.now ≤ 18446744073709551615 }
+    ensures present { IfOk result (λ x. (t a b : _)
+        → ArePartsAdded (Present' t a p.now b q.now) traps extents.old.items extents.new.items x) }
+    ensures seq { IfOk result (λ x. (a b : _)
+        → ArePartsAdded (Seq' a p.now b q.now) traps extents.old.items extents.new.items x) }
+    ensures par { IfOk result (λ x. (a b : _)
+        → ArePartsAdded (Par' a p.now b q.now) traps extents.old.items extents.new.items x) }
+{
+    let first = add(extents, p, traps)?;
+    let second = add(extents, q, traps)?;
+    Ok(with_parts(traps + 3, &first, &second))
+}
+
+/// Adds the entries of a statement and of its parts, or memory was refused. Answers its own.
+/// Recursion is as deep as the statement is.
+#[cycle(add)]
+fn add(extents: &mut Vec<Extent>, s: &Statement, traps: usize) -> Result<Extent, AllocError>
+    requires main { sheet_size true s.now traps ≤ 18446744073709551615 }
+    requires again { sheet_size false s.now traps ≤ 18446744073709551615 }
+    requires statements { statements s.now ≤ 18446744073709551615 }
+    ensures { IfOk result (IsExtended s.now traps extents.old.items extents.new.items) }
+{
+    let number = extents.len();
+    extents.push(leaf(0, no_pause()))?;
+    let extent = add_parts(extents, s, traps)?;
+    extents[number] = extent;
+    Ok(extent)
+}
+
+/// What is known of a statement and of its parts, in the order of the text, or memory was refused.
+#[tactic(auto, using(crate::proofs::Extending::cells_fit, crate::proofs::Extending::count_fit))]
+pub fn extents_of(alloc: Global, s: &Statement) -> Result<Vec<Extent>, AllocError>
+    requires { sheet_size true s.now 0 ≤ 18446744073709551615 }
+    ensures { IfOk result (λ xs. HasExtents xs.items 0 0 s.now) }
+{
+    let mut extents = Vec::new(alloc);
+    add(&mut extents, s, 0)?;
+    Ok(extents)
+}

@@ -1,0 +1,23 @@
+use Rattle.std.proofs.Common.{◌≡◌, map, length, arith, rules}
+use Rattle.serde_json.specs.View.{view}
+use Rattle.lab_lines.proofs.exploring.judge_module.Goals as goal
+
+pub returns : goal.returns
+returns g c =
+    let reactions : c.len-reactions.result ≡ length c.in_ok-found.found.rows.items =
+    let e = c.len-reactions.ensures in let o = c.in_ok-found.found.rows.ok.0 in omega arith in
+    let states : c.len-states.result ≡ length c.in_ok-found.found.nodes.items =
+    let e = c.len-states.ensures in let o = c.in_ok-found.found.nodes.ok.0 in omega arith in
+    record {
+      found = c.in_ok-found.found;
+      explored = c.in_ok-found.ensures.explored;
+      stuck = view c.in_ok-stuck.stuck;
+      stuck_told = record {
+        verdict = c.in_ok-given.given;
+        right = c.in_ok-given.ensures _ _ c.in_ok-found.ensures.ended;
+        said = search rules;
+      };
+      verdicts = map view c.in_ok-verdicts.verdicts.items;
+      verdicts_told = c.in_ok-verdicts.ensures;
+      said = rw (← reactions, ← states) c.in_ok-answer.ensures;
+    }

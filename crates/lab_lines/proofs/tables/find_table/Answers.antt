@@ -1,0 +1,51 @@
+use Rattle.std.proofs.Common.{◌≡◌, ◌∙◌, List, length, map, ap, codes, arith, rules, inl, inr, true, false}
+use Rattle.std.proofs.lemmas.List.{length-map}
+use Rattle.serde_json.specs.Data.{Data, array, member, no_members, object, string}
+use Rattle.serde_json.specs.View.{items_of, view}
+use Rattle.est_kernel.specs.declared.interface.Declaration.{Declaration}
+use Rattle.est_explore.specs.declared.asked.Asked.{Asked}
+use Rattle.est_explore.specs.declared.one_module.Answer.{Answer}
+use Rattle.state_search.specs.declared.found.Row.{Row}
+use Rattle.lab_lines.specs.Tables.{row_json}
+use Rattle.lab_lines.proofs.tables.find_table.Goals as goal
+
+pub returns-then-not-is_closed : goal.returns-then-not-is_closed
+returns-then-not-is_closed g c =
+    let reactions : c.len-reactions.result ≡ length c.in_ok-found.found.rows.items =
+    let e = c.len-reactions.ensures in let o = c.in_ok-found.found.rows.ok.0 in omega arith in
+    let states : c.len-states.result ≡ length c.in_ok-found.found.nodes.items =
+    let e = c.len-states.ensures in let o = c.in_ok-found.found.nodes.ok.0 in omega arith in
+    let more_left : c.is_closed.result ≡ false = search rules in
+    inr (record {
+      found = c.in_ok-found.found;
+      explored = c.in_ok-found.ensures.explored;
+      more = elim c.in_ok-found.ensures.ended [
+        | inl all ↦ absurd (let yes : c.is_closed.result ≡ true = c.is_closed.ensures.all.1 all in cc)
+        | inr more ↦ more
+      ];
+      said = rw (← reactions, ← states) c.in_ok-told.ensures;
+    })
+
+pub returns : goal.returns
+returns g c =
+    let k = c.args.subject.now.reactive.now.kernel.now.interface in
+    let a = c.common-asked.result in
+    let closed : c.is_closed.result ≡ true = search rules in
+    let rows : view c.in_ok-rows.rows ≡ array (items_of (map (row_json k a) c.in_ok-found.found.rows.items)) =
+    c.in_ok-rows.ensures
+    ∙ ap (λ (i : List Declaration). array (items_of (map (row_json i a) c.as_slice-2.result.now)))
+    c.interface-interface.ensures
+    ∙ ap (λ (xs : List (Row (Asked Answer))). array (items_of (map (row_json k a) xs))) c.as_slice-2.ensures.value in
+    inl (
+      a,
+      record {
+        found = c.in_ok-found.found;
+        closed = c.is_closed.ensures.table _ c.in_ok-found.ensures.explored closed;
+        states = map view c.in_ok-states.states.items;
+        each = length-map c.in_ok-states.states.items view
+            ∙ (c.in_ok-states.ensures ∙ ap length c.as_slice.ensures.value);
+        said = c.in_ok-told-2.ensures ∙ ap (λ (xs : Data). object (member (codes "ok") (string (codes "table"))
+            (member (codes "rows") xs
+            (member (codes "states") (array (items_of (map view c.in_ok-states.states.items))) no_members)))) rows;
+      },
+    )

@@ -1,0 +1,56 @@
+-- What is told of the closed table of a module (this project's own form).
+use Rattle.std.specs.Prelude.{◌≡◌, ◌<◌, ◌⊎◌, ℕ, List, Option, codes, length, map}
+use Rattle.std.specs.Option.{option_map_or}
+use Rattle.serde_json.specs.Data.{Data, null, number, unsigned, string, array, object, member, no_members}
+use Rattle.serde_json.specs.View.{items_of}
+use Rattle.est_kernel.specs.declared.interface.Declaration.{Declaration}
+use Rattle.est_explore.specs.Explored.{IsExplored}
+use Rattle.est_explore.specs.Runs.{Module}
+use Rattle.est_explore.specs.Tables.{IsClosedTable}
+use Rattle.est_explore.specs.declared.asked.Asked.{Asked}
+use Rattle.est_explore.specs.declared.one_module.Answer.{Answer}
+use Rattle.est_explore.specs.declared.one_module.Answer.TheVariants.{Reaction, Stuck}
+use Rattle.est_explore.specs.declared.one_module.Position.{Position}
+use Rattle.state_search.specs.declared.found.Found.{Found}
+use Rattle.state_search.specs.declared.found.Row.{Row}
+use Rattle.lab_lines.specs.Told.{names_json}
+
+-- a number, or none
+abbrev pub place_json : Option ℕ → Data
+place_json place = option_map_or (λ n. number (unsigned n)) place null
+
+-- a row with this answer: what is asked, the place of the state before it, the inputs, and what comes of them
+abbrev pub answered_json : List Declaration → (asked : ℕ) → Row (Asked Answer) → Answer → Data
+answered_json interface asked r (Reaction outputs) = object (member (codes "asked") (names_json interface asked)
+    (member (codes "from") (number (unsigned r.from))
+    (member (codes "inputs") (names_json interface r.label.inputs)
+    (member (codes "next") (place_json r.next)
+    (member (codes "outputs") (names_json interface outputs) no_members)))))
+answered_json interface asked r (Stuck undecided) = object (member (codes "asked") (names_json interface asked)
+    (member (codes "from") (number (unsigned r.from))
+    (member (codes "inputs") (names_json interface r.label.inputs)
+    (member (codes "undecided") (names_json interface undecided) no_members))))
+
+-- a row
+abbrev pub row_json : List Declaration → (asked : ℕ) → Row (Asked Answer) → Data
+row_json interface asked r = answered_json interface asked r r.label.answer
+
+-- the closed table of a module: an item for each state in the order found, and the rows
+pub record IsTableTold (m : Module) (asked : ℕ) (d : Data) : Type 0 where
+  pub found : Found Position (Asked Answer)
+  pub closed : IsClosedTable m found
+  pub states : List Data
+  pub each : length states ≡ length found.nodes.items
+  pub said : d ≡ object (member (codes "ok") (string (codes "table"))
+      (member (codes "rows") (array (items_of (map (row_json m.kernel.interface asked) found.rows.items)))
+      (member (codes "states") (array (items_of states)) no_members)))
+
+-- more states or more reactions were found than that, and how many
+pub record IsTooLarge (m : Module) (states steps : ℕ) (d : Data) : Type 0 where
+  pub found : Found Position (Asked Answer)
+  pub explored : IsExplored m found
+  pub more : (states < length found.nodes.items) ⊎ (steps < length found.rows.items)
+  pub said : d ≡ object (member (codes "code") (number (unsigned 83))
+      (member (codes "fault") (string (codes "TooMany"))
+      (member (codes "reactions") (number (unsigned (length found.rows.items)))
+      (member (codes "states") (number (unsigned (length found.nodes.items))) no_members))))

@@ -1,0 +1,42 @@
+//! Which signals somebody may offer.
+
+ghost use Rattle.std.specs.Prelude.{◌≡◌, ℕ, IfOk, map};
+ghost use Rattle.est_kernel.specs.Bits.{bits};
+ghost use Rattle.lab_lines.specs.Offers.{AreNamed, has_name};
+
+use est_kernel::interface::Interface;
+use est_kernel::mask;
+use est_relations::refusal::Refusal as OfferFault;
+use est_text::identifier::Identifier;
+
+/// The signal of this name, alone in a mask, if it may be offered.
+fn offered(interface: &Interface, name: &str) -> Result<u64, OfferFault>
+    ensures { IfOk result (λ m. (n : ℕ) → bits m n ≡ has_name interface.now n name.now) }
+{
+    let Some(name) = Identifier::from_text(name) else {
+        return Err(OfferFault::UnknownSignal);
+    };
+    let Some(signal) = interface.find(&name) else {
+        return Err(OfferFault::UnknownSignal);
+    };
+    if !interface.kind(signal).can_be_offered() {
+        return Err(OfferFault::NotInput);
+    }
+    Ok(mask::single(signal.index))
+}
+
+/// The signals of these names as a mask.
+///
+/// # Errors
+///
+/// Where one of them is no signal, or may not be offered.
+pub fn among(interface: &Interface, names: &[&str]) -> Result<u64, OfferFault>
+    ensures { IfOk result (AreNamed interface.now (map (λ t. t.now) names.now)) }
+{
+    let mut signals = 0;
+    for name in names {
+        let signal = offered(interface, name)?;
+        signals = mask::either(signals, signal);
+    }
+    Ok(signals)
+}

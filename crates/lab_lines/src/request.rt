@@ -1,0 +1,38 @@
+//! What a line may ask for.
+
+/// What a line asks for.
+#[derive(Drop)]
+pub enum Request<'v> {
+    /// To load the module `main` of a text.
+    Load {
+        main: &'v str,
+        text: &'v str,
+    },
+    /// The kernel of the module that is loaded.
+    Kernel,
+    /// Whether claims hold in all its runs.
+    Explore {
+        /// Each is `never T` or `always T`.
+        claims: Vec<&'v str>,
+        /// What is looked at.
+        scope: Scope<'v>,
+    },
+    /// Whether the module `main` of a text does the same.
+    Same {
+        main: &'v str,
+        text: &'v str,
+        /// What is looked at.
+        scope: Scope<'v>,
+    },
+    /// All its states, and what it does at each.
+    Table(Scope<'v>),
+}
+
+/// What a search looks at.
+#[derive(Drop)]
+pub struct Scope<'v> {
+    /// The names of the signals that somebody may offer.
+    pub inputs: Vec<&'v str>,
+    /// With more states than this, or more reactions, the search ends.
+    pub most: u64,
+}

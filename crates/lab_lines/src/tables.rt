@@ -1,0 +1,161 @@
+//! The closed table of a module, as JSON.
+
+ghost use Rattle.std.specs.Prelude.{◌≡◌, ◌⊎◌, ℕ, IfOk, codes, length, map};
+ghost use Rattle.serde_json.specs.Data.{array, member, no_members, number};
+ghost use Rattle.serde_json.specs.Data.{object, string, unsigned};
+ghost use Rattle.serde_json.specs.View.{items_of, view};
+ghost use Rattle.est_explore.specs.Views.{module_of};
+ghost use Rattle.lab_lines.specs.Tables.{IsTableTold, IsTooLarge, place_json, row_json};
+
+use crate::told::names;
+use est_explore::asked::Asked;
+use est_explore::every::Every;
+use est_explore::judge::explore;
+use est_explore::one_module::{Answer, OneModule, Position};
+use est_explore::table::is_closed;
+use est_kernel::interface::Interface;
+use est_kernel::limits::MOST_STATEMENTS;
+use est_kernel::mask;
+use est_kernel::pause_set::PauseSet;
+use est_kernel::state::State;
+use est_kernel::statement::PauseIndex;
+use est_rounds::engine::Engine;
+use serde_json::{Value, json};
+use state_search::found::{Found, Node, Row};
+use state_search::search::Limits;
+use std::alloc::{AllocError, Global};
+
+/// The numbers of the pauses.
+fn pauses(alloc: Global, paused: &PauseSet) -> Result<Value, AllocError> {
+    let mut numbers = Vec::new(alloc);
+    for index in 0..MOST_STATEMENTS {
+        let index = index as u16;
+        if paused.has(PauseIndex { index }) {
+            numbers.push(Value::from(index))?;
+        }
+    }
+    Ok(Value::from(numbers))
+}
+
+/// Where a module stands.
+fn state(alloc: Global, state: &State) -> Result<Value, AllocError> {
+    match state {
+        State::Fresh => Value::try_from_str(alloc, "start"),
+        State::Done => Value::try_from_str(alloc, "end"),
+        State::Paused(paused) => pauses(alloc, paused),
+    }
+}
+
+/// The states.
+fn states(alloc: Global, nodes: &[Node<Position>]) -> Result<Vec<Value>, AllocError>
+    ensures { IfOk result (λ v. length v.items ≡ length nodes.now) }
+{
+    let mut values = Vec::new(alloc);
+    for node in nodes {
+        values.push(state(alloc, &node.state.state)?)?;
+    }
+    Ok(values)
+}
+
+/// A place, or none.
+fn place(place: Option<usize>) -> Value
+    ensures { view result ≡ place_json place }
+{
+    match place {
+        Some(place) => Value::from(place),
+        None => Value::Null,
+    }
+}
+
+/// A row.
+fn row(
+    alloc: Global,
+    interface: &Interface,
+    asked: u64,
+    row: &Row<Asked<Answer>>,
+) -> Result<Value, AllocError>
+    ensures { IfOk result (λ v. view v ≡ row_json interface.now asked row.now) }
+{
+    let asked = names(alloc, interface, asked)?;
+    let inputs = names(alloc, interface, row.label.inputs)?;
+    match row.label.answer {
+        Answer::Reaction { outputs } => json!(in alloc; {
+            "asked": asked,
+            "from": row.from,
+            "inputs": inputs,
+            "next": place(row.next),
+            "outputs": names(alloc, interface, outputs)?
+        }),
+        Answer::Stuck { undecided } => json!(in alloc; {
+            "asked": asked,
+            "from": row.from,
+            "inputs": inputs,
+            "undecided": names(alloc, interface, undecided)?
+        }),
+    }
+}
+
+/// The rows.
+fn rows(
+    alloc: Global,
+    interface: &Interface,
+    asked: u64,
+    rows: &[Row<Asked<Answer>>],
+) -> Result<Value, AllocError>
+    ensures { IfOk result (λ v. view v ≡ array (items_of (map (row_json interface.now asked)
+        rows.now))) }
+{
+    let mut values = Vec::new(alloc);
+    for each in rows {
+        values.push(row(alloc, interface, asked, each)?)?;
+    }
+    Ok(Value::from(values))
+}
+
+/// The table, of its rows and states.
+fn table_told(alloc: Global, rows: Value, states: Vec<Value>) -> Result<Value, AllocError>
+    ensures { IfOk result (λ v. view v ≡ object (member (codes "ok") (string (codes "table"))
+        (member (codes "rows") (view rows)
+        (member (codes "states") (array (items_of (map view states.items))) no_members)))) }
+{
+    json!(in alloc; {"ok": "table", "rows": rows, "states": states})
+}
+
+/// That there are too many states or reactions.
+fn too_large_told(alloc: Global, reactions: usize, states: usize) -> Result<Value, AllocError>
+    ensures { IfOk result (λ v. view v ≡ object (member (codes "code") (number (unsigned 83))
+        (member (codes "fault") (string (codes "TooMany"))
+        (member (codes "reactions") (number (unsigned reactions))
+        (member (codes "states") (number (unsigned states)) no_members))))) }
+{
+    json!(in alloc; {"code": 83, "fault": "TooMany", "reactions": reactions, "states": states})
+}
+
+/// The table of a module; or that there are too many states or reactions.
+pub fn find_table<E: Engine>(
+    alloc: Global,
+    subject: &Every<'_, OneModule<'_, E>>,
+    engine: &mut E,
+    limits: Limits,
+) -> Result<Value, AllocError>
+    requires { E.is_for engine.old subject.now.reactive.now.kernel.now }
+    ensures { IfOk result (λ v. ((asked : ℕ) × IsTableTold (module_of
+        subject.now.reactive.now.kernel.now subject.now.relations.now subject.now.among) asked
+        (view v))
+        ⊎ IsTooLarge (module_of subject.now.reactive.now.kernel.now subject.now.relations.now
+        subject.now.among) limits.states limits.steps (view v)) }
+{
+    let interface = subject.reactive.kernel.interface();
+    let found = explore(alloc, subject, engine, limits)?;
+    if !is_closed(&found) {
+        let reactions = found.rows.len();
+        let states = found.nodes.len();
+        let told = too_large_told(alloc, reactions, states)?;
+        return Ok(told);
+    }
+    let asked = mask::common(interface.offerable(), subject.among);
+    let states = states(alloc, found.nodes.as_slice())?;
+    let rows = rows(alloc, interface, asked, found.rows.as_slice())?;
+    let told = table_told(alloc, rows, states)?;
+    Ok(told)
+}

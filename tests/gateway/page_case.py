@@ -1,0 +1,74 @@
+"""What the tests of the page in browsers share: a team, two browsers, a fresh slot for each test."""
+import os
+import pathlib
+import unittest
+
+import browsers
+import teams
+import visitors
+
+SHOTS = os.environ.get("GATEWAY_SHOTS")  # a folder for pictures of the page, where one is wanted
+TOLD = ".wave .readout"  # what a wave says of an instant
+TEXT = (teams.ROOT / "examples" / "team" / "team.strl").read_text()
+CHOOSE = (
+    "const [selector, value] = arguments, list = document.querySelector(selector);"
+    "list.value = value; list.dispatchEvent(new Event('change', { bubbles: true }));"
+    "return list.value"
+)
+
+
+@unittest.skipUnless(visitors.HAS_AIOHTTP, visitors.NO_AIOHTTP)
+@unittest.skipUnless(browsers.HAS_BROWSER, browsers.NO_BROWSER)
+class PageCase(unittest.TestCase):
+    """Two browsers at one gateway, of which each test finds a fresh team in slot 0."""
+
+    @classmethod
+    def setUpClass(cls):
+        cls.team = visitors.Team("--http", "127.0.0.1:0")
+        cls.team.__enter__()
+        cls.addClassCleanup(cls.team.__exit__)
+        visitors.set_up(cls.team)
+        cls.one, cls.two = browsers.Page(), None
+        cls.addClassCleanup(cls.one.close)
+        cls.two = browsers.Page()
+        cls.addClassCleanup(cls.two.close)
+
+    def setUp(self):
+        for page in (self.one, self.two):
+            page.browser.execute_cdp_cmd("Emulation.clearDeviceMetricsOverride", {})
+        self.fresh()
+
+    def fresh(self):
+        """Slot 0 has the team's module, without instants."""
+        with self.team.root() as root:
+            try:
+                root.unload(0)
+            except Exception:  # it was empty
+                pass
+            root.load(0, "TEAM", TEXT)
+            root.logout()
+
+    def tearDown(self):
+        for page in (self.one, self.two):
+            faults = [one for one in page.faults() if "api/" not in one]
+            self.assertEqual(faults, [], "the browser complains")
+
+    def come_in(self, page, user, *roles):
+        page.come_in(visitors.address_of_link(self.team), user, *roles)
+
+    def drive_and_step(self):
+        """Ann drives in the first browser, Cho steps in the second."""
+        self.come_in(self.one, "ann", "lead")
+        self.come_in(self.two, "cho", "stepper")
+        self.two.wait_text("h1", "TEAM")
+        for page in (self.one, self.two):
+            page.wait_text("#facts", "0 instants")
+
+    def choose(self, selector, value):
+        """Chooses in a list of the first browser."""
+        self.assertEqual(self.one.run(CHOOSE, selector, value), value)
+
+    def shoot(self, page, name):
+        """Keeps a picture, where pictures are wanted."""
+        if SHOTS:
+            page.browser.save_screenshot(str(pathlib.Path(SHOTS) / f"{name}.png"))

@@ -1,0 +1,210 @@
+// The page's own rules, without a browser. Its modules lie in the folder that the first argument names.
+import assert from "node:assert/strict";
+import path from "node:path";
+import { pathToFileURL } from "node:url";
+
+const folder = path.resolve(process.argv[2]);
+const load = (name) => import(pathToFileURL(path.join(folder, name)).href);
+const slot = (more = {}) => ({
+  slot: 0, load: 1, main: "T", instants: 4, pending: [],
+  signals: [["A", "input"], ["B", "input"], ["M", "inout"], ["O", "output"]],
+  may: { step: true, load: true, offer: { A: true, B: true, M: true }, observe: { O: true } },
+  ...more,
+});
+
+const tests = {
+  async "keywords and comments have their kinds"() {
+    const { colouredLines } = await load("keywords.js");
+    assert.deepEqual(colouredLines("emit Owhen; % end\n%{ a\nb }% tick"), [
+      [["act", "emit"], ["", " "], ["", "Owhen"], ["", "; "], ["comment", "% end"]],
+      [["comment", "%{ a"]], [["comment", "b }%"], ["", " "], ["logic", "tick"]],
+    ]);
+    assert.deepEqual(colouredLines(""), [[]]);
+    assert.equal(colouredLines("%{ open\nto the end").length, 2);
+  },
+
+  async "what is present without a break is one plateau"() {
+    const { plateausOf } = await load("edges.js");
+    const of = (row) => plateausOf((instant) => "01.".indexOf(row[instant - 1]), 1, row.length);
+    assert.deepEqual(of("0110111.1"), [[2, 3], [5, 7], [9, 9]]);
+    assert.deepEqual(of("000"), []);
+  },
+
+  async "edges are found in both directions"() {
+    const { findEdge } = await load("edges.js");
+    const row = "0011100.";
+    const find = (from, direction) => findEdge(
+      (instant) => "01.".indexOf(row[instant - 1]), async () => {}, from, direction, row.length
+    );
+    assert.equal(await find(1, 1), 3);
+    assert.equal(await find(3, 1), 6);
+    assert.equal(await find(8, -1), 6);
+    assert.equal(await find(6, 1), null, "from absent to hidden is no edge");
+    assert.equal(await find(3, -1), null);
+  },
+
+  async "two waves part where a signal that both have differs first"() {
+    const { drivenOf, partingOf, partingWords } = await load("parting.js");
+    const signals = [["A", "input"], ["M", "inout"], ["O", "output"]];
+    const one = { signals, rows: ["100", "001", ".10"] };
+    const other = { signals: [["O", "output"], ["A", "input"]], rows: ["01", "00", "00"] };
+    assert.deepEqual(partingOf(one, other), { instant: 2, signals: [{ name: "O", was: true }] });
+    assert.equal(
+      partingWords(one, other), "They part at instant 2: O was present, and is absent."
+    );
+    assert.equal(partingOf(one, one), null);
+    assert.equal(partingWords(one, one), "All 3 instants are alike.");
+    assert.deepEqual(drivenOf(one), { inputs: [["A"], [], ["M"]], hidden: ["A"] });
+  },
+
+  async "patterns are spread over the interface, and folded again"() {
+    const { fold, spread } = await load("patterns.js");
+    const slots = [slot(), slot({ slot: 3, main: "DOOR", signals: [["D_UP", "input"], ["D_O", "output"]] })];
+    assert.deepEqual(spread("offer", "T.*", slots), ["0.A", "0.B", "0.M"]);
+    assert.deepEqual(spread("observe", "DOOR.D_*", slots), ["3.D_UP", "3.D_O"]);
+    assert.deepEqual(spread("observe", "3.*_O", slots), ["3.D_O"]);
+    assert.deepEqual(spread("offer", "3.*_O", slots), [], "an output is not offered");
+    assert.deepEqual(spread("observe", "7.*", slots), []);
+    assert.deepEqual(spread("observe", "7.X", slots), ["7.X"]);
+    assert.deepEqual(spread("step", "DOOR", slots), ["3"]);
+    assert.deepEqual(spread("audit", "policy", slots), ["policy"]);
+    const all = ["A", "B", "M", "O"].map((name) => ["observe", `0.${name}`]);
+    const folded = fold([["step", "0"], ...all, ["offer", "0.A"]], slots);
+    assert.deepEqual(folded.map(({ operation, object }) => `${operation} ${object}`),
+      ["step 0", "observe 0.*", "offer 0.A"]);
+    assert.deepEqual(folded[1].objects, ["0.A", "0.B", "0.M", "0.O"]);
+    assert.equal(fold(all.slice(1), slots).length, 3, "a part of it stays as it is");
+  },
+
+  async "a refusal goes when its cause does, and not before"() {
+    const { isGone, watch } = await load("causes.js");
+    const offer = { cmd: "offer", slot: 0, signal: "R" };
+    const excluded = watch({ fault: "Excluded", signal: "A" }, offer, slot());
+    assert.equal(isGone(excluded, slot()), false, "that A is pending is not yet known here");
+    assert.equal(isGone(excluded, slot({ pending: ["A"] })), false);
+    assert.equal(isGone(excluded, slot({ pending: ["A", "B"] })), false);
+    assert.equal(isGone(excluded, slot({ pending: ["B"] })), true);
+    const denied = watch({ fault: "Permission", op: "step", object: "0" }, { cmd: "step" }, slot());
+    const without = { ...slot().may, step: false };
+    assert.equal(isGone(denied, slot({ may: without, pending: ["B"] })), false);
+    assert.equal(isGone(denied, slot()), true);
+    const implied = watch({ fault: "Implied", missing: ["B"] }, { cmd: "step" }, slot());
+    assert.equal(isGone(implied, slot({ pending: ["B"] })), true);
+    assert.equal(isGone(watch({ fault: "Stuck" }, { cmd: "step" }, slot()), slot({ instants: 5 })), true);
+  },
+
+  async "what one may not do or see is told once"() {
+    const { instantWords, offerWords, pendingWords, spanWords, stepWords } = await load("missing.js");
+    assert.equal(offerWords(slot()), "");
+    const none = { step: false, offer: {}, observe: {} };
+    assert.equal(offerWords(slot({ may: none })), "You may not offer any input (needs offer on 0.A, 0.B, 0.M).");
+    const some = { ...none, offer: { A: true, M: true } };
+    assert.equal(offerWords(slot({ may: some })), "You may not offer B (needs offer on 0.B).");
+    assert.equal(stepWords(slot({ may: none })), "You may not step or discard (needs step on 0).");
+    assert.equal(pendingWords(slot()), "Nothing pending.");
+    assert.equal(pendingWords(slot({ pending: ["A", "B"] })), "Pending: A B");
+    assert.equal(pendingWords(slot({ may: none })), "You may not see what is pending.");
+    assert.equal(
+      pendingWords(slot({ may: some, pending: ["A"] })),
+      "Pending: A. You may not see whether B is pending."
+    );
+    assert.equal(instantWords(7, [], ["A", "B"], 2), "instant 7: you may observe nothing here");
+    assert.equal(instantWords(7, ["A"], [], 2), "instant 7: A");
+    const names = Array.from({ length: 23 }, (_, at) => `S${at}`);
+    assert.equal(instantWords(7, [], names, 24),
+      "instant 7: nothing present; may not be observed: S0, S1, S2 and 20 more");
+    assert.equal(spanWords([2, 3, 4, 7]), "2 to 4, 7");
+  },
+
+  async "a command that waits can be taken back"() {
+    const { Outbox, TakenBack, commandWords } = await load("outbox.js");
+    const seen = [];
+    const outbox = new Outbox((items) => seen.push(items.length));
+    const [item, other] = [outbox.add({ cmd: "step", slot: 0 }), outbox.add({ cmd: "step", slot: 1 })];
+    outbox.wait(item);
+    outbox.takeBack(item);
+    await assert.rejects(item.back, (fault) => (
+      fault instanceof TakenBack && fault.message === "taken back: it was not sent"
+    ));
+    other.wasSent = true;
+    outbox.wait(other);
+    outbox.clear();
+    await assert.rejects(other.back, /may have been carried out/);
+    assert.deepEqual(seen, [1, 0, 1, 0]);
+    assert.equal(commandWords({ cmd: "offer", slot: 0, signal: "A" }), "offer 0.A");
+    assert.equal(
+      commandWords({ cmd: "dsd", name: "n", count: 2, roles: ["a", "b"] }), "dsd n 2 a b"
+    );
+  },
+
+  async "signals are ordered, picked and grouped"() {
+    const { WaveLayout, stemOf } = await load("wave_layout.js");
+    const names = ["DOOR_UP", "KEY1", "DOOR_DOWN", "KEY2", "STOP"];
+    const layout = new WaveLayout();
+    layout.reset(names.map((name, place) => ({ name, kind: place ? "input" : "output", place })));
+    const told = () => layout.lines().map((line) => line.name ?? `${line.title}:${line.count}`);
+    assert.deepEqual(told(), names);
+    layout.move("STOP", -4);
+    layout.move("DOOR_UP", -1);
+    assert.deepEqual(told(), ["STOP", "KEY1", "DOOR_DOWN", "DOOR_UP", "KEY2"]);
+    layout.grouping = "name";
+    assert.deepEqual(told(), ["others:1", "STOP", "KEY:2", "KEY1", "KEY2", "DOOR:2", "DOOR_DOWN", "DOOR_UP"]);
+    layout.fold("KEY");
+    layout.picked = new Set(["STOP", "KEY1", "KEY2"]);
+    assert.deepEqual(told(), ["others:1", "STOP", "KEY:2"]);
+    assert.deepEqual(layout.signals().map(({ name }) => name), ["STOP"]);
+    layout.grouping = "kind";
+    assert.deepEqual(told(), ["inputs:3", "STOP", "KEY1", "KEY2"]);
+    assert.deepEqual(["A", "A_B", "FLOOR12", "LIFT_DOOR_3"].map(stemOf), [null, "A", "FLOOR", "LIFT_DOOR"]);
+  },
+
+  async "marks have letters and distances"() {
+    const { WaveMarks } = await load("wave_marks.js");
+    const marks = new WaveMarks();
+    marks.toggle(12);
+    marks.toggle(3);
+    assert.equal(marks.distanceWords(15), " · 3 after mark a");
+    assert.equal(marks.distanceWords(3), " · mark b");
+    marks.toggle(12);
+    assert.deepEqual(marks.marks.map(({ instant, letter }) => [instant, letter]), [[3, "b"]]);
+    marks.toggle(1);
+    assert.equal(marks.marks[0].letter, "a");
+  },
+
+  async "a diagnosis is told with its remedies and further places"() {
+    const { faultWords, furtherPlaces, plainDiagnosis } = await load("diagnosis.js");
+    const mark = (line, told) => ({ line, column: 1, width: 2, told });
+    const found = {
+      told: "EmitInput: the input I is emitted", marks: [mark(4, "here"), mark(9, "there")],
+      is_chain: false, path_told: "a path:", path: [mark(2, "loop"), mark(3, "end")],
+      remedies: ["declare it as an output"],
+    };
+    assert.equal(faultWords(found), "EmitInput: the input I is emitted: here — declare it as an output");
+    assert.deepEqual(
+      furtherPlaces(found).map(({ line, told }) => `${line} ${told}`),
+      ["9 or here: there", "2 a path: loop", "3 end"]
+    );
+    assert.deepEqual(plainDiagnosis({}, "x").marks, []);
+    assert.equal(plainDiagnosis({ line: 3, column: 2 }, "x").marks[0].line, 3);
+  },
+
+  async "each input has a key, up to the sixty-second"() {
+    const { keyOf } = await load("keyboard.js");
+    const keys = Array.from({ length: 63 }, (_, place) => keyOf(place));
+    assert.deepEqual(keys.slice(8, 12), ["9", "0", "q", "w"]);
+    assert.equal(new Set(keys).size, 63);
+    assert.equal(keys[62], null);
+  },
+
+  async "a fault's column counts bytes, and tabs take their columns"() {
+    const { columnsOf, lettersBefore } = await load("source_text.js");
+    assert.equal(lettersBefore("aÖb", 4), 2);
+    assert.equal(lettersBefore("aÖb", 3), 1);
+    assert.equal(columnsOf("\ta\tb"), 17);
+  },
+};
+
+for (const [name, test] of Object.entries(tests)) {
+  await test().catch((fault) => { throw new Error(name, { cause: fault }); });
+}
+console.log(`${Object.keys(tests).length} tests of the page's rules`);
