@@ -1,7 +1,7 @@
 # Completion of estserve-client for fish, written by clients/make_completions.py.
 complete -c estserve-client -f
 complete -c estserve-client -n '__fish_use_subcommand' -a run -d 'run a module through a list of inputs, and draw its instants'
-complete -c estserve-client -n '__fish_use_subcommand' -a test -d 'run each NAME.inputs of a folder, and compare it with NAME.expected'
+complete -c estserve-client -n '__fish_use_subcommand' -a test -d 'run each NAME.inputs of folders, and compare it with NAME.expected'
 complete -c estserve-client -n '__fish_use_subcommand' -a format -d 'lay module texts out; tokens and comments stay as they are'
 complete -c estserve-client -n '__fish_use_subcommand' -a lsp -d 'a language server for editors, over standard input and output'
 complete -c estserve-client -n '__fish_use_subcommand' -a shell -d 'a dialogue, or a script: one command a line, `help` lists them'

@@ -133,10 +133,10 @@ def add_run(commands: Any) -> None:
 
 
 def add_test(commands: Any) -> None:
-    help = "run each NAME.inputs of a folder, and compare it with NAME.expected"
+    help = "run each NAME.inputs of folders, and compare it with NAME.expected"
     parser = commands.add_parser("test", help=help, epilog=BESIDE)
     add = parser.add_argument
-    add("folder", metavar="DIR", help="the folder")
+    add("folder", nargs="+", metavar="DIR", help="a folder; of several each has its texts beside")
     help = "the module texts for all of them (default: NAME.strl, or all .strl files of the folder)"
     add("--module", action="extend", nargs="+", metavar="FILE", help=help)
     add("--main", metavar="MODULE", help="the module to run (default: the first that none runs)")

@@ -22,7 +22,7 @@ if TYPE_CHECKING:
     from re import Pattern
     from typing import (
         Any,
-        BinaryIO,
+        IO,
         Callable,
         Deque,
         Dict,
@@ -41,7 +41,7 @@ if TYPE_CHECKING:
     Answer = Dict[str, Any]
     Batch = Tuple[Any, bytes, int]  # what was asked, the lines that ask it, and how many they are
     # answers, commands, and what ends both
-    Channel = Tuple[io.BufferedIOBase, BinaryIO, Callable[[], None]]
+    Channel = Tuple[io.BufferedIOBase, IO[bytes], Callable[[], None]]
     Path = Union[str, "os.PathLike[str]"]
     Came = TypeVar("Came")
 
@@ -191,7 +191,7 @@ class Client:
     def __init__(
         self,
         reader: io.BufferedIOBase,
-        writer: BinaryIO,
+        writer: IO[bytes],
         close: Callable[[], None],
         timeout: Optional[float] = None,
         again: Optional[Callable[[], Channel]] = None,

@@ -3,12 +3,16 @@ from __future__ import annotations
 
 TYPE_CHECKING = False
 if TYPE_CHECKING:
-    from typing import Any, Callable
+    from typing import Any, Callable, Dict
+
+    Values = Dict[Any, Any]
+else:
+    Values = dict
 
 MOST = 4_096
 
 
-class Known(dict):
+class Known(Values):
     """Values by their keys, at most MOST at a time: all are given up where one more comes."""
 
     def __init__(self, make: Callable[[Any], Any]) -> None:

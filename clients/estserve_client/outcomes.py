@@ -20,7 +20,8 @@ NOT_IN_XML = {number: "?" for number in range(32) if chr(number) not in "\t\n"}
 @dataclasses.dataclass
 class Outcome:
     """What came of one scenario: its name, the word for it, what is said, the lines of a difference,
-    its file, how many seconds it took, and its module, where that was found.
+    its file, how many seconds it took, its module, where that was found, and its folder, where there
+    are several.
     """
 
     name: str
@@ -30,11 +31,13 @@ class Outcome:
     path: str
     seconds: float = 0.0
     module: str = ""
+    folder: str = ""
 
     @property
     def line(self) -> str:
         """It in one line, without its word."""
-        return f"{self.name}{f' ({self.module})' if self.module else ''}: {self.told}"
+        name = f"{self.folder}/{self.name}" if self.folder else self.name
+        return f"{name}{f' ({self.module})' if self.module else ''}: {self.told}"
 
     def as_json(self) -> Dict[str, Any]:
         """It as an object of JSON."""
@@ -102,7 +105,7 @@ class Json:
 
 def case_lines(suite: str, outcome: Outcome) -> List[str]:
     """The lines of one scenario in a file of JUnit."""
-    told = {"classname": suite, "name": outcome.name, "file": outcome.path}
+    told = {"classname": outcome.folder or suite, "name": outcome.name, "file": outcome.path}
     attributes = " ".join(f'{key}="{escaped(text)}"' for key, text in told.items())
     attributes += f' time="{outcome.seconds:.3f}"'
     lines = []

@@ -79,7 +79,7 @@ SENTENCES = {
 A_NAME = (NAME, "a name: 1 to 24 letters, digits, _ and -")
 AN_IDENTIFIER = (IDENTIFIER, "an identifier: a letter, then letters, digits and _, at most 48")
 # What is said of a word that is out of its form, by the key: the server takes it for no command.
-FORMS = {
+FORMS: Dict[str, Tuple[Any, str]] = {
     **dict.fromkeys(NAMES, A_NAME),
     **dict.fromkeys(IDENTIFIERS, AN_IDENTIFIER),
     "op": (OPERATION, "an operation: " + " ".join(OPERATIONS)),

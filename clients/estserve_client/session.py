@@ -24,8 +24,8 @@ def user_of(arguments: argparse.Namespace) -> str:
     """
     told = ping_at(arguments.socket) if arguments.socket and not arguments.user else None
     if told is None:
-        return arguments.user or "root"
-    users = told.get("users", [])
+        return str(arguments.user or "root")
+    users: List[str] = told.get("users", [])
     for user in ("root", told.get("person"), *(users if len(users) == 1 else ())):
         if user in users:
             return user

@@ -40,6 +40,12 @@ from .shell_words import (
 from .stuck_chains import chain_lines
 from .texts import Failed, Placed, read_library
 
+# of what isn't there: the field of a refusal that names it, and what was told here of its kind
+UNKNOWN = {
+    "UnknownUser": ("user", "user"),
+    "UnknownRole": ("role", "role"),
+    "NoDsd": ("set", "name"),
+}
 WATCHED = 0.1  # seconds between two questions of `watch`
 
 
@@ -113,10 +119,24 @@ class Shell(cmd.Cmd):
         relations = module.relations if module else ()
         if refusal.fault == "UnknownSignal" and module:
             chain = [meant(str(refusal.command.get("signal")), module.inputs())]
+        if refusal.fault in UNKNOWN:
+            field, kind = UNKNOWN[refusal.fault]
+            chain = [meant(str(refusal.fields.get(field)), sorted(self.told[kind]))]
         if refusal.command.get("cmd") == "activate":
             asked = [*self.client.roles, refusal.command["role"]]
             refusal.command = {**refusal.command, "roles": asked}
         return [sentence(refusal, relations, self.sets), *filter(None, chain)]
+
+    def unknown_signal(self, object: str) -> str:
+        """What is said of a permission on a signal that the slot's module hasn't, as far as that is
+        known here. Empty where it has it.
+        """
+        slot, _, signal = object.partition(".")
+        module = self.modules.get(int(slot)) if signal else None
+        if module is None or signal in module.kinds():
+            return ""
+        question = meant(signal, module.kinds())
+        return f"; {module.name} there has no signal {signal}" + (f": {question}" if question else "")
 
     def no_command(self, name: str) -> str:
         """What is said of a word that is no command."""
@@ -137,7 +157,8 @@ class Shell(cmd.Cmd):
         self.client.ask(name, **keys)
         for key, word in keys.items():
             self.told.get("role" if key in ROLES else key, set()).add(str(word))
-        print(PLAIN[name].said.format(**keys))
+        wrong = self.unknown_signal(keys["object"]) if name == "grant" else ""
+        print(PLAIN[name].said.format(**keys) + wrong)
         return False
 
     # Instants.
@@ -195,8 +216,8 @@ class Shell(cmd.Cmd):
         if name in PLAIN:
             words = " ".join(KEYS[name]).upper().replace("SLOT", "[SLOT]")
             return f"{name} {words}: {PLAIN[name].does}"
-        known = name in self.commands()
-        return getattr(self, f"do_{name}").__doc__.split("\n")[0] if known else ""
+        written = getattr(self, f"do_{name}").__doc__ if name in self.commands() else ""
+        return str(written).split("\n")[0]
 
     def completenames(self, text: str, *_: Any) -> List[str]:
         return [
@@ -249,7 +270,7 @@ class Shell(cmd.Cmd):
         """help [COMMAND]: says what a command does, or lists them all"""
         for name in line.split() or self.commands():
             if not self.help_of(name):
-                raise Usage(f"there is no command {name}: help lists them")
+                raise Usage(self.no_command(name))
             print(f"  {self.help_of(name)}")
         if not line:
             print(LEGEND)

@@ -9,7 +9,7 @@ which of them matter by its `or` and `and` would take the status of all others.
 from __future__ import annotations
 
 import dataclasses
-from typing import Dict, Iterable, List, Optional, Tuple
+from typing import Callable, Dict, Iterable, List, Optional, Tuple
 
 from .circles import shortest_circle
 from .fault_places import StartCodes
@@ -107,7 +107,8 @@ class Waiting:
         """
         if node is None or node.kind in ("nothing", "pause", "halt"):
             return []
-        return getattr(self, "walk_" + node.kind)(node, names, begun, held, module)
+        walk: Callable[..., List[Act]] = getattr(self, "walk_" + node.kind)
+        return walk(node, names, begun, held, module)
 
     def walk_emit(
         self, node: Node, names: Names, begun: List[Act], held: List[Act], _: str

@@ -251,7 +251,8 @@ class Reader:
             self.wanted.append(A_STATEMENT)
             raise NoTree()
         self.open.append(self.tokens[self.at])
-        unit = getattr(self, "unit_" + ("group" if word == "[" else word))(self.advance())
+        read = getattr(self, "unit_" + ("group" if word == "[" else word))
+        unit: Node = read(self.advance())
         self.closed = self.open.pop()
         return unit
 

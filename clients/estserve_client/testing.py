@@ -1,5 +1,5 @@
-"""The command `test`: each list of inputs of a folder, held against the table that is expected of
-it.
+"""The command `test`: each list of inputs of a folder, or of several, held against the table that is
+expected of it.
 """
 from __future__ import annotations
 
@@ -68,7 +68,8 @@ def judge(stage: Stage, scenario: Scenario, expected: str, found: Outcome, updat
 def held(stage: Stage, path: pathlib.Path, arguments: argparse.Namespace) -> Outcome:
     """What comes of the scenario of this expected table. Raises Interrupted."""
     inputs, begun = path.with_suffix(".inputs"), time.monotonic()
-    found = Outcome(path.stem, FAILED, "", [], str(inputs))
+    folder = str(path.parent) if len(arguments.folder) > 1 else ""
+    found = Outcome(path.stem, FAILED, "", [], str(inputs), folder=folder)
     try:
         if not inputs.exists():
             raise Failed(f"there is no {inputs.name}: {path.name} is held against nothing")
@@ -83,19 +84,25 @@ def held(stage: Stage, path: pathlib.Path, arguments: argparse.Namespace) -> Out
     return found
 
 
-def scenarios_of(arguments: argparse.Namespace) -> List[pathlib.Path]:
-    """The expected tables of the folder's scenarios, also of those that have none yet. What `prove`
+def scenarios_in(folder: pathlib.Path) -> List[pathlib.Path]:
+    """The expected tables of a folder's scenarios, also of those that have none yet. What `prove`
     writes is none, unless it has a table. Raises Failed.
     """
-    folder = pathlib.Path(arguments.folder)
     listed = [path for path in folder.glob("*.inputs") if not COUNTEREXAMPLE.search(path.stem)]
     found = {path.with_suffix(".expected") for path in listed}
     if not found:
         raise Failed(f"there is no NAME.inputs in {folder}")
-    found |= set(folder.glob("*.expected"))
-    wanted = [path for path in sorted(found) if is_chosen(path.stem, arguments.k)]
+    return sorted(found | set(folder.glob("*.expected")))
+
+
+def scenarios_of(folders: List[str], names: List[str]) -> List[pathlib.Path]:
+    """The expected tables of the scenarios of all folders that are asked for by these names. Raises
+    Failed.
+    """
+    found = [path for folder in folders for path in scenarios_in(pathlib.Path(folder))]
+    wanted = [path for path in dict.fromkeys(found) if is_chosen(path.stem, names)]
     if not wanted:
-        raise Failed(f"no scenario in {folder} is called {' or '.join(arguments.k)}")
+        raise Failed(f"no scenario in {' '.join(folders)} is called {' or '.join(names)}")
     return wanted
 
 
@@ -129,7 +136,7 @@ def run_scenarios(arguments: argparse.Namespace, report: Report, outcomes: List[
     """Runs each scenario on one program, tells its outcome as it comes, and adds it. Raises Failed,
     Disconnected.
     """
-    paths = scenarios_of(arguments)
+    paths = scenarios_of(arguments.folder, arguments.k)
     report.begin(len(paths))
     program = program_of(arguments)
     with Stage(lambda: start(program)) as stage:
@@ -140,19 +147,19 @@ def run_scenarios(arguments: argparse.Namespace, report: Report, outcomes: List[
 
 
 def test(arguments: argparse.Namespace) -> int:
-    """Runs each list of inputs of the folder on one program, with a line for each. Answers 1 where
+    """Runs each list of inputs of the folders on one program, with a line for each. Answers 1 where
     one failed. A file of JUnit is written in any case, and tells why the run ended early. Raises
     Failed, Disconnected.
     """
-    folder = str(arguments.folder).rstrip("/") or "/"
+    folders = " ".join(folder.rstrip("/") or "/" for folder in arguments.folder)
     outcomes: List[Outcome] = []
     try:
         run_scenarios(arguments, report_of(arguments), outcomes)
     except (Failed, Disconnected) as fault:
-        outcomes.append(Outcome("the run", ERROR, str(fault), [], folder))
+        outcomes.append(Outcome("the run", ERROR, str(fault), [], folders))
         raise
     finally:
         if arguments.junit:
-            write_junit(arguments.junit, folder, outcomes)
+            write_junit(arguments.junit, folders, outcomes)
     sys.stdout.flush()
     return int(any(outcome.word == FAILED for outcome in outcomes))

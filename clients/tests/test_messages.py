@@ -9,7 +9,7 @@ import re
 import tempfile
 import unittest
 
-from support import ROOT, needs_program, refusal_of, run_client
+from support import EXAMPLES, ROOT, needs_program, refusal_of, run_client
 from test_format import texts_of_the_repository
 
 import estserve
@@ -318,6 +318,27 @@ class Shell(unittest.TestCase):
             lines[-2:],
             ["line 5: UnknownSignal: the module has no such signal", "did you mean `START`?"],
         )
+
+
+    def test_names_of_the_policy_and_of_a_permission(self):
+        abro = EXAMPLES / "abro" / "abro.strl"
+        typed = (
+            "adduser ann\naddrole driver\nassign anm driver\nassign ann drivr\nhelp grnt\n"
+            f"grant root load 0\nload {abro}\ngrant driver offer 0.AB\nrevoke driver offer 0.AB\n"
+            "grant driver offer 0.B\ndsd keep 2 driver root\nundsd kep\nundsd else\n"
+        )
+        printed = run_client(["shell"], typed).printed
+        for told in (
+            "line 3: UnknownUser: there is no user anm\ndid you mean `ann`?\n",
+            "line 4: UnknownRole: there is no role drivr\ndid you mean `driver`?\n",
+            "line 5: there is no command grnt: did you mean `grant`?\n",
+            "driver may offer on 0.AB; ABRO there has no signal AB\n",
+            "driver itself no longer has offer on 0.AB\n",
+            "driver may offer on 0.B\n",
+            "line 12: NoDsd: there is no separation set kep\ndid you mean `keep`?\n",
+        ):
+            self.assertIn(told, printed)
+        self.assertTrue(printed.endswith("line 13: NoDsd: there is no separation set else\n"))
 
 
 class Circles(unittest.TestCase):

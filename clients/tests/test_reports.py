@@ -89,6 +89,26 @@ class Folders(InAFolder):
         ran = run_client(["test", self.folder, "-k", "none"])
         self.assertEqual(ran.told, f"estserve.py: no scenario in {self.folder} is called none\n")
 
+    def test_several_folders(self):
+        other = self.folder / "other"
+        other.mkdir()
+        (other / "cell.strl").write_text(CELL)
+        (other / "both.inputs").write_text("I\n")
+        (other / "both.expected").write_text("instant  inputs  outputs\n      1  I       O\n")
+        path = self.folder / "out.xml"
+        ran = run_client(["test", self.folder, other, "-k", "both", "--junit", path])
+        told = f"ok      {self.folder}/both (ABRO): 2 instants\n"
+        told += f"ok      {other}/both (CELL): 1 instant\n2 passed, 0 failed\n"
+        self.assertEqual((ran.status, ran.printed), (0, told))
+        suite = xml.etree.ElementTree.parse(path).getroot()
+        self.assertEqual(suite.get("name"), f"{self.folder} {other}")
+        self.assertEqual([one.get("classname") for one in suite], [str(self.folder), str(other)])
+        self.assertEqual([one.get("name") for one in suite], ["both", "both"])
+        empty = self.folder / "empty"
+        empty.mkdir()
+        ran = run_client(["test", self.folder, empty])
+        self.assertEqual(ran.told, f"estserve.py: there is no NAME.inputs in {empty}\n")
+
     def test_a_table_that_is_held_against_nothing(self):
         self.file("old.expected", "instant  inputs  outputs\n")
         for more in ([], ["--update"]):

@@ -50,7 +50,7 @@ def read_word(path: pathlib.Path, subject: Subject) -> List[InputSet]:
 def groups_of(arguments: argparse.Namespace) -> List[Group]:
     """The modules of a folder with their scenarios. Raises Failed."""
     groups: Dict[Tuple[str, ...], Group] = {}
-    for expected in scenarios_of(arguments):
+    for expected in scenarios_of([arguments.folder], []):
         inputs = expected.with_suffix(".inputs")
         if inputs.exists():
             texts = tuple(str(path) for path in texts_for(inputs, arguments))
@@ -158,7 +158,6 @@ def coverage(arguments: argparse.Namespace) -> int:
     """Tells what the scenarios of a folder try of each module. Answers 1 where something is not
     tried. Raises Failed.
     """
-    arguments.k = []
     groups = groups_of(arguments)
     if not groups:
         raise Failed(f"there is no NAME.inputs in {arguments.folder}")
