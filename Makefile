@@ -104,6 +104,7 @@ documents:
 
 test:
 	python3 tests/documents.py
+	python3 tests/style.py
 	python3 scripts/trial.py $(ASKS_LAB) sh -c 'clients/tests/run && $(if $(ASKS_LAB),tests/lab/run &&) tests/socket/run && tests/journals/walk && tests/gateway/run && tests/hostile/run && tests/faults/run && tests/setup/run'
 	python3 tests/journals/run
 	python3 tests/must-not-compile/run

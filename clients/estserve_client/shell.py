@@ -136,7 +136,9 @@ class Shell(cmd.Cmd):
         if module is None or signal in module.kinds():
             return ""
         question = meant(signal, module.kinds())
-        return f"; {module.name} there has no signal {signal}" + (f": {question}" if question else "")
+        return f"; {module.name} there has no signal {signal}" + (
+            f": {question}" if question else ""
+        )
 
     def no_command(self, name: str) -> str:
         """What is said of a word that is no command."""

@@ -1,5 +1,5 @@
-"""Which module is run, and the texts that belong to a file beside them: `NAME.CASE.inputs` and `NAME.CASE.claims` are of
-`NAME.strl`, where NAME goes up to the first full stop.
+"""Which module is run, and the texts that belong to a file beside them: `NAME.CASE.inputs` and
+`NAME.CASE.claims` are of `NAME.strl`, where NAME goes up to the first full stop.
 """
 from __future__ import annotations
 

@@ -55,7 +55,9 @@ def watch_files(paths: Sequence[str], act: Callable[[], None]) -> None:
 
 
 def wait_for_change(paths: Sequence[str], before: List[Stamp]) -> None:
-    """Waits until a file is another one, and until two looks at all of them agree: a save may take two steps."""
+    """Waits until a file is another one, and until two looks at all of them agree: a save may take
+    two steps.
+    """
     last = before
     while True:
         time.sleep(LOOKED)

@@ -8,33 +8,42 @@ is told in the file that the variable FAULTS names. Where BESIDE names a real pr
 beside, on the same commands, and an answer of its that isn't the stored one is told too. Where
 RECORD names one, the commands are sent to it, and stored with its answers.
 """
+from __future__ import annotations
+
 import json
 import os
 import pathlib
 import subprocess
 import sys
+from typing import Callable, Iterable, Optional, Tuple
 
 
 class Program:
     """A real program that is asked each command as it comes."""
 
-    def __init__(self, path):
+    def __init__(self, path: str) -> None:
         pipe = subprocess.PIPE
         self.child = subprocess.Popen([path, "script"], stdin=pipe, stdout=pipe)
+        assert self.child.stdin and self.child.stdout
+        self.stdin, self.stdout = self.child.stdin, self.child.stdout
 
-    def answer(self, line):
+    def answer(self, line: bytes) -> bytes:
         """Its answer to a line."""
-        self.child.stdin.write(line)
-        self.child.stdin.flush()
-        return self.child.stdout.readline()
+        self.stdin.write(line)
+        self.stdin.flush()
+        return self.stdout.readline()
 
-    def end(self):
+    def end(self) -> Tuple[bytes, int]:
         """Ends its input. Answers what it wrote that nobody asked for, and its status."""
-        self.child.stdin.close()
-        return self.child.stdout.read(), self.child.wait()
+        self.stdin.close()
+        return self.stdout.read(), self.child.wait()
 
 
-def play(stored, beside, tell):
+def play(
+    stored: Iterable[Tuple[bytes, bytes]],
+    beside: Optional[Program],
+    tell: Callable[[str], object],
+) -> object:
     """Answers each command that is the stored one. Stops, and tells, at the first that isn't, and
     at the end if one is missing.
     """
@@ -56,7 +65,7 @@ def play(stored, beside, tell):
     return None
 
 
-def record(program, path):
+def record(program: Program, path: pathlib.Path) -> None:
     """Sends each command to the program, and stores both sides."""
     with path.open("wb") as lines, path.with_name(path.name + ".stdout").open("wb") as answers:
         for line in sys.stdin.buffer:
@@ -68,14 +77,15 @@ def record(program, path):
     program.end()
 
 
-def main():
+def main() -> None:
     path = pathlib.Path(os.environ["DIALOGUE"])
     if "RECORD" in os.environ:
-        return record(Program(os.environ["RECORD"]), path)
+        record(Program(os.environ["RECORD"]), path)
+        return
     beside = Program(os.environ["BESIDE"]) if "BESIDE" in os.environ else None
     faults = pathlib.Path(os.environ["FAULTS"])
     with path.open("rb") as lines, path.with_name(path.name + ".stdout").open("rb") as answers:
-        return play(zip(lines, answers), beside, lambda text: faults.write_text(text + "\n"))
+        play(zip(lines, answers), beside, lambda text: faults.write_text(text + "\n"))
 
 
 if __name__ == "__main__":

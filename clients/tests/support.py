@@ -1,4 +1,6 @@
 """What the client's tests share."""
+from __future__ import annotations
+
 import contextlib
 import io
 import os
@@ -9,6 +11,13 @@ import sys
 import tempfile
 import unittest
 import unittest.mock
+from typing import TYPE_CHECKING, Any, Callable, Dict, Iterable, List, Optional, TypeVar, Union
+
+if TYPE_CHECKING:
+    import estserve
+
+    Word = Union[str, pathlib.Path]
+    Test = TypeVar("Test", bound=Callable[..., Any])
 
 # What runs in the background may have been started with interrupts ignored, and programs inherit that.
 signal.signal(signal.SIGINT, signal.default_int_handler)
@@ -22,13 +31,16 @@ EXPRESSIONS = {"coin_machine", "shared_bus", "inouts"}  # dialogues that load mo
 sys.path.insert(0, str(CLIENTS))
 
 
-def read_vcd(lines, scope=1):
+def read_vcd(lines: Iterable[str], scope: int = 1) -> Dict[str, Dict[Optional[float], str]]:
     """The changes in a VCD file: from the name of each wire of the outer scope to its values, by
     their instants.
 
     With a deeper `scope` the wires of that depth are given, by the scope's name and their own.
     """
-    names, changes, instant, scopes = {}, {}, None, []
+    names: Dict[str, List[str]] = {}
+    changes: Dict[str, Dict[Optional[float], str]] = {}
+    instant: Optional[float] = None
+    scopes: List[str] = []
     for words in map(str.split, lines):
         if words[0] == "$scope":
             scopes.append(words[2])
@@ -49,11 +61,13 @@ class Ran:
     error.
     """
 
-    def __init__(self, status, printed, told):
+    def __init__(self, status: int, printed: str, told: str) -> None:
         self.status, self.printed, self.told = status, printed, told
 
 
-def run_client(words, typed="", variables=None):
+def run_client(
+    words: Iterable[Word], typed: str = "", variables: Optional[Dict[str, str]] = None
+) -> Ran:
     """Runs the client with these words, `typed` on its standard input, and these variables
     besides.
     """
@@ -72,13 +86,13 @@ def run_client(words, typed="", variables=None):
     return Ran(status, printed.read(), told.read())
 
 
-def run_words(name, inputs=None, *more):
+def run_words(name: str, inputs: Optional[str] = None, *more: Word) -> List[Word]:
     """The words by which the client runs a controller of the examples."""
     folder = EXAMPLES / name
     return ["run", folder / f"{name}.strl", "--inputs", folder / f"{inputs or name}.inputs", *more]
 
 
-def dialogue_variables(path, faults):
+def dialogue_variables(path: pathlib.Path, faults: pathlib.Path) -> Dict[str, str]:
     """The variables by which `dialogue.py` plays a stored dialogue, beside the real program that
     ESTSERVE names, if it does, and if it reads what is loaded there.
     """
@@ -91,7 +105,7 @@ def dialogue_variables(path, faults):
     return variables
 
 
-def play_dialogue(path, words, typed=""):
+def play_dialogue(path: pathlib.Path, words: Iterable[Word], typed: str = "") -> Ran:
     """Runs the client over a stored dialogue, and fails where it doesn't ask for what is stored."""
     with tempfile.TemporaryDirectory() as folder:
         faults = pathlib.Path(folder) / "faults"
@@ -101,31 +115,31 @@ def play_dialogue(path, words, typed=""):
     return ran
 
 
-def reads_expressions():
+def reads_expressions() -> bool:
     """Whether ESTSERVE names a program that reads expressions over signals, and `inputoutput`."""
     if not os.environ.get("ESTSERVE"):
         return False
     sys.path.append(str(ROOT / "tests" / "socket"))
-    import language
+    import language  # type: ignore[import]
 
-    return language.reads_expressions(os.environ["ESTSERVE"])
+    return bool(language.reads_expressions(os.environ["ESTSERVE"]))
 
 
-def needs_expressions(test):
+def needs_expressions(test: Test) -> Test:
     """Marks a test of a real program that reads expressions over signals, and `inputoutput`."""
     return unittest.skipUnless(
         reads_expressions(), "the variable ESTSERVE names no program that reads `inputoutput`"
     )(test)
 
 
-def needs_program(test):
+def needs_program(test: Test) -> Test:
     """Marks a test that runs the real program, which the variable ESTSERVE names."""
     return unittest.skipUnless(
         os.environ.get("ESTSERVE"), "the variable ESTSERVE names no program"
     )(test)
 
 
-def refusal_of(client, text):
+def refusal_of(client: estserve.Client, text: str) -> Optional[estserve.Refusal]:
     """The refusal of a load of M into slot 0; None where it is loaded, and taken out again."""
     import estserve
 
@@ -137,10 +151,10 @@ def refusal_of(client, text):
     return None
 
 
-def serve(*words):
+def serve(*words: str) -> Any:
     """A server of the real program, as the tests of the socket start it. Used with `with`."""
     sys.path.append(str(ROOT / "tests" / "socket"))
-    import running
+    import running  # type: ignore[import]
 
     socket.setdefaulttimeout(None)  # which running sets, and stand-ins for servers can't have
     return running.Server(*words)

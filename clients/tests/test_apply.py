@@ -125,8 +125,10 @@ class OnTheProgram(InAFolder):
             self.assertEqual(
                 told,
                 [
-                    "p.toml:10: grant driver fly 3: NotARequest: fly is not an operation: offer observe step load administer audit",
-                    "estserve.py: a command was refused; 1 after it were not sent; 6 of 6 that were made are taken back",
+                    "p.toml:10: grant driver fly 3: NotARequest: fly is not an operation: offer observe"
+                    " step load administer audit",
+                    "estserve.py: a command was refused; 1 after it were not sent; 6 of 6 that were made"
+                    " are taken back",
                 ],
             )
             for make in (
@@ -179,7 +181,8 @@ class OnTheProgram(InAFolder):
             told,
             [
                 "p.toml:10: warning: grant driver offer 3.OPNE: DOOR of door.strl has no signal OPNE",
-                "p.toml:10: warning: grant driver offer 3.LAMP: DOOR of door.strl gives LAMP as an output, which nobody can offer",
+                "p.toml:10: warning: grant driver offer 3.LAMP: DOOR of door.strl gives LAMP as an"
+                " output, which nobody can offer",
             ],
         )
         (self.folder / "door.strl").unlink()
@@ -202,7 +205,8 @@ class OnTheProgram(InAFolder):
             self.assertEqual(self.apply("--socket", server.path)[0], 0)
             old = self.folder / "old.toml"
             old.write_text(
-                'users = ["cho"]\nroles = ["guest"]\n[separate.apart]\nroles = ["guest", "chief"]\ncount = 2\n'
+                'users = ["cho"]\nroles = ["guest"]\n'
+                '[separate.apart]\nroles = ["guest", "chief"]\ncount = 2\n'
             )
             self.assertEqual(run_client(["apply", old, "--socket", server.path]).status, 0)
             root.assign("bob", "driver")

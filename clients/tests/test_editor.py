@@ -260,11 +260,16 @@ class Exchange(unittest.TestCase):
         with Editor() as editor:
             editor.open(self.path, RELAY)
             for word, count, new, pairs in [
-                ("S in", 1, "HEARD", [("signal S in", "signal HEARD in"), ("S/LAMP", "HEARD/LAMP"), ("not S;", "not HEARD;")]),
+                (
+                    "S in", 1, "HEARD",
+                    [("signal S in", "signal HEARD in"), ("S/LAMP", "HEARD/LAMP"),
+                     ("not S;", "not HEARD;")],
+                ),
                 ("DONE", 1, "OVER", [("trap DONE", "trap OVER"), ("exit DONE", "exit OVER")]),
                 (
                     "LAMP", 1, "LIGHT",
-                    [("output LAMP;\nevery", "output LIGHT;\nevery"), ("emit LAMP", "emit LIGHT"), ("S/LAMP", "S/LIGHT"),
+                    [("output LAMP;\nevery", "output LIGHT;\nevery"),
+                     ("emit LAMP", "emit LIGHT"), ("S/LAMP", "S/LIGHT"),
                      ("run RELAY\n  ||\n    await", "run RELAY [signal LAMP/LIGHT]\n  ||\n    await")],
                 ),
                 (

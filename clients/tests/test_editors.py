@@ -127,7 +127,7 @@ class Editors(unittest.TestCase):
                     "filetype plugin on",
                     "syntax on",
                     f"edit {EXAMPLES / 'abro' / 'abro.strl'}",
-                    f"let names = [&filetype, {asked.format(1)}, {asked.format(2)}, {asked.format(8)}, &formatprg]",
+                    f"let names = [&filetype, {', '.join(map(asked.format, (1, 2, 8)))}, &formatprg]",
                     f"call writefile(names, '{written.name}')",
                     "qall!",
                 ]

@@ -375,7 +375,9 @@ class Words(unittest.TestCase):
             lines = list(warnings_of(policy, f"{name}/p"))
         self.assertEqual(len(lines), 2)
         self.assertTrue(lines[0].endswith(" gives B_WON as an output, which nobody can offer"))
-        self.assertTrue(lines[1].endswith("this does nothing: step is asked for on a slot"), lines[1])
+        self.assertTrue(
+            lines[1].endswith("this does nothing: step is asked for on a slot"), lines[1]
+        )
 
     def shell(self):
         """A shell that knows the module, and speaks with nobody."""

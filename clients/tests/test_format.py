@@ -127,7 +127,8 @@ class Layouts(unittest.TestCase):
         names = ", ".join(f"SIGNAL_{number}" for number in range(20))
         renamings = ", ".join(f"SIGNAL_{number}/S{number}" for number in range(20))
         test = " or ".join(f"SIGNAL_{number}" for number in range(20))
-        text = f"module M: input {names}; run N [signal {renamings}]; present {test} then pause end end module"
+        body = f"run N [signal {renamings}]; present {test} then pause end"
+        text = f"module M: input {names}; {body} end module"
         laid_out = self.check(text)
         self.assertLessEqual(max(map(len, laid_out.splitlines())), WIDTH)
         self.assertIn("\nrun N [signal SIGNAL_0/S0, ", laid_out)

@@ -30,7 +30,8 @@ OF_MAKE = (
     "MFLAGS",
     "ESTSERVE",
 )  # variables that a make of a test must not see
-# Stands for the kit: it tells its calls, and `try` starts a program that makes the socket it is asked to serve at.
+# Stands for the kit: it tells its calls, and `try` starts a program that makes the socket it is
+# asked to serve at.
 KIT = """#!/bin/sh
 echo "$1" >> "$CALLS"
 case $1 in
@@ -158,7 +159,8 @@ class Pages(unittest.TestCase):
     @unittest.skipUnless(shutil.which("bash"), "bash is not installed")
     def test_bash_completes(self):
         def completed(*words):
-            script = f'. "{COMPLETIONS}/estserve-client.bash"; COMP_WORDS=("$@"); COMP_CWORD=$(($# - 1)); _estserve_client;'
+            script = f'. "{COMPLETIONS}/estserve-client.bash"; COMP_WORDS=("$@");'
+            script += " COMP_CWORD=$(($# - 1)); _estserve_client;"
             ran = subprocess.run(
                 ["bash", "-c", script + ' printf "%s\\n" "${COMPREPLY[@]}"', "bash", *words],
                 capture_output=True,

@@ -224,7 +224,8 @@ class Mutated(unittest.TestCase):
     one, the client has a message, and its own reader takes what the program takes.
     """
 
-    MORE = "; || [ ] ( ) , / # => end then else when do in each and or not await emit X % { & 3 module signal".split()
+    MORE = "; || [ ] ( ) , / # => end then else when do in each and or not await emit".split()
+    MORE += "X % { & 3 module signal".split()
 
     def mutated(self, text, chance):
         words = [token.text for token in tokens_of(text)]
@@ -318,7 +319,6 @@ class Shell(unittest.TestCase):
             lines[-2:],
             ["line 5: UnknownSignal: the module has no such signal", "did you mean `START`?"],
         )
-
 
     def test_names_of_the_policy_and_of_a_permission(self):
         abro = EXAMPLES / "abro" / "abro.strl"

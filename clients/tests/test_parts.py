@@ -64,7 +64,8 @@ class Texts(unittest.TestCase):
         self.assertEqual((second.name, second.signals), ("B", [("P", "output")]))
 
     def test_main_is_the_first_module_that_is_not_run(self):
-        text = "module CELL: pause end module module RING: run CELL [signal A/B] || run CELL end module module LAST: pause end module"
+        text = "module CELL: pause end module module RING: run CELL [signal A/B] || run CELL end module"
+        text += " module LAST: pause end module"
         self.assertEqual([main_of(text).name, main_of(text, "CELL").name], ["RING", "CELL"])
         self.assertEqual([module.runs for module in modules_of(text)], [[], ["CELL", "CELL"], []])
 
@@ -162,7 +163,8 @@ class Pictures(unittest.TestCase):
     def test_a_scope_for_each_module_that_is_run(self):
         text = """module CELL: input I; output O; run LEAF [signal I/L] end module
             module LEAF: input L; pause end module
-            module M: input A; output B; signal S in run CELL [signal A/I, S/O] || run CELL [signal S/I, B/O] end end module"""
+            module M: input A; output B;
+            signal S in run CELL [signal A/I, S/O] || run CELL [signal S/I, B/O] end end module"""
         signals = [("A", "input"), ("B", "output")]
         lines = vcd_lines(
             Seen("M", signals, [{"A": True, "B": False}], scopes=scopes_of(text, "M"))

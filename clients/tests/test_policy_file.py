@@ -14,13 +14,15 @@ from estserve_client.toml_reader import tables_of
 PAGE = ROOT / "docs" / "POLICY-FILE.md"
 SEEDS = [
     (EXAMPLES / "team" / "team.toml").read_text(),
-    '# a comment\r\nusers = [ "a", # one\n  "b" , ]\n[a . b]\nx=0\ny = 19\t# n\n[a.c]\nz = ""\n[a]\nk = "v"\n',
+    '# a comment\r\nusers = [ "a", # one\n  "b" , ]\n[a . b]\nx=0\ny = 19\t# n\n[a.c]\n'
+    'z = ""\n[a]\nk = "v"\n',
     '[people]\nroot = ["ann"]\n[ slots ]\ndoor=3\n[modules]\ndoor = "do#or.strl"\nempty = []\n',
 ]
 PIECES = [
     "\r", "\r\n", "\n", "\t", " ", "0", "02", "-1", "1_0", "1.5", '"', '""', "'", "\\", "\\n", "#", ",", "[",
     "]", "[[", "]]", "=", ".", "\x00", "\x07", "\x0b", "\x0c", "\x1f", "\x7f", "\x85", "\u00a0", "\u2028",
-    "\ufeff", "é", "true", "a", "a.b", "[a]", "[a.b]", "[a.b.c]", "k = 1\n", '"x"', "x = [\n", "# \x01", "{}", "é = 1",
+    "\ufeff", "é", "true", "a", "a.b", "[a]", "[a.b]", "[a.b.c]", "k = 1\n", '"x"', "x = [\n",
+    "# \x01", "{}", "é = 1",
     "9" * 25, "0x1", "1979-05-27", '"""', "separate", "\n[separate.x]\n",
 ]  # fmt: skip
 

@@ -134,7 +134,8 @@ class Folders(InAFolder):
         self.file("paradox.strl", (paradox / "paradox.strl").read_text())
         self.file("paradox.inputs", (paradox / "paradox.inputs").read_text())
         words = ["test", self.folder, "-k", "paradox", "--update"]
-        told = f"written paradox (PARADOX): 1 instant, then Stuck; WITH A REFUSAL as what is expected: {stuck}"
+        blessed = f"WITH A REFUSAL as what is expected: {stuck}"
+        told = f"written paradox (PARADOX): 1 instant, then Stuck; {blessed}"
         self.assertEqual(run_client(words).printed.splitlines()[0], told)
         self.assertEqual(
             run_client(words).printed.splitlines()[0],
@@ -146,7 +147,7 @@ class Folders(InAFolder):
         path = self.folder / "table"
         words = ["run", self.folder / "paradox.strl", "--inputs", self.folder / "paradox.inputs"]
         ran = run_client([*words, "--expect", path, "--update"])
-        told = f"{path} is written: 1 instant, then Stuck; 2 instants not run; WITH A REFUSAL as what is expected: {stuck}\n"
+        told = f"{path} is written: 1 instant, then Stuck; 2 instants not run; {blessed}\n"
         self.assertEqual(ran.printed, told)
 
 

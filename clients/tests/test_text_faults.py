@@ -16,7 +16,8 @@ from estserve_client.module_text import Module
 from estserve_client.stuck_chains import chain_lines
 from estserve_client.texts import Placed
 
-# Texts of which M is loaded, the fault that estserve answers, and the places that are drawn, the first one most likely.
+# Texts of which M is loaded, the fault that estserve answers, and the places that are drawn, the
+# first one most likely.
 PLACES = [
     ("module M: output A;\n input B, A; nothing end module", "DuplicateName", ["2:11"]),
     ("module M: input tick; output A, A; nothing end module", "DuplicateName", ["1:17"]),
@@ -70,13 +71,15 @@ PLACES = [
         ["2:22"],
     ),
     (
-        "module M: input I; loop pause end ||\n loop trap T in [exit T || emit I_ ] end end; output O end module",
+        "module M: input I; loop pause end ||\n"
+        " loop trap T in [exit T || emit I_ ] end end; output O end module",
         "Syntax",
         ["2:47"],
     ),
     ("module M: output O; loop\n loop emit O end; pause end end module", "InstantLoop", ["2:2"]),
     (
-        "module M: input I; loop pause end ||\nloop present I then pause end end ||\nloop run N end end module\n"
+        "module M: input I; loop pause end ||\nloop present I then pause end end ||\n"
+        "loop run N end end module\n"
         "module N: input I; abort pause when immediate I end module",
         "InstantLoop",
         ["2:1", "3:1"],
@@ -146,7 +149,8 @@ STUCK = [
         ["emit O", "present P", "emit P", "present O"],
     ),
     (
-        "module M: output O; signal L in present L then emit O end || present O else emit L end end end module",
+        "module M: output O; signal L in present L then emit O end || present O else emit L end end"
+        " end module",
         ["O"],
         ["emit O", "present L", "emit L", "present O"],
     ),
@@ -279,7 +283,8 @@ class SeveralFiles(unittest.TestCase):
             self.assertEqual((ran.status, ran.printed), (1, ""))
             self.assertEqual(
                 ran.told,
-                f"{folder}/cell.strl:2:10: Syntax: a `;` is missing before `emit`\n  emit O emit\n         ^\n",
+                f"{folder}/cell.strl:2:10: Syntax: a `;` is missing before `emit`\n"
+                "  emit O emit\n         ^\n",
             )
             (folder / "cell.strl").write_text(
                 "module CELL: input I; output O;\n  emit Q\nend module\n"

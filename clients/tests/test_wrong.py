@@ -102,7 +102,8 @@ class Texts(WhatGoesWrong):
 
     def test_a_fault_that_names_no_place_is_shown_at_its_place_too(self):
         text = "module M: loop nothing end end module\n"
-        told = "1:11: InstantLoop: a loop's body can end in the instant in which it begins: the loop stands in M"
+        told = "1:11: InstantLoop: a loop's body can end in the instant in which it begins"
+        told += ": the loop stands in M"
         path = f"a path through it that takes no time:\n  {self.folder}/m.strl:1:16: nothing"
         self.check_fault("instant_loop", text, f"{told}\n{text}          ^\n{path}")
 

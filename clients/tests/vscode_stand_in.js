@@ -1,4 +1,5 @@
-// Stands for VS Code in a test of its extension: it opens a text, asks what an editor asks, and prints the answers.
+// Stands for VS Code in a test of its extension: it opens a text, asks what an editor asks, and prints
+// the answers.
 "use strict";
 const fs = require("fs");
 const Module = require("module");
@@ -36,21 +37,31 @@ class WorkspaceEdit {
   replace(uri, range, text) { this.edits.push([uri, range.startLine, range.start, text]); }
 }
 const vscode = {
-  Range, WorkspaceEdit, Location: plain("uri", "range"), Hover: plain("contents", "range"), MarkdownString: plain("value"),
-  Diagnostic: plain("range", "message", "severity"), DiagnosticRelatedInformation: plain("location", "message"),
-  CompletionItem: plain("label", "kind"), DocumentSymbol: plain("name", "detail", "kind"), DiagnosticSeverity: { Error: 0 },
+  Range, WorkspaceEdit, Location: plain("uri", "range"), Hover: plain("contents", "range"),
+  MarkdownString: plain("value"), Diagnostic: plain("range", "message", "severity"),
+  DiagnosticRelatedInformation: plain("location", "message"),
+  CompletionItem: plain("label", "kind"), DocumentSymbol: plain("name", "detail", "kind"),
+  DiagnosticSeverity: { Error: 0 },
   TextEdit: { replace: (range, text) => ({ range, text }) },
   Uri: { parse: (uri) => uri },
   languages: {
-    createDiagnosticCollection: () => ({ set: (uri, list) => told.faults.push(list.map((one) => one.message)), clear() {} }),
-    registerCompletionItemProvider: register("words"), registerHoverProvider: register("hover"), registerDefinitionProvider: register("definition"),
+    createDiagnosticCollection: () => ({
+      set: (uri, list) => told.faults.push(list.map((one) => one.message)), clear() {},
+    }),
+    registerCompletionItemProvider: register("words"), registerHoverProvider: register("hover"),
+    registerDefinitionProvider: register("definition"),
     registerReferenceProvider: register("references"), registerRenameProvider: register("rename"),
-    registerDocumentSymbolProvider: register("symbols"), registerDocumentFormattingEditProvider: register("format"),
+    registerDocumentSymbolProvider: register("symbols"),
+    registerDocumentFormattingEditProvider: register("format"),
   },
-  window: { showWarningMessage: (text) => told.messages.push(text), showErrorMessage: (text) => told.messages.push(text) },
+  window: {
+    showWarningMessage: (text) => told.messages.push(text),
+    showErrorMessage: (text) => told.messages.push(text),
+  },
   workspace: {
     textDocuments: [document], getConfiguration: () => ({ get: (name) => (name === "client" ? client : []) }),
-    onDidOpenTextDocument: on("open"), onDidChangeTextDocument: on("change"), onDidCloseTextDocument: on("close"),
+    onDidOpenTextDocument: on("open"), onDidChangeTextDocument: on("change"),
+    onDidCloseTextDocument: on("close"),
   },
 };
 const load = Module._load;
@@ -68,9 +79,11 @@ async function main() {
   told.hover = (await registered.hover.provideHover(document, place)).contents.value;
   told.definition = (await registered.definition.provideDefinition(document, place)).range;
   told.words = (await registered.words.provideCompletionItems(document, place)).map((one) => one.label);
-  told.references = (await registered.references.provideReferences(document, place, { includeDeclaration: true })).length;
+  const all = { includeDeclaration: true };
+  told.references = (await registered.references.provideReferences(document, place, all)).length;
   told.rename = (await registered.rename.provideRenameEdits(document, place, "OUT")).edits;
-  told.refused = await registered.rename.provideRenameEdits(document, place, "end").catch((fault) => fault.message);
+  const wrong = registered.rename.provideRenameEdits(document, place, "end");
+  told.refused = await wrong.catch((fault) => fault.message);
   told.symbols = (await registered.symbols.provideDocumentSymbols(document)).map((one) => one.name);
   told.format = await registered.format.provideDocumentFormattingEdits(document);
   document.text = document.text.replace("emit O", "emmit O");

@@ -1,6 +1,6 @@
 "use strict";
-// Starts `estserve-client lsp`, and hands on between it and the editor: texts as they are typed, their faults,
-// and what is asked about names. It needs no package.
+// Starts `estserve-client lsp`, and hands on between it and the editor: texts as they are typed, their
+// faults, and what is asked about names. It needs no package.
 
 const { spawn } = require("child_process");
 const vscode = require("vscode");

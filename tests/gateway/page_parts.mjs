@@ -97,7 +97,8 @@ const tests = {
     const { instantWords, offerWords, pendingWords, spanWords, stepWords } = await load("missing.js");
     assert.equal(offerWords(slot()), "");
     const none = { step: false, offer: {}, observe: {} };
-    assert.equal(offerWords(slot({ may: none })), "You may not offer any input (needs offer on 0.A, 0.B, 0.M).");
+    const told = "You may not offer any input (needs offer on 0.A, 0.B, 0.M).";
+    assert.equal(offerWords(slot({ may: none })), told);
     const some = { ...none, offer: { A: true, M: true } };
     assert.equal(offerWords(slot({ may: some })), "You may not offer B (needs offer on 0.B).");
     assert.equal(stepWords(slot({ may: none })), "You may not step or discard (needs step on 0).");

@@ -189,6 +189,35 @@ class WorkTest(PageCase):
         high = "return [...document.querySelectorAll('[aria-label=Log] td')].map((one) => one.clientHeight)"
         self.assertLess(max(self.one.run(high)), 40, "words don't break")
 
+    def test_words_of_a_fault_are_in_view_and_the_text_is_as_wide_as_it_needs(self):
+        self.drive()
+        wide = "const { scrollWidth, clientWidth } = document.querySelector('.source');"
+        sides = (
+            "const { left, right } = document.querySelector(arguments[0]).getBoundingClientRect();"
+        )
+        sides += "return [left, right]"
+        with self.team.root() as root:
+            root.unload(0)
+            root.load(0, "TEAM", TEXT.partition("\n")[2])  # without its long comment
+            root.logout()
+        self.one.wait_text("#facts", "0 instants")
+        for width in (1200, 1920):
+            self.one.use_device(width, WHOLE_HIGH)
+            self.assertTrue(self.one.run(wide + "return scrollWidth === clientWidth"), width)
+        self.one.click("#edit")
+        for text in (
+            TEXT.replace("await B", "awiat B"),
+            f"module M: {' ' * 90} awiat B end module",
+        ):
+            self.one.run(SET_TEXT, text)
+            self.one.wait_text(".bubble", "Syntax: ")
+            for width in (380, 800, 1200, 1920):
+                self.one.use_device(width, WHOLE_HIGH)
+                self.one.run("document.querySelector('.bad').scrollIntoView({ inline: 'center' })")
+                desk, bubble = self.one.run(sides, ".desk"), self.one.run(sides, ".bubble")
+                self.assertLessEqual(desk[0], bubble[0], width)
+                self.assertLessEqual(bubble[1], desk[1], width)
+
     # Links and keys.
 
     def test_a_link_that_is_pasted_into_the_tab_is_spent_at_once(self):

@@ -310,7 +310,8 @@ class EditorServer:
         found = self.found_at(words)
         if found is None or found.use.declared.kind == "tick":
             return None
-        return self.location(self.mark_of(found.library, found.use))["range"]
+        place: Range = self.location(self.mark_of(found.library, found.use))["range"]
+        return place
 
     def rename(self, words: Message) -> Message:
         found = self.found_at(words, whole=True)

@@ -4,7 +4,7 @@ from __future__ import annotations
 import argparse
 import pathlib
 import sys
-from typing import Iterator, List, Optional
+from typing import TYPE_CHECKING, Iterator, List, Optional
 
 from ..colours import Colours
 from ..texts import Failed, read_text, write_lines
@@ -14,6 +14,9 @@ from .claims import Claim, Claims, names_listed, read_claims
 from .judging import Finding, Found, Question, check_inputs, judge, sides_of
 from .observing import alarm_claims, observed
 from .words import inputs_line, seen_of, stuck_lines, wave_of
+
+if TYPE_CHECKING:
+    from .asking import Word
 
 WORDS = {"holds": "ok", "fails": "FAILED", "toomany": "?"}
 SUFFIX = ".counterexample"
@@ -63,7 +66,7 @@ def differing_lines(finding: Finding, subject: Subject) -> List[str]:
     return lines
 
 
-def drawn(word: List[dict], subject: Subject) -> List[str]:
+def drawn(word: Word, subject: Subject) -> List[str]:
     """The wave of a word, and what stays undecided at its end."""
     lines = wave_of(seen_of(word, subject))
     if "undecided" in word[-1]:

@@ -94,7 +94,8 @@ def least_sets(roles: List[str], can: Callable[[Roles], bool]) -> Iterator[Roles
         return
     least: List[Roles] = []
     for count in range(1, len(roles) + 1):
-        for some in map(frozenset, combinations(roles, count)):
+        for chosen in combinations(roles, count):
+            some = frozenset(chosen)
             if not any(some >= fewer for fewer in least) and can(some):
                 least.append(some)
                 yield some

@@ -22,10 +22,16 @@ export class Editor {
     this.told = make("p", { class: "unseen", id: "load-fault", role: "status" });
     this.nowhere = make("p", { class: "refusal" });
     this.more = make("ul", { class: "more" });
+    const desk = make("div", { class: "desk" }, this.paper);
     this.element = make(
-      "div", { class: "editor" }, make("div", { class: "desk" }, this.paper), this.told,
-      this.nowhere, this.more
+      "div", { class: "editor" }, desk, this.told, this.nowhere, this.more
     );
+    const measure = () => {
+      desk.style.setProperty("--desk", `${desk.clientWidth}px`);
+      desk.style.setProperty("--scrolled", `${desk.scrollLeft}px`);
+    };
+    new ResizeObserver(measure).observe(desk);
+    desk.addEventListener("scroll", measure);
     this.draw();
   }
 
