@@ -22,9 +22,9 @@ VARIABLES = (
     " they are looked for on PATH. They come with the Debian package, or from `make build`."
 )
 BESIDE = (
-    "Lists NAME.CASE.inputs are of NAME.strl too. Where that is not there, all .strl files beside"
-    " are taken, if only one module is run by none. What `prove` writes, NAME.counterexample.inputs, is"
-    " no scenario."
+    "Lists NAME.CASE.inputs are of NAME.strl too, with the .strl files beside that have what it runs."
+    " Where that is not there, all .strl files beside are taken, if only one module is run by none."
+    " What `prove` writes, NAME.counterexample.inputs, is no scenario."
 )
 
 # subcommands of packages beside this one, which may be there

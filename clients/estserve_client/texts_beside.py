@@ -1,5 +1,6 @@
 """Which module is run, and the texts that belong to a file beside them: `NAME.CASE.inputs` and
-`NAME.CASE.claims` are of `NAME.strl`, where NAME goes up to the first full stop.
+`NAME.CASE.claims` are of `NAME.strl`, where NAME goes up to the first full stop, with what it runs of
+the texts beside it.
 """
 from __future__ import annotations
 
@@ -7,7 +8,7 @@ import functools
 import sys
 
 from .module_text import main_of, modules_of
-from .texts import Failed, read_library
+from .texts import Failed, read_library, read_text
 
 TYPE_CHECKING = False
 if TYPE_CHECKING:
@@ -41,14 +42,42 @@ def chosen_of(text: str, named: Optional[str]) -> Module:
     return module
 
 
+def lacking(texts: List[pathlib.Path]) -> List[str]:
+    """The modules that those of these texts run, and that none of them has. Raises Failed."""
+    modules = modules_of(read_library(texts).text)
+    known = {module.name for module in modules}
+    return [name for module in modules for name in module.runs if name not in known]
+
+
+def texts_with(name: str, folder: pathlib.Path) -> List[pathlib.Path]:
+    """The texts of a folder that have a module of this name. Raises Failed."""
+    texts = [(path, read_text(path, "the module text")) for path in sorted(folder.glob("*.strl"))]
+    return [path for path, text in texts if name in [one.name for one in modules_of(text)]]
+
+
+def with_what_it_runs(own: pathlib.Path, how: str) -> List[pathlib.Path]:
+    """A text, and those beside it that have the modules that it runs, and so on. Raises Failed, where
+    several have one of them.
+    """
+    texts, wanted = [own], lacking([own])
+    while wanted:
+        found = texts_with(wanted[0], own.parent)
+        if len(found) > 1:
+            told = f"{' and '.join(path.name for path in found)} have a module {wanted[0]} each"
+            raise Failed(f"{told}, which {own.name} runs: {how}")
+        texts += found
+        wanted = lacking(texts) if found else wanted[1:]
+    return texts
+
+
 def texts_beside(path: pathlib.Path, main: Optional[str], how: str) -> List[pathlib.Path]:
-    """The module texts of a list of inputs or of claims: that of its name, or else all of the
-    folder, if the main module is named or only one is run by none. Raises Failed, which tells `how`
-    to name it.
+    """The module texts of a list of inputs or of claims: that of its name with what it runs, or else
+    all of the folder, if the main module is named or only one is run by none. Raises Failed, which
+    tells `how` to name it.
     """
     own = path.with_name(path.name.partition(".")[0] + ".strl")
     if own.exists():
-        return [own]
+        return with_what_it_runs(own, how)
     found = sorted(path.parent.glob("*.strl"))
     if not found:
         raise Failed(f"there is no {own.name}, and no other module text in {path.parent}")

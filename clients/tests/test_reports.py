@@ -172,6 +172,27 @@ class Modules(InAFolder):
         ran = run_client(["test", self.folder, "--update", "--main", "ABRO", "-k", "door"])
         self.assertEqual(ran.printed.split("\n")[0], "written door_two (ABRO): 1 instant")
 
+    def test_what_a_module_runs_is_found_beside_it(self):
+        self.file(
+            "ring.strl", "module RING: input A; output B; run LINK [signal A/I, B/O] end module"
+        )
+        link = "module LINK: input I; output O; run CELL end module"
+        self.file("link.strl", link)
+        self.file("ring.inputs", "A\n;\n")
+        ran = run_client(["test", self.folder, "--update"])
+        self.assertEqual(ran.printed.split("\n")[0], "written ring (RING): 2 instants")
+        expected = "instant  inputs  outputs\n      1  A       B\n      2\n"
+        self.assertEqual((self.folder / "ring.expected").read_text(), expected)
+        self.file("more.strl", link)
+        ran = run_client(["test", self.folder])
+        told = "link.strl and more.strl have a module LINK each, which ring.strl runs"
+        self.assertIn(f"FAILED  ring: {told}: name the texts by --module", ran.printed)
+        self.file("more.strl", "module OTHER: run NONE end module")
+        self.file("link.strl", "module LINK: run NONE end module")
+        self.assertIn(
+            "UnknownModule: there is no module NONE", run_client(["test", self.folder]).printed
+        )
+
     def test_claims_are_of_a_module_that_is_there(self):
         path = self.file("lampe.claims", "never O\n")
         with self.assertRaisesRegex(Failed, r"no lampe\.strl, .* \(ABRO, CELL\): name the"):

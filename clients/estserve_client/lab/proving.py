@@ -157,7 +157,7 @@ def prove_file(lab: Lab, path: pathlib.Path, arguments: argparse.Namespace) -> i
     listed.same = [str(path.parent / other) for other in listed.same]
     wanted = added(listed, given(arguments))
     texts = [*texts_beside(path, wanted.main, HOW), *(path.parent / one for one in listed.texts)]
-    question = question_of(list(map(str, texts)), wanted, arguments.most)
+    question = question_of([str(text) for text in dict.fromkeys(texts)], wanted, arguments.most)
     found = judge(lab, question)
     print(f"{path.stem} ({question.module.module.name}):")
     report(found, question, where_of(arguments, str(path)))
