@@ -61,10 +61,10 @@ _estserve_client() {
         esac
         ;;
     'prove')
-        words='--help --main --never --always --observer --inputs --same --write --estlab --unproved --most'
+        words='--help --main --never --always --observer --inputs --same --write --junit --estlab --unproved --most'
         files=1
         case "$before" in
-        --same | --write | --estlab) words='' files=1 ;;
+        --same | --write | --junit | --estlab) words='' files=1 ;;
         --main | --never | --always | --observer | --inputs | --most) return ;;
         esac
         ;;

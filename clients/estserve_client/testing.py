@@ -88,6 +88,9 @@ def scenarios_in(folder: pathlib.Path) -> List[pathlib.Path]:
     """The expected tables of a folder's scenarios, also of those that have none yet. What `prove`
     writes is none, unless it has a table. Raises Failed.
     """
+    if not folder.is_dir():
+        told = f"name its folder, and -k {folder.stem}" if folder.exists() else "it is not there"
+        raise Failed(f"{folder} is no folder: {told}")
     listed = [path for path in folder.glob("*.inputs") if not COUNTEREXAMPLE.search(path.stem)]
     found = {path.with_suffix(".expected") for path in listed}
     if not found:

@@ -7,6 +7,7 @@ import shutil
 import tempfile
 import textwrap
 import unittest
+import xml.etree.ElementTree
 
 from support import EXAMPLES, ROOT, needs_program, run_client
 
@@ -209,6 +210,29 @@ class Claims(InAFolder):
         self.assertIn(told, ran.printed)
         self.assertTrue((self.folder / "b.counterexample.inputs").exists())
 
+    def test_a_file_of_junit(self):
+        self.copied(abro())
+        self.file("abro.claims", "never O and R\n")
+        path = self.file("b.claims", "main ABRO\nnever O\n")
+        self.file("c.claims", "never O and\n")
+        out, other = self.folder / "out.xml", EXAMPLES / "abro"
+        ran = run_client(["prove", self.folder, other, "--junit", out])
+        self.assertEqual((ran.printed.splitlines()[-1], ran.status), ("2 passed, 2 failed", 1))
+        suite = xml.etree.ElementTree.parse(out).getroot()
+        told = (suite.get("name"), suite.get("failures"), suite.get("errors"))
+        self.assertEqual(told, (f"{self.folder} {other}", "2", "0"))
+        cases = {(one.get("classname"), one.get("name")): one for one in suite}
+        self.assertIn(("abro", "never O and R"), cases)
+        case = cases["b", "never O"]
+        self.assertEqual(case.get("file"), str(path))
+        failure = case.find("failure")
+        self.assertEqual(failure.get("message"), "fails in instant 2")
+        self.assertIn("O        output _____/‾\\", failure.text)
+        self.assertIn("cannot be read", cases["c", "c"].find("failure").get("message"))
+        run_client(["prove", abro(), "--junit", out, "--most", "3"])
+        undecided = xml.etree.ElementTree.parse(out).getroot()[0].find("failure")
+        self.assertIn("undecided", undecided.get("message"))
+
     def test_what_is_no_claim(self):
         for test, told in [
             ("X", "ABRO has no signal X\n"),
@@ -250,6 +274,24 @@ class Coverage(InAFolder):
         self.file("abro.inputs", "A\nPUSH\n")
         told = f"{self.folder}/abro.inputs:2:1: ABRO has no input PUSH\n"
         self.assertEqual(self.fault("coverage", self.folder), told)
+
+    def test_a_text_or_a_scenario_with_a_fault_leaves_the_others(self):
+        self.copied(abro())
+        self.file("abro.inputs", ";\nA B\n")
+        path = self.file("m.strl", "module M: output O; emmit O end module")
+        self.file("m.inputs", ";\n")
+        self.file("abro.wrong.inputs", "PUSH\n")
+        other = self.folder / "other"
+        other.mkdir()
+        shutil.copy(abro(), other)
+        (other / "abro.inputs").write_text(";\n")
+        ran = run_client(["coverage", self.folder, other])
+        wrong = f"FAILED  {self.folder}/abro.wrong.inputs:1:1: ABRO has no input PUSH\n"
+        self.assertTrue(ran.printed.startswith(wrong), ran.printed)
+        self.assertIn("ABRO, 1 scenario: 3 of 5 states, 2 of 40 reactions", ran.printed)
+        self.assertIn(f"FAILED  {path}:1:21: Syntax", ran.printed)
+        self.assertIn("ABRO, 1 scenario: 2 of 5 states, 1 of 40 reactions", ran.printed)
+        self.assertEqual((ran.status, ran.told), (1, ""))
 
     def test_an_emission_that_is_not_tried(self):
         self.copied(abro())

@@ -106,8 +106,15 @@ class Folders(InAFolder):
         self.assertEqual([one.get("name") for one in suite], ["both", "both"])
         empty = self.folder / "empty"
         empty.mkdir()
-        ran = run_client(["test", self.folder, empty])
-        self.assertEqual(ran.told, f"estserve.py: there is no NAME.inputs in {empty}\n")
+        for path, told in (
+            (empty, f"there is no NAME.inputs in {empty}"),
+            (self.folder / "none", f"{self.folder}/none is no folder: it is not there"),
+            (
+                other / "both.inputs",
+                f"{other}/both.inputs is no folder: name its folder, and -k both",
+            ),
+        ):
+            self.assertEqual(run_client(["test", self.folder, path]).told, f"estserve.py: {told}\n")
 
     def test_a_table_that_is_held_against_nothing(self):
         self.file("old.expected", "instant  inputs  outputs\n")

@@ -9,6 +9,7 @@ import tempfile
 import unittest
 
 import teams
+from estserve_client.command_table import BACK, KEYS
 from estserve_client.expecting import outcome_lines
 from estserve_client.inputs import read_inputs
 from estserve_client.pictures import Seen, vcd_lines
@@ -121,7 +122,7 @@ class ModulesTest(unittest.TestCase):
         self.assertRegex(told, r"^\d+ tests of the page's rules\n$")
 
     def test_what_is_saved_is_what_the_client_writes_and_reads(self):
-        asked = {"waves": list(waves()), "policy": POLICY}
+        asked = {"waves": list(waves()), "policy": POLICY, "commands": []}
         with modules() as folder:
             told = json.loads(
                 run_node(str(HERE / "page_exports.mjs"), str(folder), typed=json.dumps(asked))
@@ -150,6 +151,26 @@ class ModulesTest(unittest.TestCase):
             [one["role"] for one in commands if one["cmd"] == "assign"], ["lead", "watcher"]
         )
         self.assertEqual([one["user"] for one in commands if one["cmd"] == "adduser"], ["ann"])
+
+    def test_commands_have_the_keys_and_the_order_of_the_one_table(self):
+        changing = [name for name in KEYS if name in (*BACK, *BACK.values())]
+        commands = []
+        for name in [*changing, "offer", "discard", "step", "unload"]:
+            keys = {key: f"{key}_word" for key in KEYS[name]}
+            commands.append({"cmd": name, **dict(reversed(keys.items()))})
+        asked = {"waves": [], "policy": POLICY, "commands": commands}
+        with modules() as folder:
+            told = json.loads(
+                run_node(str(HERE / "page_exports.mjs"), str(folder), typed=json.dumps(asked))
+            )
+        for command, words in zip(commands, told["words"]):
+            keys = [command[key] for key in KEYS[command["cmd"]]]
+            joined = ".".join(keys) if "slot" in command else " ".join(keys)
+            self.assertEqual(words, f"{command['cmd']} {joined}")
+        for name in changing:
+            permission = {"op", "object"} if name in ("grant", "revoke") else set()
+            self.assertEqual({*told["fields"][name], *permission}, set(KEYS[name]), name)
+        self.assertEqual(set(told["fields"]), set(changing))
 
 
 class FilesTest(unittest.TestCase):

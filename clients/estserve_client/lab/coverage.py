@@ -1,15 +1,17 @@
-"""The command `coverage`: what the scenarios of a folder try of all that a module does."""
+"""The command `coverage`: what the scenarios of folders try of all that a module does."""
 from __future__ import annotations
 
 import argparse
 import dataclasses
 import pathlib
+import sys
 from typing import Dict, FrozenSet, Iterator, List, Sequence, Set, Tuple
 
+from ..colours import Colours
 from ..stage import Scenario, check_inputs
 from ..syntax_tree import Node
 from ..testing import scenarios_of, texts_for
-from ..texts import Failed, read_text, write_lines
+from ..texts import Failed, Placed, read_text, write_lines
 from .asking import Lab, Subject, lab_of, read_subject
 from .marks import marked_groups, reached
 from .table import Row, Table
@@ -47,17 +49,36 @@ def read_word(path: pathlib.Path, subject: Subject) -> List[InputSet]:
     return [frozenset(names) for names in scenario.inputs.names]
 
 
-def groups_of(arguments: argparse.Namespace) -> List[Group]:
-    """The modules of a folder with their scenarios. Raises Failed."""
-    groups: Dict[Tuple[str, ...], Group] = {}
-    for expected in scenarios_of([arguments.folder], []):
+Groups = Dict[Tuple[str, ...], Group]
+
+
+def fault_told(fault: Failed, name: str) -> str:
+    """What is said of a fault of what has this name; one that has a place begins with it."""
+    return str(fault) if isinstance(fault, Placed) else f"{name}: {fault}"
+
+
+def add_scenario(groups: Groups, inputs: pathlib.Path, arguments: argparse.Namespace) -> None:
+    """Adds a scenario to those of its module. Raises Failed."""
+    texts = tuple(str(path) for path in texts_for(inputs, arguments))
+    group = groups.get(texts) or Group(read_subject(texts, arguments.main), {})
+    group.scenarios[inputs] = read_word(inputs, group.subject)
+    groups[texts] = group
+
+
+def groups_of(arguments: argparse.Namespace) -> Tuple[List[Group], List[str]]:
+    """The modules of the folders with their scenarios, and what is said of scenarios that can't be
+    read. Raises Failed, where a folder has none.
+    """
+    groups: Groups = {}
+    faults = []
+    for expected in scenarios_of(arguments.folder, []):
         inputs = expected.with_suffix(".inputs")
-        if inputs.exists():
-            texts = tuple(str(path) for path in texts_for(inputs, arguments))
-            if texts not in groups:
-                groups[texts] = Group(read_subject(texts, arguments.main), {})
-            groups[texts].scenarios[inputs] = read_word(inputs, groups[texts].subject)
-    return list(groups.values())
+        try:
+            if inputs.exists():
+                add_scenario(groups, inputs, arguments)
+        except Failed as fault:
+            faults.append(fault_told(fault, str(inputs)))
+    return list(groups.values()), faults
 
 
 def tried_rows(table: Table, words: Sequence[List[InputSet]]) -> Set[int]:
@@ -123,11 +144,11 @@ def tell_untried(kind: str, untried: List[Untried]) -> None:
         print(f"  and {len(untried) - SHOWN} more {kind}s")
 
 
-def write_tours(tours: List[List[Row]], group: Group, folder: pathlib.Path) -> None:
-    """Writes scenarios, each in a file of its own. Raises Failed."""
-    stem = next(iter(group.scenarios)).name.split(".")[0]
+def write_tours(tours: List[List[Row]], group: Group) -> None:
+    """Writes scenarios beside the module's first one, each in a file of its own. Raises Failed."""
+    first = next(iter(group.scenarios))
     for number, tour in enumerate(tours, 1):
-        path = folder / f"{stem}.coverage{number}.inputs"
+        path = first.with_name(f"{first.name.split('.')[0]}.coverage{number}.inputs")
         write_lines(path, [inputs_line(names) for names in word_of(tour, group.subject)])
         print(f"  {path} is written")
 
@@ -150,16 +171,33 @@ def cover(lab: Lab, group: Group, arguments: argparse.Namespace) -> bool:
     tell_untried("state", list(untried_states(table, states, subject)))
     tell_untried("reaction", list(untried_rows(table, rows, subject)))
     if arguments.write:
-        write_tours(tours_of(table, rows), group, pathlib.Path(arguments.folder))
+        write_tours(tours_of(table, rows), group)
     return len(rows) == len(table.rows) and not any(one.word for one in silent)
 
 
+def covered(lab: Lab, group: Group, arguments: argparse.Namespace) -> bool:
+    """Tells what a module's scenarios try, or why that can't be said. Answers whether that is all."""
+    try:
+        return cover(lab, group, arguments)
+    except Failed as fault:
+        tell_fault(fault_told(fault, group.subject.module.name))
+        return False
+
+
+def tell_fault(told: str) -> None:
+    """Tells why a module, or a scenario, can't be looked at."""
+    print(Colours(sys.stdout).word("FAILED ", False), told, flush=True)
+
+
 def coverage(arguments: argparse.Namespace) -> int:
-    """Tells what the scenarios of a folder try of each module. Answers 1 where something is not
-    tried. Raises Failed.
+    """Tells what the scenarios of folders try of each module. Answers 1 where something is not tried,
+    or can't be looked at. Raises Failed.
     """
-    groups = groups_of(arguments)
+    groups, faults = groups_of(arguments)
     if not groups:
-        raise Failed(f"there is no NAME.inputs in {arguments.folder}")
+        raise Failed("\n".join(faults))
+    for told in faults:
+        tell_fault(told)
     with lab_of(arguments) as lab:
-        return int(not all([cover(lab, group, arguments) for group in groups]))
+        whole = [covered(lab, group, arguments) for group in groups]
+    return int(bool(faults) or not all(whole))

@@ -31,7 +31,7 @@ def add_prove(commands: Any, act: Any) -> None:
     help = "judge claims in every run of a module, and draw a shortest counterexample"
     parser = commands.add_parser("prove", help=help)
     add = parser.add_argument
-    help = "the module text, of several files one library; or a folder with files NAME.claims"
+    help = "the module text, of several files one library; or folders with files NAME.claims"
     add("file", nargs="+", metavar="FILE", help=help)
     add("--main", metavar="MODULE", help=MAIN)
     help = "claim that this never holds, as `A and not B`; may be given more than once"
@@ -45,16 +45,18 @@ def add_prove(commands: Any, act: Any) -> None:
     add("--same", action="append", default=[], metavar="FILE", help=help)
     help = "the list of inputs of a counterexample (default: NAME.counterexample.inputs)"
     add("--write", metavar="FILE", help=help)
+    help = "write what came of each claim as a file of JUnit's XML too"
+    add("--junit", metavar="OUT", help=help)
     add_lab(parser)
     parser.set_defaults(act=act)
 
 
 def add_coverage(commands: Any, act: Any) -> None:
     """Adds the words of `coverage`."""
-    help = "say which states, reactions and emissions of a module the scenarios of a folder try"
+    help = "say which states, reactions and emissions of a module the scenarios of folders try"
     parser = commands.add_parser("coverage", help=help)
     add = parser.add_argument
-    add("folder", metavar="DIR", help="the folder with files NAME.inputs")
+    add("folder", nargs="+", metavar="DIR", help="a folder with files NAME.inputs")
     help = "the module texts for all of them (default: NAME.strl, or all .strl files of the folder)"
     add("--module", action="extend", nargs="+", metavar="FILE", help=help)
     add("--main", metavar="MODULE", help=MAIN)

@@ -4,9 +4,11 @@ from __future__ import annotations
 import argparse
 import pathlib
 import sys
-from typing import TYPE_CHECKING, Iterator, List, Optional
+from typing import TYPE_CHECKING, Iterator, List
 
 from ..colours import Colours
+from ..connection import Disconnected
+from ..outcomes import ERROR, FAILED, PASSED, Outcome, write_junit
 from ..texts import Failed, read_text, write_lines
 from ..texts_beside import texts_beside
 from .asking import Lab, Subject, lab_of, read_subject
@@ -97,15 +99,28 @@ def paths_for(path: pathlib.Path) -> Iterator[pathlib.Path]:
         yield path.with_name(f"{path.stem}{number}{path.suffix}")
 
 
-def report(found: Found, question: Question, where: pathlib.Path) -> None:
-    """Tells each finding, and writes the words of those that fail. Raises Failed."""
-    colours, paths = Colours(sys.stdout), paths_for(where)
+def report(found: Found, question: Question, where: pathlib.Path) -> List[Outcome]:
+    """Tells each finding, and writes the words of those that fail. Answers what came of each. Raises
+    Failed.
+    """
+    colours, paths, outcomes = Colours(sys.stdout), paths_for(where), []
     for finding in found.findings:
-        word = WORDS[finding.name]
+        word, lines = WORDS[finding.name], []
         print(colours.word(f"{word:<7}", word == "ok"), told_of(finding))
         if finding.name == "fails":
-            print("\n".join([*lines_of(finding, question), write_word(finding, next(paths))]))
+            lines = [*lines_of(finding, question), write_word(finding, next(paths))]
+            print("\n".join(lines))
+        outcomes.append(outcome_of(finding, lines, question))
     print(summary(found), flush=True)
+    return outcomes
+
+
+def outcome_of(finding: Finding, lines: List[str], question: Question) -> Outcome:
+    """What came of a claim, as a file of JUnit has it: what is undecided fails there."""
+    word, module = PASSED if finding.name == "holds" else FAILED, question.module
+    told = told_of(finding).partition(f"{finding.claim}: ")[2]
+    files = " ".join(module.library.paths)
+    return Outcome(finding.claim, word, told, lines, files, module=module.module.name)
 
 
 def where_of(arguments: argparse.Namespace, file: str) -> pathlib.Path:
@@ -137,22 +152,39 @@ def added(first: Claims, second: Claims) -> Claims:
     )
 
 
-def files_of(path: pathlib.Path) -> Optional[List[pathlib.Path]]:
-    """The files of claims that a path names: those of a folder, or the one; None of a module text.
+def files_of(path: pathlib.Path) -> List[pathlib.Path]:
+    """The files of claims that a path names: those of a folder, or the one; none of a module text.
     Raises Failed.
     """
     if path.suffix == ".claims":
         return [path]
     if not path.is_dir():
-        return None
+        return []
     found = sorted(path.glob("*.claims"))
     if not found:
         raise Failed(f"there is no NAME.claims in {path}")
     return found
 
 
-def prove_file(lab: Lab, path: pathlib.Path, arguments: argparse.Namespace) -> int:
-    """Judges a file of claims, with a line for each. Answers its status. Raises Failed."""
+def lists_of(arguments: argparse.Namespace) -> List[pathlib.Path]:
+    """The files of claims that the arguments name; none, where they name module texts. Raises
+    Failed.
+    """
+    found = [files_of(pathlib.Path(path)) for path in arguments.file]
+    if any(found) and not all(found):
+        raise Failed("folders and lists of claims go with no module text: each list names its own")
+    files = [path for paths in found for path in paths]
+    if len(files) > 1 and arguments.write:
+        raise Failed("--write names one file, and there are several lists of claims")
+    return files
+
+
+def prove_file(
+    lab: Lab, path: pathlib.Path, arguments: argparse.Namespace, outcomes: List[Outcome]
+) -> int:
+    """Judges a file of claims, with a line for each, and adds what came of them. Answers its status.
+    Raises Failed.
+    """
     listed = read_claims(read_text(path, "the list of claims"), str(path))
     listed.same = [str(path.parent / other) for other in listed.same]
     wanted = added(listed, given(arguments))
@@ -160,38 +192,54 @@ def prove_file(lab: Lab, path: pathlib.Path, arguments: argparse.Namespace) -> i
     question = question_of([str(text) for text in dict.fromkeys(texts)], wanted, arguments.most)
     found = judge(lab, question)
     print(f"{path.stem} ({question.module.module.name}):")
-    report(found, question, where_of(arguments, str(path)))
+    for outcome in report(found, question, where_of(arguments, str(path))):
+        outcome.folder, outcome.path = path.stem, str(path)
+        outcomes.append(outcome)
     return found.status
 
 
-def prove_files(lab: Lab, files: List[pathlib.Path], arguments: argparse.Namespace) -> int:
+def prove_files(
+    lab: Lab, files: List[pathlib.Path], arguments: argparse.Namespace, outcomes: List[Outcome]
+) -> int:
     """Judges each file of claims. Answers 1 where a claim fails, else 3 where one is undecided."""
     statuses = []
     for path in files:
         try:
-            statuses.append(prove_file(lab, path, arguments))
+            statuses.append(prove_file(lab, path, arguments, outcomes))
         except Failed as fault:
             print(f"{path.stem}:\n{Colours(sys.stdout).word('FAILED ', False)} {fault}")
+            told, *lines = str(fault).split("\n")
+            outcomes.append(Outcome(path.stem, FAILED, told, lines, str(path), folder=path.stem))
             statuses.append(1)
     failed = sum(status != 0 for status in statuses)
     print(f"{len(statuses) - failed} passed, {failed} failed", flush=True)
     return 1 if 1 in statuses else max(statuses)
 
 
-def prove(arguments: argparse.Namespace) -> int:
-    """Judges claims in every run. Answers 0 where all hold, 1 where one fails, 3 where one is
-    undecided. Raises Failed.
-    """
-    files = files_of(pathlib.Path(arguments.file[0]))
-    if files and len(arguments.file) > 1:
-        raise Failed("of several files each is a module text: name a folder alone")
-    if files and len(files) > 1 and arguments.write:
-        raise Failed("--write names one file, and the folder has several lists of claims")
+def prove_all(arguments: argparse.Namespace, outcomes: List[Outcome]) -> int:
+    """Judges claims, and adds what came of each. Answers the status. Raises Failed, Disconnected."""
+    files = lists_of(arguments)
     question = None if files else question_of(arguments.file, given(arguments), arguments.most)
     with lab_of(arguments) as lab:
-        if files:
-            return prove_files(lab, files, arguments)
-        assert question
+        if question is None:
+            return prove_files(lab, files, arguments, outcomes)
         found = judge(lab, question)
-    report(found, question, where_of(arguments, arguments.file[0]))
+    outcomes += report(found, question, where_of(arguments, arguments.file[0]))
     return found.status
+
+
+def prove(arguments: argparse.Namespace) -> int:
+    """Judges claims in every run. Answers 0 where all hold, 1 where one fails, 3 where one is
+    undecided. A file of JUnit is written in any case, and tells why the command ended early. Raises
+    Failed, Disconnected.
+    """
+    outcomes: List[Outcome] = []
+    suite = " ".join(arguments.file)
+    try:
+        return prove_all(arguments, outcomes)
+    except (Failed, Disconnected) as fault:
+        outcomes.append(Outcome("the claims", ERROR, str(fault), [], suite))
+        raise
+    finally:
+        if arguments.junit:
+            write_junit(arguments.junit, suite, outcomes)

@@ -11,7 +11,7 @@ const MANY = { type: "many", from: "roles" };
 const NUMBER = { type: "number" };
 
 /** The commands, each in words, with its fields: a label, and what can be put there. */
-const CHANGES = {
+export const CHANGES = {
   adduser: ["add a user", { user: ["User", NEW] }],
   deluser: ["delete a user", { user: ["User", chosen("users")] }],
   addrole: ["add a role", { role: ["Role", NEW] }],
