@@ -52,9 +52,9 @@ def read_word(path: pathlib.Path, subject: Subject) -> List[InputSet]:
 Groups = Dict[Tuple[str, ...], Group]
 
 
-def fault_told(fault: Failed, name: str) -> str:
-    """What is said of a fault of what has this name; one that has a place begins with it."""
-    return str(fault) if isinstance(fault, Placed) else f"{name}: {fault}"
+def named(fault: Failed, name: str) -> Failed:
+    """A fault with the name of what has it; one that has a place begins with that."""
+    return fault if isinstance(fault, Placed) else Failed(f"{name}: {fault}")
 
 
 def add_scenario(groups: Groups, inputs: pathlib.Path, arguments: argparse.Namespace) -> None:
@@ -65,19 +65,21 @@ def add_scenario(groups: Groups, inputs: pathlib.Path, arguments: argparse.Names
     groups[texts] = group
 
 
-def groups_of(arguments: argparse.Namespace) -> Tuple[List[Group], List[str]]:
-    """The modules of the folders with their scenarios, and what is said of scenarios that can't be
-    read. Raises Failed, where a folder has none.
+def groups_of(arguments: argparse.Namespace) -> Tuple[List[Group], List[Failed]]:
+    """The modules of the folders with their scenarios, and the faults of scenarios that can't be read.
+    Raises Failed, where a folder has none, or none can be read.
     """
     groups: Groups = {}
-    faults = []
+    faults: List[Failed] = []
     for expected in scenarios_of(arguments.folder, []):
         inputs = expected.with_suffix(".inputs")
         try:
             if inputs.exists():
                 add_scenario(groups, inputs, arguments)
         except Failed as fault:
-            faults.append(fault_told(fault, str(inputs)))
+            faults.append(named(fault, str(inputs)))
+    if not groups:
+        raise type(faults[0])("\n".join(map(str, faults)))
     return list(groups.values()), faults
 
 
@@ -180,13 +182,13 @@ def covered(lab: Lab, group: Group, arguments: argparse.Namespace) -> bool:
     try:
         return cover(lab, group, arguments)
     except Failed as fault:
-        tell_fault(fault_told(fault, group.subject.module.name))
+        tell_fault(named(fault, group.subject.module.name))
         return False
 
 
-def tell_fault(told: str) -> None:
+def tell_fault(fault: Failed) -> None:
     """Tells why a module, or a scenario, can't be looked at."""
-    print(Colours(sys.stdout).word("FAILED ", False), told, flush=True)
+    print(Colours(sys.stdout).word("FAILED ", False), fault, flush=True)
 
 
 def coverage(arguments: argparse.Namespace) -> int:
@@ -194,10 +196,8 @@ def coverage(arguments: argparse.Namespace) -> int:
     or can't be looked at. Raises Failed.
     """
     groups, faults = groups_of(arguments)
-    if not groups:
-        raise Failed("\n".join(faults))
-    for told in faults:
-        tell_fault(told)
+    for fault in faults:
+        tell_fault(fault)
     with lab_of(arguments) as lab:
         whole = [covered(lab, group, arguments) for group in groups]
     return int(bool(faults) or not all(whole))
