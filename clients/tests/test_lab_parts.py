@@ -1,11 +1,15 @@
 """The parts of the commands that ask estlab, without it: claims, marks, tables, tours, roles."""
 import os
 import pathlib
+import signal
+import subprocess
+import sys
 import tempfile
+import time
 import unittest
 import unittest.mock
 
-from support import EXAMPLES
+from support import CLIENTS, EXAMPLES
 
 from estserve_client import connection
 from estserve_client.inputs import read_inputs
@@ -45,6 +49,35 @@ def row(before, asked, inputs, after, outputs=""):
 def subject_of(text, main=None):
     """A module of a text."""
     return Subject(join_texts([("m.strl", text)]), main_of(text, main))
+
+
+class Ends(unittest.TestCase):
+    def test_a_search_ends_with_its_command(self):
+        with tempfile.TemporaryDirectory() as name:
+            told, lab = pathlib.Path(name) / "told", pathlib.Path(name) / "estlab"
+            lab.write_text(
+                f"#!/bin/sh\necho $$ > {told}.new\nmv {told}.new {told}\nexec sleep 600\n"
+            )
+            lab.chmod(0o755)
+            words = ["prove", str(EXAMPLES / "abro" / "abro.strl"), "--estlab", str(lab)]
+            command = [sys.executable, "-B", str(CLIENTS / "estserve.py"), *words]
+            for number in (signal.SIGTERM, signal.SIGHUP):
+                with subprocess.Popen(command) as child:
+                    wait_for(told.exists)
+                    search = int(told.read_text())
+                    child.send_signal(number)
+                    self.assertEqual(child.wait(60), 128 + number)
+                wait_for(lambda: not pathlib.Path(f"/proc/{search}").exists())
+                told.unlink()
+
+
+def wait_for(what):
+    """Waits until this is so. Fails, where it isn't in time."""
+    end = time.monotonic() + 60
+    while not what():
+        if time.monotonic() > end:
+            raise AssertionError("not in time")
+        time.sleep(0.02)
 
 
 class Claims(unittest.TestCase):

@@ -3,8 +3,10 @@ from __future__ import annotations
 
 import dataclasses
 import io
+import signal
 import subprocess
 import sys
+import threading
 from typing import TYPE_CHECKING, Any, Dict, List, Optional, Sequence
 
 from ..colours import has_colours
@@ -108,13 +110,23 @@ def clear_line() -> None:
         print("\r\033[K", end="", file=sys.stderr, flush=True)
 
 
+def end_command(number: int, _: Any) -> None:
+    """Ends the command as the signal asks, by which its search is ended too."""
+    raise SystemExit(128 + number)
+
+
 class Lab:
-    """The program estlab, which has one module loaded. Used with `with`."""
+    """The program estlab, which has one module loaded. Used with `with`, it doesn't outlive the
+    command, also where that is ended by a signal in the midst of a search.
+    """
 
     def __init__(self, client: Client) -> None:
         self.client = client
 
     def __enter__(self) -> Lab:
+        if threading.current_thread() is threading.main_thread():
+            for number in (signal.SIGTERM, signal.SIGHUP):
+                signal.signal(number, end_command)
         return self
 
     def __exit__(self, *_: object) -> None:
