@@ -69,7 +69,7 @@ mod by_hand {
 use by_hand::interface::Interface;
 use by_hand::kernel::Kernel;
 use by_hand::state::{Inputs, State};
-use est_kernel::statement::{InterfaceSignal, LocalSignal, PauseIndex, Signal, Statement, Test, TrapIndex};
+use est_kernel::statement::{Connective, InterfaceSignal, LocalSignal, Operands, PauseIndex, Signal, Statement, Test, TrapIndex};
 use est_meaning::status::Status;
 use est_micro::micro::Micro;
 use est_net::net::Net;
@@ -97,6 +97,24 @@ impl<'a> Reader<'a> {
         Signal::Interface(InterfaceSignal { index: index as u8 })
     }
 
+    fn test(&mut self) -> Test {
+        let start = self.words.clone();
+        match self.word() {
+            "not" => Test::Not(Box::new(self.test())),
+            "and" => self.joined(Connective::And),
+            "or" => self.joined(Connective::Or),
+            _ => {
+                self.words = start;
+                Test::Status(self.signal())
+            }
+        }
+    }
+
+    fn joined(&mut self, connective: Connective) -> Test {
+        let (first, second) = (Box::new(self.test()), Box::new(self.test()));
+        Test::Joined(connective, Operands { first, second, later: vec![] })
+    }
+
     fn part(&mut self) -> Box<Statement> {
         Box::new(self.statement())
     }
@@ -109,8 +127,8 @@ impl<'a> Reader<'a> {
                 Statement::Pause(PauseIndex { index: self.pauses - 1 })
             }
             "emit" => Statement::Emit(self.signal()),
-            "present" => Statement::Present(Test::Status(self.signal()), self.part(), self.part()),
-            "suspend" => Statement::Suspend(Test::Status(self.signal()), self.part()),
+            "present" => Statement::Present(self.test(), self.part(), self.part()),
+            "suspend" => Statement::Suspend(self.test(), self.part()),
             "seq" => Statement::Seq(self.part(), self.part()),
             "par" => Statement::Par(self.part(), self.part()),
             "loop" => Statement::Loop(self.part()),
@@ -143,23 +161,34 @@ fn first(count: usize) -> u64 {
     if count == 64 { u64::MAX } else { (1 << count) - 1 }
 }
 
-fn main() {
-    let words: Vec<String> = std::env::args().collect();
-    let text = std::fs::read_to_string(&words[1]).expect("no case");
-    let instants: usize = words[2].parse().expect("no number of instants");
-    let lines: Vec<&str> = text.lines().collect();
-    let masks: Vec<u64> = lines[0].split_whitespace().map(|mask| u64::from_str_radix(mask, 16).expect("no mask")).collect();
+/// A kernel with its engine, and the masks of the inputs of its instants.
+struct Case {
+    kernel: Kernel,
+    engine: Micro,
+    masks: Vec<u64>,
+}
+
+/// The case that four lines tell: the masks, the inputs, the outputs, and the statement.
+fn case_of(lines: &[&str]) -> Case {
     let inputs = lines[1].split_whitespace().count();
     let signals: Vec<&str> = lines[1].split_whitespace().chain(lines[2].split_whitespace()).collect();
     let len = signals.len();
+    let mask = |word| u64::from_str_radix(word, 16).expect("no mask") & first(inputs);
+    let masks = lines[0].split_whitespace().map(mask).collect();
     let mut reader = Reader { words: lines[3].split_whitespace(), signals, locals: vec![], traps: vec![], pauses: 0 };
     let root = reader.statement();
     let interface = Interface { emittable: first(len) & !first(inputs), offerable: first(inputs), len };
     let kernel = Kernel { interface, root };
-    let mut engine = Micro::new(Net::build(&kernel).expect("no table"));
+    let engine = Micro::new(Net::build(&kernel).expect("no table"));
+    Case { kernel, engine, masks }
+}
+
+/// Runs for that many instants, and prints what that comes to.
+fn run(case: &mut Case, instants: usize) {
     let (mut state, mut sum) = (State::Fresh, 0u64);
     for n in 0..instants {
-        let Ok(outcome) = engine.run(&kernel, &state, &Inputs { signals: masks[n % masks.len()] & first(inputs) }) else {
+        let signals = case.masks[n % case.masks.len()];
+        let Ok(outcome) = case.engine.run(&case.kernel, &state, &Inputs { signals }) else {
             panic!("instant {n} is stuck");
         };
         sum = sum.wrapping_mul(31).wrapping_add(outcome.outputs);
@@ -168,5 +197,34 @@ fn main() {
             State::Fresh | State::Done => State::Fresh,
         };
     }
-    println!("{} {} {sum:016x}", engine.net().cells(), engine.steps());
+    println!("{} {} {sum:016x}", case.engine.net().cells(), case.engine.steps());
+}
+
+/// Runs an instant for each mask, and prints what each cell was decided to be in it. Where it is stuck, the state stays.
+fn print_tables(case: &mut Case) {
+    let mut state = State::Fresh;
+    print!("{}", case.engine.net().cells());
+    for signals in &case.masks {
+        let answer = case.engine.run(&case.kernel, &state, &Inputs { signals: *signals });
+        let sign = |cell| match case.engine.net().value(cell) {
+            Some(true) => '1',
+            Some(false) => '0',
+            None => '?',
+        };
+        print!(" {}", (0..case.engine.net().cells()).map(sign).collect::<String>());
+        if let Ok(outcome) = answer {
+            state = outcome.next;
+        }
+    }
+    println!();
+}
+
+fn main() {
+    let words: Vec<String> = std::env::args().collect();
+    let text = std::fs::read_to_string(&words[1]).expect("no case");
+    let lines: Vec<&str> = text.lines().collect();
+    match words.get(2) {
+        Some(word) => run(&mut case_of(&lines), word.parse().expect("no number of instants")),
+        None => lines.chunks(4).for_each(|each| print_tables(&mut case_of(each))),
+    }
 }
