@@ -10,6 +10,7 @@ Ends with status 1 after naming what differs.
 """
 from __future__ import annotations
 
+import os
 import pathlib
 import shutil
 import subprocess
@@ -35,6 +36,10 @@ for (const path of process.argv.slice(1)) {
 }
 """
 SHARED = (CLIENTS / "tests" / "support.py", CLIENTS / "tests" / "dialogue.py")
+OF_GATEWAY = ("browsers", "listed_modules", "page_case", "picture", "teams")  # what its tests share
+# what tests call of elsewhere has no types yet
+LENIENT = "--follow-imports=silent --ignore-missing-imports --no-warn-return-any".split()
+LENIENT.append("--allow-untyped-calls")
 
 
 def files(*kinds: str) -> List[pathlib.Path]:
@@ -71,7 +76,9 @@ def mypy() -> List[str]:
         words = ["mypy", "--strict", "--no-error-summary", f"--cache-dir={cache}"]
         programs = [str(path) for path in sorted(CLIENTS.glob("*.py"))]
         found = run([*words, *programs, *(str(CLIENTS / name) for name in PACKAGES)], CLIENTS)
-        return found + run([*words, *map(str, SHARED)], CLIENTS)
+        found += run([*words, *map(str, SHARED)], CLIENTS)
+        os.environ["MYPYPATH"] = f"{CLIENTS}:{ROOT / 'tests' / 'socket'}"
+        return found + run([*words, *LENIENT, *(f"{name}.py" for name in OF_GATEWAY)], GATEWAY)
 
 
 def node() -> List[str]:

@@ -3,11 +3,14 @@ hold patterns.
 
 usage: listed_modules.py team --state DIR ..
 """
+from __future__ import annotations
+
 import json
 import pathlib
 import re
 import signal
 import sys
+import types
 
 sys.path.insert(0, str(pathlib.Path(__file__).resolve().parents[2] / "clients"))
 import estserve  # noqa: E402
@@ -15,12 +18,12 @@ import estserve  # noqa: E402
 OURS = ("estserve", "estserve_client", "estserve_team")
 
 
-def has_patterns(module):
+def has_patterns(module: types.ModuleType) -> bool:
     """Whether a module holds the library of patterns, or a pattern."""
     return any(value is re or isinstance(value, re.Pattern) for value in vars(module).values())
 
 
-def tell(*_):
+def tell(*_: object) -> None:
     """Lists the modules."""
     found = dict(sys.modules)
     ours = {name: one for name, one in found.items() if name.partition(".")[0] in OURS}

@@ -1,7 +1,10 @@
 """What the tests of the page in browsers share: a team, two browsers, a fresh slot for each test."""
+from __future__ import annotations
+
 import os
 import pathlib
 import unittest
+from typing import Any
 
 import browsers
 import teams
@@ -22,23 +25,27 @@ CHOOSE = (
 class PageCase(unittest.TestCase):
     """Two browsers at one gateway, of which each test finds a fresh team in slot 0."""
 
+    team: Any
+    one: browsers.Page
+    two: browsers.Page
+
     @classmethod
-    def setUpClass(cls):
+    def setUpClass(cls) -> None:
         cls.team = visitors.Team("--http", "127.0.0.1:0")
         cls.team.__enter__()
         cls.addClassCleanup(cls.team.__exit__)
         visitors.set_up(cls.team)
-        cls.one, cls.two = browsers.Page(), None
+        cls.one = browsers.Page()
         cls.addClassCleanup(cls.one.close)
         cls.two = browsers.Page()
         cls.addClassCleanup(cls.two.close)
 
-    def setUp(self):
+    def setUp(self) -> None:
         for page in (self.one, self.two):
             page.browser.execute_cdp_cmd("Emulation.clearDeviceMetricsOverride", {})
         self.fresh()
 
-    def fresh(self):
+    def fresh(self) -> None:
         """Slot 0 has the team's module, without instants."""
         with self.team.root() as root:
             try:
@@ -48,15 +55,15 @@ class PageCase(unittest.TestCase):
             root.load(0, "TEAM", TEXT)
             root.logout()
 
-    def tearDown(self):
+    def tearDown(self) -> None:
         for page in (self.one, self.two):
             faults = [one for one in page.faults() if "api/" not in one]
             self.assertEqual(faults, [], "the browser complains")
 
-    def come_in(self, page, user, *roles):
+    def come_in(self, page: browsers.Page, user: str, *roles: str) -> None:
         page.come_in(visitors.address_of_link(self.team), user, *roles)
 
-    def drive_and_step(self):
+    def drive_and_step(self) -> None:
         """Ann drives in the first browser, Cho steps in the second."""
         self.come_in(self.one, "ann", "lead")
         self.come_in(self.two, "cho", "stepper")
@@ -64,11 +71,11 @@ class PageCase(unittest.TestCase):
         for page in (self.one, self.two):
             page.wait_text("#facts", "0 instants")
 
-    def choose(self, selector, value):
+    def choose(self, selector: str, value: str) -> None:
         """Chooses in a list of the first browser."""
         self.assertEqual(self.one.run(CHOOSE, selector, value), value)
 
-    def shoot(self, page, name):
+    def shoot(self, page: browsers.Page, name: str) -> None:
         """Keeps a picture, where pictures are wanted."""
         if SHOTS:
             page.browser.save_screenshot(str(pathlib.Path(SHOTS) / f"{name}.png"))

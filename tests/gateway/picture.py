@@ -3,8 +3,12 @@
 
 It needs what the tests of the page need, and the variable ESTSERVE or a minute for the program.
 """
+from __future__ import annotations
+
 import base64
+import pathlib
 import sys
+from typing import List
 
 import browsers
 import teams
@@ -14,7 +18,7 @@ WIDE, HIGH = 760, 720  # of one of the two
 STEPS = "B A - B AB R A B - A B -".split()  # what is offered before each step; - is nothing
 
 
-def drive(ann, cho):
+def drive(ann: browsers.Page, cho: browsers.Page) -> None:
     """Ann offers in her window, Cho steps in hers."""
     for number, offers in enumerate(STEPS, 1):
         for name in offers.strip("-"):
@@ -29,13 +33,13 @@ def drive(ann, cho):
     ann.wait_text("[data-signal=R] ~ .refusal", "Excluded")
 
 
-def picture_of(page, dark):
+def picture_of(page: browsers.Page, dark: bool) -> str:
     """What a page shows, as the address of a picture."""
     page.use_device(WIDE, HIGH, dark)
     return "data:image/png;base64," + page.browser.get_screenshot_as_base64()
 
 
-def write_picture(page, pictures, path):
+def write_picture(page: browsers.Page, pictures: List[str], path: pathlib.Path) -> None:
     """Writes the pictures side by side."""
     images = "".join(f"<img src='{one}' width={WIDE} height={HIGH}>" for one in pictures)
     page.browser.get("about:blank")
@@ -46,7 +50,7 @@ def write_picture(page, pictures, path):
     path.write_bytes(base64.b64decode(page.browser.get_screenshot_as_base64()))
 
 
-def main():
+def main() -> None:
     if not (visitors.HAS_AIOHTTP and browsers.HAS_BROWSER):
         sys.exit(f"{visitors.NO_AIOHTTP}; {browsers.NO_BROWSER}")
     ann, cho = browsers.Page(width=WIDE, height=HIGH), browsers.Page(width=WIDE, height=HIGH)

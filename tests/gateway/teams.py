@@ -3,6 +3,8 @@
 The program is the one that the variable ESTSERVE names, or one that `rt try` builds WITHOUT
 proof, once.
 """
+from __future__ import annotations
+
 import contextlib
 import json
 import os
@@ -11,37 +13,37 @@ import pwd
 import random
 import shlex
 import signal
-import socket
 import subprocess
 import sys
 import tempfile
-import time
+from typing import Any, Callable, Iterator, List, Optional, Sequence, TypeVar
 
 ROOT = pathlib.Path(__file__).resolve().parents[2]
 sys.path[:0] = [str(ROOT / "clients"), str(ROOT / "tests" / "socket")]
 sys.dont_write_bytecode = True
 import running as programs  # noqa: E402
-from estserve_client.connection import connect  # noqa: E402
+from estserve_client.connection import Client, connect  # noqa: E402
 from estserve_team.record import COLUMNS, Entry, open_reader  # noqa: E402
 from estserve_team.replay import Talker  # noqa: E402
 from estserve_team.server import Server  # noqa: E402
 
 ME = pwd.getpwuid(os.geteuid()).pw_name
 WAIT_SECONDS = 60
+Self = TypeVar("Self", bound="Team")
 SEED = int(os.environ.get("GATEWAY_SEED", "31"))
 _folder = tempfile.TemporaryDirectory(prefix="gateway-")
 
 
-def random_of(name):
+def random_of(name: str) -> random.Random:
     """Numbers for one test, the same ones each time, but where GATEWAY_SEED says otherwise."""
     return random.Random(f"{SEED} {name}")
 
 
-def program_file():
+def program_file() -> str:
     """A file that calls the program."""
     words = programs.program()
     if len(words) == 1:
-        return words[0]
+        return str(words[0])
     path = pathlib.Path(_folder.name) / "estserve"
     if not path.exists():
         path.write_text(f'#!/bin/sh\nexec {shlex.join(words)} "$@"\n')
@@ -49,17 +51,17 @@ def program_file():
     return str(path)
 
 
-def line_of(**command):
+def line_of(**command: Any) -> bytes:
     """A command's line, without LF."""
     return json.dumps(command, separators=(",", ":"), sort_keys=True, ensure_ascii=False).encode()
 
 
-def login_line(user="root", roles=("root",)):
+def login_line(user: str = "root", roles: Sequence[str] = ("root",)) -> bytes:
     """The line of a login."""
     return line_of(cmd="login", user=user, roles=list(roles))
 
 
-def processes_of(state):
+def processes_of(state: pathlib.Path) -> List[int]:
     """The processes that a team's gateway has listed, by id."""
     try:
         told = json.loads((state / "private" / "children").read_text())
@@ -71,7 +73,7 @@ def processes_of(state):
 class WordTalker(Talker):
     """A connection to gateway.sock, which asks one word after the other."""
 
-    def word(self, word, **keys):
+    def word(self, word: str, **keys: Any) -> Any:
         """The answer to a word, an object."""
         return json.loads(self.ask(json.dumps({"word": word, **keys}).encode()))
 
@@ -83,14 +85,21 @@ class Team:
     `people` is the text of a file of people; `state` is a folder that is there already, and
     stays."""
 
-    def __init__(self, *words, people=None, state=None, program=None, python=None):
+    def __init__(
+        self,
+        *words: str,
+        people: Optional[str] = None,
+        state: Optional[pathlib.Path] = None,
+        program: Optional[str] = None,
+        python: Optional[str] = None,
+    ) -> None:
         self._held = tempfile.TemporaryDirectory(prefix="gateway-")
         self.state = pathlib.Path(state) if state else pathlib.Path(self._held.name) / "team"
         self._words, self._people, self._program = list(words), people, program
         self._python = python or sys.executable
-        self.process = None
+        self.process: Any = None
 
-    def __enter__(self):
+    def __enter__(self: Self) -> Self:
         try:
             self.start()
         except BaseException:
@@ -98,7 +107,7 @@ class Team:
             raise
         return self
 
-    def command(self):
+    def command(self) -> List[str]:
         """The words that start the gateway."""
         words = [
             self._python,
@@ -115,7 +124,7 @@ class Team:
             words += ["--people", str(path)]
         return words
 
-    def launch(self):
+    def launch(self) -> None:
         """Starts the gateway, and doesn't wait."""
         self._told = open(pathlib.Path(self._held.name) / "told", "ab")
         self.process = subprocess.Popen(
@@ -126,7 +135,7 @@ class Team:
             text=True,
         )
 
-    def start(self):
+    def start(self) -> None:
         """Starts the gateway, and waits until clients may come. Fails, where it ends before."""
         self.launch()
         self.printed = []
@@ -137,16 +146,16 @@ class Team:
         self.process.wait()
         raise AssertionError(f"the gateway ended with {self.process.returncode}: {self.told()}")
 
-    def told(self):
+    def told(self) -> str:
         """What the gateway has written on standard error since its folder was made."""
         return (pathlib.Path(self._held.name) / "told").read_text(errors="replace")
 
-    def end(self, number=signal.SIGTERM):
+    def end(self, number: int = signal.SIGTERM) -> int:
         """Sends a signal, and gives the status that the gateway ends with."""
         self.process.send_signal(number)
         return self.wait()
 
-    def wait(self):
+    def wait(self) -> int:
         """The status that the gateway ends with."""
         try:
             return self.process.wait(WAIT_SECONDS)
@@ -154,52 +163,52 @@ class Team:
             self.process.stdout.close()
             self._told.close()
 
-    def __exit__(self, *_):
+    def __exit__(self, *_: object) -> None:
         if self.process is not None and self.process.poll() is None:
             self.process.kill()
             self.wait()
         self._held.cleanup()
 
     @property
-    def path(self):
+    def path(self) -> pathlib.Path:
         """The socket for the program's lines."""
         return self.state / "team.sock"
 
     @property
-    def record(self):
+    def record(self) -> pathlib.Path:
         """The record."""
         return self.state / "private" / "record.sqlite"
 
-    def client(self):
+    def client(self) -> Client:
         """A client of the team's socket."""
         return connect(self.path)
 
-    def root(self):
+    def root(self) -> Client:
         """A client that is logged in as root."""
         client = self.client()
         client.login("root", ["root"])
         return client
 
-    def talker(self):
+    def talker(self) -> Talker:
         """A connection to the team's socket, for plain lines."""
         return Talker(self.path)
 
-    def words(self):
+    def words(self) -> WordTalker:
         """A connection to gateway.sock."""
         return WordTalker(self.state / "gateway.sock")
 
-    def entries(self):
+    def entries(self) -> List[Entry]:
         """All entries of the record, in the order of their recording."""
         with open_reader(self.record) as database:
             rows = database.execute(f"SELECT {COLUMNS} FROM entries ORDER BY number")
             return list(map(Entry._make, rows))
 
-    def rows(self, sql):
+    def rows(self, sql: str) -> List[Any]:
         """The rows of a query on the record."""
         with open_reader(self.record) as database:
             return database.execute(sql).fetchall()
 
-    def server(self):
+    def server(self) -> int:
         """The id of the server's process, once one runs, also where it is just being begun anew."""
         return wait_for(
             lambda: next(
@@ -213,7 +222,7 @@ class Team:
         )
 
 
-def children_of(process):
+def children_of(process: int) -> List[int]:
     """The children of a process, by id."""
     found = []
     for path in pathlib.Path("/proc").glob("[0-9]*/stat"):
@@ -226,7 +235,7 @@ def children_of(process):
     return found
 
 
-def command_of(process):
+def command_of(process: int) -> bytes:
     """The command line of a process, empty where there is none."""
     try:
         return pathlib.Path(f"/proc/{process}/cmdline").read_bytes()
@@ -234,7 +243,7 @@ def command_of(process):
         return b""
 
 
-def is_running(process):
+def is_running(process: int) -> bool:
     """Whether a process runs."""
     try:
         return (
@@ -245,7 +254,7 @@ def is_running(process):
         return False
 
 
-def hold(process):
+def hold(process: int) -> None:
     """Has a process stand still, and waits until each of its threads does."""
     os.kill(process, signal.SIGSTOP)
     threads = pathlib.Path(f"/proc/{process}/task")
@@ -257,13 +266,13 @@ def hold(process):
     )
 
 
-def wait_for(what, seconds=WAIT_SECONDS):
+def wait_for(what: Callable[[], Any], seconds: float = WAIT_SECONDS) -> Any:
     """The first answer of `what` that isn't None or false. Fails, where there is none in time."""
     return programs.wait_for(what, seconds)
 
 
 @contextlib.contextmanager
-def program_alone():
+def program_alone() -> Iterator[Talker]:
     """A connection to a server without a gateway, for plain lines."""
     with tempfile.TemporaryDirectory(prefix="gateway-") as folder:
         with Server(program_file(), pathlib.Path(folder) / "socket") as server, Talker(
