@@ -11,6 +11,7 @@ import pathlib
 import sys
 from typing import Any, Dict, Iterator, List, Optional, Union
 
+from .access import Access
 from .close_words import meant
 from .command_table import KEYS, back_of
 from .connection import Client, Refusal, start
@@ -102,13 +103,14 @@ def apply_file(client: Client, path: Union[str, "os.PathLike[str]"]) -> Applied:
 
 def warnings_of(policy: Policy, path: str) -> Iterator[str]:
     """What is said of each permission that does nothing, or is on a signal that the slot's module
-    doesn't have, or nobody can offer.
+    doesn't have, or nobody can offer; and of each separation set that keeps a role from all sessions.
     """
     folder = pathlib.Path(path).parent
     modules = {
         slot: (name, main_of(read_text(folder / name, "the module text")))
         for slot, (_, name) in policy.modules.items()
     }
+    access = Access(policy)
     for wish in policy.wishes:
         slot, _, signal = wish.command.get("object", "").partition(".")
         place = f"{path}:{wish.line}: warning: {text_of(wish.command)}"
@@ -119,12 +121,25 @@ def warnings_of(policy: Policy, path: str) -> Iterator[str]:
             wrong = wrong_permission(wish.command["op"], signal, module.kinds())
             if wrong:
                 yield f"{place}: {module.name} of {name} {wrong}"
+        elif wish.command["cmd"] == "dsd":
+            yield from (f"{place}: {told}" for told in kept_from_all(wish.command, access))
+
+
+def kept_from_all(command: Command, access: Access) -> Iterator[str]:
+    """What is said of each role that no session may have by a separation set, since it stands above
+    too many of the set's roles.
+    """
+    for role in access.roles:
+        below = [name for name in command["roles"] if name in access.below([role])]
+        if command["name"] in access.keeping_apart([role]):
+            yield f"no session may have {role}, which stands above {' and '.join(below)}"
 
 
 def wrong_permission(op: str, signal: str, kinds: Dict[str, str]) -> Optional[str]:
     """What is wrong with a permission on a signal of a module; None where nothing is."""
     if signal not in kinds:
-        return f"has no signal {signal}"
+        question = meant(signal, kinds)
+        return f"has no signal {signal}" + (f"; {question}" if question else "")
     if op == "offer" and kinds[signal] not in OFFERED:
         return f"gives {signal} as an output, which nobody can offer"
     return None

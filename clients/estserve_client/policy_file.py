@@ -5,7 +5,7 @@ import dataclasses
 from typing import Any, Dict, Iterator, List, Optional, Tuple
 
 from .close_words import meant
-from .command_table import OBJECT, SLOTS
+from .command_table import OBJECT, OPERATIONS, SLOTS
 from .toml_reader import BadPolicy, Table, tables_of
 
 TABLES = ("inherit", "assign", "permissions", "slots", "modules")
@@ -86,7 +86,9 @@ def permissions_of(table: Optional[Table], slots: Dict[str, int]) -> Iterator[Wi
             told = f"{words[1]} is no object: policy, a slot, or a signal of one, as 0.A"
             name = words[1].partition(".")[0]
             question = meant(name, [*slots, "policy"])
-            if "*" in words[1]:
+            if words[1] in OPERATIONS:
+                question = f'the operation comes first: "{words[1]} {words[0]}"'
+            elif "*" in words[1]:
                 question = "a file names each signal; the page spreads patterns"
             elif not question and not name.isdigit() and name not in slots:
                 question = f"the table slots gives {name} no number"

@@ -180,7 +180,8 @@ class OnTheProgram(InAFolder):
         self.assertEqual(
             told,
             [
-                "p.toml:10: warning: grant driver offer 3.OPNE: DOOR of door.strl has no signal OPNE",
+                "p.toml:10: warning: grant driver offer 3.OPNE: DOOR of door.strl has no signal OPNE; did"
+                " you mean `OPEN`?",
                 "p.toml:10: warning: grant driver offer 3.LAMP: DOOR of door.strl gives LAMP as an"
                 " output, which nobody can offer",
             ],
@@ -198,6 +199,18 @@ class OnTheProgram(InAFolder):
         ]
         lines = [f"p.toml:3: warning: grant r {one}: this does nothing: {why}" for one, why in told]
         self.assertEqual(self.apply()[2], lines)
+
+    def test_a_role_that_no_session_can_have_is_warned_of(self):
+        text = 'users = ["ann"]\nroles = ["a", "b", "top", "c"]\n[inherit]\ntop = ["c"]\nc = ["a", "b"]\n'
+        self.path.write_text(text + '[separate.apart]\nroles = ["a", "b"]\ncount = 2\n')
+        place = "p.toml:7: warning: dsd apart 2 a b: no session may have"
+        told = [f"{place} {role}, which stands above a and b" for role in ("top", "c")]
+        self.assertEqual(self.apply()[2], told)
+
+    def test_an_operation_that_comes_last_is_told(self):
+        self.path.write_text('roles = ["r"]\n[permissions]\nr = ["0.A offer"]\n')
+        told = "p.toml:3: offer is no object: policy, a slot, or a signal of one, as 0.A; the operation"
+        self.assertEqual(self.apply()[2], [told + ' comes first: "offer 0.A"'])
 
     def test_prune_takes_away_what_the_file_does_not_ask_for(self):
         with serve() as server, server.root() as root:

@@ -18,7 +18,7 @@ from estserve_client.lab.claims import Claim, read_claims
 from estserve_client.lab.graph import parts_of
 from estserve_client.lab.marks import mark, parts_to_mark, reached
 from estserve_client.lab.observing import observed
-from estserve_client.lab.roles import Access
+from estserve_client.access import Access
 from estserve_client.lab.table import Table
 from estserve_client.lab.tours import tours_of
 from estserve_client.lab.whocan import MOST_ROLES, least_sets

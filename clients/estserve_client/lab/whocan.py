@@ -16,7 +16,7 @@ from ..policy_file import Policy, slots_of, tables_of
 from ..texts import Failed, read_text
 from .asking import Lab, Subject, Verdict, lab_of, read_subject
 from .claims import names_listed
-from .roles import Access, Roles
+from ..access import Access, Roles
 from .words import in_one_line
 
 Signal = Tuple[int, str]  # a slot and a name

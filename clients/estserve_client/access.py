@@ -4,7 +4,7 @@ from __future__ import annotations
 import dataclasses
 from typing import Any, Dict, FrozenSet, Iterable, List, Set, Tuple
 
-from ..policy_file import Policy
+from .policy_file import Policy
 
 Roles = FrozenSet[str]
 
