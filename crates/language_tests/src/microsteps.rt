@@ -5,6 +5,7 @@ ghost use Rattle.est_micro.specs.Engine.{IsNetOf};
 
 use crate::literature::loads::{engine_of, offered};
 use crate::openers::kernel_of;
+use crate::told::{add, expect_told};
 use est_kernel::kernel::Kernel;
 use est_kernel::state::State;
 use est_micro::micro::Micro;
@@ -150,5 +151,65 @@ fn reached_outputs(rt: HostRuntime) {
     for (body, reached) in &REACHED {
         let told = told_of(&rt, rt.alloc(), "output A, B, C; ", body);
         assert_eq!(rt; told.reached, *reached, "{body}");
+    }
+}
+
+/// Modules, what is offered in the first instant, as a mask, and what the cells of the signals that
+/// may be emitted are then told, in the order of declaration: 1 for true, 0 for false, and `?`
+/// while it is open.
+const SIGNAL_CELLS: [(&str, u64, &str); 4] = [
+    // what is offered is present, whether the module can emit it or not
+    (
+        "inputoutput B; output O; present B then emit O end",
+        1,
+        "11",
+    ),
+    (
+        "inputoutput B; output O; present B then emit O end",
+        0,
+        "00",
+    ),
+    (
+        "inputoutput B; output O; present B then emit O else emit B end",
+        1,
+        "11",
+    ),
+    (
+        "inputoutput B; output O; present B then emit O else emit B end",
+        0,
+        "??",
+    ),
+];
+
+/// The cells of the signals that may be emitted, as the table above has them.
+fn signals_of(rt: &impl Abort, alloc: Global, net: &Net) -> String {
+    let mut told = String::new(alloc);
+    for cell in 0..net.cells() {
+        if cell < net.outputs() {
+            let word = match net.value(cell) {
+                Some(true) => "1",
+                Some(false) => "0",
+                None => "?",
+            };
+            add(rt, &mut told, word);
+        }
+    }
+    told
+}
+
+/// Fails where the signals' cells of a module are told otherwise in its first instant.
+fn expect_signals(rt: &impl Abort, alloc: Global, body: &str, offers: u64, wanted: &str) {
+    let text = format!(in alloc; "module M: {body} end module").expect(rt, "room");
+    let kernel = kernel_of(rt, alloc, text.as_str());
+    let mut engine = engine_of(rt, alloc, &kernel);
+    let _answer = engine.react(&kernel, &State::Fresh, &offered(&kernel, offers));
+    let told = signals_of(rt, alloc, engine.net());
+    expect_told(rt, told.as_str(), wanted, body);
+}
+
+#[test]
+fn cells_of_signals(rt: HostRuntime) {
+    for (body, offers, wanted) in &SIGNAL_CELLS {
+        expect_signals(&rt, rt.alloc(), body, *offers, wanted);
     }
 }
