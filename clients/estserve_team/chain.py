@@ -4,7 +4,13 @@ the last ones stand in a second file, the head.
 The head says how far the record has come. A record that has come further is whole, since the
 gateway may have ended between the two; one that has not, or has other hashes, was cut, changed or
 exchanged.
+
+After its two places the head has blocks: what was recorded since the record was last synced, with
+the tip after it. So one sync puts an entry and the tip on the disk. Where the system ends before
+the record is synced too, the next start takes those rows over into it.
 """
+import ast
+import contextlib
 import hashlib
 import os
 import pathlib
@@ -13,6 +19,9 @@ from typing import Any, List, NamedTuple, Optional, Sequence, Tuple
 from .places import Failed
 
 SLOT_BYTES = 1_024  # of each of the two places of the head, which are written in turn
+BLOCKS_AT = 4_096  # where its blocks begin
+HEAD_BYTES = BLOCKS_AT + (1 << 18)  # all of which is written once, so that no later sync takes long
+BLOCK_STEP = 512  # each block begins at a multiple of this
 REMEDY = (
     "`team restore FILE` puts a backup in its place; `--accept` takes what is there for the record"
 )
@@ -33,7 +42,17 @@ def first_hash(record: str) -> bytes:
 def hash_of(before: bytes, row: Sequence[Any]) -> bytes:
     """The hash of a row after the hash before it. Each field stands as Python writes it, in ASCII,
     so that no two rows are the same bytes."""
-    return hashlib.sha256(before + ascii(tuple(row)).encode()).digest()
+    return hash_of_text(before, text_of(row))
+
+
+def text_of(row: Sequence[Any]) -> bytes:
+    """A row as Python writes it, in ASCII."""
+    return ascii(tuple(row)).encode()
+
+
+def hash_of_text(before: bytes, text: bytes) -> bytes:
+    """The hash of a row's text after the hash before it."""
+    return hashlib.sha256(before + text).digest()
 
 
 class Tip(NamedTuple):
@@ -56,31 +75,92 @@ def new_tip(record: str, rest: Tuple[str, ...] = ()) -> Tip:
     return Tip(record, 0, first, 0, first, rest)
 
 
-def slot_of(tip: Tip) -> bytes:
-    """A tip as one place of the head has it."""
-    text = (
+def check_of(text: bytes) -> bytes:
+    """What stands before a text of the head, by which one sees that it was written whole."""
+    return hashlib.sha256(text).hexdigest()[:16].encode()
+
+
+def tip_text(tip: Tip) -> bytes:
+    """A tip as the head has it."""
+    return (
         f"{tip.serial} {tip.record} {tip.entries} {tip.entry_hash} {tip.givenup} "
         f"{tip.givenup_hash} {','.join(tip.rest)}"
     ).encode()
-    line = hashlib.sha256(text).hexdigest()[:16].encode() + b" " + text
+
+
+def slot_of(tip: Tip) -> bytes:
+    """A tip as one place of the head has it."""
+    text = tip_text(tip)
+    line = check_of(text) + b" " + text
     return line.ljust(SLOT_BYTES - 1) + b"\n"
+
+
+def read_tip(text: str) -> Tip:
+    """The tip that a text is. Raises ValueError."""
+    serial, record, entries, entry_hash, givenup, givenup_hash, *rest = text.split(" ")
+    known = tuple("".join(rest).split(",")) if rest else ()
+    return Tip(record, int(entries), entry_hash, int(givenup), givenup_hash, known, int(serial))
 
 
 def tip_of(slot: bytes) -> Optional[Tip]:
     """The tip that a place of the head has, if it was written whole."""
     try:
         check, _, text = slot.decode().strip().partition(" ")
-        if hashlib.sha256(text.encode()).hexdigest()[:16] != check:
-            return None
-        serial, record, entries, entry_hash, givenup, givenup_hash, *rest = text.split(" ")
-        known = tuple("".join(rest).split(",")) if rest else ()
-        return Tip(record, int(entries), entry_hash, int(givenup), givenup_hash, known, int(serial))
+        return read_tip(text) if check_of(text.encode()).decode() == check else None
     except ValueError:
         return None
 
 
+class Block(NamedTuple):
+    """What one transaction has added, and the tip after it. Rows stand as `text_of` has them."""
+
+    tip: Tip
+    entries: List[bytes]
+    connections: List[bytes]
+    givenup: List[bytes]
+
+
+def block_text(block: Block) -> bytes:
+    """A block as the head has it: its check and its length, the tip, and a line for each row."""
+    lines = [tip_text(block.tip)]
+    for letter, rows in zip((b"e", b"c", b"g"), block[1:]):
+        lines += [letter + row for row in rows]
+    text = b"\n".join(lines)
+    return b"%s %d\n%s" % (check_of(text), len(text), text)
+
+
+def read_block(data: bytes, at: int) -> Optional[Tuple[Block, int]]:
+    """The block that begins at a place, if it was written whole, and where the next one begins."""
+    try:
+        begin = data.index(b"\n", at, at + 64) + 1
+        check, length = data[at : begin - 1].split(b" ")
+        end = begin + int(length)
+        text = data[begin:end]
+        if len(text) != int(length) or check_of(text) != check:
+            return None
+        first, *rows = text.split(b"\n")
+        kinds = ([row[1:] for row in rows if row[:1] == letter] for letter in (b"e", b"c", b"g"))
+        return Block(read_tip(first.decode()), *kinds), next_step(end)
+    except ValueError:
+        return None
+
+
+def next_step(at: int) -> int:
+    """The first place from here on at which a block may begin."""
+    return -(-at // BLOCK_STEP) * BLOCK_STEP
+
+
+def row_of(text: bytes) -> Tuple[Any, ...]:
+    """The row that a text is. Raises ValueError."""
+    found = ast.literal_eval(text.decode())
+    if not isinstance(found, tuple):
+        raise ValueError(text)
+    return found
+
+
 class Head:
-    """The head: two places, of which the one that was written last counts."""
+    """The head: two places, of which the one that was written last counts, and the blocks that were
+    written since. Where one of those is not whole, the later ones say how far the record came."""
 
     def __init__(self, path: pathlib.Path) -> None:
         """Opens the file, and makes it where there is none. Raises Failed."""
@@ -88,38 +168,91 @@ class Head:
         flags = os.O_RDWR | os.O_CREAT | os.O_NOFOLLOW | os.O_CLOEXEC
         try:
             self._descriptor = os.open(path, flags, 0o600)
-            held = os.pread(self._descriptor, 2 * SLOT_BYTES, 0)
+            held = os.pread(self._descriptor, HEAD_BYTES, 0)
         except OSError as fault:
             raise Failed(f"{path} cannot be opened: {fault.strerror}") from fault
         self._slots = [tip_of(held[at * SLOT_BYTES : (at + 1) * SLOT_BYTES]) for at in range(2)]
         self._next = 0
-        self._serial = max((tip.serial for tip in self.tips()), default=0)
+        self._serial = max((tip.serial for tip in self._slots if tip is not None), default=0)
+        self._later: List[Tip] = []  # of whole blocks after one that is not
+        self.blocks = self._read_blocks(held)
+        self._end = BLOCKS_AT  # of the blocks that count
+        self._is_filled = len(held) == HEAD_BYTES
+
+    def _read_blocks(self, held: bytes) -> List[Block]:
+        """The blocks that were written after both places, one after the other."""
+        found: List[Block] = []
+        at, last = BLOCKS_AT, self._serial
+        while at < len(held):
+            read = read_block(held, at)
+            if read is None:
+                at += BLOCK_STEP
+                continue
+            block, at = read
+            if block.tip.serial > self._serial:
+                is_next = not self._later and block.tip.serial == last + len(found) + 1
+                (found.append(block) if is_next else self._later.append(block.tip))
+                self._serial = block.tip.serial
+        return found
 
     def tips(self) -> List[Tip]:
         """What was written whole."""
-        return [tip for tip in self._slots if tip is not None]
+        slots = [tip for tip in self._slots if tip is not None]
+        return [*slots, *(block.tip for block in self.blocks), *self._later]
+
+    def blocks_of(self, record: str) -> List[Block]:
+        """What the blocks have of the record of this name."""
+        return [block for block in self.blocks if block.tip.record == record]
 
     def of(self, record: str) -> Optional[Tip]:
         """How far the record of this name has come; None where it is not known. What is written
         next leaves that place alone."""
         slots = enumerate(self._slots)
         known = [(tip.serial, at) for at, tip in slots if tip is not None and tip.record == record]
-        if not known:
-            return None
-        at = max(known)[1]
-        self._next = 1 - at
-        return self._slots[at]
+        if known:
+            self._next = 1 - max(known)[1]
+        tips = [tip for tip in self.tips() if tip.record == record]
+        return max(tips, key=lambda tip: tip.serial, default=None)
 
     def write(self, tip: Tip) -> None:
-        """Writes a tip, which is on the disk when this returns. Raises OSError."""
+        """Writes a tip, which is on the disk when this returns, as the record is already: so the
+        blocks count no more. Raises OSError."""
+        self._fill()
         self._serial += 1
         tip = tip._replace(serial=self._serial)
-        data = slot_of(tip)
-        if os.pwrite(self._descriptor, data, self._next * SLOT_BYTES) != len(data):
-            raise OSError(f"{self.path} was not written whole")
-        os.fdatasync(self._descriptor)
+        self._put(slot_of(tip), self._next * SLOT_BYTES)
         self._slots[self._next] = tip
         self._next = 1 - self._next
+        self.blocks, self._later, self._end = [], [], BLOCKS_AT
+
+    def add(self, block: Block) -> bool:
+        """Writes a block, which is on the disk when this returns; answers false, with nothing
+        written, where there is no place for it. Raises OSError."""
+        tip = block.tip._replace(serial=self._serial + 1)
+        data = block_text(block._replace(tip=tip))
+        is_first = not self.blocks and not self._later  # else those are taken over first
+        if not is_first or not self._is_filled or self._end + len(data) > HEAD_BYTES:
+            return False
+        self._serial += 1
+        self._put(data, self._end)
+        self._end = next_step(self._end + len(data))
+        return True
+
+    def _put(self, data: bytes, at: int) -> None:
+        """Has bytes on the disk. Raises OSError."""
+        if os.pwrite(self._descriptor, data, at) != len(data):
+            raise OSError(f"{self.path} was not written whole")
+        os.fdatasync(self._descriptor)
+
+    def _fill(self) -> None:
+        """Has the file as long as it is to be. Where there is no room for that, it has no
+        blocks."""
+        if not self._is_filled:
+            with contextlib.suppress(OSError):
+                length = os.fstat(self._descriptor).st_size
+                missing = bytes(max(0, HEAD_BYTES - length))
+                self._is_filled = os.pwrite(self._descriptor, missing, length) == len(missing)
+                os.fsync(self._descriptor)
 
     def begin(self, tip: Tip) -> None:
         """Writes a tip in both places. Raises OSError."""

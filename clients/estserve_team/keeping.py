@@ -6,11 +6,11 @@ import os
 import pathlib
 import sqlite3
 import time
-from typing import Any
+from typing import Any, List, Tuple
 
-from .chain import Head, NotProven, Tip
+from .chain import Block, Head, NotProven, Tip
 from .places import Failed, Places
-from .proving import Proven, check_plain, prove
+from .proving import Proven, check_plain, prove, take_over_blocks
 from .record import (
     FORMAT,
     FORMAT_OF_BEFORE,
@@ -35,20 +35,23 @@ def folder_of(arguments: argparse.Namespace) -> pathlib.Path:
     return arguments.state
 
 
-def known_tip(state: pathlib.Path, path: pathlib.Path, database: sqlite3.Connection) -> Tip:
-    """The tip that the head of a folder has of its record. Raises Failed."""
+def known_of(
+    state: pathlib.Path, path: pathlib.Path, database: sqlite3.Connection
+) -> Tuple[Tip, List[Block]]:
+    """The tip that the head of a folder has of its record, and its blocks. Raises Failed."""
     place = state / "private" / "head"
     if not place.exists():
         name_of(path, database, has_hashes=False)
         raise Failed(f"there is no head at {place}")
     head = Head(place)
     try:
-        tip = head.of(name_of(path, database, has_hashes=bool(head.tips())))
+        name = name_of(path, database, has_hashes=bool(head.tips()))
+        tip = head.of(name)
     finally:
         head.close()
     if tip is None:
         raise NotProven(path, "the head is another record's")
-    return tip
+    return tip, head.blocks_of(name)
 
 
 def name_of(path: pathlib.Path, database: sqlite3.Connection, has_hashes: bool) -> str:
@@ -80,9 +83,11 @@ def verify(arguments: argparse.Namespace) -> None:
         raise Failed(f"there is no record at {path}")
     check_plain(path)
     with open_reader(path) as database:
-        tip = known_tip(state, path, database)
-        proven = prove(path, database, tip)
+        tip, blocks = known_of(state, path, database)
+        proven = prove(path, database, tip, blocks=blocks)
     print(told(proven))
+    if proven.behind:
+        print(f"the last {proven.behind} stand in the head alone: the next start takes them over")
     print(f"the head knows entry {tip.entries}, and its hash is that of the record")
     print("so nothing was cut or changed since it was written, but by who could write both files")
 
@@ -99,11 +104,16 @@ def backup(arguments: argparse.Namespace) -> None:
     os.close(os.open(beside, os.O_WRONLY | os.O_CREAT | os.O_EXCL, 0o600))
     try:
         with open_reader(path) as source, contextlib.closing(sqlite3.connect(beside)) as copy:
-            tip = known_tip(state, path, source)  # the copy has at least as much
+            tip, blocks = known_of(state, path, source)  # the copy has at least as much
             source.backup(copy)
             copy.isolation_level = None
             copy.execute("PRAGMA journal_mode=DELETE")
-            proven = prove(beside, copy, tip)
+            proven = prove(beside, copy, tip, blocks=blocks)
+            if proven.behind:
+                raise Failed(
+                    f"the last {proven.behind} entries stand in the head alone, since the system "
+                    "ended: start the gateway, and ask again"
+                )
             copy.execute(BACKUP)
             last = last_tip(copy, tip.record)
             copy.execute(
@@ -140,8 +150,11 @@ def restore(arguments: argparse.Namespace) -> None:
                     source.backup(copy)
                     copy.execute("DROP TABLE backup")
                     copy.commit()
-            kept = put_away(places)
             head = Head(places.head)
+            with contextlib.suppress(Failed):  # where it is not such that they fit
+                if head.blocks and places.record.exists():
+                    take_over_blocks(places.record, head)
+            kept = put_away(places)
             head.begin(tip)
             head.close()
             os.replace(places.next_record, places.record)

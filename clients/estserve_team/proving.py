@@ -6,9 +6,9 @@ import json
 import pathlib
 import sqlite3
 import stat
-from typing import Any, Dict, Iterator, List, NamedTuple, Optional, Tuple
+from typing import Any, Dict, Iterator, List, NamedTuple, Optional, Sequence, Tuple
 
-from .chain import Head, NotProven, Tip, first_hash, hash_of
+from .chain import Block, Head, NotProven, Tip, first_hash, hash_of, row_of
 from .places import Failed
 from .record import (
     COLUMNS,
@@ -17,6 +17,7 @@ from .record import (
     SCHEMA,
     Aside,
     Entry,
+    RecordWriter,
     has_table,
     last_tip,
     open_writer,
@@ -36,12 +37,13 @@ ENTRIES_AT = len(Entry._fields)
 
 class Proven(NamedTuple):
     """What was found right: how many entries, how many of them aside, how many connections that
-    were given up, and how many entries the head didn't know yet."""
+    were given up, how many entries the head didn't know yet, and how many only the head has."""
 
     entries: int
     aside: int
     givenup: int
     ahead: int
+    behind: int
 
 
 def place_text(row: Any) -> str:
@@ -49,18 +51,32 @@ def place_text(row: Any) -> str:
     return f"entry {row[0]}, at {Aside(row[1], row[2])}"
 
 
-def check_entries(path: pathlib.Path, database: sqlite3.Connection, tip: Tip) -> int:
+def all_entries(database: sqlite3.Connection, blocks: Sequence[Block]) -> Iterator[Any]:
+    """The entries of a record with their hashes, and then what only the head has, without."""
+    count = 0
+    for row in database.execute(f"SELECT * FROM ({LINES}) ORDER BY number"):
+        count += 1
+        yield row
+    for block in blocks:
+        for row in map(row_of, block.entries):
+            if row[0] > count:
+                yield (*row, None)
+
+
+def check_entries(
+    path: pathlib.Path, database: sqlite3.Connection, tip: Tip, blocks: Sequence[Block]
+) -> int:
     """Answers how many entries there are, each with the hash that it has to have, and the one that
     the head knows among them. Raises NotProven."""
     last, count = first_hash(tip.record), 0
     if tip.entries == 0 and tip.entry_hash != last.hex():
         raise NotProven(path, "its head is of another record")
-    for row in database.execute(f"SELECT * FROM ({LINES}) ORDER BY number"):
+    for row in all_entries(database, blocks):
         count += 1
         if row[0] != count:
             raise NotProven(path, f"entry {count} is missing")
         last = hash_of(last, row[:ENTRIES_AT])
-        if last != row[ENTRIES_AT]:
+        if row[ENTRIES_AT] not in (None, last):
             raise NotProven(path, f"{place_text(row)}, is not as it was written")
         if count == tip.entries and last.hex() != tip.entry_hash:
             raise NotProven(path, f"up to {place_text(row)}, it is another one than the head knows")
@@ -69,14 +85,29 @@ def check_entries(path: pathlib.Path, database: sqlite3.Connection, tip: Tip) ->
     return count
 
 
-def check_givenup(path: pathlib.Path, database: sqlite3.Connection, tip: Tip) -> int:
+def all_givenup(database: sqlite3.Connection, blocks: Sequence[Block]) -> Iterator[Any]:
+    """As `all_entries`, of the connections that were given up."""
+    count = 0
+    for row in database.execute(GIVEN):
+        count += 1
+        yield row
+    for block in blocks:
+        first = block.tip.givenup - len(block.givenup) + 1
+        for number, row in enumerate(map(row_of, block.givenup), first):
+            if number > count:
+                yield (number, None, *row)
+
+
+def check_givenup(
+    path: pathlib.Path, database: sqlite3.Connection, tip: Tip, blocks: Sequence[Block]
+) -> int:
     """As `check_entries`, of the connections that were given up. Raises NotProven."""
     last, count = first_hash(tip.record), 0
-    for row in database.execute(GIVEN):
+    for row in all_givenup(database, blocks):
         count += 1
         last = hash_of(last, row[2:])
         is_known = count != tip.givenup or last.hex() == tip.givenup_hash
-        if row[0] != count or last != row[1] or not is_known:
+        if row[0] != count or row[1] not in (None, last) or not is_known:
             raise NotProven(path, f"connection {row[2]}, given up, is not as it was written")
     if count < tip.givenup:
         raise NotProven(path, f"{count} connections are given up, and {tip.givenup} were")
@@ -128,10 +159,14 @@ def check_objects(path: pathlib.Path, database: sqlite3.Connection, schema: str)
 
 
 def prove(
-    path: pathlib.Path, database: sqlite3.Connection, tip: Optional[Tip], schema: str = SCHEMA
+    path: pathlib.Path,
+    database: sqlite3.Connection,
+    tip: Optional[Tip],
+    schema: str = SCHEMA,
+    blocks: Sequence[Block] = (),
 ) -> Proven:
-    """Reads a whole record, and holds it against its schema, and against the tip that the head has.
-    Raises NotProven."""
+    """Reads a whole record with the head's blocks, and holds it against its schema, and against the
+    tip that the head has. Raises NotProven."""
     try:
         check_objects(path, database, schema)
         found = database.execute("PRAGMA integrity_check(1)").fetchone()[0]
@@ -139,15 +174,16 @@ def prove(
             raise NotProven(path, f"the file is damaged: {found.splitlines()[0]}")
         if tip is None:
             raise NotProven(path, "no head is beside it that knows it")
-        givenup = check_givenup(path, database, tip)
-        entries = check_entries(path, database, tip)
+        givenup = check_givenup(path, database, tip, blocks)
+        entries = check_entries(path, database, tip, blocks)
         if rest_of(database) not in tip.rest:
             raise NotProven(path, "what it has beside its entries is not as it was written")
         check_connections(path, database)
         aside = database.execute("SELECT count(*) FROM aside").fetchone()[0]
+        there = database.execute("SELECT count(*) FROM entries").fetchone()[0] + aside
     except sqlite3.Error as fault:
         raise unreadable(path, fault) from fault
-    return Proven(entries, aside, givenup, entries - tip.entries)
+    return Proven(entries, aside, givenup, entries - tip.entries, entries - there)
 
 
 def check_plain(path: pathlib.Path) -> None:
@@ -192,13 +228,27 @@ def check_record(path: pathlib.Path, head: Head, is_accepted: bool) -> bool:
     if facts.get("format") == FORMAT_OF_BEFORE:
         take_over(path, head, name_of_before(facts), is_accepted)
     elif is_accepted:
+        with contextlib.suppress(Failed):  # where the record is not such that they fit
+            take_over_blocks(path, head)
         take_over(path, head, facts["id"], True)
     with contextlib.closing(open_writer(path)) as database:
         found = dict(database.execute("SELECT name, value FROM facts"))
         if found.get("format") != FORMAT:
             raise Failed(f"the record {path} has a format that this gateway does not know")
-        prove(path, database, head.of(found.get("id", "")))
+        name = found.get("id", "")
+        prove(path, database, head.of(name), blocks=head.blocks_of(name))
+    if head.blocks:
+        take_over_blocks(path, head)
     return True
+
+
+def take_over_blocks(path: pathlib.Path, head: Head) -> None:
+    """Has all in the record that the head has, which then has no blocks. Raises Failed."""
+    writer = RecordWriter(path, head)
+    try:
+        writer.take_over()
+    finally:
+        writer.close_record()
 
 
 def name_of_before(facts: dict) -> str:

@@ -6,6 +6,7 @@ file is what some run of the program alone has made. Each entry bears a hash, by
 """
 import contextlib
 import heapq
+import os
 import pathlib
 import secrets
 import sqlite3
@@ -13,7 +14,7 @@ import time
 from typing import Any, Dict, Iterable, Iterator, List, NamedTuple, Optional, Tuple
 
 from . import moments
-from .chain import Head, Tip, hash_of, new_tip
+from .chain import Block, Head, Tip, hash_of, hash_of_text, new_tip, row_of, text_of
 from .places import Failed, digest_of
 
 POLICY = -1  # the slot of a policy entry
@@ -203,8 +204,12 @@ class RecordWriter:
             if found.get("format") != FORMAT or row is None:
                 raise Failed(f"the record {path} has a format that this gateway does not know")
             self.tip = last_tip(self._database, found["id"])
+            if head is not None:  # which has on the disk what SQLite has not
+                self._database.execute("PRAGMA synchronous=NORMAL")
         except sqlite3.Error as fault:
             raise Failed(f"the record {path} cannot be opened: {fault}") from fault
+        self._log: List[int] = []  # a descriptor of SQLite's log, once there is one
+        self._is_ahead = False  # the head may have rows that the record has not on the disk
         self.program, self.digest = row
         self.follows = found.get("follows", "")
 
@@ -248,10 +253,21 @@ class RecordWriter:
         self.close()
 
     def close(self) -> None:
-        """Closes the file, and the head."""
-        self._database.close()
+        """Closes the file, and the head, which then has no rows that the record might miss, where
+        that can be."""
+        if self._is_ahead:
+            with contextlib.suppress(OSError):
+                self._settle(self.tip)
+        self.close_record()
         if self.head is not None:
             self.head.close()
+
+    def close_record(self) -> None:
+        """Closes the file alone."""
+        self._database.close()
+        for log in self._log:
+            os.close(log)
+        self._log = []
 
     def append(
         self,
@@ -259,59 +275,99 @@ class RecordWriter:
         connections: Iterable[Connection] = (),
         givenup: Iterable[GivenUp] = (),
     ) -> None:
-        """Writes these in one transaction, and then the head. Both are on the disk when this
-        returns. Raises sqlite3.Error, with nothing written, or OSError, where the head isn't."""
-        tip, rows = self._after_entries(entries)
-        tip, given = self._after_givenup(tip, givenup)
-        with transaction(self._database) as database:
+        """Writes these in one transaction, and then into the head, with the tip after them. There
+        they are on the disk when this returns. Raises sqlite3.Error, with nothing written, or
+        OSError, where the head isn't."""
+        tip = self.tip
+        tip, entry_texts, rows = after_entries(tip, entries)
+        tip, given_texts, given = after_givenup(tip, givenup)
+        database = self._database
+        database.execute("BEGIN IMMEDIATE")
+        try:
             database.executemany(INSERT_ENTRY, rows)
             if connections:
                 database.executemany(INSERT_CONNECTION, connections)
             if given:
                 database.executemany(INSERT_GIVENUP, given)
             moments.reach(moments.INSERTED)
+            database.execute("COMMIT")
+        except BaseException:
+            if database.in_transaction:
+                database.execute("ROLLBACK")
+            raise
         moments.reach(moments.COMMITTED)
-        self._move(tip)
+        self._note(Block(tip, entry_texts, [text_of(row) for row in connections], given_texts))
 
-    def _after_entries(self, entries: Iterable[Entry]) -> Tuple[Tip, List[Tuple[Any, ...]]]:
-        """The tip after these entries, and their rows."""
-        last = bytes.fromhex(self.tip.entry_hash)
-        rows: List[Tuple[Any, ...]] = []
-        for entry in entries:
-            last = hash_of(last, entry)
-            rows.append((*entry, last))
-        count = self.tip.entries + len(rows)
-        return self.tip._replace(entries=count, entry_hash=last.hex()), rows
+    def _note(self, block: Block) -> None:
+        """Has what was committed on the disk. Raises OSError."""
+        self.tip = block.tip
+        if self.head is not None:
+            self._is_ahead = True
+            if not self.head.add(block):
+                self._settle(block.tip)
+        moments.reach(moments.SYNCED)
 
-    @staticmethod
-    def _after_givenup(tip: Tip, givenup: Iterable[GivenUp]) -> Tuple[Tip, List[Tuple[Any, ...]]]:
-        """The tip after these connections were given up, and their rows."""
-        last = bytes.fromhex(tip.givenup_hash)
-        rows: List[Tuple[Any, ...]] = []
-        for number, one in enumerate(givenup, tip.givenup + 1):
-            last = hash_of(last, one)
-            rows.append((number, *one, last))
-        count = tip.givenup + len(rows)
-        return tip._replace(givenup=count, givenup_hash=last.hex()), rows
-
-    def _move(self, tip: Tip) -> None:
-        """Notes how far the record has come. Raises OSError."""
-        self.tip = tip
+    def _settle(self, tip: Tip) -> None:
+        """Has all of the record on the disk, and then the tip in the head, whose blocks count no
+        more. Raises OSError."""
+        if not self._log:  # SQLite's, which is there as long as the record is open
+            path = self.path.with_name(self.path.name + "-wal")
+            self._log.append(os.open(path, os.O_RDONLY | os.O_NOFOLLOW | os.O_CLOEXEC))
+        os.fdatasync(self._log[0])
         if self.head is not None:
             self.head.write(tip)
-        moments.reach(moments.SYNCED)
+        self._is_ahead = False
+
+    def take_over(self) -> int:
+        """Takes into the record what only the head has, since the system ended before the record
+        was on the disk. Answers how many entries. Raises Failed."""
+        assert self.head is not None
+        count = 0
+        try:
+            for block in self.head.blocks_of(self.tip.record):
+                count += self._take_over(block)
+            if self.head.blocks:
+                self._settle(self.tip)
+        except (sqlite3.Error, OSError) as fault:
+            raise Failed(f"the record {self.path} cannot be written: {fault}") from fault
+        return count
+
+    def _take_over(self, block: Block) -> int:
+        """Takes over what one block has and the record has not. Answers how many entries. Raises
+        Failed, sqlite3.Error."""
+        first = block.tip.entries - len(block.entries)
+        if self.tip.entries >= block.tip.entries and self.tip.givenup >= block.tip.givenup:
+            return 0
+        if (first, block.tip.givenup - len(block.givenup)) != (self.tip.entries, self.tip.givenup):
+            return 0  # the record was cut: that is told when it is held against the head
+        entries = [Entry._make(row_of(text)) for text in block.entries]
+        connections = [Connection._make(row_of(text)) for text in block.connections]
+        givenup = [GivenUp._make(row_of(text)) for text in block.givenup]
+        tip, _, rows = after_entries(self.tip, entries)
+        tip, _, given = after_givenup(tip, givenup)
+        if (tip.entry_hash, tip.givenup_hash) != (block.tip.entry_hash, block.tip.givenup_hash):
+            return 0
+        with transaction(self._database) as database:
+            database.executemany(INSERT_ENTRY, rows)
+            database.executemany(INSERT_CONNECTION, connections)
+            database.executemany(INSERT_GIVENUP, given)
+        self.tip = tip
+        return len(entries)
 
     @contextlib.contextmanager
     def changing_rest(self) -> Iterator[sqlite3.Connection]:
         """A transaction that changes what the record has beside its entries. While it is under way
         the head knows both. Raises Failed."""
         try:
+            if self.head is not None:
+                self._settle(self.tip)
             with transaction(self._database) as database:
                 yield database
                 rest = rest_of(database)
                 if self.head is not None:
                     self.head.write(self.tip._replace(rest=(*self.tip.rest, rest)))
-            self._move(last_tip(self._database, self.tip.record))
+            self.tip = last_tip(self._database, self.tip.record)
+            self._settle(self.tip)
         except (sqlite3.Error, OSError) as fault:
             raise Failed(f"the record cannot be written: {fault}") from fault
 
@@ -411,6 +467,39 @@ class RecordWriter:
             database.execute("UPDATE givenup SET aside_time = NULL WHERE aside_time = :then", then)
             check_places(database)
         return aside, back
+
+
+Rows = List[Tuple[Any, ...]]
+
+
+def after_entries(tip: Tip, entries: Iterable[Entry]) -> Tuple[Tip, List[bytes], Rows]:
+    """The tip after these entries, their texts, and their rows."""
+    last = bytes.fromhex(tip.entry_hash)
+    texts: List[bytes] = []
+    rows: Rows = []
+    for entry in entries:
+        text = text_of(entry)
+        last = hash_of_text(last, text)
+        texts.append(text)
+        rows.append((*entry, last))
+    if not rows:
+        return tip, texts, rows
+    return tip._replace(entries=tip.entries + len(rows), entry_hash=last.hex()), texts, rows
+
+
+def after_givenup(tip: Tip, givenup: Iterable[GivenUp]) -> Tuple[Tip, List[bytes], Rows]:
+    """The tip after these connections were given up, their texts, and their rows."""
+    last = bytes.fromhex(tip.givenup_hash)
+    texts: List[bytes] = []
+    rows: Rows = []
+    for number, one in enumerate(givenup, tip.givenup + 1):
+        text = text_of(one)
+        last = hash_of_text(last, text)
+        texts.append(text)
+        rows.append((number, *one, last))
+    if not rows:
+        return tip, texts, rows
+    return tip._replace(givenup=tip.givenup + len(rows), givenup_hash=last.hex()), texts, rows
 
 
 def remove_record(path: pathlib.Path) -> None:

@@ -17,7 +17,7 @@ import unittest
 import teams
 from teams import Team, line_of, login_line
 from test_replay import failed_start, filled
-from estserve_team.chain import SLOT_BYTES, Head, NotProven, first_hash, hash_of, new_tip, slot_of
+from estserve_team.chain import BLOCKS_AT, SLOT_BYTES, Head, NotProven, first_hash, hash_of, new_tip, slot_of
 from estserve_team.chain import tip_of
 from estserve_team.proving import check_record, prove
 from estserve_team.record import COLUMNS, Entry, open_reader
@@ -250,14 +250,60 @@ class Changed(Record):
         head.close()
         self.refused("no head")
 
-    def test_a_log_that_is_gone(self):
+    def grown(self, number=signal.SIGKILL):
+        """The files of the record as they were before the last entries, and how many entries there
+        are. The gateway ends by this signal."""
         with Team(state=self.state) as team:
             with team.root() as client:
                 client.addrole("one")
-            team.end(signal.SIGKILL)
+                files = [self.record, self.record.with_name("record.sqlite-wal")]
+                before = {path: path.read_bytes() for path in files}
+                client.addrole("two")
+                client.addrole("three")
+                count = len(team.entries())
+            team.end(number)
+        return before, count
+
+    def put_back(self, before):
+        """Puts files back as they were."""
+        self.record.with_name("record.sqlite-shm").unlink(missing_ok=True)
+        for path, text in before.items():
+            path.write_bytes(text)
+
+    def test_what_the_system_had_not_on_the_disk_is_taken_over(self):
+        before, count = self.grown()
+        self.put_back(before)
+        self.assertEqual(len(entries_at(self.record)), count - 2)
+        self.assertIn("the last 2 stand in the head alone", word(self.state, "verify")[1])
+        status, _, told = word(self.state, "backup", str(self.state.parent / "b.sqlite"))
+        self.assertEqual(status, 1)
+        self.assertIn("the last 2 entries stand in the head alone", told)
+        self.assertTrue(self.is_proven())
+        self.assertEqual(len(entries_at(self.record)), count)
+        with Team(state=self.state) as team, team.root() as client:
+            client.assign("ann", "three")
+            self.assertEqual(team.end(), 0)
+
+    def test_a_log_that_is_gone(self):
+        _, count = self.grown()
         log = self.record.with_name("record.sqlite-wal")
         self.assertGreater(log.stat().st_size, 0)
         log.unlink()
+        self.assertTrue(self.is_proven())
+        self.assertEqual(len(entries_at(self.record)), count)
+
+    def test_a_log_and_a_part_of_the_head_that_are_gone(self):
+        before, count = self.grown()
+        self.put_back(before)
+        text = bytearray(self.head.read_bytes())
+        at = text.index(b'"two"' if b'"two"' in text else b"two", BLOCKS_AT)
+        text[at] ^= 1
+        self.head.write_bytes(text)
+        self.refused(f"it has {count - 2} entries, and {count} were written")
+
+    def test_a_log_and_all_blocks_that_are_gone(self):
+        before, _ = self.grown(signal.SIGTERM)
+        self.put_back(before)
         self.refused("entries, and [0-9]+ were written")
 
     def test_an_older_copy_of_the_record(self):
