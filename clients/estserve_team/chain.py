@@ -80,17 +80,17 @@ def check_of(text: bytes) -> bytes:
     return hashlib.sha256(text).hexdigest()[:16].encode()
 
 
-def tip_text(tip: Tip) -> bytes:
-    """A tip as the head has it."""
+def tip_text(tip: Tip, serial: int) -> bytes:
+    """A tip as the head has it under a number."""
+    record, entries, entry_hash, givenup, givenup_hash, rest, _ = tip
     return (
-        f"{tip.serial} {tip.record} {tip.entries} {tip.entry_hash} {tip.givenup} "
-        f"{tip.givenup_hash} {','.join(tip.rest)}"
+        f"{serial} {record} {entries} {entry_hash} {givenup} {givenup_hash} {','.join(rest)}"
     ).encode()
 
 
 def slot_of(tip: Tip) -> bytes:
     """A tip as one place of the head has it."""
-    text = tip_text(tip)
+    text = tip_text(tip, tip.serial)
     line = check_of(text) + b" " + text
     return line.ljust(SLOT_BYTES - 1) + b"\n"
 
@@ -120,11 +120,12 @@ class Block(NamedTuple):
     givenup: List[bytes]
 
 
-def block_text(block: Block) -> bytes:
+def block_text(block: Block, serial: int) -> bytes:
     """A block as the head has it: its check and its length, the tip, and a line for each row."""
-    lines = [tip_text(block.tip)]
-    for letter, rows in zip((b"e", b"c", b"g"), block[1:]):
-        lines += [letter + row for row in rows]
+    lines = [tip_text(block.tip, serial)]
+    lines += [b"e" + row for row in block.entries]
+    lines += [b"c" + row for row in block.connections]
+    lines += [b"g" + row for row in block.givenup]
     text = b"\n".join(lines)
     return b"%s %d\n%s" % (check_of(text), len(text), text)
 
@@ -228,8 +229,7 @@ class Head:
     def add(self, block: Block) -> bool:
         """Writes a block, which is on the disk when this returns; answers false, with nothing
         written, where there is no place for it. Raises OSError."""
-        tip = block.tip._replace(serial=self._serial + 1)
-        data = block_text(block._replace(tip=tip))
+        data = block_text(block, self._serial + 1)
         is_first = not self.blocks and not self._later  # else those are taken over first
         if not is_first or not self._is_filled or self._end + len(data) > HEAD_BYTES:
             return False

@@ -22,6 +22,7 @@ from .gateway import Gateway
 from .limits import fit_to, read_limits
 from .listening import Listener
 from .log import fill_standard_streams, forward_all, write_now
+from .loop import Policy
 from .page_process import PageProcess
 from .people import People, peer_uid, read_people
 from .places import Failed, Places, bind_socket
@@ -112,6 +113,7 @@ def serve_team(arguments: argparse.Namespace) -> None:
             tell_aside(places, arguments.until)
         watchdog = Watchdog()
         try:
+            asyncio.set_event_loop_policy(Policy())
             asyncio.run(run(places, people, program, arguments, watchdog))
         except Exception as fault:  # where no thread can be started, Python's own end fails too
             watchdog.hurry()

@@ -374,25 +374,17 @@ class Gateway:
 
     def _write(self, ready: List[Asked], givenup: List[Asked]) -> None:
         """Writes entries, and connections that are given up. Raises what goes wrong."""
-        entries = [
-            self._entry_of(asked, self.entries_written + at) for at, asked in enumerate(ready, 1)
-        ]
-        logins = [asked.session for asked in ready if asked.request.cmd == "login"]
-        connections = [
-            Connection(s.number, s.session, s.user, s.person.name, s.login_roles) for s in logins
-        ]
-        for session in logins:
-            session.is_recorded = True
-        version = max(
-            [self.order.version, *(asked.place for asked in ready if asked.request.slot is None)]
-        )
-        now = time.time()
-        began = time.monotonic()
-        self._writer.append(
-            entries,
-            connections,
-            [GivenUp(asked.session.number, version, now) for asked in givenup],
-        )
+        entries, version = [], self.order.version
+        connections: List[Connection] = []
+        for number, asked in enumerate(ready, self.entries_written + 1):
+            entries.append(self._entry_of(asked, number))
+            if asked.request.slot is None:
+                version = max(version, asked.place)
+                if asked.request.cmd == "login":
+                    connections.append(asked.session.as_recorded())
+        now, began = time.time(), time.monotonic()
+        given = [GivenUp(asked.session.number, version, now) for asked in givenup]
+        self._writer.append(entries, connections, given)
         self.counts.committed(len(entries), time.monotonic() - began, now)
         self.entries_written += len(entries)
         self.order.written(ready)
@@ -564,6 +556,7 @@ class Gateway:
                 self.fail("an answer is missing")
             for client in list(self.clients):
                 self._tell(client.look_after)
+            self.reads.catch_up()
 
     async def _log_all_out(self) -> None:
         """Logs out each session, which is recorded, and tells who holds it."""

@@ -6,6 +6,7 @@ import socket
 from typing import Any, Callable, Optional
 
 from .log import Log, is_out_of_descriptors
+from .loop import begin
 from .refusals import Refused
 from .watchdog import Reserve
 
@@ -70,7 +71,7 @@ class Listener:
 
     async def _connect(self, protocol: Any, connection: socket.socket) -> None:
         try:
-            await self._loop.connect_accepted_socket(lambda: protocol, connection)
+            await begin(connection, protocol)
         except OSError:
             connection.close()
             protocol.connection_lost(None)

@@ -278,9 +278,11 @@ class RecordWriter:
         """Writes these in one transaction, and then into the head, with the tip after them. There
         they are on the disk when this returns. Raises sqlite3.Error, with nothing written, or
         OSError, where the head isn't."""
-        tip = self.tip
-        tip, entry_texts, rows = after_entries(tip, entries)
-        tip, given_texts, given = after_givenup(tip, givenup)
+        tip, entry_texts, rows = after_entries(self.tip, entries)
+        given_texts: List[bytes] = []
+        given: Rows = []
+        if givenup:
+            tip, given_texts, given = after_givenup(tip, givenup)
         database = self._database
         database.execute("BEGIN IMMEDIATE")
         try:
@@ -482,9 +484,9 @@ def after_entries(tip: Tip, entries: Iterable[Entry]) -> Tuple[Tip, List[bytes],
         last = hash_of_text(last, text)
         texts.append(text)
         rows.append((*entry, last))
-    if not rows:
-        return tip, texts, rows
-    return tip._replace(entries=tip.entries + len(rows), entry_hash=last.hex()), texts, rows
+    count = tip.entries + len(rows)
+    after = Tip(tip.record, count, last.hex(), tip.givenup, tip.givenup_hash, tip.rest)
+    return after, texts, rows
 
 
 def after_givenup(tip: Tip, givenup: Iterable[GivenUp]) -> Tuple[Tip, List[bytes], Rows]:

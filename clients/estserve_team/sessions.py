@@ -3,14 +3,17 @@ of its logout."""
 import asyncio
 import json
 import pathlib
+import socket
 import time
 from collections import deque
 from typing import TYPE_CHECKING, Any, Callable, Deque, Dict, List, NamedTuple, Optional, Tuple
 
 from . import moments
 from .lines import Request, cut_lines, request_of
+from .loop import begin
 from .order import Asked
 from .people import Person
+from .record import Connection
 from .refusals import id_taken, interrupted, on_shared
 
 if TYPE_CHECKING:
@@ -22,6 +25,8 @@ PIECE = 4_096  # a longer send may take as many reads as it has such pieces
 WAIT_SECONDS = 120  # without an answer in this time the server is given up
 MOST_UNDER_WAY = 64  # of one shared session
 LONGEST_ID = 64
+DECODE = json.JSONDecoder().raw_decode
+CHANGES = frozenset(("login", "activate", "drop"))  # what changes a session
 LOGOUT = request_of({"cmd": "logout"})
 NOT_A_REQUEST = b'{"code":3,"fault":"NotARequest"}'
 KEPT_FROM_SHARED = {"login", "logout", "activate", "drop"}
@@ -64,7 +69,14 @@ class Session(asyncio.Protocol):
 
     async def connect(self, path: pathlib.Path) -> None:
         """Opens the connection. Raises OSError."""
-        await asyncio.get_running_loop().create_unix_connection(lambda: self, str(path))
+        connection = socket.socket(socket.AF_UNIX, socket.SOCK_STREAM)
+        try:
+            connection.setblocking(False)
+            await asyncio.get_running_loop().sock_connect(connection, str(path))
+            await begin(connection, self)
+        except BaseException:
+            connection.close()
+            raise
 
     def connection_made(self, transport: Any) -> None:
         self._transport = transport
@@ -83,6 +95,13 @@ class Session(asyncio.Protocol):
         """Who holds it."""
         return Holder(
             self.user, self.person.name, tuple(self.roles), self.session, self.since, self.number
+        )
+
+    def as_recorded(self) -> Connection:
+        """Its connection, for the record, which has it from now on, or may have it."""
+        self.is_recorded = True
+        return Connection(
+            self.number, self.session, self.user, self.person.name, self.login_roles
         )
 
     def ask(self, asked: Asked) -> None:
@@ -118,13 +137,15 @@ class Session(asyncio.Protocol):
     def _take(self, line: bytes) -> None:
         """Takes the answer to the oldest request."""
         asked = self.flight.popleft()
-        asked.reply, asked.fields = line, json.loads(line.decode())
-        if asked.fields.get("ok", asked.request.cmd) != asked.request.cmd or (
-            "ok" in asked.fields
-        ) == ("code" in asked.fields):
+        text = line.decode()
+        fields, end = DECODE(text)
+        cmd = asked.request.cmd
+        is_done = fields.get("ok") == cmd
+        if end != len(text) or is_done == ("code" in fields) or is_done != ("ok" in fields):
             raise ValueError(line)
-        asked.time = time.time()
-        self._follow(asked)
+        asked.reply, asked.fields, asked.time = line, fields, time.time()
+        if not is_done or cmd in CHANGES:
+            self._follow(asked)
         self.gateway.order.answered(asked)
         self.answered.append(asked)
 

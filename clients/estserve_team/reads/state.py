@@ -9,6 +9,7 @@ from .filling import FillingWatch
 from .policy_model import PolicyModel
 from .slot_model import SlotsModel
 
+MOST_NEW = 64  # entries that are not added yet
 WITHOUT_KEYS = {command: {"cmd": command} for command in ("step", "discard", "unload")}
 
 
@@ -57,12 +58,14 @@ class ReadState:
         self._gateway = gateway
         self._watch = FillingWatch(gateway.log)
         self._models = Models()
+        self._new: List[Entry] = []  # that were not added yet
         self._fault: Optional[Exception] = None
         gateway.listen(self.follow)
 
     @property
     def models(self) -> Models:
         """The models of the record. Raises Refused, where they could not follow an entry."""
+        self.catch_up()
         if self._fault is not None:
             raise failed(f"the record can't be read: {self._fault}")
         return self._models
@@ -79,13 +82,21 @@ class ReadState:
 
     def begin(self) -> None:
         """Builds the models from the whole record, and tells what is nearly full."""
-        self._models, self._fault = models_of(self._gateway.record_path), None
+        models = models_of(self._gateway.record_path)
+        self._models, self._new, self._fault = models, [], None
         self._watch = FillingWatch(self._gateway.log)
         self._watch.tell(self.policy.fillings() + self.slots.fillings())
 
     def follow(self, entries: List[Entry]) -> None:
+        """Notes new entries, which are added when the models are asked for, or are many."""
+        self._new += entries
+        if len(self._new) >= MOST_NEW:
+            self.catch_up()
+
+    def catch_up(self) -> None:
         """Adds new entries, and tells what is nearly full by them. It never raises."""
-        if self._fault is not None:
+        entries, self._new = self._new, []
+        if self._fault is not None or not entries:
             return
         try:
             self._models.add_all(entries)
