@@ -12,13 +12,14 @@ from typing import Any, Callable, Deque, List, Optional, Tuple
 
 from .lines import cut_lines
 from .places import Children
-from .refusals import not_understood
+from .refusals import failed, not_understood
 from .watchdog import Reserve
 
 MOST_SENDS = 900_000
 PIECE = 4_096
 DESCRIPTORS = 8  # that a start takes, at most
-MOST_FAULTS = 3  # this many ends in turn without an answer are a fault of the program
+MOST_FAULTS = 3  # after so many ends in turn the line that waits longest is given up
+FIRST_PAUSE, LONGEST_PAUSE = 0.1, 30.0  # seconds before the next start, from then on
 
 Done = Callable[[bytes], None]
 
@@ -52,15 +53,23 @@ class Pipe(asyncio.Protocol):
             self.answerer.lose()
 
 
+def pause_after(faults: int) -> float:
+    """The seconds before the next start, after so many ends in turn without an answer."""
+    if faults < MOST_FAULTS:
+        return 0.0
+    return min(FIRST_PAUSE * 2.0 ** min(faults - MOST_FAULTS, 20), LONGEST_PAUSE)
+
+
 class Answerer:
     """One child after the other, and the lines that are asked."""
 
     def __init__(
-        self, program: str, children: Children, fail: Callable[[str], None], reserve: Reserve
+        self, program: str, children: Children, log: Callable[[str, str], None], reserve: Reserve
     ) -> None:
-        """`fail` is called with what is wrong, where no line can be answered any more."""
-        self._program, self._children, self._fail = program, children, fail
+        self._program, self._children, self._log = program, children, log
         self._reserve = reserve
+        self._is_closed = False
+        self._due: Optional[asyncio.TimerHandle] = None  # for the next start
         self._asked: Deque[Tuple[bytes, Done]] = deque()
         self._lines: List[bytes] = []
         self._faults = 0
@@ -104,28 +113,40 @@ class Answerer:
         if self.pipe is not None and self.pipe.sends >= MOST_SENDS and not self._asked:
             self._begin_anew()
 
-    def lose(self) -> None:
-        """Takes it that the child has ended unasked."""
+    def lose(self, why: str = "the second child has ended") -> None:
+        """Takes it that there is no child, unasked. Where it is so again and again, the line that
+        waits longest may be why: it is given up, and the next start comes after a pause."""
         self._faults += 1
-        if self._faults >= MOST_FAULTS:
-            self._fail("the second child ends without an answer")
-        else:
-            self._begin_anew()
+        self._log(why, "fault")
+        if self._faults % MOST_FAULTS == 0 and self._asked:
+            self._asked.popleft()[1](failed("the second child has ended at this line").line)
+        self._begin_anew(pause_after(self._faults))
 
-    def _begin_anew(self) -> None:
-        """Ends the child, and starts another."""
-        self.close()
-        asyncio.ensure_future(self._restart())
+    def _begin_anew(self, pause: float = 0.0) -> None:
+        """Ends the child, and starts another after some seconds."""
+        self._end()
+        if not self._is_closed:
+            loop = asyncio.get_running_loop()
+            self._due = loop.call_later(pause, lambda: asyncio.ensure_future(self._restart()))
 
     async def _restart(self) -> None:
+        if self._is_closed:
+            return
         self._reserve.release(DESCRIPTORS)
         try:
             await self.start()
-        except Exception as fault:  # whatever it is, no line can be answered any more
-            self._fail(f"the second child cannot be started: {fault}")
+        except Exception as fault:  # whatever it is, the next start may go better
+            self.lose(f"the second child cannot be started: {fault}")
         self._reserve.fill()
 
     def close(self) -> None:
+        """Ends the child, and starts none any more."""
+        self._is_closed = True
+        if self._due is not None:
+            self._due.cancel()
+        self._end()
+
+    def _end(self) -> None:
         """Ends the child."""
         pipe, self.pipe = self.pipe, None
         if pipe is not None:

@@ -25,7 +25,7 @@ from .log import fill_standard_streams, forward_all, write_now
 from .loop import Policy
 from .page_process import PageProcess
 from .people import People, peer_uid, read_people
-from .places import Failed, Places, bind_socket
+from .places import Failed, Places, add_state, bind_socket
 from .reads.client import add_words
 from .record import place_of
 from .sessions import MOST_SENDS
@@ -41,7 +41,7 @@ def add_parser(subparsers: Any) -> None:
     """Adds `team` to the commands of the client: by itself it serves, with a word it asks a gateway
     that runs."""
     parser = subparsers.add_parser("team", help=HELP)
-    parser.add_argument("--state", metavar="DIR", type=pathlib.Path, help="the team's folder")
+    add_state(parser)
     parser.add_argument(
         "--people",
         metavar="FILE",

@@ -104,7 +104,7 @@ class Gateway:
         self.visiting = visiting.Visiting(self)
         self.page_users: Set[int] = set()  # as whom a page's process may come
         self.reserve = Reserve()
-        self.answerer = Answerer(program, places.children, self.stop_failed, self.reserve)
+        self.answerer = Answerer(program, places.children, self.log, self.reserve)
         self.watchdog: Optional[Watchdog] = None  # where the process is the gateway's own
 
     # ---- what others ask
@@ -168,7 +168,7 @@ class Gateway:
     ) -> SharedSession:
         return SharedSession(self, key, await self.open_session(person, user, roles))
 
-    def _forget_shared(self) -> None:
+    def forget_shared(self) -> None:
         """Forgets the shared sessions that are over. Logins that are under way go on, for all who
         wait for them."""
         self.shared = {key: held for key, held in self.shared.items() if not is_past(held)}
@@ -192,6 +192,16 @@ class Gateway:
         if self.accounts.may_log_refusal(person):
             text = f"{cmd} of {user} is refused: {fault}"
             self.log(text, "refused", person=person, user=user, command=cmd, fault=fault)
+
+    def note_act(self, what: str, told: Dict[str, Any]) -> None:
+        """Has the record tell of something that is no entry. Raises Refused."""
+        if not self.is_serving:
+            raise stopping()
+        try:
+            self._writer.note_act(what, told)
+        except Failed as fault:
+            self.fail(str(fault))
+            raise interrupted() from None
 
     # ---- what is recorded at once
 
@@ -523,7 +533,7 @@ class Gateway:
         sessions, self.sessions = list(self.sessions.values()), {}
         for drop in [*(asked.lose for asked in lost), *(session.abandon for session in sessions)]:
             self._tell(drop)
-        self._forget_shared()
+        self.forget_shared()
         self.flush()
 
     async def _begin_anew(self) -> None:
@@ -562,7 +572,7 @@ class Gateway:
         """Logs out each session, which is recorded, and tells who holds it."""
         sessions = list(self.sessions.values())
         await asyncio.gather(*(self.close_session(session) for session in sessions))
-        self._forget_shared()
+        self.forget_shared()
         for session in sessions:
             if session.on_close:
                 session.on_close()

@@ -9,7 +9,7 @@ import time
 from typing import Any, List, Tuple
 
 from .chain import Block, Head, NotProven, Tip
-from .places import Failed, Places
+from .places import Failed, Places, add_state
 from .proving import Proven, check_plain, prove, take_over_blocks
 from .record import (
     FORMAT,
@@ -196,13 +196,7 @@ def add_words(subparsers: Any) -> None:
         ("undo-until", undo_until, "bring back what the last --until has kept aside"),
     ):
         parser = subparsers.add_parser(word, help=help, description=help)
-        parser.add_argument(
-            "--state",
-            default=argparse.SUPPRESS,
-            metavar="DIR",
-            type=pathlib.Path,
-            help="the team's folder",
-        )
+        add_state(parser, argparse.SUPPRESS)
         if word in ("backup", "restore"):
             parser.add_argument("file", metavar="FILE", type=pathlib.Path)
         parser.set_defaults(act=act)

@@ -26,13 +26,35 @@ async def need_administrator(context: Context, what: str) -> None:
 
 
 async def kick(context: Context, keys: Dict[str, Any]) -> Dict[str, Any]:
-    """Ends all connections, logins and visits of a Unix user. Raises Refused."""
+    """Ends all connections, logins and visits of a Unix user, or one session. The record has it
+    first. Raises Refused."""
+    if len(keys) != 1:
+        raise not_a_word("kick takes a person or a session")
     await need_administrator(context, "kick")
-    name, gateway = keys["person"], context.gateway
+    gateway, by = context.gateway, context.person.name
+    gateway.note_act("kick", {"by": by, **keys})
+    gateway.log(f"{by} kicks {keys}", "kicked", by=by, **keys)
+    if "session" in keys:
+        return await kick_session(gateway, keys["session"])
+    name = keys["person"]
     clients = [one for one in gateway.clients if one.person and one.person.name == name]
     for client in clients:
         client.close()
-    return {"connections": len(clients), "visits": gateway.visiting.end_visits(name, None)}
+    visits = gateway.visiting.end_visits(name, None)
+    return {"connections": len(clients), "sessions": 0, "visits": visits}
+
+
+async def kick_session(gateway: Any, number: int) -> Dict[str, Any]:
+    """Ends one session: the connection at team.sock whose login it is, or the login that others
+    share."""
+    found = [one for one in gateway.sessions.values() if one.session == number]
+    clients = [one for one in gateway.clients if getattr(one, "session", None) in found]
+    for client in clients:
+        client.close()  # which logs out
+    for session in found if not clients else ():
+        await gateway.close_session(session)
+    gateway.forget_shared()
+    return {"connections": len(clients), "sessions": len(found), "visits": 0}
 
 
 async def visits(context: Context, keys: Dict[str, Any]) -> Dict[str, Any]:
@@ -125,7 +147,7 @@ async def carry_out(context: Context, slot: int, others: List[str]) -> Dict[str,
 
 WORDS = {
     "health": Word(tell_health, needs_session=False),
-    "kick": Word(kick, required={"person": str}),
+    "kick": Word(kick, optional={"person": str, "session": int}),
     "visits": Word(visits, needs_session=False),
     "close": Word(close, required={"visit": str}, needs_session=False),
     "retract": Word(retract, required={"slot": int, "signal": str}),

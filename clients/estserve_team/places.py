@@ -39,6 +39,13 @@ SET_PARENT_DEATH_SIGNAL = 1
 C_LIBRARY = ctypes.CDLL(None, use_errno=True)
 
 
+def add_state(parser: Any, default: Any = None) -> None:
+    """Adds the team's folder to the options of a command."""
+    parser.add_argument(
+        "--state", default=default, metavar="DIR", type=pathlib.Path, help="the team's folder"
+    )
+
+
 def digest_of(program: str) -> str:
     """The SHA-256 of the program's file, which names its version. Raises Failed."""
     found = hashlib.sha256()

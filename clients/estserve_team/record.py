@@ -6,6 +6,7 @@ file is what some run of the program alone has made. Each entry bears a hash, by
 """
 import contextlib
 import heapq
+import json
 import os
 import pathlib
 import secrets
@@ -415,6 +416,14 @@ class RecordWriter:
         """Notes the name under which the record before this one is kept. Raises Failed."""
         with self.changing_rest() as database:
             database.execute("INSERT OR REPLACE INTO facts VALUES ('kept', ?)", (name,))
+
+    def note_act(self, what: str, told: Dict[str, Any]) -> None:
+        """Notes what somebody has done that is no entry, under the time. Raises Failed."""
+        now = time.time()
+        stamp = time.strftime("%Y-%m-%dT%H:%M:%S", time.gmtime(now)) + f".{int(now % 1 * 1e6):06}Z"
+        text = json.dumps(told, sort_keys=True)
+        with self.changing_rest() as database:
+            database.execute("INSERT OR REPLACE INTO facts VALUES (?,?)", (f"{what} {stamp}", text))
 
     def note_program(self, program: str) -> None:
         """Notes that entries are made by this program from now on. Raises Failed."""

@@ -2,8 +2,10 @@
 import contextlib
 import json
 import os
+import pathlib
 import signal
 import sqlite3
+import tempfile
 import threading
 import time
 import unittest
@@ -106,6 +108,56 @@ class Ended(unittest.TestCase):
                 self.assertEqual(
                     [entry.command for entry in team.entries()], ["login", "addrole", "logout"]
                 )
+
+
+SPOILED = """#!/usr/bin/env python3
+import os, subprocess, sys
+program = {program!r}
+if sys.argv[1:] != ["script"]:
+    os.execv(program, [program, *sys.argv[1:]])
+for line in sys.stdin.buffer:
+    if b"spoiled" in line:
+        sys.exit(1)
+    told = subprocess.run([program, "script"], input=line, stdout=subprocess.PIPE).stdout
+    sys.stdout.buffer.write(told)
+    sys.stdout.buffer.flush()
+"""
+
+
+class SecondChildLost(unittest.TestCase):
+    def child(self, team):
+        """The id of the second child, once one runs."""
+        return teams.wait_for(
+            lambda: next(
+                (
+                    process
+                    for process in teams.children_of(team.process.pid)
+                    if teams.command_of(process).endswith(b"script\0")
+                ),
+                None,
+            )
+        )
+
+    def test_it_is_begun_anew_however_often_it_is_killed(self):
+        with Team() as team, team.talker() as idle, team.root() as client:
+            for _ in range(5):
+                child = self.child(team)
+                os.kill(child, signal.SIGKILL)
+                teams.wait_for(lambda: child not in teams.children_of(team.process.pid))
+            self.assertEqual(idle.ask(STEP), b'{"code":4,"fault":"NoSession"}')
+            self.assertEqual(client.addrole("one")["ok"], "addrole")
+            self.assertEqual(team.end(), 0)
+            self.assertIn("the second child has ended", team.told())
+
+    def test_a_line_that_ends_it_three_times_is_given_up(self):
+        with tempfile.TemporaryDirectory(prefix="gateway-") as folder:
+            path = pathlib.Path(folder) / "program"
+            path.write_text(SPOILED.format(program=teams.program_file()))
+            path.chmod(0o755)
+            with Team(program=str(path)) as team, team.talker() as idle, team.root() as client:
+                answers = idle.ask_all([STEP, b"spoiled", STEP])
+                self.assertEqual([json.loads(one)["code"] for one in answers], [4, 1013, 4])
+                self.assertEqual(client.addrole("one")["ok"], "addrole")
 
 
 class ServerLost(unittest.TestCase):

@@ -17,6 +17,7 @@ import visitors
 from teams import Team, line_of, login_line
 from test_places import AS_USER, NOBODY
 from visitors import Visitor, visitor_of
+from estserve_client.connection import Disconnected
 
 SAMPLE = re.compile(r'estserve_team_[a-z_]+(?:\{[a-z]+="[^"]*"\})? [0-9.e+-]+')
 TOLD = re.compile(r"# (?:HELP|TYPE) estserve_team_[a-z_]+ .+")
@@ -116,6 +117,44 @@ class Ended(unittest.TestCase):
             teams.wait_for(lambda: [one.command for one in team.entries()].count("logout") == 2)
             with team.root() as again:
                 self.assertEqual(again.addrole("two")["ok"], "addrole")
+
+    def test_one_session_is_kicked_and_the_others_stay(self):
+        with Team() as team, team.words() as words, team.root() as client, team.root() as other:
+            words.word("login", user="root", roles=["root"])
+            numbers = [one["session"] for one in words.word("who")["holders"]]
+            told = words.word("kick", session=numbers[0])
+            self.assertEqual((told["connections"], told["sessions"]), (1, 1))
+            with self.assertRaises(Disconnected):
+                for _ in range(2):
+                    client.check("step", "0")
+            self.assertEqual(other.addrole("one")["ok"], "addrole")
+            self.assertEqual(words.word("kick", session=numbers[0])["sessions"], 0)
+            for keys in ({}, {"session": 1, "person": "ann"}):
+                self.assertEqual(words.word("kick", **keys)["code"], 1010)
+
+    def test_a_login_that_is_shared_is_kicked_too(self):
+        with Team() as team, team.words() as words, team.words() as other:
+            words.word("login", user="root", roles=["root"])
+            other.word("login", user="root", roles=[])
+            number = max(one["session"] for one in words.word("who")["holders"])
+            self.assertEqual(words.word("kick", session=number)["sessions"], 1)
+            self.assertEqual(other.word("slots")["code"], 1012)
+            other.word("login", user="root", roles=[])
+            self.assertIn("slots", other.word("slots"))
+
+    def test_a_kick_stands_in_the_record(self):
+        with Team() as team, team.words() as words:
+            words.word("login", user="root", roles=["root"])
+            words.word("kick", person="nobody")
+            words.word("kick", session=999)
+            rows = team.rows("SELECT value FROM facts WHERE name LIKE 'kick %' ORDER BY name")
+            told = [json.loads(value) for (value,) in rows]
+            self.assertEqual(
+                told, [{"by": teams.ME, "person": "nobody"}, {"by": teams.ME, "session": 999}]
+            )
+            self.assertEqual(team.end(), 0)
+            team.start()
+            self.assertEqual(team.rows("SELECT count(*) FROM facts WHERE name LIKE 'kick %'"), [(2,)])
 
     @unittest.skipUnless(visitors.HAS_AIOHTTP, visitors.NO_AIOHTTP)
     def test_a_visit_is_closed(self):

@@ -17,8 +17,8 @@ import unittest
 import teams
 from teams import Team, line_of, login_line
 from test_replay import failed_start, filled
-from estserve_team.chain import BLOCKS_AT, SLOT_BYTES, Head, NotProven, first_hash, hash_of, new_tip, slot_of
-from estserve_team.chain import tip_of
+from estserve_team.chain import BLOCKS_AT, SLOT_BYTES, Head, NotProven, first_hash, hash_of
+from estserve_team.chain import new_tip, slot_of, tip_of
 from estserve_team.proving import check_record, prove
 from estserve_team.record import COLUMNS, Entry, open_reader
 

@@ -29,10 +29,12 @@ def printed(answer):
 
 class Kicked(unittest.TestCase):
     def test_a_person_who_has_nothing_open_is_no_success(self):
-        with self.assertRaisesRegex(Failed, "nothing open: a person is a Unix user"):
-            printed({"ok": "kick", "connections": 0, "visits": 0})
-        told = printed({"ok": "kick", "connections": 1, "visits": 2})
+        with self.assertRaisesRegex(Failed, "nothing of that is open: `who` has"):
+            printed({"ok": "kick", "connections": 0, "sessions": 0, "visits": 0})
+        told = printed({"ok": "kick", "connections": 1, "sessions": 0, "visits": 2})
         self.assertEqual(told, ["1 connection and 2 visits are ended"])
+        told = printed({"ok": "kick", "connections": 1, "sessions": 1, "visits": 0})
+        self.assertEqual(told, ["the session is ended, with 1 connection"])
 
 
 class Case(unittest.TestCase):

@@ -14,6 +14,7 @@ from estserve_client.connection import Disconnected, Refusal
 from estserve_client.texts import Failed
 from estserve_client.sentences import sentence
 
+from ..places import add_state
 from .printing import PRINTERS
 
 SENTENCES = {
@@ -116,13 +117,7 @@ def ask_word(arguments: argparse.Namespace) -> None:
 def add_word(subparsers: Any, word: str, help: str) -> Any:
     """Adds one word to the command line, with what each has."""
     parser = subparsers.add_parser(word, help=help, description=help)
-    parser.add_argument(
-        "--state",
-        default=argparse.SUPPRESS,
-        metavar="DIR",
-        type=pathlib.Path,
-        help="the team's folder",
-    )
+    add_state(parser, argparse.SUPPRESS)
     parser.add_argument(
         "--as",
         dest="login_user",
@@ -166,9 +161,10 @@ def add_words(subparsers: Any) -> None:
     add_word(subparsers, "link", "a link to the team's page, for you alone")
     add_word(subparsers, "health", "whether the gateway is well")
     add_word(subparsers, "visits", "the browsers that have come in by a link")
-    kick = add_word(subparsers, "kick", "end all connections and visits of a Unix user")
-    kick.add_argument("person", metavar="PERSON")
-    kick.set_defaults(keys=("person",))
+    kick = add_word(subparsers, "kick", "end all that a Unix user has here, or one session")
+    kick.add_argument("person", metavar="PERSON", nargs="?")
+    kick.add_argument("--session", type=int, metavar="N", help="this session alone")
+    kick.set_defaults(keys=("person", "session"))
     close = add_word(subparsers, "close", "end a visit")
     close.add_argument("visit", metavar="VISIT")
     close.set_defaults(keys=("visit",))

@@ -200,9 +200,12 @@ def counted(number: int, what: str) -> str:
 
 def kick_lines(answer: Answer) -> Iterator[str]:
     """What was ended. Raises Failed where nothing was."""
+    if answer["sessions"]:
+        yield f"the session is ended, with {counted(answer['connections'], 'connection')}"
+        return
     if not answer["connections"] and not answer["visits"]:
-        told = "a person is a Unix user, as in the column person of `who`"
-        raise Failed(f"this person has nothing open: {told}")
+        told = "`who` has the columns person, a Unix user, and session"
+        raise Failed(f"nothing of that is open: {told}")
     ended = counted(answer["connections"], "connection"), counted(answer["visits"], "visit")
     yield f"{' and '.join(ended)} are ended"
 

@@ -10,7 +10,7 @@ from estserve_client.texts import Failed
 
 from ..limits import fit_to, read_limits
 from ..log import Log, fill_standard_streams, forward_all
-from ..places import PAGE_SOCKET
+from ..places import PAGE_SOCKET, add_state
 from ..watchdog import raise_descriptors
 from .options import Bad, add_options, read_options
 
@@ -24,13 +24,7 @@ def add_word(subparsers: Any) -> None:
     """Adds `page` to the words of the command `team`."""
     what = "serve the page of a gateway that runs on DIR, as a process of its own"
     parser = subparsers.add_parser("page", help=what, description=what)
-    parser.add_argument(
-        "--state",
-        default=argparse.SUPPRESS,
-        metavar="DIR",
-        type=pathlib.Path,
-        help="the team's folder",
-    )
+    add_state(parser, argparse.SUPPRESS)
     parser.add_argument(
         "--limit",
         action="append",
