@@ -33,9 +33,9 @@ MODULE = "module M: input A; output O; loop present A then emit O end; pause end
 
 
 def cpu_of(process):
-    """The processor time of a process, in seconds."""
-    fields = pathlib.Path(f"/proc/{process}/stat").read_text().rpartition(")")[2].split()
-    return (int(fields[11]) + int(fields[12])) / os.sysconf("SC_CLK_TCK")
+    """The processor time of a process, in seconds: of its threads, as the scheduler counts it."""
+    threads = pathlib.Path(f"/proc/{process}/task").glob("*/schedstat")
+    return sum(int(one.read_text().split()[0]) for one in threads) / 1e9
 
 
 def set_up(talker):

@@ -171,10 +171,10 @@ _estserve_client() {
         esac
         ;;
     'team kick')
-        words='--help --state --as --role --json'
+        words='--help --state --as --role --json --session'
         case "$before" in
         --state) words='' files=1 ;;
-        --as | --role) return ;;
+        --as | --role | --session) return ;;
         esac
         ;;
     'team close')

@@ -87,7 +87,7 @@ class Pages(unittest.TestCase):
                 len(re.findall(rf"(?m)^\.TP\n\.B[IR]* {word}(?![\w-])", text)), 1, word
             )
         for word in team._subparsers._group_actions[0].choices:
-            self.assertEqual(len(re.findall(rf"(?m)^\.TP\n\.B {word}$", text)), 1, word)
+            self.assertEqual(len(re.findall(rf"(?m)^\.TP\n\.BI? {word}( \"|$)", text)), 1, word)
 
     @needs_program
     def test_the_programs_manual_has_each_option(self):

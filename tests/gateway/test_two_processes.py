@@ -281,20 +281,11 @@ def memory_of(team):
         return int(next(line for line in status if line.startswith("VmRSS")).split()[1])
 
 
-@unittest.skipUnless(visitors.HAS_AIOHTTP, visitors.NO_AIOHTTP)
-class TakenOver(unittest.TestCase):
+class TakenOver(visitors.OwnTeam):
     """A page that does what it likes."""
 
-    def begin(self, *words, people=None):
-        team = visitors.Team("--http", "127.0.0.1:0", *words)
-        if people:
-            team._people = people
-        team.__enter__()
-        self.addCleanup(team.__exit__)
-        return team
-
     def test_what_is_forged_or_revoked_is_refused_with_the_same_bytes(self):
-        team = self.begin()
+        team = self.serving(has_example=False)
         with RawPage(team) as page, team.words() as words:
             mine, other = page.enter(link_of(team)), page.enter(link_of(team))
             words.word("login", user="root", roles=["root"])
@@ -319,7 +310,7 @@ class TakenOver(unittest.TestCase):
             self.assertEqual(links, {b'{"denied":"link"}\n'})
 
     def test_a_seat_is_of_its_visit_alone(self):
-        team = self.begin()
+        team = self.serving(has_example=False)
         with RawPage(team) as page:
             mine, other = page.enter(link_of(team)), page.enter(link_of(team))
             seat = page.ask("login", user="root", roles=["root"], **mine)["told"]["seat"]
@@ -331,7 +322,7 @@ class TakenOver(unittest.TestCase):
             self.assertEqual(told["told"]["answer"]["ok"], "adduser")
 
     def test_it_names_nobody_and_asks_no_further_words(self):
-        team = self.begin()
+        team = self.serving(has_example=False)
         with RawPage(team) as page:
             self.assertEqual(page.plain("enter", named=teams.ME), b'{"denied":"link"}\n')
             mine = page.enter(link_of(team))
@@ -345,7 +336,7 @@ class TakenOver(unittest.TestCase):
                 self.assertEqual(page.ask(name)["refused"]["fault"], "NotAWord")
 
     def test_lines_that_are_no_requests_harm_nobody(self):
-        team = self.begin()
+        team = self.serving(has_example=False)
         visitor = visitor_of(team, "root", "root")
         for line in (b"x\n", b"1\n", b"-1 {}\n", b"1" * 40 + b" {}\n", b"\xff\n", b"\n"):
             with RawPage(team) as page:
@@ -363,7 +354,7 @@ class TakenOver(unittest.TestCase):
     @unittest.skipUnless(os.geteuid() == 0, "only root can be another Unix user")
     def test_it_acts_as_no_other_person(self):
         people = '[people]\nann = ["nobody"]\nroot = ["root"]\n'
-        team = self.begin(people=people)
+        team = self.serving(people=people, has_example=False)
         pathlib.Path(team.state).parent.chmod(0o711)
         with team.root() as client:
             client.adduser("ann")

@@ -11,7 +11,7 @@ import unittest
 
 import teams
 import visitors
-from visitors import Visitor, link_of, visitor_of
+from visitors import OwnTeam, SharedTeam, Visitor, link_of, visitor_of
 
 PAGE = teams.ROOT / "clients" / "estserve_team" / "page"
 READS = ("me", "here", "text", "looks", "policy", "why", "log", "who", "events")
@@ -36,30 +36,14 @@ def slot_of(events, number, is_wanted=lambda slot: True):
     raise AssertionError("the events have ended")
 
 
-@unittest.skipUnless(visitors.HAS_AIOHTTP, visitors.NO_AIOHTTP)
-class SharedTest(unittest.TestCase):
-    """One gateway for the tests of a class, with the team of the examples."""
-
-    @classmethod
-    def setUpClass(cls):
-        cls.team = visitors.Team("--http", "127.0.0.1:0")
-        cls.team.__enter__()
-        cls.addClassCleanup(cls.team.__exit__)
-        visitors.set_up(cls.team)
-
-
-@unittest.skipUnless(visitors.HAS_AIOHTTP, visitors.NO_AIOHTTP)
-class OwnTest(unittest.TestCase):
-    """One gateway for each test, with the team of the examples."""
+class OwnTest(OwnTeam):
+    """One gateway for each test."""
 
     def setUp(self):
-        self.team = visitors.Team("--http", "127.0.0.1:0")
-        self.team.__enter__()
-        self.addCleanup(self.team.__exit__)
-        visitors.set_up(self.team)
+        self.team = self.serving()
 
 
-class PageFilesTest(SharedTest):
+class PageFilesTest(SharedTeam):
     def test_the_files_come_with_the_headers_that_keep_others_out(self):
         visitor = Visitor(visitors.address_of(self.team))
         paths = ["/"] + [f"/page/{path.name}" for path in PAGE.iterdir() if path.suffix != ".html"]
@@ -93,7 +77,7 @@ class PageFilesTest(SharedTest):
             self.assertNotIn("innerHTML", text, path.name)
 
 
-class EntryTest(SharedTest):
+class EntryTest(SharedTeam):
     def test_a_link_is_used_once_and_gives_a_strict_cookie(self):
         visitor, link = Visitor(visitors.address_of(self.team)), link_of(self.team)
         answer = visitor.enter(link)
@@ -177,7 +161,7 @@ class EntryTest(SharedTest):
             self.assertEqual(visitor.post("login", body).status, 400)
 
 
-class BorderTest(SharedTest):
+class BorderTest(SharedTeam):
     def test_other_hosts_and_origins_are_refused(self):
         visitor = visitor_of(self.team, "root", "root")
         port = visitor.host.partition(":")[2]

@@ -8,6 +8,7 @@ import pathlib
 import re
 import socket
 import tempfile
+import unittest
 
 import teams
 
@@ -195,3 +196,31 @@ def set_up(team):
             client.ask(**wish.command)
         client.load(0, "TEAM", (folder / "team.strl").read_text())
         client.logout()
+
+
+def serving(add_cleanup, *words, people=PEOPLE, has_example=True):
+    """A team with a page, with the team of the examples, that ends with a test or a class."""
+    team = Team("--http", "127.0.0.1:0", *words)
+    team._people = people
+    team.__enter__()
+    add_cleanup(team.__exit__)
+    if has_example:
+        set_up(team)
+    return team
+
+
+@unittest.skipUnless(HAS_AIOHTTP, NO_AIOHTTP)
+class SharedTeam(unittest.TestCase):
+    """One gateway for the tests of a class."""
+
+    @classmethod
+    def setUpClass(cls):
+        cls.team = serving(cls.addClassCleanup)
+
+
+@unittest.skipUnless(HAS_AIOHTTP, NO_AIOHTTP)
+class OwnTeam(unittest.TestCase):
+    """A gateway for each test, or as many as it begins."""
+
+    def serving(self, *words, **how):
+        return serving(self.addCleanup, *words, **how)

@@ -1,7 +1,6 @@
 """The command `team page`: the page's process, until it is told to end."""
 import argparse
 import asyncio
-import pathlib
 import signal
 import sys
 from typing import Any

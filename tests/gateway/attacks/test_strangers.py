@@ -59,15 +59,7 @@ def is_ended(connection):
     return True
 
 
-@unittest.skipUnless(visitors.HAS_AIOHTTP, visitors.NO_AIOHTTP)
-class OverHttp(unittest.TestCase):
-    def serving(self, *words):
-        team = visitors.Team("--http", "127.0.0.1:0", *words)
-        team.__enter__()
-        self.addCleanup(team.__exit__)
-        visitors.set_up(team)
-        return team
-
+class OverHttp(visitors.OwnTeam):
     def test_idle_connections_hold_up_nobody(self):
         team = self.serving("--limit", "header_seconds=2")
         visitor = visitor_of(team, "cho", "stepper")
