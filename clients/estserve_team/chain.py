@@ -111,6 +111,15 @@ def tip_of(slot: bytes) -> Optional[Tip]:
         return None
 
 
+def sync_folder(path: pathlib.Path) -> None:
+    """Has the folder's names on the disk. Raises OSError."""
+    folder = os.open(path, os.O_RDONLY | os.O_DIRECTORY)
+    try:
+        os.fsync(folder)
+    finally:
+        os.close(folder)
+
+
 class Block(NamedTuple):
     """What one transaction has added, and the tip after it. Rows stand as `text_of` has them."""
 
@@ -253,6 +262,7 @@ class Head:
                 missing = bytes(max(0, HEAD_BYTES - length))
                 self._is_filled = os.pwrite(self._descriptor, missing, length) == len(missing)
                 os.fsync(self._descriptor)
+                sync_folder(self.path.parent)
 
     def begin(self, tip: Tip) -> None:
         """Writes a tip in both places. Raises OSError."""

@@ -8,7 +8,7 @@ import sqlite3
 import time
 from typing import Any, List, Tuple
 
-from .chain import Block, Head, NotProven, Tip
+from .chain import Block, Head, NotProven, Tip, sync_folder
 from .places import Failed, Places, add_state
 from .proving import Proven, check_plain, prove, take_over_blocks
 from .record import (
@@ -20,7 +20,7 @@ from .record import (
     open_reader,
     remove_record,
 )
-from .starting import open_there, settle_records, sync_folder
+from .starting import open_there, settle_records
 
 BACKUP = "CREATE TABLE backup (time REAL NOT NULL, entries INTEGER NOT NULL, hash TEXT NOT NULL)"
 

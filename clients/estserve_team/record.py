@@ -15,7 +15,7 @@ import time
 from typing import Any, Dict, Iterable, Iterator, List, NamedTuple, Optional, Tuple
 
 from . import moments
-from .chain import Block, Head, Tip, hash_of, hash_of_text, new_tip, row_of, text_of
+from .chain import Block, Head, Tip, hash_of, hash_of_text, new_tip, row_of, sync_folder, text_of
 from .places import Failed, digest_of
 
 POLICY = -1  # the slot of a policy entry
@@ -316,6 +316,7 @@ class RecordWriter:
         if not self._log:  # SQLite's, which is there as long as the record is open
             path = self.path.with_name(self.path.name + "-wal")
             self._log.append(os.open(path, os.O_RDONLY | os.O_NOFOLLOW | os.O_CLOEXEC))
+            sync_folder(self.path.parent)
         os.fdatasync(self._log[0])
         if self.head is not None:
             self.head.write(tip)

@@ -7,7 +7,7 @@ import sqlite3
 import time
 from typing import Callable, List, NamedTuple, Optional, Tuple
 
-from .chain import Head
+from .chain import Head, sync_folder
 from .places import Failed, Places, digest_of
 from .proving import check_record
 from .record import (
@@ -131,15 +131,6 @@ def restore_record(places: Places) -> None:
             head.begin(last_tip(database, name))
     finally:
         head.close()
-
-
-def sync_folder(path: pathlib.Path) -> None:
-    """Has the folder's names on the disk."""
-    folder = os.open(path, os.O_RDONLY | os.O_DIRECTORY)
-    try:
-        os.fsync(folder)
-    finally:
-        os.close(folder)
 
 
 async def start_server(places: Places, program: str, note: Callable[[Server], None]) -> Begun:

@@ -301,6 +301,28 @@ class Changed(Record):
         self.head.write_bytes(text)
         self.refused(f"it has {count - 2} entries, and {count} were written")
 
+    def test_a_head_of_before_gets_blocks(self):
+        with open(self.head, "r+b") as file:
+            file.truncate(2 * SLOT_BYTES)
+        before, count = self.grown()
+        self.assertGreater(self.head.stat().st_size, BLOCKS_AT)
+        self.put_back(before)
+        self.assertTrue(self.is_proven())
+        self.assertEqual(len(entries_at(self.record)), count)
+
+    def test_a_head_that_is_full_has_the_record_synced(self):
+        with Team(state=self.state) as team, team.root() as client:
+            text = "%" * 30_000
+            client.addrole("one")
+            client.ask(cmd="grant", role="root", op="load", object="1")
+            for _ in range(12):
+                client.load(1, "M", f"module M: output O; emit O end module % {text}")
+                client.unload(1)
+            count = len(team.entries())
+            team.end(signal.SIGKILL)
+        self.assertTrue(self.is_proven())
+        self.assertEqual(len(entries_at(self.record)), count)
+
     def test_a_log_and_all_blocks_that_are_gone(self):
         before, _ = self.grown(signal.SIGTERM)
         self.put_back(before)
