@@ -100,9 +100,7 @@ class Session(asyncio.Protocol):
     def as_recorded(self) -> Connection:
         """Its connection, for the record, which has it from now on, or may have it."""
         self.is_recorded = True
-        return Connection(
-            self.number, self.session, self.user, self.person.name, self.login_roles
-        )
+        return Connection(self.number, self.session, self.user, self.person.name, self.login_roles)
 
     def ask(self, asked: Asked) -> None:
         """Sends a request with the next `flush`."""

@@ -154,7 +154,9 @@ class Ended(unittest.TestCase):
             )
             self.assertEqual(team.end(), 0)
             team.start()
-            self.assertEqual(team.rows("SELECT count(*) FROM facts WHERE name LIKE 'kick %'"), [(2,)])
+            self.assertEqual(
+                team.rows("SELECT count(*) FROM facts WHERE name LIKE 'kick %'"), [(2,)]
+            )
 
     @unittest.skipUnless(visitors.HAS_AIOHTTP, visitors.NO_AIOHTTP)
     def test_a_visit_is_closed(self):
