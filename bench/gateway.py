@@ -1,8 +1,9 @@
 #!/usr/bin/env python3
 """What the team's gateway costs: a step through it beside one without, accepted commands a second
-over four connections, a hundred tabs that watch, and a start from a long record.
+over four connections, what one sync costs, a hundred tabs that watch, and a start from a long
+record, and from one whose policy's journal is nearly full.
 
-usage: gateway.py PROGRAM [steps | tabs | start ..]
+usage: gateway.py PROGRAM [steps | sync | tabs | start | policy ..]
 
 Clients are processes of their own; each steps a slot of its own. Processor time is that of the
 gateway's process, the core; the record is synced to the disk before each answer, so that the clock
@@ -27,8 +28,10 @@ from test_two_processes import page_of
 
 STEPS = 2_000
 CLIENTS = 4
+SYNCS = 500
 TABS, SECONDS = 100, 10
 LONG = 100_000  # entries
+POLICY = 262_000  # entries of the policy's journal, which has room for 262,144
 MODULE = "module M: input A; output O; loop present A then emit O end; pause end end module"
 
 
@@ -151,15 +154,41 @@ def tell_tabs():
         tabs.terminate()
 
 
+def tell_sync():
+    """What one sync costs: the last row of a record, of 512 bytes, in a file that is there."""
+    with tempfile.TemporaryDirectory(prefix="gateway-") as folder:
+        number = os.open(pathlib.Path(folder) / "file", os.O_RDWR | os.O_CREAT)
+        os.pwrite(number, bytes(1 << 18), 0)
+        os.fsync(number)
+        began, before = time.monotonic(), cpu_of(os.getpid())
+        for at in range(SYNCS):
+            os.pwrite(number, bytes(512), at * 512)
+            os.fdatasync(number)
+        seconds, spent = time.monotonic() - began, cpu_of(os.getpid()) - before
+        os.close(number)
+        tell("one sync of 512 bytes, by itself", seconds / SYNCS, spent / SYNCS)
+
+
 def tell_start():
     """How long a start takes that replays a long record."""
+    tell_start_of([teams.line_of(cmd="step", slot=at % 2) for at in range(500)], LONG)
+
+
+def tell_policy():
+    """How long a start takes that replays a policy's journal that is nearly full."""
+    changes = [teams.line_of(cmd=cmd, role="one") for cmd in ("addrole", "delrole")]
+    tell_start_of(changes * 250, POLICY)
+
+
+def tell_start_of(lines, count):
+    """How long a start takes that replays these lines, again and again."""
     with teams.Team() as team:
         with team.talker() as talker:
             set_up(talker)
             talker.ask(teams.login_line())
-            lines = [teams.line_of(cmd="step", slot=at % 2) for at in range(500)]
-            for _ in range(LONG // len(lines)):
-                talker.ask_part(lines)
+            for _ in range(count // len(lines)):
+                answers = talker.ask_part(lines)
+            assert b'"ok"' in answers[-1]
             talker.ask(teams.line_of(cmd="logout"))
         assert team.end() == 0
         began = time.monotonic()
@@ -169,7 +198,13 @@ def tell_start():
         print(f"  {cpu_of(team.process.pid):.2f} s of the core, {server:.2f} s of the server")
 
 
-PARTS = {"steps": tell_steps, "tabs": tell_tabs, "start": tell_start}
+PARTS = {
+    "steps": tell_steps,
+    "sync": tell_sync,
+    "tabs": tell_tabs,
+    "start": tell_start,
+    "policy": tell_policy,
+}
 
 
 def main():

@@ -28,8 +28,8 @@ async def need_administrator(context: Context, what: str) -> None:
 async def kick(context: Context, keys: Dict[str, Any]) -> Dict[str, Any]:
     """Ends all connections, logins and visits of a Unix user, or one session. The record has it
     first. Raises Refused."""
-    if len(keys) != 1:
-        raise not_a_word("kick takes a person or a session")
+    if len(keys) != 1 or keys.get("session", 1) < 1:
+        raise not_a_word("kick takes a person, or the number of a session")
     await need_administrator(context, "kick")
     gateway, by = context.gateway, context.person.name
     gateway.note_act("kick", {"by": by, **keys})

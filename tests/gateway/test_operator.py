@@ -129,7 +129,7 @@ class Ended(unittest.TestCase):
                     client.check("step", "0")
             self.assertEqual(other.addrole("one")["ok"], "addrole")
             self.assertEqual(words.word("kick", session=numbers[0])["sessions"], 0)
-            for keys in ({}, {"session": 1, "person": "ann"}):
+            for keys in ({}, {"session": 1, "person": "ann"}, {"session": 0}):
                 self.assertEqual(words.word("kick", **keys)["code"], 1010)
 
     def test_a_login_that_is_shared_is_kicked_too(self):

@@ -9,7 +9,7 @@ from .filling import FillingWatch
 from .policy_model import PolicyModel
 from .slot_model import SlotsModel
 
-MOST_NEW = 64  # entries that are not added yet
+MOST_WAITING = 64  # entries that are not added yet
 WITHOUT_KEYS = {command: {"cmd": command} for command in ("step", "discard", "unload")}
 
 
@@ -19,6 +19,7 @@ class Models:
     def __init__(self) -> None:
         self.policy = PolicyModel()
         self.slots = SlotsModel()
+        self.waiting: List[Entry] = []  # entries that are to be added
 
     def add(self, entry: Entry) -> None:
         """Adds one entry. Raises OutOfOrder where it doesn't follow those before it."""
@@ -58,7 +59,6 @@ class ReadState:
         self._gateway = gateway
         self._watch = FillingWatch(gateway.log)
         self._models = Models()
-        self._new: List[Entry] = []  # that were not added yet
         self._fault: Optional[Exception] = None
         gateway.listen(self.follow)
 
@@ -82,24 +82,25 @@ class ReadState:
 
     def begin(self) -> None:
         """Builds the models from the whole record, and tells what is nearly full."""
-        models = models_of(self._gateway.record_path)
-        self._models, self._new, self._fault = models, [], None
+        self._models, self._fault = models_of(self._gateway.record_path), None
         self._watch = FillingWatch(self._gateway.log)
         self._watch.tell(self.policy.fillings() + self.slots.fillings())
 
     def follow(self, entries: List[Entry]) -> None:
         """Notes new entries, which are added when the models are asked for, or are many."""
-        self._new += entries
-        if len(self._new) >= MOST_NEW:
+        waiting = self._models.waiting
+        waiting += entries
+        if len(waiting) >= MOST_WAITING:
             self.catch_up()
 
     def catch_up(self) -> None:
         """Adds new entries, and tells what is nearly full by them. It never raises."""
-        entries, self._new = self._new, []
+        models = self._models  # which `begin` may exchange meanwhile, in a thread of its own
+        entries, models.waiting = models.waiting, []
         if self._fault is not None or not entries:
             return
         try:
-            self._models.add_all(entries)
+            models.add_all(entries)
             self._tell({entry.slot for entry in entries})
         except Exception as fault:
             self._fault = fault
