@@ -1,5 +1,5 @@
-"""The gateway, the server, or both are killed at random moments under load: nothing that was
-answered is lost.
+"""The gateway, the server, or both are killed at random moments under load, or the system seems to
+end before the record was on the disk: nothing that was answered is lost.
 
 Four clients of each team send commands, some ahead of their answers, and note what they sent and
 what came. Afterwards the record has to have each accepted answer, in the order of its
@@ -17,10 +17,13 @@ import unittest
 
 import teams
 from teams import Team, line_of, login_line, random_of
+from estserve_team.chain import Head
+from estserve_team.record import open_reader
 
 KILLS = int(os.environ.get("GATEWAY_KILLS", "40"))
 TEAMS = 3  # run beside each other
 KILLS_OF_A_RECORD = 12
+LOG_HEAD = 32  # bytes of SQLite's log, which are others when it begins anew
 CLIENTS = 4
 MODULE = "module M: input A; output O; loop present A then emit O end; pause end end module"
 SETUP = [
@@ -133,9 +136,15 @@ def kill(team, numbers, clients):
     """Kills the gateway, the server or both at some moment, and waits until clients may come
     again."""
     wait_for_load(clients, numbers)
-    what, server = numbers.choice(["gateway", "server", "both"]), team.server()
+    what, server = numbers.choice(["gateway", "server", "both", "system"]), team.server()
     if what == "gateway":
         team.process.kill()
+    elif what == "system":
+        before = files_of(team.record)
+        time.sleep(numbers.choice([0, 0.01, 0.05, 0.2]))
+        team.process.kill()
+        team.process.wait()
+        put_back(team.record, before)
     else:
         os.kill(server, signal.SIGKILL)
     if what == "both":
@@ -149,6 +158,48 @@ def kill(team, numbers, clients):
     elif team.process.poll() is not None:
         raise AssertionError(f"the gateway ended with its server: {team.told()}")
     return what
+
+
+def files_of(record):
+    """The bytes of a record that is being written, by file; None where its log began anew just
+    then."""
+    log = record.with_name("record.sqlite-wal")
+    first = log.read_bytes()[:LOG_HEAD]
+    found = {record: record.read_bytes(), log: log.read_bytes()}
+    return found if found[log][:LOG_HEAD] == first else None
+
+
+def write_files(files):
+    """Has a record be these files."""
+    for path, text in files.items():
+        path.with_name("record.sqlite-shm").unlink(missing_ok=True)
+        path.write_bytes(text)
+
+
+def count_of(record):
+    """How many entries, and connections that were given up, a record has."""
+    with open_reader(record) as database:
+        return [
+            database.execute(f"SELECT count(*) FROM {table}").fetchone()[0]
+            for table in ("entries", "givenup")
+        ]
+
+
+def put_back(record, before):
+    """Puts a record back as it was, as if the system had ended before the rest was on its disk: but
+    for what was synced since, which then was on the disk too."""
+    after, head = files_of(record), Head(record.with_name("head"))
+    head.close()
+    if before is None or not head.blocks:
+        return
+    first = head.blocks[0]
+    synced = (
+        first.tip.entries - len(first.entries),
+        first.tip.givenup - len(first.givenup),
+    )
+    write_files(before)
+    if any(there < least for there, least in zip(count_of(record), synced)):
+        write_files(after)
 
 
 def instants_of(entries):
