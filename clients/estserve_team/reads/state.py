@@ -9,7 +9,8 @@ from .filling import FillingWatch
 from .policy_model import PolicyModel
 from .slot_model import SlotsModel
 
-MOST_WAITING = 64  # entries that are not added yet
+FREQUENT = frozenset(("step", "offer", "discard"))
+MOST_WAITING = 64  # of these entries are not added yet
 WITHOUT_KEYS = {command: {"cmd": command} for command in ("step", "discard", "unload")}
 
 
@@ -87,10 +88,11 @@ class ReadState:
         self._watch.tell(self.policy.fillings() + self.slots.fillings())
 
     def follow(self, entries: List[Entry]) -> None:
-        """Notes new entries, which are added when the models are asked for, or are many."""
+        """Adds new entries: steps and offers when the models are asked for, or are many."""
         waiting = self._models.waiting
         waiting += entries
-        if len(waiting) >= MOST_WAITING:
+        is_frequent = all(entry.command in FREQUENT for entry in entries)
+        if len(waiting) >= MOST_WAITING or not is_frequent:
             self.catch_up()
 
     def catch_up(self) -> None:
