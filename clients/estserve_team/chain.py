@@ -149,6 +149,8 @@ def read_block(data: bytes, at: int) -> Optional[Tuple[Block, int]]:
         if len(text) != int(length) or check_of(text) != check:
             return None
         first, *rows = text.split(b"\n")
+        for row in rows:
+            row_of(row[1:])
         kinds = ([row[1:] for row in rows if row[:1] == letter] for letter in (b"e", b"c", b"g"))
         return Block(read_tip(first.decode()), *kinds), next_step(end)
     except ValueError:
@@ -162,7 +164,10 @@ def next_step(at: int) -> int:
 
 def row_of(text: bytes) -> Tuple[Any, ...]:
     """The row that a text is. Raises ValueError."""
-    found = ast.literal_eval(text.decode())
+    try:
+        found = ast.literal_eval(text.decode())
+    except (SyntaxError, RecursionError, MemoryError) as fault:
+        raise ValueError(text) from fault
     if not isinstance(found, tuple):
         raise ValueError(text)
     return found

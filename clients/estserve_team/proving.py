@@ -183,7 +183,8 @@ def prove(
         there = database.execute("SELECT count(*) FROM entries").fetchone()[0] + aside
     except sqlite3.Error as fault:
         raise unreadable(path, fault) from fault
-    return Proven(entries, aside, givenup, entries - tip.entries, entries - there)
+    behind = max(0, entries - there)  # where a gateway runs, there may be more by now
+    return Proven(entries, aside, givenup, entries - tip.entries, behind)
 
 
 def check_plain(path: pathlib.Path) -> None:
