@@ -27,7 +27,7 @@ Done = Callable[[bytes], None]
 class Pipe(asyncio.Protocol):
     """The connection to one child. Once another child is used, it tells nothing any more."""
 
-    def __init__(self, answerer: "Answerer", process: subprocess.Popen) -> None:
+    def __init__(self, answerer: "Answerer", process: subprocess.Popen[Any]) -> None:
         self.answerer, self.process = answerer, process
         self.transport: Any = None
         self.held = b""

@@ -227,7 +227,7 @@ class Head:
         if known:
             self._next = 1 - max(known)[1]
         tips = [tip for tip in self.tips() if tip.record == record]
-        return max(tips, key=lambda tip: tip.serial, default=None)
+        return max(tips, key=lambda tip: tip.serial) if tips else None
 
     def write(self, tip: Tip) -> None:
         """Writes a tip, which is on the disk when this returns, as the record is already: so the

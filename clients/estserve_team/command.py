@@ -153,6 +153,12 @@ def tell_aside(places: Places, text: str) -> None:
     print(f"{count} entries are kept aside, from {place} on", flush=True)
 
 
+def end_once(told: "asyncio.Future[None]") -> None:
+    """Tells that the gateway is to end, if nobody has."""
+    if not told.done():
+        told.set_result(None)
+
+
 async def run(
     places: Places,
     people: People,
@@ -172,7 +178,7 @@ async def run(
         gateway.log(places.children.fault)
     told_to_end = loop.create_future()
     for number in (signal.SIGTERM, signal.SIGINT):
-        loop.add_signal_handler(number, lambda: told_to_end.done() or told_to_end.set_result(None))
+        loop.add_signal_handler(number, end_once, told_to_end)
     with contextlib.suppress(ValueError):  # where SIGHUP can't be handled, it ends the process
         loop.add_signal_handler(signal.SIGHUP, read_people_again, gateway, arguments.people)
     starting = asyncio.ensure_future(gateway.start())

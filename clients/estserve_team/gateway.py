@@ -64,6 +64,8 @@ def is_past(held: "asyncio.Future[SharedSession]") -> bool:
 class Gateway:
     """One team's gateway."""
 
+    reads: Any  # what its words read, once it has begun
+
     def __init__(
         self,
         places: Places,

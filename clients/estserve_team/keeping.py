@@ -32,7 +32,7 @@ def folder_of(arguments: argparse.Namespace) -> pathlib.Path:
     private = arguments.state / "private"
     if arguments.state.exists() and not os.access(private, os.R_OK | os.X_OK):
         raise Failed(f"{private} can't be read: this is for the Unix user who runs the gateway")
-    return arguments.state
+    return pathlib.Path(arguments.state)
 
 
 def known_of(
@@ -64,7 +64,7 @@ def name_of(path: pathlib.Path, database: sqlite3.Connection, has_hashes: bool) 
         raise Failed(f"the record {path} has no hashes yet: the next start gives it some")
     if facts.get("format") != FORMAT or "id" not in facts:
         raise NotProven(path, "its format or its name was changed")
-    return facts["id"]
+    return str(facts["id"])
 
 
 def told(proven: Proven) -> str:

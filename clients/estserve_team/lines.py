@@ -9,7 +9,7 @@ no JSON.
 """
 import json
 import sys
-from typing import Any, Dict, List, Optional, Tuple
+from typing import Any, Callable, Dict, List, Optional, Tuple
 
 from estserve_client.command_table import (
     IDENTIFIER,
@@ -54,7 +54,7 @@ class NoNumber:
     """What stands where a number is none of the protocol's."""
 
 
-class Pairs(list):
+class Pairs(List[Any]):
     """An object as it stands: its pairs of key and value."""
 
 
@@ -87,7 +87,9 @@ def read_int(text: str) -> int:
     return int(text)
 
 
-READ_INT = int if hasattr(sys, "set_int_max_str_digits") else read_int  # which has a bound itself
+READ_INT: Any = (
+    int if hasattr(sys, "set_int_max_str_digits") else read_int
+)  # which has a bound itself
 PLAIN = json.JSONDecoder(parse_int=READ_INT, parse_constant=refuse_constant)
 QUICK = json.JSONDecoder(parse_int=len, parse_float=len, parse_constant=refuse_constant)
 DECODER = json.JSONDecoder(
@@ -128,7 +130,7 @@ def are_roles(value: Any) -> bool:
     return type(value) is list and len(value) <= MOST_ROLES and all(map(is_name, value))
 
 
-KINDS = {
+KINDS: Dict[str, Callable[[Any], Any]] = {
     **dict.fromkeys(NAMES, is_name),
     **dict.fromkeys(IDENTIFIERS, is_identifier),
     **dict.fromkeys(NUMBERS, is_number),
@@ -144,7 +146,7 @@ def request_of(keys: Dict[str, Any]) -> Optional[Request]:
     protocol."""
     cmd = keys.get("cmd")
     form = KEYS.get(cmd) if isinstance(cmd, str) else None
-    if form is None or len(keys) != len(form) + 1:
+    if not isinstance(cmd, str) or form is None or len(keys) != len(form) + 1:
         return None
     if not all(key in keys and KINDS[key](keys[key]) for key in form):
         return None

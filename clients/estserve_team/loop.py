@@ -9,7 +9,7 @@ import select
 import selectors
 import socket
 import time
-from typing import Any, Dict, List, Mapping, Optional, Tuple
+from typing import Any, Callable, Dict, List, Mapping, Optional, Tuple
 
 RECEIVED = 65_536  # bytes that are read at once
 MOST_HELD = 65_536  # bytes that wait to be sent, before the protocol is told so
@@ -29,7 +29,7 @@ class Selector(selectors.BaseSelector):
 
     @staticmethod
     def _number_of(fileobj: Any) -> int:
-        return fileobj if isinstance(fileobj, int) else fileobj.fileno()
+        return fileobj if isinstance(fileobj, int) else int(fileobj.fileno())
 
     @staticmethod
     def _mask_of(events: int) -> int:
@@ -287,4 +287,5 @@ async def begin(connection: socket.socket, protocol: Any) -> None:
     if isinstance(loop, Loop):
         Pipe(loop, connection, protocol)
     else:
-        await loop.connect_accepted_socket(lambda: protocol, connection)
+        made: Any = lambda: protocol
+        await loop.connect_accepted_socket(made, connection)

@@ -10,7 +10,7 @@ import pwd
 import resource
 import subprocess
 import sys
-from typing import TYPE_CHECKING, Any, Callable, List, NamedTuple, Optional, Sequence
+from typing import Any, Callable, List, NamedTuple, Optional, Sequence, TYPE_CHECKING
 
 from .places import C_LIBRARY, Failed
 from .web.options import Options
@@ -97,7 +97,7 @@ class PageProcess:
     ) -> None:
         self._gateway, self._options, self._limits = gateway, options, limits
         self._user = user
-        self._child: Optional[subprocess.Popen] = None
+        self._child: Optional[subprocess.Popen[Any]] = None
         self._watching: "Optional[asyncio.Future[None]]" = None
         self._faults = 0
         self._began = 0.0
@@ -185,7 +185,7 @@ class PageProcess:
         return True
 
     @staticmethod
-    async def _is_gone(child: subprocess.Popen) -> bool:
+    async def _is_gone(child: subprocess.Popen[Any]) -> bool:
         """Whether it ends in time."""
         loop = asyncio.get_running_loop()
         end = loop.time() + END_SECONDS

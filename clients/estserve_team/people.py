@@ -41,7 +41,7 @@ def read_people(text: str) -> Dict[str, List[str]]:
 def peer_uid(connection: socket.socket) -> int:
     """The Unix user of the process that made this connection."""
     told = connection.getsockopt(socket.SOL_SOCKET, socket.SO_PEERCRED, CREDENTIALS.size)
-    return CREDENTIALS.unpack(told)[1]
+    return int(CREDENTIALS.unpack(told)[1])
 
 
 class People:

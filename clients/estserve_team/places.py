@@ -28,7 +28,7 @@ import subprocess
 import time
 from typing import Any, Callable, Dict, List, Optional, Sequence
 
-from estserve_client.texts import Failed
+from estserve_client.texts import Failed as Failed  # also for the other modules
 
 PATH_BYTES = 107  # the longest path of a Unix socket
 LIST_NAME = "children"
@@ -170,7 +170,7 @@ def die_with(parent: int) -> Callable[[], None]:
 
 def start_child(
     command: Sequence[str], give_up: Optional[Callable[[], None]] = None, **options: Any
-) -> subprocess.Popen:
+) -> subprocess.Popen[Any]:
     """Starts a process that dies with the thread that calls this; `give_up` is what it does
     first. Raises Failed."""
     die = die_with(os.getpid())
@@ -186,7 +186,7 @@ def start_child(
         raise Failed(f"{command[0]} cannot be started: {fault}") from fault
 
 
-def end_child(child: subprocess.Popen) -> None:
+def end_child(child: subprocess.Popen[Any]) -> None:
     """Ends a process that was started here. This takes no file and no descriptor, and never
     raises."""
     with contextlib.suppress(OSError, subprocess.TimeoutExpired):
@@ -260,14 +260,14 @@ class Children:
             boot = ""
         return [found.st_dev, found.st_ino, boot]
 
-    def start(self, command: Sequence[str], **options: Any) -> subprocess.Popen:
+    def start(self, command: Sequence[str], **options: Any) -> subprocess.Popen[Any]:
         """Starts a process, and lists it. Raises Failed."""
         child = start_child(command, **options)
         self._running[child.pid] = start_time_of(child.pid) or ""
         self._write()
         return child
 
-    def end(self, child: subprocess.Popen) -> None:
+    def end(self, child: subprocess.Popen[Any]) -> None:
         """Ends a process, and takes it from the list. Never raises."""
         end_child(child)
         self._running.pop(child.pid, None)

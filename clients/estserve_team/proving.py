@@ -195,7 +195,7 @@ def check_plain(path: pathlib.Path) -> None:
             raise NotProven(path, "it is a link, or no file")
 
 
-def facts_of(path: pathlib.Path) -> Optional[dict]:
+def facts_of(path: pathlib.Path) -> Optional[Dict[str, Any]]:
     """The facts of a record; None of a file in which nothing was made yet. Raises NotProven."""
     try:
         with contextlib.closing(open_writer(path)) as database:
@@ -252,7 +252,7 @@ def take_over_blocks(path: pathlib.Path, head: Head) -> None:
         writer.close_record()
 
 
-def name_of_before(facts: dict) -> str:
+def name_of_before(facts: Dict[str, Any]) -> str:
     """The name that a record without one gets, the same one each time."""
     text = "\n".join(f"{name}={facts[name]}" for name in sorted(facts))
     return hashlib.sha256(text.encode()).hexdigest()[:32]
@@ -320,7 +320,7 @@ def make_anew(
     for name, value in (("format", FORMAT), ("id", record)):
         database.execute("INSERT OR REPLACE INTO facts VALUES (?,?)", (name, value))
     last = first_hash(record)
-    for number, row in enumerate(sorted([*entries, *aside], key=lambda row: row[0]), 1):
+    for number, row in enumerate(sorted([*entries, *aside], key=lambda row: int(row[0])), 1):
         entry = (number, *row[1:ENTRIES_AT])
         last = hash_of(last, entry)
         values = (*entry, last, *row[ENTRIES_AT:])

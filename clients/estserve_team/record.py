@@ -396,7 +396,7 @@ class RecordWriter:
                 (person, request_id),
             ).fetchone()
             if found is not None:
-                return found
+                return found[0], found[1]
         return None
 
     def keep_answers(self, old: pathlib.Path) -> None:

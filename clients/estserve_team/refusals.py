@@ -1,6 +1,6 @@
 """The refusals of the gateway itself. Their codes are over 1000; the program's are under 100."""
 import json
-from typing import Any
+from typing import Any, List
 
 
 class Refused(Exception):
@@ -18,7 +18,7 @@ def not_you(user: str) -> Refused:
     return Refused(1001, "NotYou", user=user)
 
 
-def all_taken(holders: list) -> Refused:
+def all_taken(holders: List[Any]) -> Refused:
     """Each of the sixteen logins is held; `holders` lists the user and the person of each."""
     return Refused(1002, "AllTaken", holders=holders)
 

@@ -4,7 +4,7 @@ import pathlib
 import socket
 import subprocess
 import time
-from typing import Optional
+from typing import Any, Callable, Optional
 
 from .places import Children, Failed, check_socket_path, end_child, start_child
 
@@ -28,7 +28,7 @@ class Server:
     ) -> None:
         self.program, self.path = program, path
         self._children = children
-        self._process: Optional[subprocess.Popen] = None
+        self._process: Optional[subprocess.Popen[Any]] = None
 
     def start(self) -> None:
         """Starts it, and waits until it listens. Raises Failed."""
@@ -42,12 +42,15 @@ class Server:
             "--workers",
             str(WORKERS),
         ]
-        start = self._children.start if self._children else start_child
-        self._process = start(command, stdin=subprocess.DEVNULL, stdout=subprocess.DEVNULL)
+        start: Any = self._children.start if self._children else start_child
+        process: "subprocess.Popen[Any]" = start(
+            command, stdin=subprocess.DEVNULL, stdout=subprocess.DEVNULL
+        )
+        self._process = process
         end = time.monotonic() + START_SECONDS
         while not self._listens():
             if not self.is_running or time.monotonic() > end:
-                was_killed = self.is_running or self._process.returncode < 0
+                was_killed = self.is_running or process.returncode < 0
                 self.end()
                 raise (Lost if was_killed else Failed)(f"{self.program} does not serve")
             time.sleep(POLL_SECONDS)

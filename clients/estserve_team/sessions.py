@@ -6,7 +6,18 @@ import pathlib
 import socket
 import time
 from collections import deque
-from typing import TYPE_CHECKING, Any, Callable, Deque, Dict, List, NamedTuple, Optional, Tuple
+from typing import (
+    Any,
+    Callable,
+    Deque,
+    Dict,
+    List,
+    NamedTuple,
+    Optional,
+    TYPE_CHECKING,
+    Tuple,
+    cast,
+)
 
 from . import moments
 from .lines import Request, cut_lines, request_of
@@ -27,7 +38,7 @@ MOST_UNDER_WAY = 64  # of one shared session
 LONGEST_ID = 64
 DECODE = json.JSONDecoder().raw_decode
 CHANGES = frozenset(("login", "activate", "drop"))  # what changes a session
-LOGOUT = request_of({"cmd": "logout"})
+LOGOUT = cast(Request, request_of({"cmd": "logout"}))
 NOT_A_REQUEST = b'{"code":3,"fault":"NotARequest"}'
 KEPT_FROM_SHARED = {"login", "logout", "activate", "drop"}
 
@@ -269,7 +280,8 @@ class SharedSession:
         self, command: Dict[str, Any], request_id: Optional[str] = None
     ) -> Dict[str, Any]:
         """As `ask`, with the answer as an object."""
-        return json.loads(await self.ask(command, request_id))
+        answer: Dict[str, Any] = json.loads(await self.ask(command, request_id))
+        return answer
 
     async def _ask_once(self, request: Request, request_id: str) -> bytes:
         """Asks a request with an id, which is carried out once."""
@@ -282,19 +294,19 @@ class SharedSession:
         if under_way is None:
             recorded = self._gateway.answer_to(*key)
             if recorded is not None:
-                return self._same(recorded[0], request, request_id) and recorded[1]
+                self._check_same(recorded[0], request, request_id)
+                return recorded[1]
             task = asyncio.ensure_future(self._send(request, request_id))
             under_way = self._gateway.under_way[key] = (request.line, task)
             task.add_done_callback(lambda _: self._gateway.under_way.pop(key, None))
-        self._same(under_way[0], request, request_id)
+        self._check_same(under_way[0], request, request_id)
         return await asyncio.shield(under_way[1])
 
     @staticmethod
-    def _same(line: bytes, request: Request, request_id: str) -> bool:
-        """That a request with this id is the one that had it before. Raises Refused."""
+    def _check_same(line: bytes, request: Request, request_id: str) -> None:
+        """Raises Refused, where a request with this id isn't the one that had it before."""
         if line != request.line:
             raise id_taken(request_id)
-        return True
 
     async def _send(self, request: Request, request_id: Optional[str]) -> bytes:
         """Sends a request, where there is room, and waits for its answer. Raises Refused."""

@@ -31,7 +31,7 @@ class Begun(NamedTuple):
 
     writer: RecordWriter
     extent: Tuple[int, List[int]]
-    count: int
+    count: int  # type: ignore[assignment]  # which hides the method of tuples
     logged_out: int
 
 

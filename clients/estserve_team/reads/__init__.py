@@ -1,5 +1,5 @@
 """What may be read of the team's record and server, each as the caller's own session allows."""
-from typing import Dict
+from typing import Any, Dict
 
 from ..words import Word
 from .archive import make_archive
@@ -24,7 +24,7 @@ WORDS: Dict[str, Word] = {
 }
 
 
-def on_start(gateway) -> None:
+def on_start(gateway: Any) -> None:
     """Builds the models of the record. Called after each start and restart, before clients come."""
     if getattr(gateway, "reads", None) is None:
         gateway.reads = ReadState(gateway)

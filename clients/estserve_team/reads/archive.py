@@ -44,6 +44,7 @@ async def make_archive(context: Context, keys: Dict[str, Any]) -> Dict[str, Any]
         raise not_a_word("slots are 0 to 15")
     gateway, session = context.gateway, context.session
     roles = await agreed_roles(context, emptied)
+    assert session is not None  # or there had been no roles
     caller = Caller(context.person.name, session.user, roles)
     await gateway.archive(functools.partial(build, caller, emptied))
     kept = [path.name for path in gateway.old_records()]
@@ -54,6 +55,7 @@ async def agreed_roles(context: Context, emptied: Optional[int]) -> List[str]:
     """The active roles of a caller who may archive, once model and server agree on its permissions.
 
     Raises Refused."""
+    assert context.session is not None  # the word asks for a login
     number = context.session.number
 
     async def compose(rights: Rights) -> Dict[str, Any]:
@@ -71,7 +73,8 @@ async def agreed_roles(context: Context, emptied: Optional[int]) -> List[str]:
     found = await read_by_one_policy(context, compose)
     if found["wrong"]:
         raise failed(f"the record's policy is not the server's: {found['wrong'][0]}")
-    return found["roles"]
+    roles: List[str] = found["roles"]
+    return roles
 
 
 def build(
@@ -123,7 +126,9 @@ def make_record(record: NewRecord, caller: Caller, old: Models, emptied: Optiona
 def check_allowed(login: RecordedLogin, policy: PolicyModel, caller: Caller) -> None:
     """Raises ArchiveFailed where the new server allows the caller other pairs than before."""
     roles, pairs = policy.below(caller.roles), policy.pairs()
-    asked = [{"cmd": "check", "object": object, "op": operation} for operation, object in pairs]
+    asked: List[Dict[str, Any]] = [
+        {"cmd": "check", "object": object, "op": operation} for operation, object in pairs
+    ]
     for pair, answer in zip(pairs, login.ask(asked)):
         if answer["allowed"] != any((role, *pair) in policy.granted for role in roles):
             raise ArchiveFailed(f"the new server answers {answer} to check {pair}")

@@ -61,7 +61,7 @@ class GatewayTalk:
             raise Disconnected("the gateway has gone away") from fault
         if not line.endswith(b"\n"):
             raise Disconnected("the gateway has gone away")
-        answer = json.loads(line)
+        answer: Dict[str, Any] = json.loads(line)
         if "code" in answer:
             raise Failed(refusal_text(answer))
         return answer

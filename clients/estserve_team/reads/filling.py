@@ -1,5 +1,5 @@
 """How full the journals and tables are, told in sentences from 90 percent on."""
-from typing import Callable, Dict, Iterable, List
+from typing import Any, Callable, Dict, Iterable, List
 
 from .policy_model import Filling
 
@@ -35,7 +35,7 @@ class FillingWatch:
                 self._log(sentence_of(filling))
 
 
-def warnings(gateway) -> List[str]:
+def warnings(gateway: Any) -> List[str]:
     """A sentence for each journal or table of the gateway's server that is nearly full."""
     state = gateway.reads
     fillings = state.policy.fillings() + state.slots.fillings()

@@ -4,7 +4,7 @@ It tells docs/ACCESS.md a second time, beside the program that decides. The read
 made from it, and an archive is; what a session may do is asked of the program, never of this model.
 """
 import dataclasses
-from typing import Dict, Iterable, List, Optional, Set, Tuple
+from typing import Any, Dict, Iterable, List, Optional, Set, Tuple
 
 JOURNAL = 262_080  # entries of the policy's journal; 64 further places are for logouts
 SESSIONS = 65_535  # session numbers
@@ -37,7 +37,7 @@ class Origin:
 class Fact:
     """One fact: the command that makes it, and its origin."""
 
-    command: dict
+    command: Dict[str, Any]
     origin: Origin
 
 
@@ -84,15 +84,21 @@ class Filling:
         """Whether so much is used that it has to be told."""
         return self.used * 100 >= self.limit * NEAR
 
-    def as_dict(self) -> dict:
+    def as_dict(self) -> Dict[str, Any]:
         """The filling as it is told on the wire."""
         percent = self.used * 100 // self.limit
         return {"limit": self.limit, "percent": percent, "used": self.used, "what": self.what}
 
 
+def session_of(origin: Origin) -> int:
+    """The session that made an entry which only sessions make."""
+    assert origin.session is not None
+    return origin.session
+
+
 def reach(roles: Iterable[str], steps: Dict[str, List[str]]) -> Dict[str, Tuple[str, ...]]:
     """Each role that steps lead to from these, with the shortest chain of roles to it."""
-    chains = {role: (role,) for role in roles}
+    chains: Dict[str, Tuple[str, ...]] = {role: (role,) for role in roles}
     waiting = list(chains)
     for role in waiting:
         new = [after for after in steps.get(role, ()) if after not in chains]
@@ -125,7 +131,7 @@ class PolicyModel:
 
     # ---- entries
 
-    def add(self, session: Optional[int], request: dict, reply: dict) -> None:
+    def add(self, session: Optional[int], request: Dict[str, Any], reply: Dict[str, Any]) -> None:
         """Adds the entry of an accepted policy command, with the session that gave it.
 
         Raises OutOfOrder where the reply's version is not the next one."""
@@ -142,7 +148,7 @@ class PolicyModel:
             keys = {key: value for key, value in request.items() if key != "cmd"}
             getattr(self, f"_{cmd}")(origin, **keys)
 
-    def _login(self, request: dict, number: int) -> None:
+    def _login(self, request: Dict[str, Any], number: int) -> None:
         if number != self.logins + 1:
             raise OutOfOrder(f"session {number} after {self.logins} sessions")
         self.logins = number
@@ -151,7 +157,7 @@ class PolicyModel:
         self.sessions[number] = Session(number, request["user"], active, self.version)
 
     def _logout(self, origin: Origin) -> None:
-        self.sessions.pop(origin.session, None)
+        self.sessions.pop(session_of(origin), None)
 
     def _adduser(self, origin: Origin, user: str) -> None:
         self.users[user] = origin
@@ -201,10 +207,10 @@ class PolicyModel:
         del self.sets[name]
 
     def _activate(self, origin: Origin, role: str) -> None:
-        self.sessions[origin.session].active.append(role)
+        self.sessions[session_of(origin)].active.append(role)
 
     def _drop(self, origin: Origin, role: str) -> None:
-        self.sessions[origin.session].active.remove(role)
+        self.sessions[session_of(origin)].active.remove(role)
 
     def _end_sessions(self) -> None:
         """Ends each session whose user is gone, or lacks the authorization for an active role."""
@@ -275,7 +281,8 @@ class PolicyModel:
 
     def facts(self) -> List[Fact]:
         """All facts in order of creation, the opening ones included."""
-        made = [({"cmd": "adduser", "user": user}, by) for user, by in self.users.items()]
+        made: List[Tuple[Dict[str, Any], Origin]] = []
+        made += [({"cmd": "adduser", "user": user}, by) for user, by in self.users.items()]
         made += [({"cmd": "addrole", "role": role}, by) for role, by in self.roles.items()]
         for (user, role), by in self.assigned.items():
             made.append(({"cmd": "assign", "role": role, "user": user}, by))
@@ -284,7 +291,7 @@ class PolicyModel:
         for (senior, junior), by in self.edges.items():
             made.append(({"cmd": "inherit", "junior": junior, "senior": senior}, by))
         for name, one in self.sets.items():
-            keys = {"count": one.count, "name": name, "roles": list(one.roles)}
+            keys: Dict[str, Any] = {"count": one.count, "name": name, "roles": list(one.roles)}
             made.append(({"cmd": "dsd", **keys}, one.origin))
         facts = [Fact(command, by) for command, by in made]
         return sorted(facts, key=lambda fact: fact.origin.version)

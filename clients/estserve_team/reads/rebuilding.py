@@ -6,7 +6,7 @@ other: what the new record holds is what this server has answered.
 import json
 import pathlib
 import time
-from typing import Dict, Iterable, Iterator, List, Optional, Sequence
+from typing import Any, Dict, Iterable, Iterator, List, Optional, Sequence
 
 from estserve_client.connection import line_of
 
@@ -23,7 +23,7 @@ OPENING_FACTS = (
     {"cmd": "grant", "object": "policy", "op": "administer", "role": "root"},
 )
 
-Command = Dict[str, object]
+Command = Dict[str, Any]
 
 
 class ArchiveFailed(Exception):
@@ -43,7 +43,7 @@ class NewRecord:
         return RecordedLogin(self, self._connections, Talker(self._socket), user, list(roles))
 
     def write(
-        self, login: "RecordedLogin", commands: Sequence[Command], replies: List[dict]
+        self, login: "RecordedLogin", commands: Sequence[Command], replies: List[Dict[str, Any]]
     ) -> None:
         """Writes the entries of accepted commands, those of a login's connection."""
         entries = [
@@ -58,7 +58,7 @@ class NewRecord:
             connections.append(row)
         self._writer.append(entries, connections)
 
-    def _entry_of(self, login: "RecordedLogin", command: Command, reply: dict) -> Entry:
+    def _entry_of(self, login: "RecordedLogin", command: Command, reply: Dict[str, Any]) -> Entry:
         self._entries += 1
         of_policy = command["cmd"] in POLICY_COMMANDS
         slot, place = (POLICY, reply["version"]) if of_policy else (command["slot"], reply["place"])
@@ -107,7 +107,7 @@ class RecordedLogin:
         finally:
             self._talker.close()
 
-    def ask(self, commands: Iterable[Command]) -> List[dict]:
+    def ask(self, commands: Iterable[Command]) -> List[Dict[str, Any]]:
         """The answers to commands, each of which has to be accepted. Raises ArchiveFailed."""
         commands = list(commands)
         lines = [line_of(command)[:-1] for command in commands]

@@ -14,7 +14,7 @@ class Rights:
 
     Without a session nothing is allowed. The answers are dropped with the read."""
 
-    def __init__(self, session) -> None:
+    def __init__(self, session: Any) -> None:
         self._session = session
         self._told: Dict[Pair, bool] = {}
 

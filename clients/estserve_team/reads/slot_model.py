@@ -3,7 +3,7 @@
 It knows which module is loaded, its interface, its pending inputs and the inputs of each instant
 since the load. What an instant's outputs are it doesn't know: a `look` tells that.
 """
-from typing import Dict, List, Optional, Tuple
+from typing import Any, Dict, List, Optional, Tuple
 
 from estserve_client.module_text import main_of
 
@@ -43,7 +43,7 @@ class Slot:
     def signals(self) -> List[Tuple[str, str]]:
         """The interface of the module in order, each a name and `input`, `output` or `inout`."""
         if self._signals is None:
-            module = main_of(self.text, self.main) if self.is_loaded else None
+            module = None if self.text is None else main_of(self.text, self.main)
             self._signals = module.signals if module else []
         return self._signals
 
@@ -62,7 +62,7 @@ class SlotsModel:
     def __getitem__(self, number: int) -> Slot:
         return self.slots[number]
 
-    def add(self, request: dict, reply: dict) -> None:
+    def add(self, request: Dict[str, Any], reply: Dict[str, Any]) -> None:
         """Adds the entry of an accepted command on a slot.
 
         Raises OutOfOrder where the reply's place or instant is not the next one."""

@@ -1,7 +1,7 @@
 """The models of a record: policy and slots, as its entries say, followed as new ones come."""
 import json
 import pathlib
-from typing import Iterable, Iterator, List, Optional, Set
+from typing import Any, Dict, Iterable, Iterator, List, Optional, Set
 
 from ..record import POLICY, Entry, in_order, open_reader
 from ..refusals import failed
@@ -29,9 +29,11 @@ class Models:
             self.policy.add(entry.session, json.loads(entry.request), reply)
             return
         known = WITHOUT_KEYS.get(entry.command)
-        request = {**known, "slot": entry.slot} if known else json.loads(entry.request)
-        reply = {"place": entry.place, "version": entry.version, "instant": entry.instant}
-        self.slots.add(request, reply)
+        request: Dict[str, Any] = (
+            {"slot": entry.slot, **known} if known else json.loads(entry.request)
+        )
+        made = {"place": entry.place, "version": entry.version, "instant": entry.instant}
+        self.slots.add(request, made)
 
     def add_all(self, entries: Iterable[Entry]) -> "Models":
         """Adds entries in their order."""
@@ -56,7 +58,7 @@ class ReadState:
 
     A gateway that began anew from its record calls `begin` again."""
 
-    def __init__(self, gateway) -> None:
+    def __init__(self, gateway: Any) -> None:
         self._gateway = gateway
         self._watch = FillingWatch(gateway.log)
         self._models = Models()

@@ -1,6 +1,6 @@
 """The words `who`, `slots`, `policy` and `why`."""
 import datetime
-from typing import Any, Dict, List, Optional, Set
+from typing import Any, Dict, List, Optional, Set, Tuple
 
 from estserve_client.module_text import OFFERED
 from estserve_client.sentences import out_of_form
@@ -38,7 +38,7 @@ async def tell_who(context: Context, keys: Dict[str, Any]) -> Dict[str, Any]:
     return await read_by_one_policy(context, compose)
 
 
-def holder_dict(holder, policy: PolicyModel, is_whole: bool) -> Dict[str, Any]:
+def holder_dict(holder: Any, policy: PolicyModel, is_whole: bool) -> Dict[str, Any]:
     """What is told of one who holds a login; `ended` where its session has ended.
 
     A login that is not yet answered has the session 0."""
@@ -82,9 +82,10 @@ async def sees_slot(rights: Rights, policy: PolicyModel, number: int) -> bool:
     return await rights.may_any(pairs)
 
 
-async def seen_pending(rights: Rights, state, numbers: Set[int]) -> Dict[int, Set[str]]:
+async def seen_pending(rights: Rights, state: Any, numbers: Set[int]) -> Dict[int, Set[str]]:
     """Of each slot the inputs and inputoutputs that the session may offer or observe."""
-    granted, seen = set(state.policy.pairs()), {}
+    granted: Set[Tuple[str, str]] = set(state.policy.pairs())
+    seen: Dict[int, Set[str]] = {}
     for number in numbers:
         seen[number] = set()
         for name in [name for name, kind in state.slots[number].signals if kind in OFFERED]:
@@ -106,10 +107,11 @@ def slot_dict(slot: Slot, seen: Set[str], keys: Dict[str, Any]) -> Dict[str, Any
     return told
 
 
-async def look_of(session, slot: int, instant: int) -> Optional[List[list]]:
+async def look_of(session: Any, slot: int, instant: int) -> Optional[List[List[Any]]]:
     """What the session itself may observe of an instant; None where it is gone by now."""
     asked = {"cmd": "look", "instant": instant, "slot": slot}
-    return (await session.ask_answer(asked)).get("signals")
+    signals: Optional[List[List[Any]]] = (await session.ask_answer(asked)).get("signals")
+    return signals
 
 
 # ---- policy
@@ -122,20 +124,22 @@ async def tell_policy(context: Context, keys: Dict[str, Any]) -> Dict[str, Any]:
         oversees = await rights.oversees()
         model = context.gateway.reads.policy
         if not oversees:
-            return policy_dict(model, *own_part(model, own_users(context)), is_whole=False)
+            return policy_dict(model, *own_part(model, own_users(context)), False)
         told = policy_dict(model, set(model.users), set(model.roles), is_whole=True)
         return {**told, "filling": [filling.as_dict() for filling in model.fillings()]}
 
     return await read_by_one_policy(context, compose)
 
 
-def own_part(model: PolicyModel, users: List[str]):
+def own_part(model: PolicyModel, users: List[str]) -> Tuple[Set[str], Set[str]]:
     """Those of the users that are there, and the roles that one of them is authorized for."""
     there = {user for user in users if user in model.users}
     return there, {role for user in there for role in model.authorized(user)}
 
 
-def policy_dict(model: PolicyModel, users: Set[str], roles: Set[str], is_whole: bool) -> Dict:
+def policy_dict(
+    model: PolicyModel, users: Set[str], roles: Set[str], is_whole: bool
+) -> Dict[str, Any]:
     """What the policy says of these users and roles, each list in order of creation."""
     edges = [list(edge) for edge in model.edges if roles.issuperset(edge)]
     sessions = [session for session in model.sessions.values() if session.user in users]
@@ -152,7 +156,7 @@ def policy_dict(model: PolicyModel, users: Set[str], roles: Set[str], is_whole: 
     }
 
 
-def session_dict(session) -> Dict[str, Any]:
+def session_dict(session: Any) -> Dict[str, Any]:
     """What is told of a session that lives."""
     return {"roles": session.active, "session": session.number, "user": session.user}
 
@@ -187,7 +191,9 @@ async def tell_why(context: Context, keys: Dict[str, Any]) -> Dict[str, Any]:
     return await read_by_one_policy(context, compose)
 
 
-async def own_answer(context: Context, rights: Rights, user: str, operation: str, object: str):
+async def own_answer(
+    context: Context, rights: Rights, user: str, operation: str, object: str
+) -> Dict[str, Any]:
     """What the program answers to the caller's own `check`, where the caller is this user."""
     if context.session is None or context.session.user != user:
         return {}

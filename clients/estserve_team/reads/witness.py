@@ -7,7 +7,7 @@ may observe them in the team: nothing of it is told to anyone.
 import json
 import pathlib
 import sqlite3
-from typing import Iterator, List, Optional, Set, Tuple
+from typing import Any, Dict, Iterator, List, Optional, Set, Tuple
 
 from estserve_client.connection import line_of
 from estserve_client.module_text import OFFERED
@@ -41,7 +41,7 @@ def compare_facts(old: PolicyModel, new: PolicyModel) -> None:
         raise ArchiveFailed("a session lives in the new record")
 
 
-def later_facts(commands: List[dict]) -> List[dict]:
+def later_facts(commands: List[Dict[str, Any]]) -> List[Dict[str, Any]]:
     """The facts that are not among the opening ones."""
     return [command for command in commands if command not in OPENING_FACTS]
 
@@ -81,7 +81,7 @@ class Witness:
         self._talker.close()
         self._server.end()
 
-    def _accepted(self, commands: List[dict]) -> List[bytes]:
+    def _accepted(self, commands: List[Dict[str, Any]]) -> List[bytes]:
         """The answers to commands that have to be accepted. Raises ArchiveFailed."""
         lines = [line_of(command)[:-1] for command in commands]
         replies = self._talker.ask_all(lines)
@@ -102,7 +102,7 @@ class Witness:
                 self._run_part(slot, part)
 
     @staticmethod
-    def _permissions(slot: Slot) -> List[dict]:
+    def _permissions(slot: Slot) -> List[Dict[str, Any]]:
         pairs = [("load", f"{slot.number}"), ("step", f"{slot.number}")]
         for name, kind in slot.signals:
             pairs.append(("observe", f"{slot.number}.{name}"))
@@ -140,7 +140,7 @@ class Witness:
         self._accepted([{"cmd": "revoke", **permission} for permission in self._permissions(slot)])
 
 
-def parts_of(rows: sqlite3.Cursor) -> Iterator[list]:
+def parts_of(rows: sqlite3.Cursor) -> Iterator[List[Any]]:
     """The rows of a query, some at a time."""
     part = rows.fetchmany(FETCHED)
     while part:

@@ -1,6 +1,7 @@
 """What browsers may have of the team: links, visits and seats. All of it lies in the gateway; the
 page's process has none of it, and bears what its visitors show."""
 import asyncio
+import functools
 from typing import Any, Dict, List, Optional
 
 from ..people import Person
@@ -35,7 +36,7 @@ class Visiting:
         self.visits = Visits(
             gateway.private / "visits.json",
             limits=gateway.limits,
-            tell=lambda text: gateway.log(text, "page"),
+            tell=functools.partial(gateway.log, kind="page"),
         )
         self.changes = Changes()
         self.watchers: "set[Watcher]" = set()
@@ -81,9 +82,10 @@ class Visiting:
     def person(self, name: str) -> Person:
         """The person of this name. Raises Denied."""
         try:
-            return self.gateway.people.named(name)
+            person: Person = self.gateway.people.named(name)
         except Refused:
             raise Denied("person") from None
+        return person
 
     def visit_of(self, asked: Dict[str, Any]) -> Visit:
         """The visit whose two secrets are shown. Raises Denied."""

@@ -129,8 +129,8 @@ class PageClient(LineClient):
             self.close_watcher(stream)
             if len(self._watchers) >= STREAMS:
                 raise too_many("streams", STREAMS)
-            watcher = self._watchers[stream] = self.visiting.watch(seat)
-        return watcher
+            self._watchers[stream] = self.visiting.watch(seat)
+        return self._watchers[stream]
 
     def close_watcher(self, stream: Any) -> None:
         """A stream has ended."""

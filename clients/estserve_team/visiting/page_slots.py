@@ -1,7 +1,7 @@
 """A slot as the page shows it: what its session may see and do there, each asked of the program
 by `check`."""
 import asyncio
-from typing import Any, Dict, List
+from typing import Any, Dict, List, Set
 
 from estserve_client.module_text import OFFERED
 
@@ -18,10 +18,13 @@ def rights_of(seat: Seat) -> Rights:
     board = seat.board
     if board.rights is None or board.rights_at != seat.changes.count:
         board.rights, board.rights_at = Rights(seat.share), seat.changes.count
-    return board.rights
+    rights: Rights = board.rights
+    return rights
 
 
-async def may_of(rights: Rights, granted: set, number: int, signals: List[Any]) -> Dict[str, Any]:
+async def may_of(
+    rights: Rights, granted: Set[Any], number: int, signals: List[Any]
+) -> Dict[str, Any]:
     """What the session may do on a slot and on its signals. What nobody was granted needs no
     question."""
 

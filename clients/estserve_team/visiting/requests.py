@@ -27,7 +27,7 @@ def key_of(asked: Told, name: str, kind: type) -> Any:
 
 def slot_of(asked: Told) -> int:
     """The slot that is asked for. Raises Refused."""
-    slot = key_of(asked, "slot", int)
+    slot: int = key_of(asked, "slot", int)
     if not 0 <= slot < SLOTS:
         raise not_a_word("slots are 0 to 15")
     return slot

@@ -32,7 +32,8 @@ def answer_of(rest: bytes) -> Told:
         raise Denied(found["denied"])
     if "refused" in found:
         raise Refused(**found["refused"])
-    return found["told"]
+    told: Told = found["told"]
+    return told
 
 
 class Core(asyncio.Protocol):
@@ -141,8 +142,10 @@ class Core(asyncio.Protocol):
 
     async def ask(self, name: str, **keys: Any) -> Told:
         """What the gateway tells. Raises Denied, Refused: 1004 where no answer comes."""
-        return await self._ask(name, False, keys)
+        told: Told = await self._ask(name, False, keys)
+        return told
 
     async def ask_plain(self, name: str, **keys: Any) -> bytes:
         """The answer as it came, after its number; `answer_of` reads it. Raises Refused."""
-        return await self._ask(name, True, keys)
+        told: bytes = await self._ask(name, True, keys)
+        return told

@@ -56,7 +56,8 @@ class Gate(asyncio.Protocol):
         self._tail = text[-2:]
 
     def eof_received(self) -> Optional[bool]:
-        return self._inner.eof_received()
+        stays: Optional[bool] = self._inner.eof_received()
+        return stays
 
     def pause_writing(self) -> None:
         self._choked = time.monotonic()

@@ -1,6 +1,6 @@
 """What each request has to bear before anything is done for it."""
 import hashlib
-from typing import FrozenSet, Optional
+from typing import Any, FrozenSet, List, Optional
 
 from aiohttp import web
 
@@ -24,6 +24,12 @@ HEADERS = {
 def told(status: int, sentence: str) -> web.Response:
     """An answer that is a sentence."""
     return web.json_response({"sentence": sentence}, status=status)
+
+
+def extra_info(request: web.Request, name: str) -> Any:
+    """What the connection of a request tells of itself."""
+    assert request.transport is not None
+    return request.transport.get_extra_info(name)
 
 
 class Guard:
@@ -61,14 +67,14 @@ class Guard:
         if not request.headers.getall("Host", []):
             return told(400, "A request names its host.")
         if self.is_of_proxy(request) and self._options.proxy is not None:
-            if peer_uid(request.transport.get_extra_info("socket")) != self._options.proxy:
+            if peer_uid(extra_info(request, "socket")) != self._options.proxy:
                 return told(403, "Only the proxy may speak on this socket.")
         return self._fault_of_origin(request) if "/api/" in request.path else None
 
     def _fault_of_origin(self, request: web.Request) -> Optional[web.Response]:
         """A request of a page of another origin, and one that changes something without an
         origin."""
-        origins = request.headers.getall("Origin", [])
+        origins: List[str] = request.headers.getall("Origin", [])
         if len(origins) > 1 or any(origin.lower() not in self.origins for origin in origins):
             return told(403, "This origin is not the page's.")
         if not origins and request.method != "GET":
@@ -80,14 +86,14 @@ class Guard:
     @staticmethod
     def is_of_proxy(request: web.Request) -> bool:
         """Whether a request came over the Unix socket."""
-        return isinstance(request.transport.get_extra_info("sockname"), str)
+        return isinstance(extra_info(request, "sockname"), str)
 
     def named_person(self, request: web.Request) -> Optional[str]:
         """The person whom the proxy names; None where the proxy is not asked. Raises
         HTTPForbidden where none or two are named."""
         if not self._options.header or not self.is_of_proxy(request):
             return None
-        names = request.headers.getall(self._options.header, [])
+        names: List[str] = request.headers.getall(self._options.header, [])
         if len(names) != 1 or not names[0].strip() or "," in names[0]:
             raise web.HTTPForbidden(text="the proxy names not exactly one person")
         return names[0].strip()

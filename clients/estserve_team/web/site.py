@@ -87,7 +87,10 @@ class Site:
         """`core_socket` is where the gateway listens; on `program` texts are tried."""
         self._options, self._state, self._limits, self._log = options, state, limits, log
         self._core = Core(core_socket, limits.page_seconds, lambda: {"address": self.address})
-        self._acts = {**asking.ACTS, "try": Trials(program).try_out}
+        self._acts: Dict[str, Callable[[Any, Dict[str, Any]], Awaitable[Dict[str, Any]]]] = {
+            **asking.ACTS,
+            "try": Trials(program).try_out,
+        }
         self._streams: "set[Stream]" = set()
         self._files = files()
         self._runner: Optional[web.AppRunner] = None
@@ -116,6 +119,7 @@ class Site:
             lingering_time=LINGER_SECONDS,
         )
         await self._runner.setup()
+        assert self._runner.server is not None
         self._gates = Gates(self._limits, self._runner.server)
         reserve = Reserve()
         reserve.fill()
