@@ -5,7 +5,7 @@ the gateway.
 """
 from __future__ import annotations
 
-from typing import Any, Dict, Iterable, Tuple
+from typing import Any, Dict, Iterable, List, Tuple
 
 # The keys of each command besides `cmd`, in the order in which people write them.
 KEYS: Dict[str, Tuple[str, ...]] = {
@@ -51,6 +51,16 @@ def back_of(command: Dict[str, Any]) -> Dict[str, Any]:
     """The command that takes another one back."""
     back = BACK[command["cmd"]]
     return {"cmd": back, **{key: command[key] for key in KEYS[back]}}
+
+
+def words_of(command: Dict[str, Any]) -> List[str]:
+    """The words by which people write a command, in the order of its keys: without its slot, and of
+    a load without the text.
+    """
+    keys = [key for key in KEYS[command["cmd"]] if key not in ("slot", "text") and key in command]
+    values = [command[key] for key in keys]
+    lists = [value if isinstance(value, list) else [value] for value in values]
+    return [command["cmd"], *(str(word) for words in lists for word in words)]
 
 
 OPERATIONS = ("offer", "observe", "step", "load", "administer", "audit")

@@ -1,6 +1,7 @@
 """The answers of the gateway's words, as lines for people."""
 from typing import Any, Callable, Dict, Iterable, Iterator, List, Sequence
 
+from estserve_client.command_table import words_of
 from estserve_client.texts import Failed
 
 from .filling import sentence_of
@@ -156,13 +157,9 @@ def log_lines(answer: Answer) -> Iterator[str]:
 
 def request_text(entry: Answer) -> str:
     """A command in words, as `grant driver offer 0.A`; of a step the instant too."""
-    request = dict(entry["request"])
-    cmd = request.pop("cmd")
-    request.pop("slot", None)
-    text = request.pop("text", None)
-    order = ("name", "count", "user", "senior", "junior", "role", "op", "object", "main", "signal")
-    words = [str(request[key]) for key in order if key in request] + request.get("roles", [])
-    told = [cmd, *words, *([f"({text} bytes)"] if text is not None else [])]
+    request = entry["request"]
+    text = [f"({request['text']} bytes)"] if "text" in request else []
+    told = [*words_of(request), *text]
     if "instant" in entry:
         told.append(f"-> instant {entry['instant']}")
     return " ".join(told)

@@ -1,7 +1,7 @@
 """What the page reads and does, each asked of the gateway on the seat that shows its secrets."""
 from typing import Any, Awaitable, Callable, Dict, List, Mapping
 
-from estserve_client.command_table import OF_TEXTS
+from estserve_client.command_table import OF_TEXTS, words_of
 from estserve_client.connection import NotText, TooLong, line_of
 from estserve_client.module_text import main_of
 
@@ -17,9 +17,6 @@ LOG_ENTRIES = 200  # at most this many entries of the log are told at once
 IDENTIFIERS = range(1, 65)  # letters that a request's id may have
 AWAY = (1004, 1005)  # refusals after which the same request may be sent again
 SLOTS = 16
-
-# The keys of a request in the order in which they are told.
-IN_WORDS = "user senior junior role op object name count roles main signal".split()
 
 Told = Dict[str, Any]
 
@@ -190,13 +187,8 @@ async def why(seat: Seat, query: Mapping[str, str]) -> Told:
 
 def request_in_words(request: Told) -> str:
     """A recorded request in words, in the order of the client's; a module's text by its length."""
-    words_of = [str(request["cmd"])]
-    for name in (name for name in IN_WORDS if name in request):
-        value = request[name]
-        words_of.append(" ".join(value) if isinstance(value, list) else str(value))
-    if "text" in request:
-        words_of.append(f"({request['text']} bytes)")
-    return " ".join(words_of)
+    text = [f"({request['text']} bytes)"] if "text" in request else []
+    return " ".join([*words_of(request), *text])
 
 
 def log_line(entry: Told) -> Told:
