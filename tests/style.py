@@ -25,7 +25,7 @@ KINDS = (".py", ".js", ".mjs", ".css")
 WIDTH = 110  # columns of a line, at most; black breaks at 100 what it can break
 SHOWN = 20  # lines of what a tool says
 VERSIONS = {"black": "black, 23.", "mypy": "mypy 1.0", "node": "v"}  # others may decide otherwise
-PACKAGES = ("estserve_client",)
+PACKAGES = ("estserve_client", "estserve_team")
 READ = """
 const [fs, vm] = [require("fs"), require("vm")];
 for (const path of process.argv.slice(1)) {
