@@ -36,7 +36,8 @@ for (const path of process.argv.slice(1)) {
 }
 """
 SHARED = (CLIENTS / "tests" / "support.py", CLIENTS / "tests" / "dialogue.py")
-OF_GATEWAY = ("browsers", "listed_modules", "page_case", "picture", "teams")  # what its tests share
+# what tests of the gateway share
+OF_GATEWAY = ("browsers", "listed_modules", "page_case", "picture", "teams", "visitors")
 # what tests call of elsewhere has no types yet
 LENIENT = "--follow-imports=silent --ignore-missing-imports --no-warn-return-any".split()
 LENIENT.append("--allow-untyped-calls")
