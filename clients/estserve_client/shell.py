@@ -22,6 +22,7 @@ from .library_text import LibraryText
 from .load_faults import load_fault
 from .module_text import Module, main_of
 from .pictures import KINDS, Seen, Table, present_of, table_lines
+from .running import instants_told
 from .scopes import scopes_of
 from .seeing import module_for, see_slot
 from .sentences import Set as SeparationSet
@@ -375,7 +376,8 @@ class Shell(cmd.Cmd):
     def do_audit(self, line: str) -> None:
         """audit [SLOT]: tells how many entries its journal has, and how many instants there were"""
         answer = self.client.audit(keys_of(("slot",), line, self.slot)["slot"])
-        print(f"{answer['entries']} entries, {answer['instants']} instants since the load")
+        counted = instants_told(answer["instants"])
+        print(f"{answer['entries']} entries, {counted} since the load")
 
     def do_look(self, line: str) -> None:
         """look [SLOT] INSTANT: shows the signals that you may observe; A=0: A was absent"""

@@ -339,6 +339,13 @@ class Shell(unittest.TestCase):
         ):
             self.assertIn(told, printed)
         self.assertTrue(printed.endswith("line 13: NoDsd: there is no separation set else\n"))
+        typed = f"grant root audit policy\ngrant root load 0\ngrant root step 0\nload {abro}\n;\naudit\n;\naudit\n"
+        lines = run_client(["shell"], typed).printed.splitlines()
+        counted = [line for line in lines if " since the load" in line]
+        self.assertEqual(
+            counted,
+            ["2 entries, 1 instant since the load", "3 entries, 2 instants since the load"],
+        )
 
 
 class Circles(unittest.TestCase):
