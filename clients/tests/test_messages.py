@@ -339,7 +339,8 @@ class Shell(unittest.TestCase):
         ):
             self.assertIn(told, printed)
         self.assertTrue(printed.endswith("line 13: NoDsd: there is no separation set else\n"))
-        typed = f"grant root audit policy\ngrant root load 0\ngrant root step 0\nload {abro}\n;\naudit\n;\naudit\n"
+        rights = "grant root audit policy\ngrant root load 0\ngrant root step 0\n"
+        typed = f"{rights}load {abro}\n;\naudit\n;\naudit\n"
         lines = run_client(["shell"], typed).printed.splitlines()
         counted = [line for line in lines if " since the load" in line]
         self.assertEqual(
