@@ -55,9 +55,8 @@ class Ends(unittest.TestCase):
     def test_a_search_ends_with_its_command(self):
         with tempfile.TemporaryDirectory() as name:
             told, lab = pathlib.Path(name) / "told", pathlib.Path(name) / "estlab"
-            lab.write_text(
-                f"#!/bin/sh\necho $$ > {told}.new\nmv {told}.new {told}\nexec sleep 600\n"
-            )
+            script = f"#!/bin/sh\nread line\necho $$ > {told}.new\nmv {told}.new {told}\n"
+            lab.write_text(script + "exec sleep 600\n")  # once it is asked, it searches
             lab.chmod(0o755)
             words = ["prove", str(EXAMPLES / "abro" / "abro.strl"), "--estlab", str(lab)]
             command = [sys.executable, "-B", str(CLIENTS / "estserve.py"), *words]

@@ -74,9 +74,17 @@ def end_search(child: subprocess.Popen[bytes]) -> None:
     child.wait()
 
 
+def end_command(number: int, _: Any) -> None:
+    """Ends the command as the signal asks, by which its search is ended too."""
+    raise SystemExit(128 + number)
+
+
 def start_lab(named: Optional[Path] = None) -> Lab:
     """The program that is named, or the one that is found, started. Raises Disconnected."""
     program = find_program(named, "estlab")
+    if threading.current_thread() is threading.main_thread():
+        for number in (signal.SIGTERM, signal.SIGHUP):  # before there is something to end
+            signal.signal(number, end_command)
     try:
         child = subprocess.Popen(
             [program], stdin=subprocess.PIPE, stdout=subprocess.PIPE, start_new_session=True
@@ -110,11 +118,6 @@ def clear_line() -> None:
         print("\r\033[K", end="", file=sys.stderr, flush=True)
 
 
-def end_command(number: int, _: Any) -> None:
-    """Ends the command as the signal asks, by which its search is ended too."""
-    raise SystemExit(128 + number)
-
-
 class Lab:
     """The program estlab, which has one module loaded. Used with `with`, it doesn't outlive the
     command, also where that is ended by a signal in the midst of a search.
@@ -124,9 +127,6 @@ class Lab:
         self.client = client
 
     def __enter__(self) -> Lab:
-        if threading.current_thread() is threading.main_thread():
-            for number in (signal.SIGTERM, signal.SIGHUP):
-                signal.signal(number, end_command)
         return self
 
     def __exit__(self, *_: object) -> None:
