@@ -1,2 +1,4 @@
 pub mod NameLemmas
+pub mod PauseLemmas
+pub mod RequestLemmas
 pub mod ToldLemmas

@@ -1,6 +1,8 @@
 //! Tests over the signals of an interface.
 
-ghost use Rattle.std.specs.Prelude.{◌≡◌, IsTrue, IfSome};
+ghost use Rattle.std.specs.Prelude.{◌≡◌, IsTrue};
+ghost use Rattle.std.specs.Option.{MatchOption};
+ghost use Rattle.est_kernel.specs.declared.statement.Test.{Test as TestValue};
 ghost use Rattle.lab_lines.specs.AskedTests.{Asks, has_test, test_in};
 
 use est_kernel::kernel::Kernel;
@@ -17,6 +19,7 @@ pub struct AskedTest {
 fn only_asks(statement: &Statement) -> bool
     ensures asks { IsTrue result → Asks statement.now (test_in statement.now) }
     ensures has { IsTrue result → IsTrue (has_test statement.now) }
+    ensures every { (test : TestValue) → Asks statement.now test → IsTrue result }
 {
     match statement {
         Statement::Present(_, then, other) => {
@@ -29,8 +32,8 @@ fn only_asks(statement: &Statement) -> bool
 impl AskedTest {
     /// The test that a kernel asks, if it asks one and does nothing else.
     pub fn of(asking: Kernel) -> Option<AskedTest>
-        ensures { IfSome result (λ a. (a.asking ≡ asking)
-            × Asks a.asking.root (test_in a.asking.root)) }
+        ensures { MatchOption result ((test : TestValue) → Asks asking.root test → ⊥)
+            (λ a. (a.asking ≡ asking) × Asks a.asking.root (test_in a.asking.root)) }
     {
         if only_asks(asking.root()) {
             Some(AskedTest { asking })

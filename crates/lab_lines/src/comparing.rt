@@ -1,6 +1,6 @@
 //! Two modules are compared over all their runs.
 
-ghost use Rattle.std.specs.Prelude.{◌≡◌, IsTrue, IfOk};
+ghost use Rattle.std.specs.Prelude.{◌≡◌, ◌↔◌, IsTrue, IfOk};
 ghost use Rattle.serde_json.specs.View.{view};
 ghost use Rattle.est_explore.specs.Inner.Pairs.{AreFor};
 ghost use Rattle.est_explore.specs.Views.{module_of};
@@ -19,14 +19,14 @@ use std::alloc::{AllocError, Global};
 
 /// Whether the two are one declaration.
 fn is_same(one: &Declaration, other: &Declaration) -> bool
-    ensures { IsTrue result → one.now ≡ other.now }
+    ensures { IsTrue result ↔ (one.now ≡ other.now) }
 {
     one.name.is(&other.name) && one.kind == other.kind
 }
 
 /// Whether the two declare the same signals in the same order.
 pub fn are_same(one: &Interface, other: &Interface) -> bool
-    ensures { IsTrue result → one.now ≡ other.now }
+    ensures { IsTrue result ↔ (one.now ≡ other.now) }
 {
     let one = one.declarations();
     let other = other.declarations();

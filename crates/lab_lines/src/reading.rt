@@ -1,17 +1,21 @@
 //! From the JSON value of a line to its request.
 
-ghost use Rattle.std.specs.Prelude.{◌≡◌, ℕ, Some, IfOk, IfSome, map, codes};
-ghost use Rattle.serde_json.specs.Data.{number, unsigned, string};
-ghost use Rattle.serde_json.specs.Find.{get};
-ghost use Rattle.serde_json.specs.View.{items_of, items_view, view};
-ghost use Rattle.lab_lines.specs.Requests.{HasScope, HasText, HasTexts, Says};
+ghost use Rattle.std.specs.Prelude.{◌≡◌, ◌↔◌, ℕ, List, IfOk, IsTrue, codes, map};
+ghost use Rattle.std.specs.Option.{MatchOption};
+ghost use Rattle.serde_json.specs.Data.{string};
+ghost use Rattle.serde_json.specs.View.{view};
+ghost use Rattle.lab_lines.specs.declared.request.Scope.{Scope as ScopeValue};
+ghost use Rattle.lab_lines.specs.Requests.{HasMembers, HasNumber, HasScope, HasText, HasTexts};
+ghost use Rattle.lab_lines.specs.Requests.{Says, SaysNothing};
 
 use crate::request::{Request, Scope};
 use serde_json::Value;
 use std::alloc::{AllocError, Global};
 
 /// Whether the value is an object with this number of members.
-fn has_members(value: &Value, count: usize) -> bool {
+fn has_members(value: &Value, count: usize) -> bool
+    ensures { IsTrue result ↔ HasMembers (view value.now) count }
+{
     match value.as_object() {
         Some(members) => members.len() == count,
         None => false,
@@ -20,7 +24,8 @@ fn has_members(value: &Value, count: usize) -> bool {
 
 /// The text under this key.
 fn text_at<'v>(value: &'v Value, key: &str) -> Option<&'v str>
-    ensures { IfSome result (λ t. HasText (view value.now) key.now t.now) }
+    ensures { MatchOption result ((text : List ℕ) → HasText (view value.now) key.now text → ⊥)
+        (λ t. HasText (view value.now) key.now t.now) }
 {
     match value.get(key) {
         Some(member) => member.as_str(),
@@ -30,7 +35,8 @@ fn text_at<'v>(value: &'v Value, key: &str) -> Option<&'v str>
 
 /// The whole number under this key.
 fn number_at(value: &Value, key: &str) -> Option<u64>
-    ensures { IfSome result (λ n. get key.now (view value.now) ≡ Some (number (unsigned n))) }
+    ensures { MatchOption result ((n : ℕ) → HasNumber (view value.now) key.now n → ⊥)
+        (HasNumber (view value.now) key.now) }
 {
     match value.get(key) {
         Some(member) => member.as_u64(),
@@ -40,8 +46,9 @@ fn number_at(value: &Value, key: &str) -> Option<u64>
 
 /// The texts of a list, or none where one of them is no text.
 fn texts_of<'v>(alloc: Global, items: &'v [Value]) -> Result<Option<Vec<&'v str>>, AllocError>
-    ensures { IfOk result (λ read. IfSome read (λ texts.
-        map view items.now ≡ map string (map (λ t. t.now) texts.items))) }
+    ensures { IfOk result (λ read. MatchOption read
+        ((texts : List (List ℕ)) → map view items.now ≡ map string texts → ⊥)
+        (λ texts. map view items.now ≡ map string (map (λ t. t.now) texts.items))) }
 {
     let mut texts = Vec::new(alloc);
     for item in items {
@@ -59,8 +66,9 @@ fn texts_at<'v>(
     value: &'v Value,
     key: &str,
 ) -> Result<Option<Vec<&'v str>>, AllocError>
-    ensures { IfOk result (λ read. IfSome read (λ texts.
-        HasTexts (view value.now) key.now (map (λ t. t.now) texts.items))) }
+    ensures { IfOk result (λ read. MatchOption read
+        ((texts : List (List ℕ)) → HasTexts (view value.now) key.now texts → ⊥)
+        (λ texts. HasTexts (view value.now) key.now (map (λ t. t.now) texts.items))) }
 {
     let Some(member) = value.get(key) else {
         return Ok(None);
@@ -73,7 +81,8 @@ fn texts_at<'v>(
 
 /// What a search looks at.
 fn scope_of<'v>(alloc: Global, value: &'v Value) -> Result<Option<Scope<'v>>, AllocError>
-    ensures { IfOk result (λ read. IfSome read (HasScope (view value.now))) }
+    ensures { IfOk result (λ read. MatchOption read
+        ((scope : ScopeValue) → HasScope (view value.now) scope → ⊥) (HasScope (view value.now))) }
 {
     let Some(inputs) = texts_at(alloc, value, "inputs")? else {
         return Ok(None);
@@ -87,18 +96,37 @@ fn scope_of<'v>(alloc: Global, value: &'v Value) -> Result<Option<Scope<'v>>, Al
 /// The request to load a module.
 fn load_of<'v>(value: &'v Value) -> Option<Request<'v>>
     requires { HasText (view value.now) (codes "cmd") (codes "load") }
-    ensures { IfSome result (Says (view value.now)) }
+    ensures { MatchOption result (SaysNothing (view value.now)) (Says (view value.now)) }
 {
+    if !has_members(value, 3) {
+        return None;
+    }
     let main = text_at(value, "main")?;
     let text = text_at(value, "text")?;
     Some(Request::Load { main, text })
 }
 
+/// The request for the kernel.
+fn kernel_of<'v>(value: &'v Value) -> Option<Request<'v>>
+    requires { HasText (view value.now) (codes "cmd") (codes "kernel") }
+    ensures { MatchOption result (SaysNothing (view value.now)) (Says (view value.now)) }
+{
+    if has_members(value, 1) {
+        Some(Request::Kernel)
+    } else {
+        None
+    }
+}
+
 /// The request to judge claims.
 fn explore_of<'v>(alloc: Global, value: &'v Value) -> Result<Option<Request<'v>>, AllocError>
     requires { HasText (view value.now) (codes "cmd") (codes "explore") }
-    ensures { IfOk result (λ read. IfSome read (Says (view value.now))) }
+    ensures { IfOk result (λ read. MatchOption read (SaysNothing (view value.now))
+        (Says (view value.now))) }
 {
+    if !has_members(value, 4) {
+        return Ok(None);
+    }
     let Some(claims) = texts_at(alloc, value, "claims")? else {
         return Ok(None);
     };
@@ -111,22 +139,33 @@ fn explore_of<'v>(alloc: Global, value: &'v Value) -> Result<Option<Request<'v>>
 /// The request to compare two modules.
 fn same_of<'v>(alloc: Global, value: &'v Value) -> Result<Option<Request<'v>>, AllocError>
     requires { HasText (view value.now) (codes "cmd") (codes "same") }
-    ensures { IfOk result (λ read. IfSome read (Says (view value.now))) }
+    ensures { IfOk result (λ read. MatchOption read (SaysNothing (view value.now))
+        (Says (view value.now))) }
 {
-    let Some(scope) = scope_of(alloc, value)? else {
+    if !has_members(value, 5) {
+        return Ok(None);
+    }
+    let Some(main) = text_at(value, "main") else {
         return Ok(None);
     };
-    let (Some(main), Some(text)) = (text_at(value, "main"), text_at(value, "text")) else {
+    let Some(text) = text_at(value, "text") else {
         return Ok(None);
     };
-    Ok(Some(Request::Same { main, text, scope }))
+    match scope_of(alloc, value)? {
+        Some(scope) => Ok(Some(Request::Same { main, text, scope })),
+        None => Ok(None),
+    }
 }
 
 /// The request for the table.
 fn table_of<'v>(alloc: Global, value: &'v Value) -> Result<Option<Request<'v>>, AllocError>
     requires { HasText (view value.now) (codes "cmd") (codes "table") }
-    ensures { IfOk result (λ read. IfSome read (Says (view value.now))) }
+    ensures { IfOk result (λ read. MatchOption read (SaysNothing (view value.now))
+        (Says (view value.now))) }
 {
+    if !has_members(value, 3) {
+        return Ok(None);
+    }
     match scope_of(alloc, value)? {
         Some(scope) => Ok(Some(Request::Table(scope))),
         None => Ok(None),
@@ -135,14 +174,18 @@ fn table_of<'v>(alloc: Global, value: &'v Value) -> Result<Option<Request<'v>>, 
 
 /// The request that a value spells, if it spells one.
 pub fn request_of<'v>(alloc: Global, value: &'v Value) -> Result<Option<Request<'v>>, AllocError>
-    ensures { IfOk result (λ read. IfSome read (Says (view value.now))) }
+    ensures { IfOk result (λ read. MatchOption read (SaysNothing (view value.now))
+        (Says (view value.now))) }
 {
-    match text_at(value, "cmd") {
-        Some("load") if has_members(value, 3) => Ok(load_of(value)),
-        Some("kernel") if has_members(value, 1) => Ok(Some(Request::Kernel)),
-        Some("explore") if has_members(value, 4) => explore_of(alloc, value),
-        Some("same") if has_members(value, 5) => same_of(alloc, value),
-        Some("table") if has_members(value, 3) => table_of(alloc, value),
+    let Some(word) = text_at(value, "cmd") else {
+        return Ok(None);
+    };
+    match word {
+        "load" => Ok(load_of(value)),
+        "kernel" => Ok(kernel_of(value)),
+        "explore" => explore_of(alloc, value),
+        "same" => same_of(alloc, value),
+        "table" => table_of(alloc, value),
         _ => Ok(None),
     }
 }

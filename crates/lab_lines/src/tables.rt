@@ -1,11 +1,13 @@
 //! The closed table of a module, as JSON.
 
-ghost use Rattle.std.specs.Prelude.{◌≡◌, ◌⊎◌, ℕ, IfOk, codes, length, map};
+ghost use Rattle.std.specs.Prelude.{◌≡◌, ◌⊎◌, ℕ, IfOk, codes, map};
 ghost use Rattle.serde_json.specs.Data.{array, member, no_members, number};
 ghost use Rattle.serde_json.specs.Data.{object, string, unsigned};
 ghost use Rattle.serde_json.specs.View.{items_of, view};
 ghost use Rattle.est_explore.specs.Views.{module_of};
-ghost use Rattle.lab_lines.specs.Tables.{IsTableTold, IsTooLarge, place_json, row_json};
+ghost use Rattle.est_kernel.specs.declared.state.State.TheVariants.{Paused};
+ghost use Rattle.lab_lines.specs.Tables.{IsTableTold, IsTooLarge, node_json, place_json, row_json};
+ghost use Rattle.lab_lines.specs.Tables.{state_json};
 
 use crate::told::names;
 use est_explore::asked::Asked;
@@ -26,10 +28,11 @@ use state_search::search::Limits;
 use std::alloc::{AllocError, Global};
 
 /// The numbers of the pauses.
-fn pauses(alloc: Global, paused: &PauseSet) -> Result<Value, AllocError> {
+fn pauses(alloc: Global, paused: &PauseSet) -> Result<Value, AllocError>
+    ensures { IfOk result (λ v. view v ≡ state_json (Paused paused.now)) }
+{
     let mut numbers = Vec::new(alloc);
     for index in 0..MOST_STATEMENTS {
-        let index = index as u16;
         if paused.has(PauseIndex { index }) {
             numbers.push(Value::from(index))?;
         }
@@ -38,7 +41,9 @@ fn pauses(alloc: Global, paused: &PauseSet) -> Result<Value, AllocError> {
 }
 
 /// Where a module stands.
-fn state(alloc: Global, state: &State) -> Result<Value, AllocError> {
+fn state(alloc: Global, state: &State) -> Result<Value, AllocError>
+    ensures { IfOk result (λ v. view v ≡ state_json state.now) }
+{
     match state {
         State::Fresh => Value::try_from_str(alloc, "start"),
         State::Done => Value::try_from_str(alloc, "end"),
@@ -48,7 +53,7 @@ fn state(alloc: Global, state: &State) -> Result<Value, AllocError> {
 
 /// The states.
 fn states(alloc: Global, nodes: &[Node<Position>]) -> Result<Vec<Value>, AllocError>
-    ensures { IfOk result (λ v. length v.items ≡ length nodes.now) }
+    ensures { IfOk result (λ v. map view v.items ≡ map node_json nodes.now) }
 {
     let mut values = Vec::new(alloc);
     for node in nodes {

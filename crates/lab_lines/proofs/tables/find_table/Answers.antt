@@ -1,13 +1,17 @@
 use Rattle.std.proofs.Common.{◌≡◌, ◌∙◌, List, length, map, ap, codes, arith, rules, inl, inr, true, false}
-use Rattle.std.proofs.lemmas.List.{length-map}
 use Rattle.serde_json.specs.Data.{Data, array, member, no_members, object, string}
 use Rattle.serde_json.specs.View.{items_of, view}
 use Rattle.est_kernel.specs.declared.interface.Declaration.{Declaration}
 use Rattle.est_explore.specs.declared.asked.Asked.{Asked}
 use Rattle.est_explore.specs.declared.one_module.Answer.{Answer}
 use Rattle.state_search.specs.declared.found.Row.{Row}
-use Rattle.lab_lines.specs.Tables.{row_json}
+use Rattle.lab_lines.specs.Tables.{node_json, row_json}
 use Rattle.lab_lines.proofs.tables.find_table.Goals as goal
+
+-- the table, of its rows and states
+abbrev table_of : (rows : Data) → (states : List Data) → Data
+table_of rows states = object (member (codes "ok") (string (codes "table"))
+    (member (codes "rows") rows (member (codes "states") (array (items_of states)) no_members)))
 
 pub returns-then-not-is_closed : goal.returns-then-not-is_closed
 returns-then-not-is_closed g c =
@@ -31,6 +35,8 @@ returns g c =
     let k = c.args.subject.now.reactive.now.kernel.now.interface in
     let a = c.common-asked.result in
     let closed : c.is_closed.result ≡ true = search rules in
+    let states : map view c.in_ok-states.states.items ≡ map node_json c.in_ok-found.found.nodes.items =
+    c.in_ok-states.ensures ∙ ap (map node_json) c.as_slice.ensures.value in
     let rows : view c.in_ok-rows.rows ≡ array (items_of (map (row_json k a) c.in_ok-found.found.rows.items)) =
     c.in_ok-rows.ensures
     ∙ ap (λ (i : List Declaration). array (items_of (map (row_json i a) c.as_slice-2.result.now)))
@@ -41,11 +47,8 @@ returns g c =
       record {
         found = c.in_ok-found.found;
         closed = c.is_closed.ensures.table _ c.in_ok-found.ensures.explored closed;
-        states = map view c.in_ok-states.states.items;
-        each = length-map c.in_ok-states.states.items view
-            ∙ (c.in_ok-states.ensures ∙ ap length c.as_slice.ensures.value);
-        said = c.in_ok-told-2.ensures ∙ ap (λ (xs : Data). object (member (codes "ok") (string (codes "table"))
-            (member (codes "rows") xs
-            (member (codes "states") (array (items_of (map view c.in_ok-states.states.items))) no_members)))) rows;
+        said = c.in_ok-told-2.ensures
+            ∙ ap (λ (xs : Data). table_of xs (map view c.in_ok-states.states.items)) rows
+            ∙ ap (table_of (array (items_of (map (row_json k a) c.in_ok-found.found.rows.items)))) states;
       },
     )
