@@ -13,7 +13,7 @@ help:
 	@echo 'make doctor    say what of all that is used here is installed, what the rest is for, and how to get it'
 	@echo 'make try       run the opening script on the program as it stands, built WITHOUT proof: about a minute'
 	@echo 'make run       prove what is needed, a line for each crate, and run the opening script on the proved program'
-	@echo 'make test      the gate: documents, the client, the server, the gateway, hostile use, refused memory, examples, what must not compile, and then all proofs,'
+	@echo 'make test      the gate: documents, how code is written, the client, the server, the gateway, hostile use, refused memory, examples, what must not compile, and then all proofs,'
 	@echo '               wrong bodies, tests and stored runs; the last line is "N passed, M failed"'
 	@echo 'make check CRATE=NAME  after a change of one crate: its proof and its wrong bodies, and the proofs and tests of all above it;'
 	@echo '               says first how long that takes'
