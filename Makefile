@@ -2,12 +2,13 @@
 PROGRAM := crates/estserve/out/estserve
 BENCHES := crates/benches/out/benches
 LAB := crates/estlab/out/estlab
+LIBRARY := crates/est_embed/out/libestserve_react.a
 ASKS_LAB := $(if $(wildcard crates/estlab/src),--lab)
 PREFIX ?= /usr/local
 # rt ci proves as many crates side by side as RT_JOBS says, each by one job: a second job at one crate costs more than it saves.
 CORES := $(shell nproc)
 
-.PHONY: help doctor try run build abro examples client lab socket gateway hostile soak documents test check bench faults times install setup package package-check container
+.PHONY: help doctor try run build abro library targets examples client lab socket gateway hostile soak documents test check bench faults times install setup package package-check container
 
 help:
 	@echo 'make doctor    say what of all that is used here is installed, what the rest is for, and how to get it'
@@ -28,7 +29,10 @@ help:
 	@echo 'make soak      hostile, with all journals filled and a soak of ten minutes, and half an hour of faults of the gateway; make build, and then'
 	@echo '               make soak ESTSERVE=$$PWD/$(PROGRAM) takes the proved program; no part of make test'
 	@echo 'make abro      the waves of ABRO, by the client, on the program built WITHOUT proof: about a minute, and at once from then on'
-	@echo 'make install   put the proved program, the client, its page of the manual and completions under PREFIX (/usr/local)'
+	@echo 'make library   prove and build the library for C programs, $(LIBRARY)'
+	@echo 'make targets   make library, and then run the examples of targets in C, C++, Python and Rust; no part of make test'
+	@echo 'make install   put the proved program, the client, its page of the manual and completions under PREFIX (/usr/local), and the library for C'
+	@echo '               where it was built'
 	@echo 'make setup     the tests of make doctor, make run and the package, which is installed on a bare Debian, on the program built WITHOUT proof'
 	@echo 'make package LOG=FILE  a package for Debian and an archive, with what was proved by the run of rt ci that wrote FILE; without LOG it is named unproved'
 	@echo 'make package-check LOG=FILE  makes that package, sees that another folder gives the same program, and installs it on a bare Debian'
@@ -55,8 +59,15 @@ abro:
 	@echo 'This program is built WITHOUT proof; make build proves it first.' >&2
 	@python3 clients/estserve.py run examples/abro/abro.strl --inputs examples/abro/abro.inputs --wave --unproved
 
+library:
+	@python3 scripts/run.py --library est_embed
+	@python3 scripts/library.py
+
+targets: library
+	tests/targets/run
+
 install:
-	@clients/install '$(PREFIX)' $(PROGRAM) $(wildcard $(LAB))
+	@LIBRARY='$(wildcard $(LIBRARY))' clients/install '$(PREFIX)' $(PROGRAM) $(wildcard $(LAB))
 
 setup:
 	tests/setup/run
@@ -108,6 +119,7 @@ test:
 	python3 scripts/trial.py $(ASKS_LAB) sh -c 'clients/tests/run && $(if $(ASKS_LAB),tests/lab/run &&) tests/socket/run && tests/journals/walk && tests/gateway/run && tests/hostile/run && tests/faults/run && tests/setup/run'
 	python3 tests/journals/run
 	python3 tests/must-not-compile/run
+	tests/targets/run --compile
 	RT_JOBS=$(CORES) rt ci
 
 check:

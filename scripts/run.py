@@ -2,6 +2,9 @@
 """Proves and builds a program, saying one line for each crate, and then runs it.
 
 usage: run.py PROGRAM [ARGUMENT ..] < INPUT
+       run.py --library CRATE
+
+The second form proves and builds a static library, and runs nothing.
 
 Of the crates that PROGRAM stands on, those whose own libraries are proved are proved side by side, each in a clone of its own, as many as
 there are processors and memory for: first the one under the longest chain of others, by the minutes of docs/GATE.md. What was proved
@@ -225,9 +228,9 @@ def prove_libraries(plan, texts, count):
     return True
 
 
-def prove_and_run(program, arguments, texts):
+def prove_and_run(program, words, texts):
     """Proves, builds and runs the program. Answers what it wrote, or None where it was not proved or ended badly."""
-    work = Work(["rt", "run", "--", *arguments], ROOT / "crates", program, texts, stdin=None, stdout=subprocess.PIPE)
+    work = Work(words, ROOT / "crates", program, texts, stdin=None, stdout=subprocess.PIPE)
     try:
         written = work.process.communicate()[0]
     finally:
@@ -240,7 +243,10 @@ def prove_and_run(program, arguments, texts):
 
 
 def main():
-    program, arguments = sys.argv[1], sys.argv[2:]
+    if sys.argv[1] == "--library":
+        program, words = sys.argv[2], ["rt", "lib"]
+    else:
+        program, words = sys.argv[1], ["rt", "run", "--", *sys.argv[2:]]
     plan, count = Plan(program), lanes()
     texts = ROOT / "crates" / program / "out" / "proofs"
     shutil.rmtree(texts, ignore_errors=True)
@@ -251,9 +257,11 @@ def main():
     say(f"{len(plan.order)} crates, {count} at a time; the long texts go into {texts.relative_to(ROOT)}")
     if not prove_libraries(plan, texts, count):
         return 1
-    written = prove_and_run(program, arguments, texts)
+    written = prove_and_run(program, words, texts)
     if written is None:
         return 1
+    if words == ["rt", "lib"]:
+        return 0
     sys.stdout.buffer.write(written)
     return 0
 

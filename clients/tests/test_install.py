@@ -193,9 +193,9 @@ class InAFolder(unittest.TestCase):
 
 
 class Installed(InAFolder):
-    def install(self, program, lab="", **variables):
+    def install(self, program, lab="", library="", **variables):
         words = ["make", "-s", "install", f"PREFIX={self.folder}/p", f"PROGRAM={program}"]
-        words.append(f"LAB={lab}")
+        words += [f"LAB={lab}", f"LIBRARY={library}"]
         environment = {key: value for key, value in os.environ.items() if key not in OF_MAKE}
         return subprocess.run(
             words, cwd=ROOT, capture_output=True, text=True, env={**environment, **variables}
@@ -250,6 +250,34 @@ class Installed(InAFolder):
         ]
         ran = subprocess.run(words, capture_output=True, text=True, env=variables)
         self.assertIn("""'the lab: {"cmd":"load","main":"ABRO",""", ran.stderr)
+
+    @unittest.skipUnless(shutil.which("gcc") and shutil.which("pkg-config"), "no compiler of C")
+    def test_the_library_for_c_is_found_by_pkg_config(self):
+        program, prefix = self.script("program", "#!/bin/sh\n"), self.folder / "p"
+        source, made = self.folder / "stand_in.c", self.folder / "stand_in.o"
+        source.write_text(
+            '#include "estserve_react.h"\n'
+            "uint64_t est_ask(est_machine *a, uint64_t b, uint64_t c) { return a ? b : c; }\n"
+            "uint64_t est_load_module(const uint8_t *a, size_t b, const uint8_t *c, size_t d,\n"
+            "    est_machine **e, struct est_fault *f) {\n"
+            "  f->code = f->line = f->column = 70;\n"
+            "  return a && b && c && d && e ? 70 : 0;\n}\n"
+        )
+        subprocess.run(["gcc", "-c", f"-I{ROOT}/targets", "-o", made, source], check=True)
+        subprocess.run(["ar", "rcs", self.folder / "library.a", made], check=True)
+        for library in ("", str(self.folder / "library.a")):
+            ran = self.install(program, library=library)
+            self.assertEqual((ran.returncode, ran.stderr), (0, ""))
+            self.assertEqual((prefix / "include" / "estserve_react.h").exists(), bool(library))
+        words = ["pkg-config", "--cflags", "--libs", "estserve_react"]
+        path = {**os.environ, "PKG_CONFIG_PATH": str(prefix / "lib" / "pkgconfig")}
+        flags = subprocess.run(
+            words, capture_output=True, text=True, check=True, env=path
+        ).stdout.split()
+        abro = self.folder / "abro"
+        subprocess.run(["gcc", "-o", abro, ROOT / "targets" / "abro.c", *flags], check=True)
+        ran = subprocess.run([abro, EXAMPLES / "abro/abro.strl"], capture_output=True, text=True)
+        self.assertEqual((ran.returncode, ran.stderr), (1, "Lexical at line 70, column 70\n"))
 
     def test_the_client_starts_without_the_site_and_the_gateway_with_it(self):
         ran = self.install(self.script("program", "#!/bin/sh\n"))

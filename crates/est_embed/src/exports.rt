@@ -1,0 +1,56 @@
+//! What C calls.
+
+ghost use Rattle.std.specs.Prelude.{◌≡◌, ◌≢◌};
+ghost use Rattle.std.specs.Borrow.{full_share, sem};
+ghost use Rattle.std.specs.Ptr.{lies_at};
+ghost use Rattle.est_host.specs.Answers.{Answered};
+ghost use Rattle.est_host.specs.Faults.{IsTold};
+ghost use Rattle.est_host.specs.contracts.running.Running as running;
+
+use est_host::answering::answer;
+use est_host::loading::{Fault, start};
+use est_host::running::Running;
+use std::alloc::Global;
+
+/// A machine of its own memory for the module `main` of a text, through `machine`: 0, or the number
+/// of the fault, which is told through `fault`; `machine` is then left as it was.
+#[unsafe(no_mangle)]
+pub extern "C" fn est_load_module(
+    alloc: Global,
+    main: &[u8],
+    text: &[u8],
+    machine: &mut *mut u8,
+    fault: &mut Fault,
+) -> u64
+    ensures fault { result ≢ 0 → (result ≡ fault.new.code) × IsTold main.now text.now fault.new }
+    ensures same { result ≢ 0 → machine.new ≡ machine.old }
+{
+    match start(alloc, main, text) {
+        Ok(running) => {
+            *machine = Box::into_raw(running) as *mut u8;
+            0
+        }
+        Err(told) => {
+            *fault = told;
+            told.code
+        }
+    }
+}
+
+/// Answers a question.
+fn answer_on(running: &mut Running, question: u64, argument: u64) -> u64
+    ensures { Answered running.old question argument result running.new }
+{
+    answer(running, question, argument)
+}
+
+/// Asks the machine at this pointer a question.
+#[unsafe(no_mangle)]
+pub unsafe extern "C" fn est_ask(at: *mut u8, question: u64, argument: u64) -> u64
+    ghost m: { running.the_row.Denot }
+    requires* { sem 𝓛 (lies_at running.the_row full_share at m) }
+    ensures* { ∃ₛ (λ (n : running.the_row.Denot). sem 𝓛 (lies_at running.the_row full_share at n)
+        ∗ ⌜ Answered m question argument result n ⌝) }
+{
+    answer_on(unsafe { &mut *(at as *mut Running) }, question, argument)
+}
