@@ -18,7 +18,7 @@ use std::marker::PhantomData;
 use std::process::Abort;
 
 /// Every signal may be offered.
-const ALL: u64 = u64::MAX;
+pub const ALL: u64 = u64::MAX;
 
 /// How the instants of a counterexample are told: the inputs of each, and what is emitted or `?`
 /// and
@@ -46,8 +46,8 @@ fn told(rt: &impl Abort, alloc: Global, verdict: &Verdict) -> String {
     }
 }
 
-/// Fails where something else is answered to a claim of a kernel.
-fn expect_answer(
+/// What is answered to a claim of a kernel.
+pub fn answer_told(
     rt: &impl Abort,
     alloc: Global,
     kernel: &Kernel,
@@ -55,8 +55,7 @@ fn expect_answer(
     among: u64,
     claim: &Claim<'_>,
     most: usize,
-    wanted: &str,
-) {
+) -> String {
     let reactive = OneModule {
         kernel,
         engine: PhantomData,
@@ -72,7 +71,21 @@ fn expect_answer(
     };
     let found = explore(alloc, &subject, &mut Rounds::new(), limits).expect(rt, "room");
     let verdict = judge(alloc, &subject, &found, claim).expect(rt, "room");
-    let told = told(rt, alloc, &verdict);
+    told(rt, alloc, &verdict)
+}
+
+/// Fails where something else is answered to a claim of a kernel.
+fn expect_answer(
+    rt: &impl Abort,
+    alloc: Global,
+    kernel: &Kernel,
+    relations: &Relations,
+    among: u64,
+    claim: &Claim<'_>,
+    most: usize,
+    wanted: &str,
+) {
+    let told = answer_told(rt, alloc, kernel, relations, among, claim, most);
     assert_eq!(rt; told.as_str(), wanted);
 }
 

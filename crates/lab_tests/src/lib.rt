@@ -5,4 +5,8 @@
 #[cfg(test)]
 mod claims;
 #[cfg(test)]
+mod lines;
+#[cfg(test)]
 mod modules;
+#[cfg(test)]
+mod texts;

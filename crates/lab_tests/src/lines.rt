@@ -1,0 +1,83 @@
+//! Requests as JSON, and the answers to them.
+
+use crate::modules::late;
+use est_explore::every::Every;
+use est_explore::one_module::OneModule;
+use est_kernel::kernel::Kernel;
+use est_relations::relations::Relations;
+use est_rounds::rounds::Rounds;
+use lab_lines::reading::request_of;
+use lab_lines::request::Request;
+use lab_lines::tables::find_table;
+use serde_json::Value;
+use state_search::search::Limits;
+use std::alloc::Global;
+use std::marker::PhantomData;
+use std::process::Abort;
+
+/// Lines, and what each asks for.
+const REQUESTS: [(&str, &str); 6] = [
+    ("{\"cmd\":\"kernel\"}", "kernel"),
+    ("{\"cmd\":\"kernel\",\"most\":9}", "nothing"),
+    ("{\"text\":\"\",\"main\":\"M\",\"cmd\":\"load\"}", "load"),
+    ("{\"cmd\":\"table\",\"inputs\":[],\"most\":9}", "table"),
+    ("{\"cmd\":\"table\",\"inputs\":[1],\"most\":9}", "nothing"),
+    ("{\"cmd\":\"tables\",\"inputs\":[],\"most\":9}", "nothing"),
+];
+
+/// A kernel with an engine.
+fn machine(kernel: &Kernel) -> OneModule<'_, Rounds> {
+    OneModule {
+        kernel,
+        engine: PhantomData,
+    }
+}
+
+/// What a request asks for.
+fn word_told(request: &Option<Request<'_>>) -> &'static str {
+    match request {
+        None => "nothing",
+        Some(Request::Load { .. }) => "load",
+        Some(Request::Kernel) => "kernel",
+        Some(Request::Explore { .. }) => "explore",
+        Some(Request::Same { .. }) => "same",
+        Some(Request::Table(_)) => "table",
+    }
+}
+
+/// A line is a request if it has the members of one, and no others.
+#[test]
+fn requests(rt: HostRuntime) {
+    let alloc = rt.alloc();
+    for (line, wanted) in REQUESTS {
+        let value = Value::from_str(alloc, line).ok().expect(&rt, "a value");
+        let request = request_of(alloc, &value).expect(&rt, "room");
+        assert_eq!(rt; word_told(&request), wanted);
+    }
+}
+
+/// Fails where a value has another text.
+fn expect_text(rt: &impl Abort, alloc: Global, value: &Value, wanted: &str) {
+    let text = value.to_string(alloc).expect(rt, "room");
+    assert_eq!(rt; text.as_str(), wanted);
+}
+
+/// The states of a table are the start, the pauses and the end.
+#[test]
+fn states_of_a_table(rt: HostRuntime) {
+    let alloc = rt.alloc();
+    let kernel = late(&rt, alloc);
+    let free = Relations::new(alloc);
+    let subject = Every {
+        reactive: &machine(&kernel),
+        relations: &free,
+        among: 0,
+    };
+    let limits = Limits {
+        states: 9,
+        steps: 99,
+    };
+    let table = find_table(alloc, &subject, &mut Rounds::new(), limits).expect(&rt, "room");
+    let states = table.get("states").expect(&rt, "states");
+    expect_text(&rt, alloc, states, "[\"start\",[0],[1],\"end\"]");
+}
