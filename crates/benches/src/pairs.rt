@@ -54,14 +54,19 @@ fn instant(
 
 /// Runs a case on both engines, and prints its line: the number of cells, and for each instant what
 /// the plain engine answers, what the microstep engine does, and how many cells this one decided.
-pub fn run_pair(rt: &(impl Alloc<A = Global> + Print), instants: u32, text: &str) -> Result<()> {
-    let case = Case::read(rt.alloc(), text)?;
+fn compare(rt: &(impl Alloc<A = Global> + Print), instants: u32, case: &Case) -> Result<()> {
     let mut micro = Micro::new(Net::build(rt.alloc(), &case.kernel)?);
     print!(rt; "{}", micro.net().cells())?;
     let mut state = State::Fresh;
     for number in 0..instants {
-        instant(rt, &mut micro, &case, &mut state, number)?;
+        instant(rt, &mut micro, case, &mut state, number)?;
     }
     println!(rt)?;
     Ok(())
+}
+
+/// Reads a case, and compares both engines on it.
+pub fn run_pair(rt: &(impl Alloc<A = Global> + Print), instants: u32, text: &str) -> Result<()> {
+    let case = Case::read(rt.alloc(), text)?;
+    compare(rt, instants, &case)
 }
