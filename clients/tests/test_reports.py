@@ -321,12 +321,14 @@ class Workflows(unittest.TestCase):
         for name in ("github.yml", "gitlab.yml"):
             text = (CI / name).read_text()
             calls = re.findall(r"^\s*(?:- |run: )*estserve-client (.*)$", text, re.MULTILINE)
-            self.assertGreaterEqual(len(calls), 2, name)
+            commands = [call.split()[0] for call in calls]
+            self.assertEqual(commands, ["format", "test", "prove"], name)
             for call in calls:
                 words = shlex.split(call)
                 self.assertEqual(make_parser(words[0]).parse_args(words).command, words[0])
-            self.assertIn("--junit scenarios.xml", text)
-            self.assertGreaterEqual(text.count("scenarios.xml"), 2)
+            for report in ("scenarios.xml", "claims.xml"):
+                self.assertIn(f"--junit {report}", text)
+                self.assertGreaterEqual(text.count(report), 2, f"{name} keeps {report}")
             self.assertNotIn("\t", text)
             self.assertIn(
                 'echo "${ESTSERVE_SHA256:?}  /tmp/estserve.deb" | sha256sum --check', text
