@@ -57,6 +57,23 @@ const tests = {
     assert.deepEqual(drivenOf(one), { inputs: [["A"], [], ["M"]], hidden: ["A"] });
   },
 
+  async "a stuck instant has its sentence, and no circle is drawn"() {
+    const { faultWords, furtherPlaces, plainDiagnosis } = await load("diagnosis.js");
+    const { endedWords } = await load("parting.js");
+    const sentence = "Stuck: the instant has no constructive reaction; undecided: O P";
+    const plain = plainDiagnosis({ code: 50, fault: "Stuck", undecided: ["O", "P"] }, sentence);
+    assert.deepEqual([plain.marks, plain.path, plain.is_chain], [[], [], false]);
+    assert.equal(faultWords(plain), sentence);
+    assert.deepEqual(furtherPlaces(plain), []);
+    const circle = "possibly in a circle:\n  text:6:7: emit O\n  text:4:3: abort when O";
+    for (const ended of [sentence, `${sentence}\n${circle}`]) {
+      assert.equal(
+        endedWords({ ended, rows: ["00"] }), `Your version was refused at instant 2: ${sentence}`
+      );
+    }
+    assert.equal(endedWords({ ended: null, rows: ["00"] }), "");
+  },
+
   async "patterns are spread over the interface, and folded again"() {
     const { fold, spread } = await load("patterns.js");
     const slots = [slot(), slot({ slot: 3, main: "DOOR", signals: [["D_UP", "input"], ["D_O", "output"]] })];

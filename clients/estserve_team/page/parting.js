@@ -37,6 +37,13 @@ export function partingWords(one, other) {
   return `They part at instant ${parting.instant}: ${told.join("; ")}.`;
 }
 
+/** What is said of the instant that was refused: its sentence. The circle that may follow it is only a
+ * possible one, and in one line of words nobody could tell that. */
+export function endedWords({ ended, rows }) {
+  if (!ended) return "";
+  return `Your version was refused at instant ${rows.length + 1}: ${ended.split("\n")[0]}`;
+}
+
 /** The inputs of each instant of a wave, as lists of names; and those that may not be observed. An
  * inout that was present counts as offered, since a wave doesn't tell who made it present. */
 export function drivenOf({ signals, rows }) {

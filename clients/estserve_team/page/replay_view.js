@@ -2,19 +2,20 @@
  * own: both waves, and where they part. */
 
 import { button, fill, make, say } from "./dom.js";
-import { drivenOf, partingOf, partingWords } from "./parting.js";
+import { drivenOf, endedWords, partingOf, partingWords } from "./parting.js";
 import { saveText, scenarioFiles } from "./saving.js";
 import { WaveView } from "./wave_view.js";
 
 const askOf = (rows) => async (first, last) => rows.slice(first - 1, last);
 
 /** What is said of what could not be replayed as it was. */
-function leftWords({ inputs, hidden }, { left, ended, rows }) {
+function leftWords({ inputs, hidden }, given) {
+  const { left, ended, rows } = given;
   const isCut = !ended && rows.length < inputs.length;
   return [
     hidden.length ? `Without the inputs that you may not observe: ${hidden.join(" ")}.` : "",
     left.length ? `Your version has no input ${left.join(" ")}.` : "",
-    ended ? `Your version was refused at instant ${rows.length + 1}: ${ended}` : "",
+    endedWords(given),
     isCut ? `There was time for ${rows.length} of ${inputs.length} instants.` : "",
   ].filter(Boolean).join(" ");
 }
