@@ -235,8 +235,8 @@ class Claims(InAFolder):
 
     def test_what_is_no_claim(self):
         for test, told in [
-            ("X", "ABRO has no signal X\n"),
-            ("not BB", "ABRO has no signal BB\n"),
+            ("X", "ABRO has no input or output X\n"),
+            ("not BB", "ABRO has no input or output BB\n"),
             ("O or", "a test can't go on so\nnever O or\n          ^\n"),
             ("O ? R", "no token stands here\nnever O ? R\n        ^\n"),
         ]:

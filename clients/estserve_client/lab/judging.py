@@ -72,7 +72,7 @@ def why_wrong(claim: Claim, why: Dict[str, Any], subject: Subject) -> str:
 
     if why["fault"] == "UnknownName":
         question = meant(why["name"], subject.module.kinds())
-        told = f"{subject.module.name} has no signal {why['name']}"
+        told = f"{subject.module.name} has no input or output {why['name']}"
         return told + (f"; {question}" if question else "")
     if "column" in why:
         told = "no token stands here" if why["fault"] == "Lexical" else "a test can't go on so"
