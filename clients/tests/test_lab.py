@@ -239,6 +239,11 @@ class Claims(InAFolder):
             ("not BB", "ABRO has no input or output BB\n"),
             ("O or", "a test can't go on so\nnever O or\n          ^\n"),
             ("O ? R", "no token stands here\nnever O ? R\n        ^\n"),
+            (
+                "O && R",
+                "no token stands here\nnever O && R\n        ^\n"
+                "`and` stands between two signals of a test: `A and B`\n",
+            ),
         ]:
             told = f"estserve.py: the claim `never {test}` cannot be read: {told}"
             self.assertEqual(self.fault("prove", abro(), "--never", test), told)

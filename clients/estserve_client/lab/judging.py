@@ -67,16 +67,19 @@ def place_told(claim: Claim, why: Dict[str, Any]) -> str:
 
 
 def why_wrong(claim: Claim, why: Dict[str, Any], subject: Subject) -> str:
-    """What is said of the fault of a claim."""
+    """What is said of the fault of a claim, and what other languages write there."""
     from ..close_words import meant
+    from ..other_habits import SYMBOLS
 
     if why["fault"] == "UnknownName":
         question = meant(why["name"], subject.module.kinds())
         told = f"{subject.module.name} has no input or output {why['name']}"
         return told + (f"; {question}" if question else "")
     if "column" in why:
-        told = "no token stands here" if why["fault"] == "Lexical" else "a test can't go on so"
-        return f"{told}\n{place_told(claim, why)}"
+        is_lexical, at = why["fault"] == "Lexical", why["column"] - 1
+        told = "no token stands here" if is_lexical else "a test can't go on so"
+        habit = SYMBOLS.get(claim.text[at : at + 1]) if is_lexical else None
+        return "\n".join([told, place_told(claim, why), *([habit] if habit else [])])
     return sentence(Refusal(why)).partition(": ")[2]
 
 
