@@ -1,0 +1,164 @@
+-- What a lab answers to a request (this project's own form).
+use Rattle.std.specs.Prelude.{◌≡◌, ◌⊎◌, ℕ, List, Option, Some, None, codes, map}
+use Rattle.serde_json.specs.Data.{Data, number, unsigned, string, object, member, no_members}
+use Rattle.serde_json.specs.View.{view}
+use Rattle.est_kernel.specs.Interfaces.{offerable, emittable}
+use Rattle.est_kernel.specs.declared.interface.Declaration.{Declaration}
+use Rattle.est_kernel.specs.declared.statement.Test.{Test}
+use Rattle.est_kernel.specs.Bits.{bits}
+use Rattle.est_explore.specs.Views.{module_of}
+use Rattle.est_relations.specs.declared.refusal.Refusal.{Refusal as OfferFault}
+use Rattle.reactor_core.specs.Loading.{Gives, IsLoadFault}
+use Rattle.reactor_core.specs.Standing.{given_by}
+use Rattle.reactor_core.specs.declared.loaded.Module.{Module}
+use Rattle.reactor_core.specs.declared.refusal.Refusal.{Refusal as LoadRefusal}
+use Rattle.reactor_core.specs.declared.refusal.ModuleRefusal.TheVariants as of_module
+use Rattle.access_core.specs.Refusals.{of_reactor}
+use Rattle.access_core.specs.declared.refusal.Refusal.{Refusal}
+use Rattle.access_core.specs.declared.refusal.Refusal.TheVariants as refusal
+use Rattle.lab_lines.specs.Comparing.{IsComparison}
+use Rattle.lab_lines.specs.Exploring.{IsExploration}
+use Rattle.lab_lines.specs.Offers.{AreNamed}
+use Rattle.lab_lines.specs.Tables.{IsTableTold, IsTooLarge}
+use Rattle.lab_lines.specs.Told.{names_json}
+use Rattle.lab_lines.specs.declared.request.Request.{Request}
+use Rattle.lab_lines.specs.declared.request.Request.TheVariants.{Load, Kernel, Explore, Same, Table}
+use Rattle.lab_lines.specs.declared.request.Scope.{Scope}
+use Rattle.lab_claims.specs.Claims.{AreClaimTexts}
+use Rattle.lab_run.specs.declared.lab.Told.{Told}
+use Rattle.lab_run.specs.declared.lab.Told.TheVariants.{Refused, Says}
+
+-- ---- what is loaded
+
+-- what is told of a module that was loaded: the names of its inputs and outputs
+pub record IsLoadedTold (m : Module) (d : Data) : Type 0 where
+  pub inputs : ℕ
+  pub offered : bits inputs ≡ offerable m.kernel.interface
+  pub outputs : ℕ
+  pub emitted : bits outputs ≡ emittable m.kernel.interface
+  pub said : d ≡ object (member (codes "inputs") (names_json m.kernel.interface inputs)
+      (member (codes "ok") (string (codes "load"))
+      (member (codes "outputs") (names_json m.kernel.interface outputs) no_members)))
+
+-- the text and the name of its main module give no module, for this reason: it is the server's
+pub record IsNotLoaded (main text : List ℕ) (given : Refusal) : Type 0 where
+  pub fault : LoadRefusal
+  pub told : given ≡ of_reactor fault
+  pub right : IsLoadFault main text fault
+
+-- the module that the text and the name of its main module give is loaded
+pub record IsLoaded (main text : List ℕ) (d : Data) (after : Option Module) : Type 0 where
+  pub loaded : Module
+  pub is : after ≡ Some loaded
+  pub gives : Gives main text (given_by loaded)
+  pub said : IsLoadedTold loaded d
+
+-- a module is loaded; or it is told why there is none, and what was loaded stays
+abbrev pub Loads : (main text : List ℕ) → (before : Option Module) → Told → (after : Option Module) → Type 0
+Loads main text before (Refused given) after = IsNotLoaded main text given × (after ≡ before)
+Loads main text before (Says v) after = IsLoaded main text (view v) after
+
+-- ---- what is asked of it
+
+-- one of the names of inputs is not that of a signal that may be offered
+pub record IsNotOffered (given : Refusal) : Type 0 where
+  pub fault : OfferFault
+  pub told : given ≡ refusal.Module (of_module.Pending fault)
+
+-- a claim of this number can't be read, and why
+pub record IsBadClaim (d : Data) : Type 0 where
+  pub place : ℕ
+  pub why : Data
+  pub said : d ≡ object (member (codes "claim") (number (unsigned place))
+      (member (codes "code") (number (unsigned 81))
+      (member (codes "fault") (string (codes "Claim")) (member (codes "why") why no_members))))
+
+-- of the module it is answered to these claims that they are right or wrong in all runs in which only those inputs are
+-- offered, or that there are too many states or reactions
+pub record IsExplorationAmong (m : Module) (claims : List (List ℕ)) (among states steps : ℕ) (d : Data) : Type 0 where
+  pub tests : List Test
+  pub read : AreClaimTexts m.kernel.interface claims tests
+  pub right : IsExploration (module_of m.kernel m.relations among) tests states steps d
+
+-- the claims are judged, or one of them can't be read
+abbrev pub TellsAmong : Module → (claims : List (List ℕ)) → (among states steps : ℕ) → Data → Type 0
+TellsAmong m claims among states steps d = IsExplorationAmong m claims among states steps d ⊎ IsBadClaim d
+
+-- the same, where only the inputs of these names are offered
+pub record IsExplorationOf (m : Module) (claims : List (List ℕ)) (scope : Scope) (d : Data) : Type 0 where
+  pub among : ℕ
+  pub named : AreNamed m.kernel.interface (map (λ t. t.now) scope.inputs.items) among
+  pub right : TellsAmong m claims among scope.most scope.most d
+
+-- what is answered to claims of the module
+abbrev pub TellsOfClaims : Module → (claims : List (List ℕ)) → Scope → Told → Type 0
+TellsOfClaims m claims scope (Refused given) = IsNotOffered given
+TellsOfClaims m claims scope (Says v) = IsExplorationOf m claims scope (view v)
+
+-- the two have one interface, and it is told whether they do the same
+pub record IsComparisonAmong (m other : Module) (among states steps : ℕ) (d : Data) : Type 0 where
+  pub same : other.kernel.interface ≡ m.kernel.interface
+  pub right : IsComparison (module_of m.kernel m.relations among) (module_of other.kernel m.relations among) states
+      steps d
+
+-- the other has another interface
+abbrev pub IsOtherInterface : Data → Type 0
+IsOtherInterface d = d ≡ object (member (codes "code") (number (unsigned 82))
+    (member (codes "fault") (string (codes "Interface")) no_members))
+
+-- the two are compared, or the other has another interface
+abbrev pub TellsOfTwo : (m other : Module) → (among states steps : ℕ) → Data → Type 0
+TellsOfTwo m other among states steps d = IsComparisonAmong m other among states steps d ⊎ IsOtherInterface d
+
+-- the same of the module and that of a text, where only the inputs of these names are offered
+pub record IsComparisonOf (m : Module) (main text : List ℕ) (scope : Scope) (d : Data) : Type 0 where
+  pub other : Module
+  pub gives : Gives main text (given_by other)
+  pub among : ℕ
+  pub named : AreNamed m.kernel.interface (map (λ t. t.now) scope.inputs.items) among
+  pub right : TellsOfTwo m other among scope.most scope.most d
+
+-- what is answered to the question whether the module and that of a text do the same
+abbrev pub TellsOfBoth : Module → (main text : List ℕ) → Scope → Told → Type 0
+TellsOfBoth m main text scope (Refused given) = IsNotOffered given ⊎ IsNotLoaded main text given
+TellsOfBoth m main text scope (Says v) = IsComparisonOf m main text scope (view v)
+
+-- the table of the module in which only those inputs are offered, or that it is too large
+pub record IsTableOf (m : Module) (scope : Scope) (d : Data) : Type 0 where
+  pub among : ℕ
+  pub named : AreNamed m.kernel.interface (map (λ t. t.now) scope.inputs.items) among
+  pub right : ((asked : ℕ) × IsTableTold (module_of m.kernel m.relations among) asked d)
+      ⊎ IsTooLarge (module_of m.kernel m.relations among) scope.most scope.most d
+
+-- what is answered to the question for the table
+abbrev pub TellsOfTable : Module → Scope → Told → Type 0
+TellsOfTable m scope (Refused given) = IsNotOffered given
+TellsOfTable m scope (Says v) = IsTableOf m scope (view v)
+
+-- ---- what a request does
+
+-- it is no refusal
+abbrev pub IsSaid : Told → Type 0
+IsSaid (Refused given) = ⊥
+IsSaid (Says v) = Unit {0}
+
+-- what is answered of the module that is loaded
+abbrev pub Answers : Module → Request → Told → Type 0
+Answers m (Load main text) told = ⊥
+Answers m Kernel told = IsSaid told
+Answers m (Explore claims scope) told = TellsOfClaims m (map (λ t. t.now) claims.items) scope told
+Answers m (Same main text scope) told = TellsOfBoth m main.now text.now scope told
+Answers m (Table scope) told = TellsOfTable m scope told
+
+-- the same where nothing may be loaded
+abbrev pub AnswersIf : Option Module → Request → Told → Type 0
+AnswersIf None request told = told ≡ Refused refusal.Empty
+AnswersIf (Some m) request told = Answers m request told
+
+-- a request is done: what is loaded before it, what is told, and what is loaded afterwards
+abbrev pub Obeys : (before : Option Module) → Request → Told → (after : Option Module) → Type 0
+Obeys before (Load main text) told after = Loads main.now text.now before told after
+Obeys before Kernel told after = AnswersIf before Kernel told × (after ≡ before)
+Obeys before (Explore claims scope) told after = AnswersIf before (Explore claims scope) told × (after ≡ before)
+Obeys before (Same main text scope) told after = AnswersIf before (Same main text scope) told × (after ≡ before)
+Obeys before (Table scope) told after = AnswersIf before (Table scope) told × (after ≡ before)

@@ -1,0 +1,91 @@
+//! From a line to the line of its answer.
+
+ghost use Rattle.std.specs.Prelude.{◌≡◌, IfOk, IfErr};
+ghost use Rattle.std.specs.Cow.{cow_slice_items};
+ghost use Rattle.serde_json.specs.View.{view};
+ghost use Rattle.lab_run.specs.Lines.{HasNoText, IsAnswer, IsLineOf, IsTextOf, IsTold};
+ghost use Rattle.lab_run.specs.Lines.{IsReadAs, IsValueTold};
+
+use crate::lab::{Lab, Told};
+use access_core::refusal::Refusal;
+use access_core::reply::Reply;
+use lab_lines::reading::request_of;
+use line_reader::serving::{Answerer, Text};
+use serde_json::Value;
+use serde_json::error::Category;
+use std::alloc::{AllocError, Global};
+use std::borrow::CowSlice;
+use wire_lines::reply::reply_text;
+
+/// The JSON value of a line, or NotJson or Memory.
+fn value_of(alloc: Global, line: &[u8]) -> Result<Value, Refusal>
+    ensures { IsReadAs line.now result }
+{
+    match Value::from_slice(alloc, line) {
+        Ok(value) => Ok(value),
+        Err(fault) if fault.classify() == Category::Memory => Err(Refusal::Memory),
+        Err(_) => Err(Refusal::NotJson),
+    }
+}
+
+/// What a value is told.
+fn told_of_value(alloc: Global, lab: &mut Lab, value: &Value) -> Result<Told, AllocError>
+    ensures done { IfOk result (λ told. IsValueTold lab.old.loaded (view value.now) told
+        lab.new.loaded) }
+    ensures kept { IfErr result (λ _. lab.new ≡ lab.old) }
+{
+    match request_of(alloc, value)? {
+        Some(request) => {
+            let told = lab.obey(alloc, &request)?;
+            Ok(told)
+        }
+        None => Ok(Told::Refused(Refusal::NotARequest)),
+    }
+}
+
+/// What a line is told.
+fn told(alloc: Global, lab: &mut Lab, line: &[u8]) -> Told
+    ensures { IsTold lab.old.loaded line.now result lab.new.loaded }
+{
+    match value_of(alloc, line) {
+        Ok(value) => match told_of_value(alloc, lab, &value) {
+            Ok(told) => told,
+            Err(_) => Told::Refused(Refusal::Memory),
+        },
+        Err(refusal) => Told::Refused(refusal),
+    }
+}
+
+/// The line of a value, with its LF.
+fn value_line(alloc: Global, value: &Value) -> Result<Vec<u8>, AllocError>
+    ensures { IfOk result (λ line. IsLineOf (view value.now) line.items) }
+{
+    let mut line = value.to_string(alloc)?.into_bytes();
+    line.push(b'\n')?;
+    Ok(line)
+}
+
+/// The line of what is told, with its LF. Want of memory takes none.
+pub fn line_of(alloc: Global, told: Told) -> Result<Text, AllocError>
+    ensures { IfOk result (λ text. IsTextOf told (cow_slice_items text)) }
+{
+    match told {
+        Told::Refused(refusal) => reply_text(alloc, &Reply::Refused(refusal)),
+        Told::Says(value) => Ok(CowSlice::Owned(value_line(alloc, &value)?)),
+    }
+}
+
+/// Answers the lines of a connection by the lab.
+#[derive(Clone, Copy, Drop)]
+pub struct Clerk;
+
+impl Answerer<Lab> for Clerk {
+    ghost tells = { λ before line text after. IsAnswer before.1.loaded line text after.1.loaded };
+
+    ghost fails = { λ before line after. HasNoText before.1.loaded line after.1.loaded };
+
+    fn answer(&mut self, alloc: Global, lab: &mut Lab, line: &[u8]) -> Result<Text, AllocError> {
+        let told = told(alloc, lab, line);
+        line_of(alloc, told)
+    }
+}

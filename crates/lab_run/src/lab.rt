@@ -1,0 +1,346 @@
+//! A module, and what is asked of it.
+
+ghost use Rattle.std.specs.Prelude.{◌≡◌, ◌⊎◌, ℕ, None, IfOk, IfErr, map};
+ghost use Rattle.serde_json.specs.View.{view};
+ghost use Rattle.est_explore.specs.Views.{module_of};
+ghost use Rattle.est_micro.specs.Engine.{IsNetOf};
+ghost use Rattle.lab_lines.specs.Comparing.{IsComparison};
+ghost use Rattle.lab_lines.specs.Exploring.{IsExploration};
+ghost use Rattle.lab_lines.specs.Tables.{IsTableTold, IsTooLarge};
+ghost use Rattle.lab_lines.specs.Tests.{test_of};
+ghost use Rattle.lab_run.specs.Answers.{Answers, AnswersIf, IsBadClaim, IsLoadedTold};
+ghost use Rattle.lab_run.specs.Answers.{IsNotOffered, IsOtherInterface, Loads, Obeys};
+ghost use Rattle.lab_run.specs.Answers.{TellsAmong, TellsOfBoth, TellsOfClaims, TellsOfTable};
+ghost use Rattle.lab_run.specs.Answers.{TellsOfTwo};
+
+use access_core::refusal::Refusal;
+use access_core::reply::Reply;
+use est_explore::every::Every;
+use est_explore::one_module::OneModule;
+use est_explore::two_modules::{Engines, TwoModules};
+use est_micro::micro::Micro;
+use est_net::net::Net;
+use est_relations::refusal::Refusal as OfferFault;
+use lab_claims::claims::{BadClaim, read_claims};
+use lab_lines::asked_test::AskedTest;
+use lab_lines::comparing::{are_same, compare_modules};
+use lab_lines::exploring::judge_module;
+use lab_lines::offers::among;
+use lab_lines::request::{Request, Scope};
+use lab_lines::statements::kernel_told;
+use lab_lines::tables::find_table;
+use lab_lines::told::names;
+use reactor_core::loaded::Module;
+use reactor_core::reading::read_module;
+use reactor_core::refusal::{ModuleRefusal, Refusal as LoadRefusal};
+use serde_json::{Value, json};
+use state_search::search::Limits;
+use std::alloc::{AllocError, Global};
+use std::marker::PhantomData;
+use wire_lines::reply::reply_line;
+
+/// What a request is answered.
+#[derive(Drop)]
+pub enum Told {
+    /// A refusal, which has the line that the server gives it.
+    Refused(Refusal),
+    /// A value, which is the line.
+    Says(Value),
+}
+
+/// What is loaded.
+#[derive(Drop)]
+pub struct Lab {
+    loaded: Option<Module>,
+}
+
+/// The engine of a module.
+fn engine_of(alloc: Global, loaded: &Module) -> Result<Micro, AllocError>
+    ensures { IfOk result (λ m. IsNetOf m.net loaded.now.kernel) }
+{
+    let net = Net::build(alloc, &loaded.kernel)?;
+    Ok(Micro::new(net))
+}
+
+/// A module as a search sees it.
+fn one_module(loaded: &Module) -> OneModule<'_, Micro>
+    ensures { result.kernel.now ≡ loaded.now.kernel }
+{
+    OneModule {
+        kernel: &loaded.kernel,
+        engine: PhantomData,
+    }
+}
+
+/// How far a search goes.
+pub fn limits(most: u64) -> Limits
+    ensures states { result.states ≡ most }
+    ensures steps { result.steps ≡ most }
+{
+    let most = most as usize;
+    Limits {
+        states: most,
+        steps: most,
+    }
+}
+
+/// That a name is none of a signal that may be offered.
+pub fn not_offered(fault: OfferFault) -> Refusal
+    ensures { IsNotOffered result }
+{
+    Refusal::Module(ModuleRefusal::Pending(fault))
+}
+
+/// The line of a refusal, as a value.
+fn refusal_told(alloc: Global, refusal: Refusal) -> Result<Value, AllocError> {
+    let line = reply_line(alloc, &Reply::Refused(refusal))?;
+    match Value::from_slice(alloc, line.as_slice()) {
+        Ok(value) => Ok(value),
+        Err(_) => Err(AllocError),
+    }
+}
+
+/// That a claim can't be read.
+fn bad_claim_told(alloc: Global, bad: BadClaim) -> Result<Value, AllocError>
+    ensures { IfOk result (λ v. IsBadClaim (view v)) }
+{
+    let number = bad.number;
+    let why = refusal_told(alloc, Refusal::from(bad.why))?;
+    json!(in alloc; {"claim": number, "code": 81, "fault": "Claim", "why": why})
+}
+
+/// The verdicts on tests of a module that is offered these inputs alone.
+fn judge_tests(
+    alloc: Global,
+    loaded: &Module,
+    among: u64,
+    tests: &[AskedTest],
+    limits: Limits,
+) -> Result<Value, AllocError>
+    ensures { IfOk result (λ v. IsExploration (module_of loaded.now.kernel loaded.now.relations
+        among) (map test_of tests.now) limits.states limits.steps (view v)) }
+{
+    let mut engine = engine_of(alloc, loaded)?;
+    let reactive = one_module(loaded);
+    let subject = Every {
+        reactive: &reactive,
+        relations: &loaded.relations,
+        among,
+    };
+    let judged = judge_module(alloc, &subject, &mut engine, tests, limits)?;
+    Ok(judged.answer)
+}
+
+/// Judges claims of a module that is offered these inputs alone.
+pub fn explore_among(
+    alloc: Global,
+    loaded: &Module,
+    claims: &[&str],
+    among: u64,
+    limits: Limits,
+) -> Result<Value, AllocError>
+    ensures { IfOk result (λ v. TellsAmong loaded.now (map (λ t. t.now) claims.now) among
+        limits.states limits.steps (view v)) }
+{
+    match read_claims(alloc, loaded.kernel.interface(), claims)? {
+        Ok(tests) => judge_tests(alloc, loaded, among, tests.as_slice(), limits),
+        Err(bad) => bad_claim_told(alloc, bad),
+    }
+}
+
+/// Judges claims of a module.
+fn explore_claims(
+    alloc: Global,
+    loaded: &Module,
+    claims: &[&str],
+    scope: &Scope<'_>,
+) -> Result<Told, AllocError>
+    ensures { IfOk result (TellsOfClaims loaded.now (map (λ t. t.now) claims.now) scope.now) }
+{
+    let among = match among(loaded.kernel.interface(), scope.inputs.as_slice()) {
+        Ok(among) => among,
+        Err(fault) => return Ok(Told::Refused(not_offered(fault))),
+    };
+    let value = explore_among(alloc, loaded, claims, among, limits(scope.most))?;
+    Ok(Told::Says(value))
+}
+
+/// Compares two modules of one interface, which are offered these inputs alone.
+fn compare_both(
+    alloc: Global,
+    one: &Module,
+    other: &Module,
+    among: u64,
+    limits: Limits,
+) -> Result<Value, AllocError>
+    requires { other.now.kernel.interface ≡ one.now.kernel.interface }
+    ensures { IfOk result (λ v. IsComparison (module_of one.now.kernel one.now.relations among)
+        (module_of other.now.kernel one.now.relations among) limits.states limits.steps (view v)) }
+{
+    let mut engines = Engines {
+        first: engine_of(alloc, one)?,
+        second: engine_of(alloc, other)?,
+    };
+    let both = TwoModules {
+        first: one_module(one),
+        second: one_module(other),
+    };
+    let subject = Every {
+        reactive: &both,
+        relations: &one.relations,
+        among,
+    };
+    compare_modules(alloc, &subject, &mut engines, limits)
+}
+
+/// That the module of a text has another interface.
+fn other_interface(alloc: Global) -> Result<Value, AllocError>
+    ensures { IfOk result (λ v. IsOtherInterface (view v)) }
+{
+    json!(in alloc; {"code": 82, "fault": "Interface"})
+}
+
+/// Compares a module with another, which are offered these inputs alone.
+fn compare_modules_of(
+    alloc: Global,
+    loaded: &Module,
+    other: &Module,
+    among: u64,
+    limits: Limits,
+) -> Result<Value, AllocError>
+    ensures { IfOk result (λ v. TellsOfTwo loaded.now other.now among limits.states limits.steps
+        (view v)) }
+{
+    if are_same(other.kernel.interface(), loaded.kernel.interface()) {
+        compare_both(alloc, loaded, other, among, limits)
+    } else {
+        other_interface(alloc)
+    }
+}
+
+/// Compares a module with that of a text.
+fn compare_text(
+    alloc: Global,
+    loaded: &Module,
+    main: &str,
+    text: &str,
+    scope: &Scope<'_>,
+) -> Result<Told, AllocError>
+    ensures { IfOk result (TellsOfBoth loaded.now main.now text.now scope.now) }
+{
+    let among = match among(loaded.kernel.interface(), scope.inputs.as_slice()) {
+        Ok(among) => among,
+        Err(fault) => return Ok(Told::Refused(not_offered(fault))),
+    };
+    let other = match read_module(alloc, main, text) {
+        Ok(other) => other,
+        Err(refusal) => return Ok(Told::Refused(Refusal::from(refusal))),
+    };
+    let value = compare_modules_of(alloc, loaded, &other, among, limits(scope.most))?;
+    Ok(Told::Says(value))
+}
+
+/// The table of a module that is offered these inputs alone.
+fn table_among(
+    alloc: Global,
+    loaded: &Module,
+    among: u64,
+    limits: Limits,
+) -> Result<Value, AllocError>
+    ensures { IfOk result (λ v. ((asked : ℕ) × IsTableTold (module_of loaded.now.kernel
+        loaded.now.relations among) asked (view v))
+        ⊎ IsTooLarge (module_of loaded.now.kernel loaded.now.relations among) limits.states
+        limits.steps (view v)) }
+{
+    let mut engine = engine_of(alloc, loaded)?;
+    let reactive = one_module(loaded);
+    let subject = Every {
+        reactive: &reactive,
+        relations: &loaded.relations,
+        among,
+    };
+    find_table(alloc, &subject, &mut engine, limits)
+}
+
+/// The table of a module.
+fn table_of(alloc: Global, loaded: &Module, scope: &Scope<'_>) -> Result<Told, AllocError>
+    ensures { IfOk result (TellsOfTable loaded.now scope.now) }
+{
+    let among = match among(loaded.kernel.interface(), scope.inputs.as_slice()) {
+        Ok(among) => among,
+        Err(fault) => return Ok(Told::Refused(not_offered(fault))),
+    };
+    let value = table_among(alloc, loaded, among, limits(scope.most))?;
+    Ok(Told::Says(value))
+}
+
+/// What is told of a module that was loaded.
+fn loaded_told(alloc: Global, loaded: &Module) -> Result<Value, AllocError>
+    ensures { IfOk result (λ v. IsLoadedTold loaded.now (view v)) }
+{
+    let interface = loaded.kernel.interface();
+    let inputs = names(alloc, interface, interface.offerable())?;
+    let outputs = names(alloc, interface, interface.emittable())?;
+    json!(in alloc; {"inputs": inputs, "ok": "load", "outputs": outputs})
+}
+
+/// What is answered of a module.
+fn answer(alloc: Global, loaded: &Module, request: &Request<'_>) -> Result<Told, AllocError>
+    ensures { IfOk result (Answers loaded.now request.now) }
+{
+    match request {
+        Request::Load { .. } => Err(AllocError),
+        Request::Kernel => Ok(Told::Says(kernel_told(alloc, &loaded.kernel)?)),
+        Request::Explore { claims, scope } => {
+            explore_claims(alloc, loaded, claims.as_slice(), scope)
+        }
+        Request::Same { main, text, scope } => compare_text(alloc, loaded, *main, *text, scope),
+        Request::Table(scope) => table_of(alloc, loaded, scope),
+    }
+}
+
+impl Lab {
+    /// A lab in which nothing is loaded.
+    pub fn new() -> Lab
+        ensures { result.loaded ≡ None }
+    {
+        Lab { loaded: None }
+    }
+
+    /// Loads the module `main` of a text.
+    fn load(&mut self, alloc: Global, main: &str, text: &str) -> Result<Told, AllocError>
+        ensures done { IfOk result (λ told. Loads main.now text.now self.old.loaded told
+            self.new.loaded) }
+        ensures kept { IfErr result (λ _. self.new ≡ self.old) }
+    {
+        let loaded = match read_module(alloc, main, text) {
+            Ok(loaded) => loaded,
+            Err(refusal) => return Ok(Told::Refused(Refusal::from(refusal))),
+        };
+        let value = loaded_told(alloc, &loaded)?;
+        self.loaded = Some(loaded);
+        Ok(Told::Says(value))
+    }
+
+    /// What is answered of the module that is loaded.
+    fn ask(&self, alloc: Global, request: &Request<'_>) -> Result<Told, AllocError>
+        ensures { IfOk result (AnswersIf self.now.loaded request.now) }
+    {
+        match &self.loaded {
+            Some(loaded) => answer(alloc, loaded, request),
+            None => Ok(Told::Refused(Refusal::Empty)),
+        }
+    }
+
+    /// Does what is asked.
+    pub fn obey(&mut self, alloc: Global, request: &Request<'_>) -> Result<Told, AllocError>
+        ensures done { IfOk result (λ told. Obeys self.old.loaded request.now told
+            self.new.loaded) }
+        ensures kept { IfErr result (λ _. self.new ≡ self.old) }
+    {
+        match request {
+            Request::Load { main, text } => self.load(alloc, *main, *text),
+            _ => self.ask(alloc, request),
+        }
+    }
+}
