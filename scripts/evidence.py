@@ -77,8 +77,10 @@ def check_freshness(program):
         raise NoEvidence(f"there are changes that no commit has, which PROOF.json is to name: {changed.splitlines()[0]}")
 
 
-def record(version, program, log):
-    """What PROOF.json is to hold. Without a log it says that nothing was proved. Raises NoEvidence."""
+def record(version, programs, log):
+    """What PROOF.json is to hold of the programs, which are files by their names. Without a log it says that nothing was proved.
+    Raises NoEvidence.
+    """
     name, logic = KIT.fullmatch(said_by("rt", "version")).groups()
     found = {
         "version": version,
@@ -86,10 +88,11 @@ def record(version, program, log):
         "proved": log is not None,
         "kit": name,
         "logic": logic,
-        "programs": {"estserve": digest_of(program)},
+        "programs": {program: digest_of(path) for program, path in programs.items()},
         "inputs": {str(path.relative_to(ROOT)): digest_of(path) for path in inputs()},
     }
     if log is not None:
-        check_freshness(program)
+        for path in programs.values():
+            check_freshness(path)
         found["rt_ci"] = read_log(log, logic)
     return found

@@ -1,12 +1,11 @@
 #!/usr/bin/env python3
 """Makes the package: out/package/estserve_VERSION_amd64.deb, a .tar.xz of the same tree, and PROOF.json beside them.
 
-usage: package.py [--log FILE] [--program PATH] [--to FOLDER]
+usage: package.py [--log FILE] [--program PATH] [--lab PATH] [--to FOLDER]
 
-FILE is the log of a run of `rt ci` on this commit in which all passed; then the program is crates/estserve/out/estserve, which that run or
-`make build` has built. Without a log the package is named estserve-unproved, and its client says so at --version; its program is PATH,
-or the one of crates/estserve/out, or one that is built without proof. The files have the commit's time, so the same tree and log give the
-same bytes.
+FILE is the log of a run of `rt ci` on this commit in which all passed; then the programs are crates/estserve/out/estserve and
+crates/estlab/out/estlab, which that run or `make build` has built. Without a log the package is named estserve-unproved, and its client says
+so at --version; its program is PATH, or the one of crates/estserve/out, or one that is built without proof, and estlab the one of --lab, or of crates/estlab/out, or none. The files have the commit's time, so the same tree and log give the same bytes.
 """
 import argparse
 import gzip
@@ -28,6 +27,7 @@ from crates import ROOT, say
 from version import version
 
 PROGRAM = ROOT / "crates" / "estserve" / "out" / "estserve"
+LAB = ROOT / "crates" / "estlab" / "out" / "estlab"
 PARTS = ROOT / "packaging" / "debian"
 SCRIPTS = ("postinst", "prerm", "postrm")
 MAINTAINER = "Kifowable maintainers <maintainers@users.noreply.kifowable.example>"
@@ -98,9 +98,22 @@ def changelog_text(package):
     return f"{package.name} ({version()}) stable; urgency=medium\n\n{change}\n\n -- {MAINTAINER}  {date}\n"
 
 
-def lay_out(package, program, tree):
+def programs_of(words):
+    """The programs to be packed, by their names. Raises trial.CannotBuild, and NoEvidence where one is not there."""
+    program = PROGRAM if words.log else words.program or program_without_a_log()
+    programs = {"estserve": program}
+    lab = LAB if words.log else words.lab or LAB
+    if words.log or words.lab or LAB.exists():
+        programs["estlab"] = lab
+    for path in programs.values():
+        if not path.exists():
+            raise evidence.NoEvidence(f"there is no program at {path}: make build proves and builds it")
+    return programs
+
+
+def lay_out(package, programs, tree):
     """Puts all files where they lie on the system, below a folder."""
-    words = [ROOT / "clients" / "install", "/usr", program]
+    words = [ROOT / "clients" / "install", "/usr", *programs.values()]
     variables = {"DESTDIR": str(tree), "PYTHON_FOLDER": "python3/dist-packages", "PYTHON": "/usr/bin/python3"}
     subprocess.run(words, check=True, stdout=subprocess.DEVNULL, env={**os.environ, **variables})
     usr = tree / "usr"
@@ -151,12 +164,12 @@ def write_archive(package, tree, to):
             archive.addfile(told, io.BytesIO(path.read_bytes()) if told.isreg() else None)
 
 
-def make(package, program, to):
+def make(package, programs, to):
     """Makes all files of the package in a folder."""
     to.mkdir(parents=True, exist_ok=True)
     with tempfile.TemporaryDirectory(prefix="estserve-package-") as folder:
         tree = pathlib.Path(folder)
-        lay_out(package, program, tree)
+        lay_out(package, programs, tree)
         settle(tree, package.seconds)
         write_archive(package, tree, to)
         add_control(package, tree)
@@ -170,19 +183,18 @@ def main():
     parser = argparse.ArgumentParser(usage=__doc__.split("\n\n")[1].removeprefix("usage: "))
     parser.add_argument("--log")
     parser.add_argument("--program", type=pathlib.Path)
+    parser.add_argument("--lab", type=pathlib.Path)
     parser.add_argument("--to", type=pathlib.Path, default=ROOT / "out" / "package")
     words = parser.parse_args()
     os.umask(0o022)
     try:
-        program = PROGRAM if words.log else words.program or program_without_a_log()
-        if not program.exists():
-            raise evidence.NoEvidence(f"there is no program at {program}: make build proves and builds it")
-        record = evidence.record(version(), program, words.log)
+        programs = programs_of(words)
+        record = evidence.record(version(), programs, words.log)
         package = Package(record, int(evidence.said_by(*evidence.GIT, "log", "-1", "--format=%ct")))
     except (evidence.NoEvidence, trial.CannotBuild) as fault:
         say(f"no package: {fault}")
         return 1
-    make(package, program, words.to)
+    make(package, programs, words.to)
     print(words.to / f"{package.file}.deb")
     return 0
 

@@ -12,6 +12,7 @@ import re
 
 ROOT = pathlib.Path(__file__).resolve().parent.parent
 PROGRAM = "crates/command_line/src/words.rt"
+LAB = "crates/lab_run/src/order.rt"
 PROTOCOLS = [(PROGRAM, r"protocol version (\d+)"), ("docs/PROTOCOL.md", r"This is version (\d+) of the protocol")]
 
 
@@ -23,7 +24,8 @@ def version():
 def places():
     """The files in which the version stands, each with what stands before it on its line."""
     pages = {page.relative_to(ROOT).as_posix(): rf'\.TH \S+ 1 "" "{page.stem} ' for page in sorted((ROOT / "clients/man").glob("*.1"))}
-    return {PROGRAM: 'const VERSION: &str = "', "clients/estserve_client/__init__.py": '__version__ = "', **pages}
+    constant = 'const VERSION: &str = "'
+    return {PROGRAM: constant, LAB: constant, "clients/estserve_client/__init__.py": '__version__ = "', **pages}
 
 
 def with_version(text, before):

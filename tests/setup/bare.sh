@@ -65,6 +65,8 @@ step program_version estserve --version
 step client_version estserve-client --version
 step proof estserve-client proof
 step abro estserve-client run $examples/abro/abro.strl --inputs $examples/abro/abro.inputs --wave
+step lab sh -c 'command -v estlab || echo none'
+step prove estserve-client prove $examples/abro
 step login serve_login
 step units systemd-analyze verify --man=no estserve-team@main.service estserve-page@main.service estserve@main.service
 step import /usr/bin/python3 -c 'import estserve; print(estserve.__version__)'

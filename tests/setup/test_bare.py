@@ -31,6 +31,8 @@ def package_file(folder):
         import running
 
         words += ["--program", running.words_of(os.environ["ESTSERVE"])[-1]]
+        if os.environ.get("ESTLAB"):
+            words += ["--lab", running.words_of(os.environ["ESTLAB"])[-1]]
     made = subprocess.run(words, stdout=subprocess.PIPE, text=True, check=True)
     return pathlib.Path(made.stdout.strip())
 
@@ -77,6 +79,11 @@ class Bare(unittest.TestCase):
 
     def test_the_client_draws_abro(self):
         self.assertEqual(self.told("abro"), (ROOT / "examples" / "abro" / "abro.wave").read_text())
+
+    def test_estlab_proves_claims(self):
+        if self.told("lab") == "none\n":
+            self.skipTest("estlab is not in the package")
+        self.assertRegex(self.told("prove"), r"holds in every run: \d+ states, \d+ reactions")
 
     def test_the_gateway_serves_a_login_and_the_page(self):
         told = self.told("login")

@@ -17,6 +17,7 @@ VERSION = (ROOT / "VERSION").read_text().strip()
 LOGIC = "0123456789abcdef"
 KIT = f"#!/bin/sh\necho kit-of-tests logic {LOGIC}\n"
 PROGRAM = "#!/bin/sh\necho the program\n"
+PROGRAMS = ("estserve", "estlab")
 IDENTITY = {
     f"GIT_{who}_{what}": value
     for who in ("AUTHOR", "COMMITTER")
@@ -64,7 +65,8 @@ class Packages(unittest.TestCase):
                 shutil.copy(ROOT / file, tree / file)
         for words in (["init", "-q"], ["add", "-A"], ["commit", "-qm", "all"]):
             subprocess.run(["git", *words], cwd=tree, check=True, env={**os.environ, **IDENTITY})
-        cls.write(f"{name}/crates/estserve/out/estserve", PROGRAM).chmod(0o755)
+        for program in PROGRAMS:
+            cls.write(f"{name}/crates/{program}/out/{program}", PROGRAM).chmod(0o755)
         return tree
 
     @classmethod
@@ -97,7 +99,8 @@ class Packages(unittest.TestCase):
         record = json.loads((self.folder / "one" / "PROOF.json").read_text())
         commit = subprocess.run(["git", "rev-parse", "HEAD"], cwd=self.tree, capture_output=True, text=True).stdout.strip()
         self.assertEqual([record[key] for key in ("version", "commit", "proved", "kit", "logic")], [VERSION, commit, True, "kit-of-tests", LOGIC])
-        self.assertEqual(record["programs"], {"estserve": evidence.digest_of(self.tree / "crates/estserve/out/estserve")})
+        built = {program: evidence.digest_of(self.tree / f"crates/{program}/out/{program}") for program in PROGRAMS}
+        self.assertEqual(record["programs"], built)
         files = [str(path.relative_to(ROOT)) for path in evidence.inputs()]
         self.assertEqual(record["inputs"], {file: evidence.digest_of(ROOT / file) for file in files})
         self.assertLess({"HANDLES", "crates.txt", "crates/estserve/src/main.rt"}, set(files))
@@ -112,7 +115,8 @@ class Packages(unittest.TestCase):
         self.assertEqual(self.run_client(folder, "--version"), (0, f"estserve-client {VERSION}\n"))
         status, told = self.run_client(folder, "proof")
         self.assertEqual(status, 0)
-        self.assertIn("\nestserve: the same (SHA-256 ", told)
+        for program in PROGRAMS:
+            self.assertIn(f"\n{program}: the same (SHA-256 ", told)
         self.assertIn("\nProved by kit-of-tests, of the logic 0123456789abcdef", told)
         self.assertIn("What it doesn't show: ", told)
         (folder / "usr/bin/estserve").write_text("#!/bin/sh\n")
@@ -138,9 +142,9 @@ class Packages(unittest.TestCase):
         times = {path.lstat().st_mtime for path in folder.rglob("*") if path.is_file() and path.parent.name != "DEBIAN"}
         self.assertEqual(times, {1_700_000_000.0})
         for name in (
-            "usr/bin/estserve-client", "usr/lib/python3/dist-packages/estserve_team/page/index.html",
+            "usr/bin/estserve-client", "usr/bin/estlab", "usr/lib/python3/dist-packages/estserve_team/page/index.html",
             "usr/lib/systemd/system/estserve-team@.service", "usr/lib/systemd/system/estserve-page@.service", "usr/lib/sysusers.d/estserve.conf", "usr/lib/tmpfiles.d/estserve.conf",
-            "usr/share/man/man1/estserve.1.gz", "usr/share/man/man1/estserve-client.1.gz", "usr/share/man/man1/estserve-team.1.gz",
+            "usr/share/man/man1/estserve.1.gz", "usr/share/man/man1/estlab.1.gz", "usr/share/man/man1/estserve-client.1.gz", "usr/share/man/man1/estserve-team.1.gz",
             "usr/share/bash-completion/completions/estserve-client", "usr/share/estserve/examples/abro/abro.strl",
             "usr/share/estserve/editors/vscode/package.json", "usr/share/vim/vimfiles/syntax/esterel.vim",
         ):  # fmt: skip
