@@ -29,10 +29,11 @@ from estserve_client.lab.claims import Claims, read_claims
 from estserve_client.lab.judging import Question, judge
 from estserve_client.lab.marks import reached
 from estserve_client.lab.observing import alarm_claims, observed
-from estserve_client.lab.proving import texts_of
+from estserve_client.lab.proving import HOW
 from estserve_client.lab.table import Table
 from estserve_client.library_text import LibraryText
 from estserve_client.syntax_tree import ModuleTree, Node, Test, Token
+from estserve_client.texts_beside import texts_beside
 
 EXAMPLES = ROOT / "examples"
 MUTANTS = 20  # of each example
@@ -61,8 +62,8 @@ class Example:
 def read_example(path: pathlib.Path) -> Example:
     """The example whose claims stand in this file."""
     claims = read_claims(path.read_text(), str(path))
-    texts = texts_of(path)
-    paths = texts + [str(path.parent / other) for other in claims.texts]
+    texts = [str(text) for text in texts_beside(path, claims.main, HOW)]
+    paths = list(dict.fromkeys(texts + [str(path.parent / other) for other in claims.texts]))
     lists = [read_inputs(one.read_text()).names for one in sorted(path.parent.glob("*.inputs"))]
     words = [[frozenset(names) for names in listed] for listed in lists]
     same = [read_subject([path.parent / other], claims.main) for other in claims.same]
