@@ -3,4 +3,4 @@ use Rattle.est_micro.specs.Engine.{IsNetOf}
 use Rattle.benches.proofs.pairs.compare.Given as goal
 
 abbrev pub invariant-loop-number : goal.invariant-loop-number
-invariant-loop-number g l = IsNetOf l.micro.net l.case.now.kernel × IsState l.case.now.kernel.root l.state
+invariant-loop-number g l = IsNetOf l.micro.net l.case.kernel × IsState l.case.kernel.root l.state
