@@ -77,9 +77,9 @@ def check_freshness(program):
         raise NoEvidence(f"there are changes that no commit has, which PROOF.json is to name: {changed.splitlines()[0]}")
 
 
-def record(version, programs, log):
-    """What PROOF.json is to hold of the programs, which are files by their names. Without a log it says that nothing was proved.
-    Raises NoEvidence.
+def record(version, programs, built_libraries, log):
+    """What PROOF.json is to hold of the programs and libraries, which are files by their names. Without a log it says that nothing was
+    proved. Raises NoEvidence.
     """
     name, logic = KIT.fullmatch(said_by("rt", "version")).groups()
     found = {
@@ -89,10 +89,11 @@ def record(version, programs, log):
         "kit": name,
         "logic": logic,
         "programs": {program: digest_of(path) for program, path in programs.items()},
+        "libraries": {name: digest_of(path) for name, path in built_libraries.items()},
         "inputs": {str(path.relative_to(ROOT)): digest_of(path) for path in inputs()},
     }
     if log is not None:
-        for path in programs.values():
+        for path in [*programs.values(), *built_libraries.values()]:
             check_freshness(path)
         found["rt_ci"] = read_log(log, logic)
     return found

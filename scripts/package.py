@@ -1,11 +1,13 @@
 #!/usr/bin/env python3
 """Makes the package: out/package/estserve_VERSION_amd64.deb, a .tar.xz of the same tree, and PROOF.json beside them.
 
-usage: package.py [--log FILE] [--program PATH] [--lab PATH] [--to FOLDER]
+usage: package.py [--log FILE] [--program PATH] [--lab PATH] [--library PATH] [--to FOLDER]
 
 FILE is the log of a run of `rt ci` on this commit in which all passed; then the programs are crates/estserve/out/estserve and
-crates/estlab/out/estlab, which that run or `make build` has built. Without a log the package is named estserve-unproved, and its client says
-so at --version; its program is PATH, or the one of crates/estserve/out, or one that is built without proof, and estlab the one of --lab, or of crates/estlab/out, or none. The files have the commit's time, so the same tree and log give the same bytes.
+crates/estlab/out/estlab, which that run or `make build` has built, and the library for C is the one that `make library` has built. Without a
+log the package is named estserve-unproved, and its client says so at --version; its program is PATH, or the one of crates/estserve/out, or
+one that is built without proof; estlab and the library are those of --lab and --library, or those that are built, or none. The files have
+the commit's time, so the same tree and log give the same bytes.
 """
 import argparse
 import gzip
@@ -22,12 +24,14 @@ import tempfile
 import time
 
 import evidence
+import library
 import trial
 from crates import ROOT, say
 from version import version
 
 PROGRAM = ROOT / "crates" / "estserve" / "out" / "estserve"
 LAB = ROOT / "crates" / "estlab" / "out" / "estlab"
+LIBRARY = library.BUILT.with_name(library.NAME)
 PARTS = ROOT / "packaging" / "debian"
 SCRIPTS = ("postinst", "prerm", "postrm")
 MAINTAINER = "Kifowable maintainers <maintainers@users.noreply.kifowable.example>"
@@ -111,10 +115,21 @@ def programs_of(words):
     return programs
 
 
-def lay_out(package, programs, tree):
+def libraries_of(words):
+    """The libraries to be packed, by their names. Raises NoEvidence where one is not there."""
+    path = LIBRARY if words.log else words.library or LIBRARY
+    if path.exists():
+        return {library.NAME: path}
+    if words.log or words.library:
+        raise evidence.NoEvidence(f"there is no library at {path}: make library proves and builds it")
+    return {}
+
+
+def lay_out(package, programs, libraries, tree):
     """Puts all files where they lie on the system, below a folder."""
     words = [ROOT / "clients" / "install", "/usr", *programs.values()]
     variables = {"DESTDIR": str(tree), "PYTHON_FOLDER": "python3/dist-packages", "PYTHON": "/usr/bin/python3"}
+    variables["LIBRARY"] = "".join(str(path) for path in libraries.values())
     subprocess.run(words, check=True, stdout=subprocess.DEVNULL, env={**os.environ, **variables})
     usr = tree / "usr"
     for page in sorted((usr / "share" / "man").rglob("*.1")):
@@ -164,12 +179,12 @@ def write_archive(package, tree, to):
             archive.addfile(told, io.BytesIO(path.read_bytes()) if told.isreg() else None)
 
 
-def make(package, programs, to):
+def make(package, programs, libraries, to):
     """Makes all files of the package in a folder."""
     to.mkdir(parents=True, exist_ok=True)
     with tempfile.TemporaryDirectory(prefix="estserve-package-") as folder:
         tree = pathlib.Path(folder)
-        lay_out(package, programs, tree)
+        lay_out(package, programs, libraries, tree)
         settle(tree, package.seconds)
         write_archive(package, tree, to)
         add_control(package, tree)
@@ -184,17 +199,18 @@ def main():
     parser.add_argument("--log")
     parser.add_argument("--program", type=pathlib.Path)
     parser.add_argument("--lab", type=pathlib.Path)
+    parser.add_argument("--library", type=pathlib.Path)
     parser.add_argument("--to", type=pathlib.Path, default=ROOT / "out" / "package")
     words = parser.parse_args()
     os.umask(0o022)
     try:
-        programs = programs_of(words)
-        record = evidence.record(version(), programs, words.log)
+        programs, libraries = programs_of(words), libraries_of(words)
+        record = evidence.record(version(), programs, libraries, words.log)
         package = Package(record, int(evidence.said_by(*evidence.GIT, "log", "-1", "--format=%ct")))
     except (evidence.NoEvidence, trial.CannotBuild) as fault:
         say(f"no package: {fault}")
         return 1
-    make(package, programs, words.to)
+    make(package, programs, libraries, words.to)
     print(words.to / f"{package.file}.deb")
     return 0
 

@@ -1,5 +1,5 @@
-"""The command `proof`: what the package says was proved of its programs, and whether those that are
-installed are the same.
+"""The command `proof`: what the package says was proved of its programs and its library, and whether
+those that are installed are the same.
 """
 from __future__ import annotations
 
@@ -55,11 +55,11 @@ def digest_of(path: str) -> Optional[str]:
 
 
 def state_of(path: str, digest: str) -> str:
-    """Whether the program that is installed there is the one with this SHA-256."""
+    """Whether the file that is installed there is the one with this SHA-256."""
     found = digest_of(path)
     if found is None:
         return "not there"
-    return SAME if found == digest else "ANOTHER PROGRAM"
+    return SAME if found == digest else "ANOTHER FILE"
 
 
 def told_of_run(record: Dict[str, Any]) -> List[str]:
@@ -86,10 +86,11 @@ def proof(arguments: argparse.Namespace) -> int:
     count = len(record["inputs"])
     print(f"estserve {record['version']}, commit {record['commit']}, of {count} files of proofs")
     print("\n".join(told_of_run(record)))
-    programs = sorted(record["programs"].items())
-    states = [state_of(os.path.join(prefix(), "bin", name), digest) for name, digest in programs]
-    for (name, digest), state in zip(programs, states):
-        print(f"{name}: {state} (SHA-256 {digest})")
+    states = []
+    for folder, digests in (("bin", record["programs"]), ("lib", record.get("libraries", {}))):
+        for name, digest in sorted(digests.items()):
+            states.append(state_of(os.path.join(prefix(), folder, name), digest))
+            print(f"{name}: {states[-1]} (SHA-256 {digest})")
     if record["proved"]:
         print(SHOWS)
     return 0 if record["proved"] and set(states) == {SAME} else 1

@@ -18,6 +18,7 @@ LOGIC = "0123456789abcdef"
 KIT = f"#!/bin/sh\necho kit-of-tests logic {LOGIC}\n"
 PROGRAM = "#!/bin/sh\necho the program\n"
 PROGRAMS = ("estserve", "estlab")
+LIBRARY = "libestserve_react.a"
 IDENTITY = {
     f"GIT_{who}_{what}": value
     for who in ("AUTHOR", "COMMITTER")
@@ -67,6 +68,7 @@ class Packages(unittest.TestCase):
             subprocess.run(["git", *words], cwd=tree, check=True, env={**os.environ, **IDENTITY})
         for program in PROGRAMS:
             cls.write(f"{name}/crates/{program}/out/{program}", PROGRAM).chmod(0o755)
+        cls.write(f"{name}/crates/est_embed/out/{LIBRARY}", "!<arch>\n")
         return tree
 
     @classmethod
@@ -101,6 +103,7 @@ class Packages(unittest.TestCase):
         self.assertEqual([record[key] for key in ("version", "commit", "proved", "kit", "logic")], [VERSION, commit, True, "kit-of-tests", LOGIC])
         built = {program: evidence.digest_of(self.tree / f"crates/{program}/out/{program}") for program in PROGRAMS}
         self.assertEqual(record["programs"], built)
+        self.assertEqual(record["libraries"], {LIBRARY: evidence.digest_of(self.tree / "crates/est_embed/out" / LIBRARY)})
         files = [str(path.relative_to(ROOT)) for path in evidence.inputs()]
         self.assertEqual(record["inputs"], {file: evidence.digest_of(ROOT / file) for file in files})
         self.assertLess({"HANDLES", "crates.txt", "crates/estserve/src/main.rt"}, set(files))
@@ -115,14 +118,16 @@ class Packages(unittest.TestCase):
         self.assertEqual(self.run_client(folder, "--version"), (0, f"estserve-client {VERSION}\n"))
         status, told = self.run_client(folder, "proof")
         self.assertEqual(status, 0)
-        for program in PROGRAMS:
-            self.assertIn(f"\n{program}: the same (SHA-256 ", told)
+        for file in (*PROGRAMS, LIBRARY):
+            self.assertIn(f"\n{file}: the same (SHA-256 ", told)
         self.assertIn("\nProved by kit-of-tests, of the logic 0123456789abcdef", told)
         self.assertIn("What it doesn't show: ", told)
         (folder / "usr/bin/estserve").write_text("#!/bin/sh\n")
         status, told = self.run_client(folder, "proof")
         self.assertEqual(status, 1)
-        self.assertIn("\nestserve: ANOTHER PROGRAM (", told)
+        self.assertIn("\nestserve: ANOTHER FILE (", told)
+        (folder / "usr/lib" / LIBRARY).unlink()
+        self.assertIn(f"\n{LIBRARY}: not there (", self.run_client(folder, "proof")[1])
 
     def test_without_a_log_it_is_named_unproved_and_says_so(self):
         self.assertEqual(self.make("unproved"), (0, ""))
@@ -146,7 +151,8 @@ class Packages(unittest.TestCase):
             "usr/lib/systemd/system/estserve-team@.service", "usr/lib/systemd/system/estserve-page@.service", "usr/lib/sysusers.d/estserve.conf", "usr/lib/tmpfiles.d/estserve.conf",
             "usr/share/man/man1/estserve.1.gz", "usr/share/man/man1/estlab.1.gz", "usr/share/man/man1/estserve-client.1.gz", "usr/share/man/man1/estserve-team.1.gz",
             "usr/share/bash-completion/completions/estserve-client", "usr/share/estserve/examples/abro/abro.strl",
-            "usr/share/estserve/editors/vscode/package.json", "usr/share/vim/vimfiles/syntax/esterel.vim",
+            "usr/share/estserve/editors/vscode/package.json", "usr/share/estserve/editors/estserve.vsix", "usr/share/vim/vimfiles/syntax/esterel.vim",
+            f"usr/lib/{LIBRARY}", "usr/include/estserve_react.h", "usr/lib/pkgconfig/estserve_react.pc",
         ):  # fmt: skip
             self.assertTrue((folder / name).exists(), name)
 
@@ -179,6 +185,9 @@ class Packages(unittest.TestCase):
         self.assertIn("there are changes that no commit has", self.refused(log_of_all(), tree))
         program.unlink()
         self.assertIn("make build proves and builds it", self.refused(log_of_all(), tree))
+        self.write("in/another/place/with/a/longer/name/crates/estserve/out/estserve", PROGRAM)
+        (tree / "crates/est_embed/out" / LIBRARY).unlink()
+        self.assertIn("make library proves and builds it", self.refused(log_of_all(), tree))
 
 
 if __name__ == "__main__":
