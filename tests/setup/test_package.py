@@ -43,6 +43,7 @@ class Packages(unittest.TestCase):
         cls.addClassCleanup(held.cleanup)
         cls.folder = pathlib.Path(held.name)
         cls.write("bin/rt", KIT).chmod(0o755)
+        cls.library = cls.made_library()
         cls.tree, cls.other = cls.copied("a"), cls.copied("in/another/place/with/a/longer/name")
         cls.log = cls.write("log", log_of_all())
         cls.ends = [cls.make("one", "--log", cls.log), cls.make("two", "--log", cls.log, tree=cls.other, umask=0o077)]
@@ -68,8 +69,19 @@ class Packages(unittest.TestCase):
             subprocess.run(["git", *words], cwd=tree, check=True, env={**os.environ, **IDENTITY})
         for program in PROGRAMS:
             cls.write(f"{name}/crates/{program}/out/{program}", PROGRAM).chmod(0o755)
-        cls.write(f"{name}/crates/est_embed/out/{LIBRARY}", "!<arch>\n")
+        shutil.copy(cls.library, cls.write(f"{name}/crates/est_embed/out/{LIBRARY}", ""))
         return tree
+
+    @classmethod
+    def made_library(cls):
+        """A library for C with one function, or one without any where no compiler is installed."""
+        path = cls.write(LIBRARY, "!<arch>\n")
+        if shutil.which("gcc"):
+            source, built = cls.write("one.c", "int one(void) { return 1; }\n"), cls.folder / "one.o"
+            subprocess.run(["gcc", "-c", source, "-o", built], check=True)
+            path.unlink()
+            subprocess.run(["ar", "rcD", path, built], check=True)
+        return path
 
     @classmethod
     def make(cls, to, *words, tree=None, umask=0o022):
@@ -156,7 +168,7 @@ class Packages(unittest.TestCase):
         ):  # fmt: skip
             self.assertTrue((folder / name).exists(), name)
 
-    @unittest.skipUnless(shutil.which("lintian"), "lintian is not installed: scripts/install_debian.sh installs it")
+    @unittest.skipUnless(shutil.which("lintian") and shutil.which("gcc"), "lintian or gcc is not installed: scripts/install_debian.sh installs lintian")
     def test_lintian_finds_no_error(self):
         words = ["lintian", "--allow-root", "--fail-on", "error", *(self.folder / "one").glob("*.deb")]
         ran = subprocess.run(words, capture_output=True, text=True)
