@@ -11,7 +11,7 @@ _estserve_client() {
     esac
     case "$path" in
     '')
-        words='run test format lsp shell apply proof prove coverage lint whocan graph team --help --version'
+        words='run test format lsp shell apply proof prove coverage lint whocan graph compile team --help --version'
         ;;
     'run')
         words='--help --main --inputs --signals --table --wave --vcd --expect --update --watch --program --unproved --socket --user --role --reads --slot --loaded'
@@ -98,6 +98,14 @@ _estserve_client() {
         case "$before" in
         --estlab) words='' files=1 ;;
         --main | --inputs | --most) return ;;
+        esac
+        ;;
+    'compile')
+        words='--help --main -o --check --pairs --estlab --unproved --most'
+        files=1
+        case "$before" in
+        --estlab) words='' files=1 ;;
+        --main | -o | --pairs | --most) return ;;
         esac
         ;;
     'team')

@@ -220,15 +220,15 @@ def add_proof(commands: Any) -> None:
     parser.set_defaults(act=doing("proof", "proof"))
 
 
-def adding(name: str, module: str) -> Callable[[Any], None]:
+def adding(name: str, module: str, function: str = "") -> Callable[[Any], None]:
     """Adds a command of estlab: its words are imported when it is asked for, and so is what does
-    it.
+    it, which has the command's name unless another one is given.
     """
 
     def add(commands: Any) -> None:
         from .lab import parsers
 
-        getattr(parsers, "add_" + name)(commands, doing("lab." + module, name))
+        getattr(parsers, "add_" + name)(commands, doing("lab." + module, function or name))
 
     return add
 
@@ -278,6 +278,7 @@ ADDERS = {
     "lint": adding("lint", "linting"),
     "whocan": adding("whocan", "whocan"),
     "graph": adding("graph", "graph"),
+    "compile": adding("compile", "compiling", "compile_module"),
 }
 
 

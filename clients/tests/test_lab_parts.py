@@ -15,9 +15,9 @@ from estserve_client import connection
 from estserve_client.inputs import read_inputs
 from estserve_client.lab.asking import Lab, Subject, read_subject, start_lab
 from estserve_client.lab.claims import Claim, read_claims
-from estserve_client.lab.graph import parts_of
 from estserve_client.lab.marks import mark, parts_to_mark, reached
 from estserve_client.lab.observing import observed
+from estserve_client.lab.parts import parts_of
 from estserve_client.access import Access
 from estserve_client.lab.table import Table
 from estserve_client.lab.tours import tours_of
@@ -180,6 +180,12 @@ class Tables(unittest.TestCase):
             set(parts),
             {(frozenset("A"), frozenset("A")), (frozenset("B"), frozenset("B"))},
         )
+
+    def test_a_condition_keeps_apart_what_asks_for_other_inputs(self):
+        told = [row(0, "A B", "B", 0), row(0, "A", "A", 0, "O"), row(0, "A B", "", 0, "O")]
+        table = Table(["start"], told)
+        parts = parts_of(table.rows[:1], table.rows[1:])
+        self.assertEqual(parts, [(frozenset("AB"), frozenset("B"))])
 
 
 class Roles(unittest.TestCase):

@@ -2,49 +2,17 @@
 from __future__ import annotations
 
 import argparse
-from typing import Dict, FrozenSet, Iterator, List, Optional, Tuple
+from typing import Dict, Iterator, List, Optional, Tuple
 
 from ..texts import Failed
 from .asking import Subject, lab_of, read_subject
 from .claims import names_listed
 from .judging import check_inputs
+from .parts import Part, parts_of
 from .table import Row, Table
 
 STATES = 60  # a drawing has fewer
 LINES = 8  # of one arrow
-
-Part = Tuple[FrozenSet[str], FrozenSet[str]]  # what is asked, and what of it is present
-
-
-def is_in(row: Row, part: Part) -> bool:
-    """Whether a row has inputs of this part."""
-    asked, present = part
-    return row.asked >= asked and row.inputs & asked == present
-
-
-def widened(row: Row, others: List[Row]) -> Part:
-    """A part with the row in it, and none of the others, that asks for as little as can be."""
-    asked = row.asked
-    for name in sorted(row.asked):
-        fewer = asked - {name}
-        if not any(is_in(other, (fewer, row.inputs & fewer)) for other in others):
-            asked = fewer
-    return asked, row.inputs & asked
-
-
-def parts_of(rows: List[Row], others: List[Row]) -> List[Part]:
-    """Parts that have all the rows in them, and none of the others. What is not lawful may be in
-    any.
-    """
-    found: List[Part] = []
-    for row in rows:
-        if not any(is_in(row, part) for part in found):
-            found.append(widened(row, others))
-    for part in list(found):
-        rest = [other for other in found if other != part]
-        if all(any(is_in(row, other) for other in rest) for row in rows):
-            found = rest
-    return found
 
 
 def condition(part: Part, subject: Subject) -> str:

@@ -1,4 +1,4 @@
-"""The words of the commands `prove`, `coverage`, `lint`, `whocan` and `graph`."""
+"""The words of the commands `prove`, `coverage`, `lint`, `whocan`, `graph` and `compile`."""
 from __future__ import annotations
 
 from typing import TYPE_CHECKING, Any
@@ -11,6 +11,7 @@ PROGRAM = "the program to start (default: that of the variable ESTLAB, or estlab
 UNPROVED = "in the repository: build estlab without proof, and keep it while no source changes"
 MAIN = "the module that is asked of (default: the first that none runs)"
 TEXTS = "the module text; of several files all modules make one library"
+PAIRS = 4_000_000  # of a state and a set of inputs
 LIMIT = "end the search after this many states, or reactions (default: 1,000,000)"
 TAKEN = (
     "It is taken for granted that the policy stays as it is, that the module stays loaded, and that"
@@ -100,5 +101,22 @@ def add_graph(commands: Any, act: Any) -> None:
     parser.add_argument("--main", metavar="MODULE", help=MAIN)
     help = "draw with these inputs alone"
     parser.add_argument("--inputs", action="append", metavar="A,B", help=help)
+    add_lab(parser)
+    parser.set_defaults(act=act)
+
+
+def add_compile(commands: Any, act: Any) -> None:
+    """Adds the words of `compile`."""
+    help = "write a module as a table in C, made from all its runs"
+    parser = commands.add_parser("compile", help=help)
+    add = parser.add_argument
+    add("file", nargs="+", metavar="FILE", help=TEXTS)
+    add("--main", metavar="MODULE", help=MAIN)
+    help = "write NAME.h and NAME.c, with NAME in each name of C (default: the module's, in lower case)"
+    add("-o", dest="out", metavar="NAME", help=help)
+    help = "compile the C, and compare it with all runs: every state and every set of inputs"
+    add("--check", action="store_true", help=help)
+    help = "refuse more pairs of a state and a set of inputs than these (default: 4,000,000)"
+    add("--pairs", type=int, default=PAIRS, metavar="N", help=help)
     add_lab(parser)
     parser.set_defaults(act=act)

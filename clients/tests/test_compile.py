@@ -1,0 +1,136 @@
+"""The command `compile`: a module as a table in C, which is compared with all its runs."""
+import os
+import pathlib
+import re
+import shutil
+import subprocess
+import sys
+import unittest
+
+from support import EXAMPLES, ROOT
+from test_lab import InAFolder, needs_lab
+
+sys.path.insert(0, str(ROOT / "clients"))
+from estserve_client.lab import c_check, compiling  # noqa: E402
+from estserve_client.lab.asking import lab_of, read_subject  # noqa: E402
+from estserve_client.lab.c_code import Code  # noqa: E402
+from estserve_client.lab.parsers import MOST  # noqa: E402
+from estserve_client.texts import Failed  # noqa: E402
+
+TEXTS = sorted(path for path in EXAMPLES.glob("*/*.strl") if path.stem == path.parent.name)
+ROW = re.compile(r"^    (\{0x\w+, 0x\w+, )0x(\w+)(, \d+\},)$", re.MULTILINE)
+BLINK = """#include <stdio.h>
+#include "abro.h"
+
+int main(void) {
+  struct abro machine;
+  uint64_t given, inputs[] = {0, ABRO_A, ABRO_B, ABRO_A | ABRO_B, ABRO_R, ABRO_A | ABRO_B, 16};
+  abro_reset(&machine);
+  for (int instant = 0; instant < 7; instant++) {
+    int status = abro_react(&machine, inputs[instant], &given);
+    printf("%d:%d ", status, (int)given);
+  }
+  return 0;
+}
+"""
+RELATIONS = """module M:
+input A, B, C, OK, OK_, INPUTS;
+output O;
+relation A # B # A, C => A, B => B, OK # OK;
+present A then emit O end
+end module
+"""
+NEEDED = "no compiler of C is installed"
+
+
+def needs_compiler(test):
+    """Marks a test that compiles C."""
+    return unittest.skipUnless(any(map(shutil.which, c_check.COMPILERS)), NEEDED)(test)
+
+
+class Words:
+    """What the words of the command line give."""
+
+    unproved, most = False, MOST
+
+    def __init__(self):
+        self.estlab = os.environ["ESTLAB"]
+
+
+@needs_lab
+@needs_compiler
+class Compiling(InAFolder):
+    def code_of(self, path, name):
+        """The C of a module, written into the test's folder."""
+        subject = read_subject([path], None)
+        with lab_of(Words()) as lab:
+            lab.load(subject)
+            table = lab.table(subject.module.inputs(), MOST)
+        code = Code(subject, table, name, "")
+        compiling.write_files(code, str(self.folder))
+        return code
+
+    def test_each_example_is_compared_in_full_and_a_changed_row_is_found(self):
+        self.assertGreater(len(TEXTS), 9)
+        for path in TEXTS:
+            with self.subTest(path.stem):
+                code = self.code_of(path, path.stem)
+                inputs = len(code.subject.module.inputs())
+                pairs = len(code.table.states) << inputs
+                self.assertEqual(c_check.compare(code, str(self.folder)), pairs)
+                source = self.folder / f"{path.stem}.c"
+                rows = list(ROW.finditer(source.read_text()))
+                self.assertEqual(len(rows), code.count())
+                changed = rows[len(rows) // 2]
+                given = int(changed[2], 16) ^ 1 << len(code.places) - 1
+                text = source.read_text()
+                mutant = f"    {changed[1]}{given:#x}{changed[3]}"
+                source.write_text(text[: changed.start()] + mutant + text[changed.end() :])
+                with self.assertRaisesRegex(Failed, "the C differs at state "):
+                    c_check.compare(code, str(self.folder))
+
+    def test_a_state_of_another_row_is_found(self):
+        code = self.code_of(EXAMPLES / "abro" / "abro.strl", "abro")
+        source = self.folder / "abro.c"
+        source.write_text(source.read_text().replace("0x8, 4},", "0x8, 3},", 1))
+        with self.assertRaisesRegex(Failed, "the C differs at state 1, input set 3: `0 8 3` and"):
+            c_check.compare(code, str(self.folder))
+
+    def test_abro_in_a_program(self):
+        out = self.folder / "abro"
+        told = "abro.h, abro.c: 5 states, 14 rows; compared in full: 40 pairs of a state and a set"
+        path = EXAMPLES / "abro" / "abro.strl"
+        said, status = self.ran("compile", path, "-o", out, "--check")
+        self.assertEqual((said, status), (told + " of inputs\n", 0))
+        main, program = self.folder / "main.c", self.folder / "main"
+        main.write_text(BLINK)
+        words = [*c_check.compiler(), *c_check.STRICT, main, self.folder / "abro.c", "-o", program]
+        subprocess.run(words, check=True)
+        ran = subprocess.run([program], stdout=subprocess.PIPE, check=True, text=True)
+        self.assertEqual(ran.stdout, "0:0 0:0 0:8 0:0 0:0 0:8 3:16 ")
+
+    def test_relations_are_asked_first_and_names_are_kept_apart(self):
+        path = self.folder / "m.strl"
+        path.write_text(RELATIONS)
+        code = self.code_of(path, "m")
+        self.assertEqual(c_check.compare(code, str(self.folder)), 2 * 64)
+        self.assertEqual(code.answer(0, ["A", "B", "C"]), (2, 1, 0))
+        self.assertEqual(code.answer(0, ["C"]), (2, 2, 0))
+        self.assertEqual(code.answer(0, ["A", "C"])[:2], (0, 64))
+        header = (self.folder / "m.h").read_text()
+        for name in ("M_A", "M_OK__", "M_OK_", "M_INPUTS_"):
+            self.assertRegex(header, rf"#define {name} UINT64_C")
+
+    def test_what_is_too_large_and_what_is_no_name_is_refused(self):
+        path = EXAMPLES / "abro" / "abro.strl"
+        told = "estserve.py: 5 states and 8 sets of inputs are 40 pairs: --pairs allows more\n"
+        self.assertEqual(self.fault("compile", path, "--pairs", "39"), told)
+        told = "estserve.py: a-b is no name in C: -o NAME gives one\n"
+        self.assertEqual(self.fault("compile", path, "-o", "a-b"), told)
+        told = "estserve.py: there are more than 3 states or reactions: --most allows more\n"
+        self.assertEqual(self.fault("compile", path, "--most", "3"), told)
+        self.assertIn("cannot be written", self.fault("compile", path, "-o", "/nowhere/abro"))
+
+
+if __name__ == "__main__":
+    unittest.main()
