@@ -183,7 +183,10 @@ class Code:
             members = relation.members
             form = EXCLUSION if relation.is_exclusion else IMPLICATION
             one = self.mask(members if relation.is_exclusion else members[:1])
-            words = {"one": f"UINT64_C({one:#x})", "other": f"UINT64_C({self.mask(members[-1:]):#x})"}
+            words = {
+                "one": f"UINT64_C({one:#x})",
+                "other": f"UINT64_C({self.mask(members[-1:]):#x})",
+            }
             yield f"  {form.format(**words)} {{"
             yield f"    *given = {number};"
             yield f"    return {self.prefix}_BROKEN;"
