@@ -1,9 +1,9 @@
 #!/usr/bin/env python3
 """Checks that the documents keep up with the repository.
 
-The lists of docs/generated are those that scripts/reading_list.py, wrong_bodies.py and contracts.py write, and each
-wrong body says why it is wrong; README.md has at most 100 lines; each crate stands in docs/ARCHITECTURE.md, and
-crates.txt has its storeys and its order; each function of the walk there stands in its file; each script of
+The lists of docs/generated are those that scripts/reading_list.py, wrong_bodies.py, contracts.py and crate_list.py write;
+each wrong body says why it is wrong, and each crate what it is; README.md has at most 100 lines; each function of the
+walk in docs/ARCHITECTURE.md stands in its file; each script of
 examples/scripts has its answers and its row in examples/README.md, and the opening one is the stored run; each test
 that docs/EXAMPLES.md names is written; each link leads to a file and a heading, and each quoted block stands in its
 file; no line of code, definition or proof is too wide; docs/generated/LINES.md tells nearly as many lines as there are;
@@ -20,6 +20,7 @@ ROOT = pathlib.Path(__file__).resolve().parent.parent
 sys.path.insert(0, str(ROOT / "scripts"))
 sys.dont_write_bytecode = True
 import contracts  # noqa: E402
+import crate_list  # noqa: E402
 import proof_lines  # noqa: E402
 import reading_list  # noqa: E402
 import version  # noqa: E402
@@ -36,7 +37,7 @@ WIDTHS = {".rt": 100, ".antt": 120}  # characters of a line, at most
 def differing_tables():
     """A line for each list of docs/generated that its script would write otherwise."""
     faults = []
-    for script in [reading_list, wrong_bodies, contracts]:
+    for script in [reading_list, wrong_bodies, contracts, crate_list]:
         text = script.DOCUMENT.read_text()
         if script.written(text) != text:
             faults.append(f"{script.DOCUMENT.relative_to(ROOT)} is out of step: run scripts/{script.__name__}.py")
@@ -76,20 +77,9 @@ def missing_functions():
     return faults
 
 
-def missing_crates(document):
-    """A line for each crate that the document does not name."""
-    text = (ROOT / document).read_text()
-    return [f"{document} does not name {crate}" for crate in wrong_bodies.crates() if f"`{crate}`" not in text]
-
-
-def shuffled_crates():
-    """A line if crates.txt has not the storeys and crates of the table in docs/ARCHITECTURE.md, in its order."""
-    table = (ROOT / "docs/ARCHITECTURE.md").read_text().partition("| Crate |")[2].partition("\n\n")[0]
-    told = ["".join(names) for names in re.findall(r"^\| (?:\*\*(.+?)\*\*|`(\w+)`) \|", table, re.MULTILINE)]
-    lines = filter(None, (ROOT / "crates.txt").read_text().splitlines())
-    listed = [line[2:] if line.startswith("# ") else re.split("[ :]", line)[0] for line in lines]
-    fault = "crates.txt has not the storeys and crates of the table in docs/ARCHITECTURE.md, in its order"
-    return [] if told == listed else [fault]
+def nameless_crates():
+    """A line for each crate whose root file doesn't say what it is."""
+    return [f"{crate}: its root file doesn't begin with what it is" for crate in crate_list.without_sentence()]
 
 
 def faulty_examples():
@@ -189,7 +179,7 @@ def wide_lines():
 
 def main():
     faults = differing_tables() + missing_sentences() + missing_functions() + faulty_examples()
-    faults += long_readme() + missing_crates("docs/ARCHITECTURE.md") + shuffled_crates() + missing_tests() + wide_lines()
+    faults += long_readme() + nameless_crates() + missing_tests() + wide_lines()
     faults += faulty_decisions() + proof_lines.stale_rows() + version.stale_places() + words.faults()
     for document in [*ROOT.glob("*.md"), *ROOT.glob("docs/**/*.md"), *ROOT.glob("examples/*.md")]:
         faults += broken_links(document) + broken_anchors(document) + stale_quotes(document)
