@@ -101,7 +101,7 @@ _estserve_client() {
         esac
         ;;
     'compile')
-        words='--help --main -o --check --pairs --estlab --unproved --most'
+        words='--help --main -o --cells --check --pairs --estlab --unproved --most'
         files=1
         case "$before" in
         --estlab) words='' files=1 ;;

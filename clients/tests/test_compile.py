@@ -1,6 +1,6 @@
 """The command `compile`: a module as a table in C, which is compared with all its runs."""
 import os
-import pathlib
+import random
 import re
 import shutil
 import subprocess
@@ -11,10 +11,18 @@ from support import EXAMPLES, ROOT
 from test_lab import InAFolder, needs_lab
 
 sys.path.insert(0, str(ROOT / "clients"))
+sys.path.insert(0, str(ROOT / "tests" / "lab"))
+from drawing_modules import Drawer  # noqa: E402
+
+from estserve_client.connection import Refusal  # noqa: E402
 from estserve_client.lab import c_check, compiling  # noqa: E402
-from estserve_client.lab.asking import lab_of, read_subject  # noqa: E402
-from estserve_client.lab.c_code import Code  # noqa: E402
+from estserve_client.lab.asking import Subject, lab_of, read_subject  # noqa: E402
+from estserve_client.lab.c_cells import CellsCode  # noqa: E402
+from estserve_client.lab.c_code import TableCode  # noqa: E402
+from estserve_client.lab.kernel import checked_kernel  # noqa: E402
 from estserve_client.lab.parsers import MOST  # noqa: E402
+from estserve_client.library_text import join_texts  # noqa: E402
+from estserve_client.module_text import main_of  # noqa: E402
 from estserve_client.texts import Failed  # noqa: E402
 
 TEXTS = sorted(path for path in EXAMPLES.glob("*/*.strl") if path.stem == path.parent.name)
@@ -40,6 +48,7 @@ relation A # B # A, C => A, B => B, OK # OK;
 present A then emit O end
 end module
 """
+RANDOM = 20  # modules
 NEEDED = "no compiler of C is installed"
 
 
@@ -66,7 +75,7 @@ class Compiling(InAFolder):
         with lab_of(Words()) as lab:
             lab.load(subject)
             table = lab.table(subject.module.inputs(), MOST)
-        code = Code(subject, table, name, "")
+        code = TableCode(subject, name, "", table)
         compiling.write_files(code, str(self.folder))
         return code
 
@@ -80,7 +89,7 @@ class Compiling(InAFolder):
                 self.assertEqual(c_check.compare(code, str(self.folder)), pairs)
                 source = self.folder / f"{path.stem}.c"
                 rows = list(ROW.finditer(source.read_text()))
-                self.assertEqual(len(rows), code.count())
+                self.assertEqual(len(rows), sum(map(len, code.lines)))
                 changed = rows[len(rows) // 2]
                 given = int(changed[2], 16) ^ 1 << len(code.places) - 1
                 text = source.read_text()
@@ -123,13 +132,67 @@ class Compiling(InAFolder):
 
     def test_what_is_too_large_and_what_is_no_name_is_refused(self):
         path = EXAMPLES / "abro" / "abro.strl"
-        told = "estserve.py: 5 states and 8 sets of inputs are 40 pairs: --pairs allows more\n"
+        told = "estserve.py: 5 states and 8 sets of inputs are 40 pairs: --pairs allows more, and"
+        told += " --cells needs no table\n"
         self.assertEqual(self.fault("compile", path, "--pairs", "39"), told)
         told = "estserve.py: a-b is no name in C: -o NAME gives one\n"
         self.assertEqual(self.fault("compile", path, "-o", "a-b"), told)
         told = "estserve.py: there are more than 3 states or reactions: --most allows more\n"
         self.assertEqual(self.fault("compile", path, "--most", "3"), told)
         self.assertIn("cannot be written", self.fault("compile", path, "-o", "/nowhere/abro"))
+
+    def walked(self, lab, text, dice):
+        """Compares the cells of a module with its table on a random walk; answers how many instants
+        there were, or none where the text is refused or the table is large.
+        """
+        subject = Subject(join_texts([("text", text)]), main_of(text, None))
+        try:
+            lab.load(subject)
+            table = lab.table(subject.module.inputs(), 200)
+        except (Failed, Refusal):
+            return 0
+        cells = CellsCode(subject, "m", "", checked_kernel(lab, subject))
+        compiling.write_files(cells, str(self.folder))
+        walker = c_check.built(cells, str(self.folder), str(self.folder), c_check.WALKER)
+        code, names = TableCode(subject, "m", "", table), subject.module.inputs()
+        sets = [[name for name in names if dice.random() < 0.4] for _ in range(200)]
+        state, wanted = 0, []
+        for inputs in sets:
+            status, given, state = code.answer(state, inputs)
+            wanted.append(f"{status} {given:x}")
+        given = "".join(f"{cells.mask(inputs):x}\n" for inputs in sets)
+        ran = subprocess.run([walker], input=given, stdout=subprocess.PIPE, text=True, check=True)
+        self.assertEqual(ran.stdout.splitlines(), wanted, text)
+        return len(sets)
+
+    def test_cells_of_random_modules_react_as_their_tables(self):
+        drawer, dice = Drawer(11), random.Random(11)
+        with lab_of(Words()) as lab:
+            instants = [self.walked(lab, drawer.module(), dice) for _ in range(RANDOM)]
+        self.assertGreater(sum(map(bool, instants)), RANDOM // 3)
+
+    def test_cells_of_examples_react_as_estserve(self):
+        for name in ("arbiter", "paradox", "reincarnation"):
+            with self.subTest(name):
+                path, out = EXAMPLES / name / f"{name}.strl", self.folder / name
+                told, status = self.ran("compile", path, "-o", out, "--cells", "--check")
+                self.assertEqual(status, 0)
+                form = r"\w+\.h, \w+\.c: \d+ gates, \d+ pauses; compared with estserve on random walks:"
+                self.assertRegex(told, form)
+
+    def test_a_changed_gate_is_found(self):
+        path = EXAMPLES / "abro" / "abro.strl"
+        subject = read_subject([path], None)
+        with lab_of(Words()) as lab:
+            lab.load(subject)
+            code = CellsCode(subject, "abro", "", checked_kernel(lab, subject))
+        compiling.write_files(code, str(self.folder))
+        self.assertEqual(c_check.compare_walks(code, str(self.folder), None), 2000)
+        source = self.folder / "abro.c"
+        text = source.read_text()
+        source.write_text(text.replace("machine->began = 1;", "machine->began = 0;"))
+        with self.assertRaisesRegex(Failed, "the C differs at walk 1, instant "):
+            c_check.compare_walks(code, str(self.folder), None)
 
 
 if __name__ == "__main__":

@@ -1,14 +1,20 @@
-"""Compares the C of a module with its closed table, for every state and every set of inputs."""
+"""Compares the C of a module with its closed table, for every state and every set of inputs; or on
+random walks with the program estserve.
+"""
 from __future__ import annotations
 
 import os
+import random
 import shutil
 import subprocess
 import tempfile
-from typing import Iterator, List, Sequence
+from typing import Iterable, Iterator, List, Optional, Sequence
 
+from ..connection import start
+from ..stage import Refused, Scenario, Stage
 from ..texts import Failed
-from .c_code import NOT_INPUTS, Code
+from .c_cells import CellsCode
+from .c_code import NOT_INPUTS, OK, STUCK, Code, TableCode
 
 COMPILERS = ("cc", "gcc", "clang")
 STRICT = ["-std=c99", "-pedantic", "-Wall", "-Wextra", "-Werror", "-O1"]
@@ -39,6 +45,32 @@ int main(void) {{
 """
 
 
+WALKER = """\
+/* Tells what the module does with the inputs of standard input: a set a line, and a line `r` to begin anew. */
+#include <inttypes.h>
+#include <stdio.h>
+#include "{name}.h"
+
+static struct {name} machine;
+
+int main(void) {{
+  char line[32];
+  uint64_t inputs, given;
+  {name}_reset(&machine);
+  while (fgets(line, sizeof line, stdin)) {{
+    if (line[0] == 'r') {{
+      {name}_reset(&machine);
+    }} else if (sscanf(line, "%" SCNx64, &inputs) == 1) {{
+      int status = {name}_react(&machine, inputs, &given);
+      printf("%d %" PRIx64 "\\n", status, given);
+    }}
+  }}
+  return 0;
+}}
+"""
+WALKS, STEPS = 20, 100
+
+
 def compiler() -> List[str]:
     """The words of the compiler of C: those of the variable CC, or one that is found. Raises
     Failed.
@@ -57,23 +89,29 @@ def input_sets(names: Sequence[str]) -> Iterator[List[str]]:
         yield [name for place, name in enumerate(names) if number >> place & 1]
 
 
-def told_by(code: Code, folder: str, driver: str) -> Iterator[str]:
-    """What the C tells, a line for each state and set. Raises Failed where it isn't compiled."""
+def built(code: Code, folder: str, driver: str, text: str) -> str:
+    """A program of the C in a folder and this driver. Raises Failed where it isn't compiled."""
     program = os.path.join(driver, "driver")
     source = program + ".c"
     with open(source, "w", encoding="ascii") as file:
-        file.write(DRIVER.format(name=code.name, prefix=code.prefix))
+        file.write(text.format(name=code.name, prefix=code.prefix))
     files = [source, os.path.join(folder, code.name + ".c")]
     words = [*compiler(), *STRICT, f"-I{folder}", *files, "-o", program]
     made = subprocess.run(words, stdout=subprocess.PIPE, stderr=subprocess.STDOUT)
     if made.returncode:
         raise Failed("the C isn't compiled:\n" + made.stdout.decode(errors="replace"))
+    return program
+
+
+def told_by(code: TableCode, folder: str, driver: str) -> Iterator[str]:
+    """What the C tells, a line for each state and set. Raises Failed."""
+    program = built(code, folder, driver, DRIVER)
     with subprocess.Popen([program], stdout=subprocess.PIPE) as child:
         assert child.stdout
         yield from (line.decode().rstrip("\n") for line in child.stdout)
 
 
-def wanted_by(code: Code) -> Iterator[str]:
+def wanted_by(code: TableCode) -> Iterator[str]:
     """What the table has, a line for each state and set."""
     inputs = code.subject.module.inputs()
     others = (1 << 64) - 1 - code.mask(inputs)
@@ -84,7 +122,7 @@ def wanted_by(code: Code) -> Iterator[str]:
         yield f"{NOT_INPUTS} {others:x} {state}"
 
 
-def compare(code: Code, folder: str) -> int:
+def compare(code: TableCode, folder: str) -> int:
     """Compares the C in a folder with the table. Answers how many pairs of a state and a set were
     compared. Raises Failed where they differ.
     """
@@ -101,3 +139,68 @@ def compare(code: Code, folder: str) -> int:
         if next(told, None) is not None:
             raise Failed("the C tells more than the table has")
     return count - len(code.table.states)
+
+
+def walk(code: CellsCode, dice: random.Random) -> List[List[str]]:
+    """The inputs of a random walk. Each set is lawful."""
+    names = code.subject.module.inputs()
+    found: List[List[str]] = []
+    for _ in range(STEPS):
+        share = dice.choice((0.1, 0.3, 0.6))
+        sets = ([name for name in names if dice.random() < share] for _ in range(20))
+        found.append(next((one for one in sets if not code.broken(one)), []))
+    return found
+
+
+def played(code: CellsCode, stage: Stage, word: Iterable[Sequence[str]]) -> Iterator[str]:
+    """What estserve does with a walk, as the C tells it, up to an instant that is Stuck. Raises
+    Failed.
+    """
+    module = code.subject.module
+    listed = "\n".join(" ".join(names) or ";" for names in word)
+    scenario = Scenario(code.subject.library, module, listed)
+    stage.load(scenario)
+    outputs = module.outputs()
+    try:
+        for instants in stage.play(scenario):
+            for signals in instants:
+                yield f"{OK} {code.mask(name for name in outputs if signals[name]):x}"
+    except Refused as fault:
+        if fault.fault != "Stuck":
+            raise
+        yield f"{STUCK}"
+
+
+def same(code: CellsCode, wanted: str, got: str, names: Sequence[str]) -> bool:
+    """Whether the C tells what estserve does. Of an inputoutput that is offered estserve doesn't say
+    whether it was emitted.
+    """
+    if wanted == str(STUCK):
+        return got.split()[:1] == [wanted]
+    status, _, given = got.partition(" ")
+    kinds = code.subject.module.kinds()
+    offered = code.mask(name for name in names if kinds[name] == "inout")
+    return f"{status} {int(given or '0', 16) | offered:x}" == wanted
+
+
+def compare_walks(code: CellsCode, folder: str, program: Optional[str]) -> int:
+    """Compares the C in a folder with estserve on random walks. Answers how many instants were
+    compared. Raises Failed where they differ.
+    """
+    dice, count = random.Random(code.digest), 0
+    with tempfile.TemporaryDirectory(prefix="estserve-") as driver, Stage(
+        lambda: start(program)
+    ) as stage:
+        walker = built(code, folder, driver, WALKER)
+        for number in range(WALKS):
+            word = walk(code, dice)
+            given = "".join(f"{code.mask(names):x}\n" for names in word)
+            ran = subprocess.run([walker], input=given.encode(), stdout=subprocess.PIPE)
+            told = ran.stdout.decode().splitlines()
+            for at, wanted in enumerate(played(code, stage, word)):
+                got = told[at] if at < len(told) else "nothing"
+                if not same(code, wanted, got, word[at]):
+                    where = f"walk {number + 1}, instant {at + 1}"
+                    raise Failed(f"the C differs at {where}: `{got}` and not `{wanted}`")
+                count += 1
+    return count

@@ -1,8 +1,8 @@
-"""A closed table as C99: a header, a table of rows, and the few lines that look a row up."""
+"""A module as C99: what each form has in common, and the closed table of its runs."""
 from __future__ import annotations
 
 import dataclasses
-from typing import Dict, Iterable, Iterator, List, Sequence, Tuple
+from typing import Any, Dict, Iterable, Iterator, List, Sequence, Tuple
 
 from ..module_text import ARROW
 from .asking import Subject
@@ -12,12 +12,23 @@ from .table import Row, Table
 OK, STUCK, BROKEN, NOT_INPUTS = range(4)  # what a reaction answers
 FEW = 128  # rows of one state, of which those that do the same are put together
 WIDTHS = (8, 16, 32, 64)
-TAKEN = {"H", "INPUTS", "OUTPUTS", "STATES", "OK", "STUCK", "BROKEN", "NOT_INPUTS"}
+TAKEN = {
+    "H",
+    "INPUTS",
+    "OUTPUTS",
+    "STATES",
+    "NETS",
+    "PAUSES",
+    "OK",
+    "STUCK",
+    "BROKEN",
+    "NOT_INPUTS",
+}
 HEADER = """\
-/* The module {module}, as C99: {states} states and {rows} rows, without a heap or a library.
+/* The module {module}, as C99: {what}, without a heap or a library.
  *
- * Made by `estserve-client compile`; don't change it. The rows are the closed table of all runs that
- * estlab found. Kernel: SHA-256 {digest}
+ * Made by `estserve-client compile`; don't change it. {from_where}
+ * Kernel: SHA-256 {digest}
  *
  * Signal n of the interface is bit n of a set of signals.
  */
@@ -31,8 +42,7 @@ HEADER = """\
 /* What may be offered, and what may be emitted. An inputoutput is in both. */
 #define {prefix}_INPUTS UINT64_C({inputs:#x})
 #define {prefix}_OUTPUTS UINT64_C({outputs:#x})
-#define {prefix}_STATES {states}
-
+{sizes}
 /* What {name}_react answers, and what `given` has then. At each but OK the state stays. */
 enum {{
   {prefix}_OK = 0,        /* the outputs */
@@ -41,12 +51,9 @@ enum {{
   {prefix}_NOT_INPUTS = 3 /* the signals that can't be offered */
 }};
 
-/* Where the module stands. 0 is before the first instant. */
-struct {name} {{
-  uint32_t state;
-}};
+{state}
 
-/* Back to before the first instant. */
+/* To before the first instant. It has to be called before the first {name}_react. */
 void {name}_reset(struct {name} *machine);
 
 /* One instant with these inputs. */
@@ -54,6 +61,11 @@ int {name}_react(struct {name} *machine, uint64_t inputs, uint64_t *given);
 
 #endif
 """
+STATE = """\
+/* Where the module stands. 0 is before the first instant. */
+struct {name} {{
+  uint32_t state;
+}};"""
 CODE = """\
 /* The module {module}. Made by `estserve-client compile`; don't change it. */
 #include "{name}.h"
@@ -74,15 +86,14 @@ void {name}_reset(struct {name} *machine) {{ machine->state = 0; }}
 
 int {name}_react(struct {name} *machine, uint64_t inputs, uint64_t *given) {{
   uint32_t row = first[machine->state];
-  *given = inputs & ~{prefix}_INPUTS;
-  if (*given) return {prefix}_NOT_INPUTS;
-{relations}  while ((inputs & rows[row].asked) != rows[row].present) row++;
+{checks}  while ((inputs & rows[row].asked) != rows[row].present) row++;
   *given = rows[row].given;
   if (rows[row].next == {prefix}_STATES) return {prefix}_STUCK;
   machine->state = rows[row].next;
   return {prefix}_OK;
 }}
 """
+OF_TABLE = "The rows are the closed table of all runs that\n * estlab found."
 EXCLUSION = "if ((inputs & {one}) & ((inputs & {one}) - 1))"
 IMPLICATION = "if ((inputs & {one}) && !(inputs & {other}))"
 
@@ -120,19 +131,71 @@ def constants_of(signals: Iterable[str]) -> Iterator[str]:
 
 
 class Code:
-    """The texts of a module's header and code, of this name."""
+    """The texts of a module's header and code, under this name."""
 
-    def __init__(self, subject: Subject, table: Table, name: str, digest: str) -> None:
-        self.subject, self.table, self.name, self.digest = subject, table, name, digest
+    def __init__(self, subject: Subject, name: str, digest: str) -> None:
+        self.subject, self.name, self.digest = subject, name, digest
         self.prefix = name.upper()
         module = subject.module
         self.places = {signal: place for place, (signal, _) in enumerate(module.signals)}
         self.relations = [relation_of(text) for text in module.relations]
-        self.lines = [list(self.lines_at(state)) for state in range(len(table.states))]
 
     def mask(self, names: Iterable[str]) -> int:
         """A set of signals as a number."""
         return sum(1 << self.places[name] for name in names)
+
+    def words(self) -> Dict[str, Any]:
+        """What stands in all texts."""
+        return {"module": self.subject.module.name, "name": self.name, "prefix": self.prefix}
+
+    def header_of(self, what: str, from_where: str, sizes: str, state: str) -> str:
+        """The text of a header."""
+        module = self.subject.module
+        signals = [
+            f"#define {self.prefix}_{constant} UINT64_C({1 << place:#x})"
+            for place, constant in enumerate(constants_of(list(self.places)))
+        ]
+        return HEADER.format(
+            **self.words(),
+            what=what,
+            from_where=from_where,
+            sizes=sizes,
+            state=state.format(**self.words()),
+            digest=self.digest,
+            signals="\n".join(signals),
+            inputs=self.mask(module.inputs()),
+            outputs=self.mask(module.outputs()),
+        )
+
+    def checks(self) -> str:
+        """The lines that refuse what is no input, and what breaks a relation."""
+        lines = [
+            f"  *given = inputs & ~{self.prefix}_INPUTS;",
+            f"  if (*given) return {self.prefix}_NOT_INPUTS;",
+        ]
+        for number, relation in enumerate(self.relations, 1):
+            members = relation.members
+            form = EXCLUSION if relation.is_exclusion else IMPLICATION
+            one = self.mask(members if relation.is_exclusion else members[:1])
+            other = self.mask(members[-1:])
+            test = form.format(one=f"UINT64_C({one:#x})", other=f"UINT64_C({other:#x})")
+            broken = f"    return {self.prefix}_BROKEN;"
+            lines += [f"  {test} {{", f"    *given = {number};", broken, "  }"]
+        return "".join(line + "\n" for line in lines)
+
+    def broken(self, inputs: Sequence[str]) -> int:
+        """The number of the first relation that these inputs break, or 0."""
+        numbered = enumerate(self.relations, 1)
+        return next((number for number, one in numbered if not keeps(one, inputs)), 0)
+
+
+class TableCode(Code):
+    """A module as its closed table."""
+
+    def __init__(self, subject: Subject, name: str, digest: str, table: Table) -> None:
+        super().__init__(subject, name, digest)
+        self.table = table
+        self.lines = [list(self.lines_at(state)) for state in range(len(table.states))]
 
     def line(self, part: Part, row: Row) -> str:
         """What a row does, for a part of the inputs."""
@@ -154,43 +217,14 @@ class Code:
             others = [row for row in rows if row.result() != result]
             yield from (self.line(part, some[0]) for part in parts_of(some, others))
 
-    def count(self) -> int:
-        """How many rows there are."""
-        return sum(map(len, self.lines))
+    def size(self) -> str:
+        """How large it is, in words."""
+        return f"{len(self.table.states)} states, {sum(map(len, self.lines))} rows"
 
     def header(self) -> str:
         """The text of the header."""
-        module = self.subject.module
-        signals = [
-            f"#define {self.prefix}_{constant} UINT64_C({1 << place:#x})"
-            for place, constant in enumerate(constants_of(list(self.places)))
-        ]
-        return HEADER.format(
-            module=module.name,
-            name=self.name,
-            prefix=self.prefix,
-            states=len(self.table.states),
-            rows=self.count(),
-            digest=self.digest,
-            signals="\n".join(signals),
-            inputs=self.mask(module.inputs()),
-            outputs=self.mask(module.outputs()),
-        )
-
-    def relation_lines(self) -> Iterator[str]:
-        """The lines that look for the first relation that the inputs break."""
-        for number, relation in enumerate(self.relations, 1):
-            members = relation.members
-            form = EXCLUSION if relation.is_exclusion else IMPLICATION
-            one = self.mask(members if relation.is_exclusion else members[:1])
-            words = {
-                "one": f"UINT64_C({one:#x})",
-                "other": f"UINT64_C({self.mask(members[-1:]):#x})",
-            }
-            yield f"  {form.format(**words)} {{"
-            yield f"    *given = {number};"
-            yield f"    return {self.prefix}_BROKEN;"
-            yield "  }"
+        sizes = f"#define {self.prefix}_STATES {len(self.table.states)}\n"
+        return self.header_of(self.size(), OF_TABLE, sizes, STATE)
 
     def code(self) -> str:
         """The text of the code."""
@@ -199,22 +233,20 @@ class Code:
             rows += [f"    /* {state} */", *("    " + line for line in lines)]
             starts.append(starts[-1] + len(lines))
         return CODE.format(
-            module=self.subject.module.name,
-            name=self.name,
-            prefix=self.prefix,
+            **self.words(),
             width=width_of(len(self.places)),
             places=width_of(len(self.table.states).bit_length()),
             counts=width_of(starts[-1].bit_length()),
             rows="\n".join(rows),
             first=", ".join(map(str, starts)),
-            relations="".join(line + "\n" for line in self.relation_lines()),
+            checks=self.checks(),
         )
 
     def answer(self, state: int, inputs: Sequence[str]) -> Tuple[int, int, int]:
         """What the table has for inputs: the status, what is given, and the state after."""
-        for number, relation in enumerate(self.relations, 1):
-            if not keeps(relation, inputs):
-                return BROKEN, number, state
+        broken = self.broken(inputs)
+        if broken:
+            return BROKEN, broken, state
         row = self.table.row_for(state, frozenset(inputs))
         assert row, "a closed table has a row for all that is lawful"
         if row.next is None:

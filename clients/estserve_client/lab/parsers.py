@@ -107,14 +107,17 @@ def add_graph(commands: Any, act: Any) -> None:
 
 def add_compile(commands: Any, act: Any) -> None:
     """Adds the words of `compile`."""
-    help = "write a module as a table in C, made from all its runs"
+    help = "write a module in C, as a table made from all its runs"
     parser = commands.add_parser("compile", help=help)
     add = parser.add_argument
     add("file", nargs="+", metavar="FILE", help=TEXTS)
     add("--main", metavar="MODULE", help=MAIN)
     help = "write NAME.h and NAME.c, with NAME in each name of C (default: the module's, in lower case)"
     add("-o", dest="out", metavar="NAME", help=help)
-    help = "compile the C, and compare it with all runs: every state and every set of inputs"
+    help = "write the module's cells and a loop over them, where its table is too large"
+    add("--cells", action="store_true", help=help)
+    help = "compile the C, and compare it with all runs: every state and every set of inputs; with"
+    help += " --cells, compare it with estserve on random walks"
     add("--check", action="store_true", help=help)
     help = "refuse more pairs of a state and a set of inputs than these (default: 4,000,000)"
     add("--pairs", type=int, default=PAIRS, metavar="N", help=help)
