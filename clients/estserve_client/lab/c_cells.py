@@ -80,7 +80,8 @@ static void start(struct {name} *machine, uint64_t inputs) {{
     decide(machine, lives[at][0], value);
   }}
   for (uint32_t net = 0; net < {prefix}_NETS; net++)
-    if (machine->value[net] == OPEN && operands[net] == 0) decide(machine, net, is_and[net] ? IS_TRUE : IS_FALSE);
+    if (machine->value[net] == OPEN && operands[net] == 0)
+      decide(machine, net, is_and[net] ? IS_TRUE : IS_FALSE);
 }}
 
 static void run(struct {name} *machine) {{
@@ -125,7 +126,8 @@ int {name}_react(struct {name} *machine, uint64_t inputs, uint64_t *given) {{
   *given = 0;
   int is_stuck = machine->decided != {prefix}_NETS;
   for (int32_t at = 0; at < {output_count}; at++) {{
-    int value = is_stuck ? value_of(machine, outputs_at[at].status) : value_of(machine, outputs_at[at].emitted);
+    int32_t literal = is_stuck ? outputs_at[at].status : outputs_at[at].emitted;
+    int value = value_of(machine, literal);
     if (value == (is_stuck ? OPEN : IS_TRUE)) *given |= UINT64_C(1) << outputs_at[at].bit;
   }}
   if (is_stuck) return {prefix}_STUCK;

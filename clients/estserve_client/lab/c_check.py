@@ -46,7 +46,7 @@ int main(void) {{
 
 
 WALKER = """\
-/* Tells what the module does with the inputs of standard input: a set a line, and a line `r` to begin anew. */
+/* Tells what the module does with the inputs of standard input: a set a line; a line `r` resets it. */
 #include <inttypes.h>
 #include <stdio.h>
 #include "{name}.h"
