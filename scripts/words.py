@@ -12,7 +12,7 @@ import re
 import sys
 
 ROOT = pathlib.Path(__file__).resolve().parent.parent
-MOST_WORDS = 47_000  # of all documents
+MOST_WORDS = 35_000  # of all documents
 SENTENCE_WORDS = 35  # of a sentence
 END = r"(?<=[.!?:])[)\"]?\s+"
 
