@@ -11,8 +11,8 @@
  * one machine at a time, that lengths are true, that malloc and free are of one allocator, this
  * header, and the C compiler.
  *
- * Stack: loading and reacting go as deep as the module's statements are nested. docs/TARGET.md has
- * what was measured.
+ * Stack: loading and reacting go as deep as the kernel's statements are nested. Measured: up to 3.7
+ * KB for each level to load, and 0.3 KB to react; docs/TARGET.md has more.
  */
 #ifndef ESTSERVE_REACT_H
 #define ESTSERVE_REACT_H
