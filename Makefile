@@ -126,7 +126,7 @@ test:
 check:
 	@python3 scripts/check.py $(CRATE)
 
-bench: build
+bench: build library
 	python3 bench/commands.py $(PROGRAM)
 	python3 bench/load_commands.py $(PROGRAM)
 	python3 bench/memory.py $(PROGRAM)
@@ -139,6 +139,7 @@ bench: build
 	python3 bench/loads.py $(BENCHES)
 	python3 bench/loads.py $(BENCHES) --search 300
 	python3 bench/policies.py $(BENCHES)
+	ESTLAB=$(LAB) python3 bench/targets.py $(LIBRARY)
 	python3 bench/socket.py $(PROGRAM) $(BENCHES)
 	python3 bench/closing.py $(PROGRAM)
 	python3 bench/waits.py $(PROGRAM)
