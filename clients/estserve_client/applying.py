@@ -16,9 +16,9 @@ from .close_words import meant
 from .command_table import KEYS, back_of
 from .connection import Client, Refusal, start
 from .gateway_words import policy_at
-from .module_text import OFFERED, main_of
+from .module_text import OFFERED, Module, main_of
 from .planning import changes_of, remade
-from .policy_file import BadPolicy, Policy, Wish, read_file
+from .policy_file import BadPolicy, KindsOf, Policy, Wish, read_file
 from .pruning import candidates, check_terminal, exact, is_agreed, names_of, prune
 from .programs import program_of
 from .sentences import Set, sentence
@@ -87,17 +87,30 @@ def apply_wishes(client: Client, wishes: List[Wish]) -> Applied:
     return applied
 
 
+def module_beside(path: Union[str, "os.PathLike[str]"], name: str) -> Module:
+    """The main module of a text that a policy file names. Raises Failed."""
+    return main_of(read_text(pathlib.Path(path).parent / name, "the module text"))
+
+
+def kinds_beside(path: Union[str, "os.PathLike[str]"]) -> KindsOf:
+    """What tells the signals of the texts that a policy file names."""
+    return lambda name: module_beside(path, name).kinds()
+
+
 def read_policy_file(path: Union[str, "os.PathLike[str]"]) -> Policy:
     """What a policy file asks for. Raises Failed where it is none, or can't be read."""
+    text = read_text(pathlib.Path(path) if str(path) != "-" else "-", "the policy")
     try:
-        return read_file(read_text(pathlib.Path(path) if str(path) != "-" else "-", "the policy"))
+        return read_file(text, kinds_beside(path))
     except BadPolicy as fault:
         raise Placed(f"{path}:{fault.line}: {fault.what}") from fault
 
 
 def apply_file(client: Client, path: Union[str, "os.PathLike[str]"]) -> Applied:
-    """Makes what a policy file asks for. Raises BadPolicy, OSError."""
-    policy = read_file(pathlib.Path(path).read_text(encoding="utf-8"))
+    """Makes what a policy file asks for. Raises BadPolicy, OSError, and Failed where it has patterns
+    over a text that can't be read.
+    """
+    policy = read_file(pathlib.Path(path).read_text(encoding="utf-8"), kinds_beside(path))
     return apply_wishes(client, policy.wishes)
 
 
@@ -105,10 +118,8 @@ def warnings_of(policy: Policy, path: str) -> Iterator[str]:
     """What is said of each permission that does nothing, or is on a signal that the slot's module
     doesn't have, or nobody can offer; and of each separation set that keeps a role from all sessions.
     """
-    folder = pathlib.Path(path).parent
     modules = {
-        slot: (name, main_of(read_text(folder / name, "the module text")))
-        for slot, (_, name) in policy.modules.items()
+        slot: (name, module_beside(path, name)) for slot, (_, name) in policy.modules.items()
     }
     access = Access(policy)
     for wish in policy.wishes:

@@ -43,7 +43,7 @@ class Outcome:
         """It as an object of JSON."""
         told = {"name": self.name, "module": self.module, "outcome": self.word.lower()}
         told.update(told=self.told)
-        return {**told, "lines": self.lines, "file": self.path, "seconds": round(self.seconds, 3)}
+        return {**told, "lines": self.lines, "file": self.path, "seconds": round(self.seconds, 6)}
 
 
 def counts_of(outcomes: List[Outcome]) -> Dict[str, int]:
@@ -107,7 +107,7 @@ def case_lines(suite: str, outcome: Outcome) -> List[str]:
     """The lines of one scenario in a file of JUnit."""
     told = {"classname": outcome.folder or suite, "name": outcome.name, "file": outcome.path}
     attributes = " ".join(f'{key}="{escaped(text)}"' for key, text in told.items())
-    attributes += f' time="{outcome.seconds:.3f}"'
+    attributes += f' time="{outcome.seconds:.6f}"'
     lines = []
     if outcome.module:
         one = f'<property name="module" value="{escaped(outcome.module)}"/>'
@@ -129,7 +129,7 @@ def write_junit(path: str, suite: str, outcomes: List[Outcome]) -> None:
     """Writes a file of JUnit's XML. Raises Failed."""
     counts, seconds = counts_of(outcomes), sum(outcome.seconds for outcome in outcomes)
     counted = f'tests="{len(outcomes)}" failures="{counts[FAILED]}" errors="{counts[ERROR]}"'
-    counted += f' time="{seconds:.3f}"'
+    counted += f' time="{seconds:.6f}"'
     cases = [line for outcome in outcomes for line in case_lines(suite, outcome)]
     head = [
         '<?xml version="1.0" encoding="UTF-8"?>',

@@ -2,12 +2,15 @@
 from __future__ import annotations
 
 import dataclasses
-from typing import Any, Dict, Iterator, List, Optional, Tuple
+import re
+from typing import Any, Callable, Dict, Iterator, List, Optional, Tuple
 
 from .close_words import meant
 from .command_table import OBJECT, OPERATIONS, SLOTS
+from .module_text import OFFERED
 from .toml_reader import BadPolicy, Table, tables_of
 
+KindsOf = Callable[[str], Dict[str, str]]  # the signals of a text, by its path, with their kinds
 TABLES = ("inherit", "assign", "permissions", "slots", "modules")
 __all__ = ["BadPolicy", "Policy", "Table", "Wish", "lists_of", "read_file", "tables_of"]
 
@@ -74,26 +77,70 @@ def asking(told: str, question: str) -> str:
     return f"{told}; {question}" if question else told
 
 
-def permissions_of(table: Optional[Table], slots: Dict[str, int]) -> Iterator[Wish]:
-    """The grants of the permissions' table."""
+def check_object(operation: str, written: str, slots: Dict[str, int], line: int) -> None:
+    """Raises BadPolicy where a permission's second word is no object."""
+    if not OBJECT.fullmatch(object_of(written, slots)):
+        told = f"{written} is no object: policy, a slot, or a signal of one, as 0.A"
+        name = written.partition(".")[0]
+        question = meant(name, [*slots, "policy"])
+        if written in OPERATIONS:
+            question = f'the operation comes first: "{written} {operation}"'
+        elif not question and not name.isdigit() and name not in slots:
+            question = f"the table slots gives {name} no number"
+        raise BadPolicy(line, asking(told, question))
+
+
+class Patterns:
+    """What patterns as `door.*` are spread over: the texts that the file gives the slots."""
+
+    def __init__(
+        self,
+        slots: Dict[str, int],
+        modules: Dict[int, Tuple[int, str]],
+        kinds_of: Optional[KindsOf],
+    ) -> None:
+        self.slots, self.modules, self.kinds_of = slots, modules, kinds_of
+
+    def objects_of(self, operation: str, written: str, line: int) -> List[str]:
+        """The objects of a permission: those that a pattern means, or the one that is written.
+        Raises BadPolicy, and what `kinds_of` raises.
+        """
+        name, _, pattern = written.partition(".")
+        slot = slot_of(name, self.slots)
+        if "*" not in pattern or slot is None:
+            check_object(operation, written, self.slots, line)
+            return [object_of(written, self.slots)]
+        if slot not in self.modules:
+            told = f"{written} is spread over the text of {name}"
+            raise BadPolicy(line, f"{told}, which the table modules doesn't name")
+        if self.kinds_of is None:
+            raise BadPolicy(line, f"{written} is spread by `apply`, where the texts are")
+        form = re.compile(".*".join(map(re.escape, pattern.split("*"))))
+        kinds = self.kinds_of(self.modules[slot][1])
+        found = [
+            f"{slot}.{signal}"
+            for signal, kind in kinds.items()
+            if form.fullmatch(signal) and (operation != "offer" or kind in OFFERED)
+        ]
+        if not found:
+            told = f"{self.modules[slot][1]} has no signal that {written} fits"
+            raise BadPolicy(line, told + (" and that can be offered" * (operation == "offer")))
+        return found
+
+
+def permissions_of(table: Optional[Table], patterns: Patterns) -> Iterator[Wish]:
+    """The grants of the permissions' table. Raises BadPolicy."""
+    spread = set()  # what patterns stand for, which is granted once
     for role, written, line in lists_of(table):
         words = written.split()
         if len(words) != 2:
             told = f'"{written}" is no permission: an operation and an object, as "offer 0.A"'
             raise BadPolicy(line, told)
-        object = object_of(words[1], slots)
-        if not OBJECT.fullmatch(object):
-            told = f"{words[1]} is no object: policy, a slot, or a signal of one, as 0.A"
-            name = words[1].partition(".")[0]
-            question = meant(name, [*slots, "policy"])
-            if words[1] in OPERATIONS:
-                question = f'the operation comes first: "{words[1]} {words[0]}"'
-            elif "*" in words[1]:
-                question = "a file names each signal; the page spreads patterns"
-            elif not question and not name.isdigit() and name not in slots:
-                question = f"the table slots gives {name} no number"
-            raise BadPolicy(line, asking(told, question))
-        yield Wish(line, {"cmd": "grant", "role": role, "op": words[0], "object": object})
+        operation, named = words
+        for object in patterns.objects_of(operation, named, line):
+            if "*" not in named or (role, operation, object) not in spread:
+                yield Wish(line, {"cmd": "grant", "role": role, "op": operation, "object": object})
+            spread.add((role, operation, object))
 
 
 def modules_of(table: Optional[Table], slots: Dict[str, int]) -> Dict[int, Tuple[int, str]]:
@@ -136,8 +183,10 @@ def check_names(tables: Dict[str, Table]) -> None:
             raise BadPolicy(line, asking(told, meant(key, ("users", "roles"))))
 
 
-def read_file(text: str) -> Policy:
-    """What a policy file asks for. Raises BadPolicy."""
+def read_file(text: str, kinds_of: Optional[KindsOf] = None) -> Policy:
+    """What a policy file asks for. Patterns are spread over the signals that `kinds_of` tells of a
+    slot's text. Raises BadPolicy, and what `kinds_of` raises.
+    """
     tables = tables_of(text)
     check_names(tables)
     slots = slots_of(tables.get("slots"))
@@ -154,8 +203,10 @@ def read_file(text: str) -> Policy:
     wishes += [separation_of(name[len("separate.") :], tables[name]) for name in sets]
     for user, role, line in lists_of(tables.get("assign")):
         wishes.append(Wish(line, {"cmd": "assign", "user": user, "role": role}))
-    wishes += permissions_of(tables.get("permissions"), slots)
-    return Policy(wishes, modules_of(tables.get("modules"), slots))
+    modules = modules_of(tables.get("modules"), slots)
+    patterns = Patterns(slots, modules, kinds_of)
+    wishes += permissions_of(tables.get("permissions"), patterns)
+    return Policy(wishes, modules)
 
 
 def read_policy(text: str) -> List[Wish]:

@@ -3,6 +3,7 @@ from __future__ import annotations
 
 import contextlib
 import functools
+import itertools
 import re
 import signal
 import threading
@@ -15,7 +16,7 @@ from .texts import Failed, Placed
 TYPE_CHECKING = False
 if TYPE_CHECKING:
     import types
-    from typing import Any, Callable, Dict, Iterator, List, Optional, Set, Tuple
+    from typing import Any, Callable, Dict, Iterator, List, Optional, Sequence, Set, Tuple
 
     from .connection import Answer, Client
     from .inputs import Inputs
@@ -44,10 +45,25 @@ class Scenario:
         """Has the inputs read."""
         len(self.inputs)
 
-    def column_of(self, line: int, name: str) -> int:
-        """The column of a name in a line of the list, in bytes from 1."""
+    def place_of(self, number: int, names: Sequence[str]) -> str:
+        """Where an instant stands in the list: the first of these names that it offers, or else its
+        line.
+        """
+        *before, offers = itertools.islice(self.inputs, number)
+        on_line = sum(one.line == offers.line for one in before)
+        pieces = self.listed.split("\n")[offers.line - 1].split(";")
+        begin = sum(len(piece) + 1 for piece in pieces[:on_line])
+        found = next((name for name in names if name in offers.names), "")
+        column = self.column_of(offers.line, found, begin) if found else 1
+        return f"{self.path}:{offers.line}:{column}"
+
+    def column_of(self, line: int, name: str, begin: int = 0) -> int:
+        """The column of a name in a line of the list, in bytes from 1; what stands before `begin`
+        is passed over.
+        """
         written = self.listed.split("\n")[line - 1]
-        found = re.search(rf"(?<![^\s;]){re.escape(name)}(?![^\s;%])", written)
+        name_alone = re.compile(rf"(?<![^\s;]){re.escape(name)}(?![^\s;%])")
+        found = name_alone.search(written, begin)
         before = written[: found.start()] if found else ""
         return len(before.encode(errors="replace")) + 1
 
@@ -61,9 +77,19 @@ class Refused(Failed):
     may follow.
     """
 
-    def __init__(self, number: int, fault: str, told: str, more: List[str]) -> None:
-        self.told, self.fault, self.more = f"instant {number}: {told}", fault, more
+    def __init__(self, number: int, fault: str, sentence: str, more: List[str]) -> None:
+        self.number, self.fault, self.sentence, self.more = number, fault, sentence, more
+        self.told = f"instant {number}: {sentence}"
         super().__init__("\n".join([self.told, *more]))
+
+
+class RefusedInputs(Refused, Placed):
+    """An instant was refused for its inputs, which stand at a place of the list."""
+
+    def __init__(self, refused: Refused, place: str) -> None:
+        super().__init__(refused.number, refused.fault, refused.sentence, refused.more)
+        self.args = (f"{place}: {self.told}",)
+        self.more = [f"{place}: {self.sentence}"]
 
 
 def refused(refusal: Refusal, number: int, scenario: Scenario) -> Refused:
@@ -72,6 +98,11 @@ def refused(refusal: Refusal, number: int, scenario: Scenario) -> Refused:
     from .stuck_chains import chain_lines
 
     module = scenario.module
+    if refusal.fault in ("Excluded", "Implied"):
+        found = Refused(number, refusal.fault, sentence(refusal, module.relations), [])
+        offered = refusal.command.get("signal")
+        names = [offered] if offered else re.findall(r"\w+", found.sentence)
+        return RefusedInputs(found, scenario.place_of(number, names))
     undecided = refusal.fields.get("undecided", ())
     more = chain_lines(scenario.library, module.name, undecided) if undecided else []
     return Refused(number, refusal.fault, sentence(refusal, module.relations), more)

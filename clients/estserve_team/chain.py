@@ -131,11 +131,10 @@ class Block(NamedTuple):
 
 def block_text(block: Block, serial: int) -> bytes:
     """A block as the head has it: its check and its length, the tip, and a line for each row."""
-    lines = [tip_text(block.tip, serial)]
-    lines += [b"e" + row for row in block.entries]
-    lines += [b"c" + row for row in block.connections]
-    lines += [b"g" + row for row in block.givenup]
-    text = b"\n".join(lines)
+    text = tip_text(block.tip, serial)
+    for mark, rows in zip((b"\ne", b"\nc", b"\ng"), block[1:]):
+        if rows:
+            text += mark + mark.join(rows)
     return b"%s %d\n%s" % (check_of(text), len(text), text)
 
 

@@ -48,6 +48,7 @@ STARTING, SERVING, BEGINNING, ARCHIVING, STOPPING = (
     "stopping",
 )
 WATCH_SECONDS = 1.0
+FLUSH_SECONDS = 0.25  # after this time the record's file takes what the head has already
 UNUSED_SECONDS = 5.0  # after this time a shared login for which nobody has waited is logged out
 AGAIN_SECONDS = 0.05  # after this time a logout for which there was no memory is asked again
 MOST_STARTS = 5  # of servers that are lost while they are begun, or before they answer one login
@@ -96,7 +97,8 @@ class Gateway:
         self._server: Any = None
         self._connections = 0
         self._givenup: List[Asked] = []  # logouts of sessions that had ended
-        self._is_commit_due = self._is_lost = self._is_closed = self._is_held = False
+        self._is_commit_due = self._is_flush_due = False
+        self._is_lost = self._is_closed = self._is_held = False
         self._beginning: "Optional[asyncio.Future[None]]" = None
         self._listeners: List[Callable[[List[Entry]], None]] = []
         self._restart_listeners: List[Callable[[], None]] = []
@@ -126,6 +128,13 @@ class Gateway:
         """Who holds the sixteen."""
         return [session.holder() for session in self.sessions.values()]
 
+    async def settle_record(self) -> None:
+        """Has the record's file show all that was answered. Raises Refused."""
+        await self.until_serving()
+        self._flush_record()
+        if self._is_lost:
+            raise interrupted()
+
     def old_records(self) -> List[Path]:
         """The records that `archive` has kept, the oldest first."""
         return sorted(self.places.old_records.glob("[0-9]*.sqlite"))
@@ -134,6 +143,7 @@ class Gateway:
         """The request and the answer that are recorded under a person's id, if some are. Raises
         Refused, while the record is closed."""
         try:
+            self._writer.flush()
             return self._writer.answer_to(person, request_id)
         except sqlite3.Error:
             raise interrupted() from None
@@ -334,12 +344,18 @@ class Gateway:
         if self._is_lost:
             return
         if self.order.has_ready:
-            is_busy = any(session.flight for session in self.sessions.values())
-            if not is_busy and not self._is_held:
+            if not self._is_held and not self._is_busy():
                 self._commit()
                 return
             self._commit_soon()
         self.release()
+
+    def _is_busy(self) -> bool:
+        """Whether the server has something to answer."""
+        for session in self.sessions.values():
+            if session.flight:
+                return True
+        return False
 
     def _commit_soon(self) -> None:
         if not self._is_commit_due:
@@ -397,6 +413,9 @@ class Gateway:
         now, began = time.time(), time.monotonic()
         given = [GivenUp(asked.session.number, version, now) for asked in givenup]
         self._writer.append(entries, connections, given)
+        if not self._is_flush_due:
+            self._is_flush_due = True
+            asyncio.get_running_loop().call_later(FLUSH_SECONDS, self._flush_soon)
         self.counts.committed(len(entries), time.monotonic() - began, now)
         self.entries_written += len(entries)
         self.order.written(ready)
@@ -405,6 +424,18 @@ class Gateway:
             asked.done(asked)
         for listener in list(self._listeners) if entries else ():
             self._tell(listener, entries)
+
+    def _flush_soon(self) -> None:
+        self._is_flush_due = False
+        self._flush_record()
+
+    def _flush_record(self) -> None:
+        """Has the record's file take what the head has."""
+        if not self._is_lost:
+            try:
+                self._writer.flush()
+            except Exception as fault:  # whatever it is, the head has what is missing
+                self.fail(f"the record cannot be written: {fault}")
 
     def _tell(self, listener: Callable[..., None], *told: Any) -> None:
         """Calls a listener, whose fault is its own."""
@@ -630,6 +661,7 @@ class Gateway:
         if self.phase != ARCHIVING:
             raise Failed("the server has ended meanwhile")
         loop = asyncio.get_running_loop()
+        self._writer.flush()
         remove_record(self.places.next_record)
         await loop.run_in_executor(
             None, build, self.record_path, self.places.next_record, self.program, self.private

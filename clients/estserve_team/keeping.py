@@ -15,6 +15,7 @@ from .record import (
     FORMAT,
     FORMAT_OF_BEFORE,
     SCHEMA,
+    add_blocks,
     has_table,
     last_tip,
     open_reader,
@@ -84,10 +85,11 @@ def verify(arguments: argparse.Namespace) -> None:
     check_plain(path)
     with open_reader(path) as database:
         tip, blocks = known_of(state, path, database)
+        database.execute("BEGIN")  # where a gateway runs, all is read of one moment
         proven = prove(path, database, tip, blocks=blocks)
     print(told(proven))
     if proven.behind:
-        print(f"the last {proven.behind} stand in the head alone: the next start takes them over")
+        print(f"the last {proven.behind} stand in the head alone, from which the record takes them")
     print(f"the head knows entry {tip.entries}, and its hash is that of the record")
     print("so nothing was cut or changed since it was written, but by who could write both files")
 
@@ -108,12 +110,8 @@ def backup(arguments: argparse.Namespace) -> None:
             source.backup(copy)
             copy.isolation_level = None
             copy.execute("PRAGMA journal_mode=DELETE")
-            proven = prove(beside, copy, tip, blocks=blocks)
-            if proven.behind:
-                raise Failed(
-                    f"the last {proven.behind} entries stand in the head alone, since the system "
-                    "ended: start the gateway, and ask again"
-                )
+            add_blocks(copy, last_tip(copy, tip.record), blocks)
+            proven = prove(beside, copy, tip)
             copy.execute(BACKUP)
             last = last_tip(copy, tip.record)
             copy.execute(

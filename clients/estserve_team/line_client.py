@@ -67,7 +67,7 @@ class LineClient(asyncio.Protocol):
         else:
             if len(self._held) > self.line_bytes:
                 self._end_lines(None)
-        if self._has_enough() and not self._is_paused:
+        if not self._is_paused and self._has_enough():
             self._is_paused = True
             self._transport.pause_reading()
         self.pump()
@@ -110,10 +110,9 @@ class LineClient(asyncio.Protocol):
 
     def resume(self) -> None:
         """Reads on, where that was paused and few lines are left."""
-        is_few = (
-            len(self.lines) < FEW_LINES and self.waiting < self.gateway.limits.waiting_bytes // 2
-        )
-        if self._is_paused and is_few and not self.is_gone:
+        if not self._is_paused or self.is_gone:
+            return
+        if len(self.lines) < FEW_LINES and self.waiting < self.gateway.limits.waiting_bytes // 2:
             self._is_paused = False
             self._transport.resume_reading()
 
@@ -159,7 +158,7 @@ class LineClient(asyncio.Protocol):
 
     def pump(self) -> None:
         """Takes lines when it is the client's turn, as far as that is possible then."""
-        if not self.may_take():
+        if not self.lines or not self.may_take():
             self.settle()
         elif not self.has_asked:
             self.has_asked = True
@@ -168,16 +167,16 @@ class LineClient(asyncio.Protocol):
     def take_turn(self, until: float) -> bool:
         """Takes lines, one at least, until some time. Answers whether there are more that could be
         taken."""
-        while self.may_take():
+        while self.lines and self.may_take():
             self.take(self.next_line())
             if time.monotonic() >= until:
                 break
-        self.has_asked = self.may_take()
+        self.has_asked = bool(self.lines) and self.may_take()
         self.settle()
         return self.has_asked
 
     def may_take(self) -> bool:
-        """Whether there is a line that can be taken now."""
+        """Whether a line can be taken now, where there is one."""
         raise NotImplementedError
 
     def take(self, line: Optional[bytes]) -> None:

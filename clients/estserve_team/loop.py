@@ -13,6 +13,7 @@ from typing import Any, Callable, Dict, List, Mapping, Optional, Tuple
 
 RECEIVED = 65_536  # bytes that are read at once
 MOST_HELD = 65_536  # bytes that wait to be sent, before the protocol is told so
+READS, WRITES = select.EPOLLIN, select.EPOLLOUT
 READ, WRITE = selectors.EVENT_READ, selectors.EVENT_WRITE
 MOST_EVENTS = 256
 LONGEST_WAIT = 3_600.0
@@ -172,15 +173,18 @@ class Pipe(asyncio.Transport):
     def take(self, mask: int) -> None:
         """Takes what is ready. Never raises."""
         try:
-            self._take(mask)
+            if mask == READS and self._mask & READS:  # which is nearly always so
+                self._receive()
+            else:
+                self._take(mask)
         except Exception as fault:  # it is this connection's alone
             self._loop.call_exception_handler({"message": "a connection", "exception": fault})
             self._lose(fault)
 
     def _take(self, mask: int) -> None:
-        if mask & ~select.EPOLLIN and self._out:
+        if mask & ~READS and self._out:
             self._send_more()
-        if mask & ~select.EPOLLOUT and self._mask & select.EPOLLIN:
+        if mask & ~WRITES and self._mask & READS:
             self._receive()
         elif mask & (select.EPOLLHUP | select.EPOLLERR) and not self._out:
             self._lose(None)

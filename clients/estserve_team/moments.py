@@ -2,14 +2,15 @@
 happens at them."""
 from typing import Callable
 
-TAKEN, ASKED, ANSWERED, INSERTED, COMMITTED, SYNCED, RELEASED = MOMENTS = (
+TAKEN, ASKED, ANSWERED, HASHED, SYNCED, RELEASED, INSERTED, COMMITTED = MOMENTS = (
     "taken",  # its line was understood
     "asked",  # it was sent to the server
     "answered",  # the server's answer was read
-    "inserted",  # its entry is in the transaction
-    "committed",  # the transaction is on the disk
-    "synced",  # so is the head
+    "hashed",  # its entry has its hash
+    "synced",  # its entry is on the disk, in the head
     "released",  # its answer was sent
+    "inserted",  # its entry is in a transaction of the file
+    "committed",  # that transaction is in the file
 )
 
 

@@ -31,6 +31,7 @@ class Asked:
         "done",
         "context",
         "request_id",
+        "domain",
         "number",
         "time",
         "reply",
@@ -60,6 +61,7 @@ class Asked:
             context,
             request_id,
         )
+        self.domain: Optional[Domain] = None  # to which it may add an entry
         self.number = 0  # among the commands of its domain
         self.time = 0.0
         self.reply = b""
@@ -135,35 +137,33 @@ class Order:
         """Notes a request. This comes before its line is sent."""
         name = domain_of(asked.request)
         if name is not None:
-            domain = self._domains[name]
+            domain = asked.domain = self._domains[name]
             domain.sent += 1
             asked.number = domain.sent
             domain.open[asked.number] = asked
 
     def forget(self, asked: Asked) -> None:
         """Notes that a request adds nothing, though no answer to it is read."""
-        name = domain_of(asked.request)
-        if name is not None:
-            self._domains[name].open.pop(asked.number, None)
+        if asked.domain is not None:
+            asked.domain.open.pop(asked.number, None)
 
     def answered(self, asked: Asked) -> None:
         """Notes the answer of a request: `reply` and `fields` are set. Raises Inconsistent."""
-        fields = asked.fields
-        name = domain_of(asked.request)
+        fields, domain = asked.fields, asked.domain
         if "code" in fields or not asked.request.adds_entry:
-            self._mark(asked, name)
-        elif name is None:
+            self._mark(asked)
+        elif domain is None:
             raise Inconsistent("a slot that there isn't has an entry")
         else:
             asked.version = fields["version"]
-            asked.place = asked.version if name == POLICY else fields["place"]
-            self._hold(asked, self._domains[name])
+            asked.place = asked.version if domain is self._policy else fields["place"]
+            self._hold(asked, domain)
             self._collect(asked)
 
-    def _mark(self, asked: Asked, name: Optional[int]) -> None:
+    def _mark(self, asked: Asked) -> None:
         """Notes what an answer without an entry may have seen."""
-        if name is not None:
-            del self._domains[name].open[asked.number]
+        if asked.domain is not None:
+            del asked.domain.open[asked.number]
         version = asked.fields.get("version")
         if version is None:
             asked.policy_mark = self._policy.sent
@@ -188,26 +188,25 @@ class Order:
         waiting: List[Optional[Asked]] = [asked]
         while waiting:
             found = waiting.pop()
-            if found is not None and not found.is_ready and self._is_next(found):
-                domain = self._domain_of(found)
-                found.is_ready = True
-                domain.ready = found.place
-                del domain.held[found.place]
-                self._ready.append(found)
-                waiting += [found.after, domain.held.get(domain.ready + 1)]
-                if domain is self._policy:
-                    waiting += [slot.held.get(slot.ready + 1) for slot in self._slots if slot.held]
-
-    def _domain_of(self, asked: Asked) -> Domain:
-        slot = asked.request.slot
-        return self._policy if slot is None else self._domains[slot]
+            domain = found.domain if found is not None else None
+            if found is None or domain is None or found.is_ready or not self._is_next(found):
+                continue
+            found.is_ready = True
+            domain.ready = found.place
+            del domain.held[found.place]
+            self._ready.append(found)
+            waiting.append(found.after)
+            if domain.held:
+                waiting.append(domain.held.get(domain.ready + 1))
+            if domain is self._policy:
+                waiting += [slot.held.get(slot.ready + 1) for slot in self._slots if slot.held]
 
     def _is_next(self, asked: Asked) -> bool:
         """Whether all that an entry comes after is ready."""
-        domain = self._domain_of(asked)
-        if asked.place != domain.ready + 1 or (
-            asked.before is not None and not asked.before.is_ready
-        ):
+        domain, before = asked.domain, asked.before
+        if domain is None or asked.place != domain.ready + 1:
+            return False
+        if before is not None and not before.is_ready:
             return False
         return domain is self._policy or asked.version <= self._policy.ready
 
@@ -228,8 +227,8 @@ class Order:
     def written(self, entries: List[Asked]) -> None:
         """Notes that these, which `take_ready` gave, are on the disk."""
         for asked in entries:
-            name = asked.request.slot
-            domain = self._domains[POLICY if name is None else name]
+            domain = asked.domain
+            assert domain is not None  # else it has no entry
             domain.written = asked.place
             del domain.open[asked.number]
             asked.is_written = True

@@ -87,6 +87,7 @@ async def retract(context: Context, keys: Dict[str, Any]) -> Dict[str, Any]:
     slot, name, gateway = keys["slot"], keys["signal"], context.gateway
     if not 0 <= slot < SLOTS:
         raise not_a_word("slots are 0 to 15")
+    await need_retract(context, slot, name)
     if slot in gateway.slot_gate.closed:
         raise failed("another offer is just being taken back there; ask again")
     gateway.slot_gate.closed.add(slot)
@@ -96,7 +97,7 @@ async def retract(context: Context, keys: Dict[str, Any]) -> Dict[str, Any]:
         others = [other for other in pending if other != name]
         if name not in pending:
             raise failed(f"{name} is not pending in slot {slot}")
-        await need_offers(context, slot, others)
+        await need_offers(context, slot, name, others)
         return await carry_out(context, slot, others)
     except asyncio.TimeoutError:
         raise failed("others use the slot too much; ask again") from None
@@ -110,14 +111,26 @@ async def settled(gateway: Any, slot: int) -> None:
         await asyncio.sleep(0.001)
 
 
-async def need_offers(context: Context, slot: int, others: List[str]) -> None:
-    """Raises Refused, where the session may not discard, or not make the others again."""
-    rights = Rights(context.session)
+async def need_retract(context: Context, slot: int, name: str) -> Rights:
+    """What the session may, where it may discard, and see whether this is pending. Raises
+    Refused."""
+    rights, object = Rights(context.session), f"{slot}.{name}"
     if not await rights.may("step", str(slot)):
         raise not_allowed(f"retract needs step on {slot}")
+    if not await rights.may_any([("offer", object), ("observe", object)]):
+        raise not_allowed(f"retract needs offer or observe on {object}")
+    return rights
+
+
+async def need_offers(context: Context, slot: int, name: str, others: List[str]) -> None:
+    """Raises Refused, where the session may not discard, or not make the others again. One that
+    it may not see is not named."""
+    rights = await need_retract(context, slot, name)
     for other in others:
         if not await rights.may("offer", f"{slot}.{other}"):
-            raise not_allowed(f"retract needs offer on {slot}.{other}")
+            is_seen = await rights.may("observe", f"{slot}.{other}")
+            which = f"{slot}.{other}" if is_seen else "each of the others"
+            raise not_allowed(f"retract needs offer on {which}")
 
 
 async def carry_out(context: Context, slot: int, others: List[str]) -> Dict[str, Any]:

@@ -3,6 +3,9 @@
 An entry is written after all that it may have seen: policy entry v after v - 1, a slot's entry
 of place p after p - 1 and after the policy entry whose version it bears. So what stands in the
 file is what some run of the program alone has made. Each entry bears a hash, by `chain`.
+
+Where a head follows the record, new rows are on the disk there first; the file takes many of them
+in one transaction, by `flush`.
 """
 import contextlib
 import heapq
@@ -12,7 +15,7 @@ import pathlib
 import secrets
 import sqlite3
 import time
-from typing import Any, Dict, Iterable, Iterator, List, NamedTuple, Optional, Tuple
+from typing import Any, Dict, Iterable, Iterator, List, NamedTuple, Optional, Sequence, Tuple
 
 from . import moments
 from .chain import Block, Head, Tip, hash_of, hash_of_text, new_tip, row_of, sync_folder, text_of
@@ -125,6 +128,17 @@ def place_of(text: str) -> Aside:
     return Aside(slot, place)
 
 
+Rows = List[Tuple[Any, ...]]
+
+
+class NewRows(NamedTuple):
+    """Rows that a record is to get in one transaction."""
+
+    entries: Rows
+    connections: List[Connection]
+    givenup: Rows
+
+
 INSERT_ENTRY = f"INSERT INTO entries VALUES ({','.join('?' * len(Entry._fields))},?)"
 INSERT_CONNECTION = "INSERT INTO connections VALUES (?,?,?,?,?)"
 INSERT_GIVENUP = "INSERT INTO givenup VALUES (?,?,?,?,?,NULL)"
@@ -210,6 +224,7 @@ class RecordWriter:
         except sqlite3.Error as fault:
             raise Failed(f"the record {path} cannot be opened: {fault}") from fault
         self._log: List[int] = []  # a descriptor of SQLite's log, once there is one
+        self._waiting = NewRows([], [], [])  # rows that the head has and the file has not
         self._is_ahead = False  # the head may have rows that the record has not on the disk
         self.program, self.digest = row
         self.follows = found.get("follows", "")
@@ -257,7 +272,7 @@ class RecordWriter:
         """Closes the file, and the head, which then has no rows that the record might miss, where
         that can be."""
         if self._is_ahead:
-            with contextlib.suppress(OSError):
+            with contextlib.suppress(OSError, sqlite3.Error):
                 self._settle(self.tip)
         self.close_record()
         if self.head is not None:
@@ -270,93 +285,71 @@ class RecordWriter:
             os.close(log)
         self._log = []
 
+    @property
+    def has_waiting(self) -> bool:
+        """Whether the head has rows that the file has not: `flush` writes them."""
+        return bool(self._waiting.entries or self._waiting.givenup)
+
     def append(
         self,
         entries: Iterable[Entry],
-        connections: Iterable[Connection] = (),
-        givenup: Iterable[GivenUp] = (),
+        connections: Sequence[Connection] = (),
+        givenup: Sequence[GivenUp] = (),
     ) -> None:
-        """Writes these in one transaction, and then into the head, with the tip after them. There
-        they are on the disk when this returns. Raises sqlite3.Error, with nothing written, or
-        OSError, where the head isn't."""
-        tip, entry_texts, rows = after_entries(self.tip, entries)
+        """Has these on the disk when this returns: in the head, with the tip after them, or, where
+        there is no place for them, in the file. Raises OSError, sqlite3.Error."""
+        tip, texts, rows = after_entries(self.tip, entries)
         given_texts: List[bytes] = []
         given: Rows = []
         if givenup:
             tip, given_texts, given = after_givenup(tip, givenup)
-        database = self._database
-        database.execute("BEGIN IMMEDIATE")
-        try:
-            database.executemany(INSERT_ENTRY, rows)
-            if connections:
-                database.executemany(INSERT_CONNECTION, connections)
-            if given:
-                database.executemany(INSERT_GIVENUP, given)
-            moments.reach(moments.INSERTED)
-            database.execute("COMMIT")
-        except BaseException:
-            if database.in_transaction:
-                database.execute("ROLLBACK")
-            raise
-        moments.reach(moments.COMMITTED)
-        self._note(Block(tip, entry_texts, [text_of(row) for row in connections], given_texts))
-
-    def _note(self, block: Block) -> None:
-        """Has what was committed on the disk. Raises OSError."""
-        self.tip = block.tip
+        moments.reach(moments.HASHED)
         if self.head is not None:
             self._is_ahead = True
-            if not self.head.add(block):
-                self._settle(block.tip)
+        block = Block(tip, texts, [text_of(row) for row in connections], given_texts)
+        is_held = self.head is not None and self.head.add(block)
+        self.tip = tip
+        self._waiting.entries.extend(rows)
+        self._waiting.connections.extend(connections)
+        self._waiting.givenup.extend(given)
+        if not is_held:
+            self._settle(tip)
         moments.reach(moments.SYNCED)
+
+    def flush(self) -> None:
+        """Writes into the file what waits, in one transaction. Raises sqlite3.Error, with nothing
+        written."""
+        if self.has_waiting:
+            with transaction(self._database) as database:
+                insert(database, self._waiting)
+                moments.reach(moments.INSERTED)
+            self._waiting = NewRows([], [], [])
+            moments.reach(moments.COMMITTED)
 
     def _settle(self, tip: Tip) -> None:
         """Has all of the record on the disk, and then the tip in the head, whose blocks count no
-        more. Raises OSError."""
+        more. Raises OSError, sqlite3.Error."""
+        self.flush()
+        if self.head is None:
+            return  # SQLite has synced it
         if not self._log:  # SQLite's, which is there as long as the record is open
             path = self.path.with_name(self.path.name + "-wal")
             self._log.append(os.open(path, os.O_RDONLY | os.O_NOFOLLOW | os.O_CLOEXEC))
             sync_folder(self.path.parent)
         os.fdatasync(self._log[0])
-        if self.head is not None:
-            self.head.write(tip)
+        self.head.write(tip)
         self._is_ahead = False
 
-    def take_over(self) -> int:
-        """Takes into the record what only the head has, since the system ended before the record
-        was on the disk. Answers how many entries. Raises Failed."""
+    def take_over(self) -> None:
+        """Takes into the record what only the head has, since the gateway or the system ended
+        before the record had it. Raises Failed."""
         assert self.head is not None
-        count = 0
         try:
-            for block in self.head.blocks_of(self.tip.record):
-                count += self._take_over(block)
+            self.tip = add_blocks(self._database, self.tip, self.head.blocks_of(self.tip.record))
             if self.head.blocks:
                 self._settle(self.tip)
         except (sqlite3.Error, OSError) as fault:
             raise Failed(f"the record {self.path} cannot be written: {fault}") from fault
-        return count
-
-    def _take_over(self, block: Block) -> int:
-        """Takes over what one block has and the record has not. Answers how many entries. Raises
-        Failed, sqlite3.Error."""
-        first = block.tip.entries - len(block.entries)
-        if self.tip.entries >= block.tip.entries and self.tip.givenup >= block.tip.givenup:
-            return 0
-        if (first, block.tip.givenup - len(block.givenup)) != (self.tip.entries, self.tip.givenup):
-            return 0  # the record was cut: that is told when it is held against the head
-        entries = [Entry._make(row_of(text)) for text in block.entries]
-        connections = [Connection._make(row_of(text)) for text in block.connections]
-        givenup = [GivenUp._make(row_of(text)) for text in block.givenup]
-        tip, _, rows = after_entries(self.tip, entries)
-        tip, _, given = after_givenup(tip, givenup)
-        if (tip.entry_hash, tip.givenup_hash) != (block.tip.entry_hash, block.tip.givenup_hash):
-            return 0
-        with transaction(self._database) as database:
-            database.executemany(INSERT_ENTRY, rows)
-            database.executemany(INSERT_CONNECTION, connections)
-            database.executemany(INSERT_GIVENUP, given)
-        self.tip = tip
-        return len(entries)
 
     @contextlib.contextmanager
     def changing_rest(self) -> Iterator[sqlite3.Connection]:
@@ -481,9 +474,6 @@ class RecordWriter:
         return aside, back
 
 
-Rows = List[Tuple[Any, ...]]
-
-
 def after_entries(tip: Tip, entries: Iterable[Entry]) -> Tuple[Tip, List[bytes], Rows]:
     """The tip after these entries, their texts, and their rows."""
     last = bytes.fromhex(tip.entry_hash)
@@ -512,6 +502,43 @@ def after_givenup(tip: Tip, givenup: Iterable[GivenUp]) -> Tuple[Tip, List[bytes
     if not rows:
         return tip, texts, rows
     return tip._replace(givenup=tip.givenup + len(rows), givenup_hash=last.hex()), texts, rows
+
+
+def insert(database: sqlite3.Connection, rows: NewRows) -> None:
+    """Puts rows into their tables. Raises sqlite3.Error."""
+    database.executemany(INSERT_ENTRY, rows.entries)
+    database.executemany(INSERT_CONNECTION, rows.connections)
+    database.executemany(INSERT_GIVENUP, rows.givenup)
+
+
+def rows_after(tip: Tip, block: Block) -> Optional[NewRows]:
+    """The rows of a block, where they are the next ones after a tip, with the hashes that the
+    block says."""
+    first = (block.tip.entries - len(block.entries), block.tip.givenup - len(block.givenup))
+    if first != (tip.entries, tip.givenup):
+        return None  # the record was cut: that is told when it is held against the head
+    entries = [Entry._make(row_of(text)) for text in block.entries]
+    connections = [Connection._make(row_of(text)) for text in block.connections]
+    after, _, rows = after_entries(tip, entries)
+    after, _, given = after_givenup(after, [GivenUp._make(row_of(one)) for one in block.givenup])
+    is_known = (after.entry_hash, after.givenup_hash) == (
+        block.tip.entry_hash,
+        block.tip.givenup_hash,
+    )
+    return NewRows(rows, connections, given) if is_known else None
+
+
+def add_blocks(database: sqlite3.Connection, tip: Tip, blocks: Iterable[Block]) -> Tip:
+    """Puts into a record with this tip what blocks of the head have and it has not. Answers the
+    tip after that. Raises sqlite3.Error."""
+    for block in blocks:
+        is_there = tip.entries >= block.tip.entries and tip.givenup >= block.tip.givenup
+        rows = None if is_there else rows_after(tip, block)
+        if rows is not None:
+            with transaction(database):
+                insert(database, rows)
+            tip = block.tip._replace(rest=tip.rest, serial=tip.serial)
+    return tip
 
 
 def remove_record(path: pathlib.Path) -> None:

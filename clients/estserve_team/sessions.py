@@ -36,7 +36,7 @@ PIECE = 4_096  # a longer send may take as many reads as it has such pieces
 WAIT_SECONDS = 120  # without an answer in this time the server is given up
 MOST_UNDER_WAY = 64  # of one shared session
 LONGEST_ID = 64
-DECODE = json.JSONDecoder().raw_decode
+DECODE: Any = json.JSONDecoder().scan_once  # type: ignore[attr-defined]  # which no stub has
 CHANGES = frozenset(("login", "activate", "drop"))  # what changes a session
 LOGOUT = cast(Request, request_of({"cmd": "logout"}))
 NOT_A_REQUEST = b'{"code":3,"fault":"NotARequest"}'
@@ -147,7 +147,7 @@ class Session(asyncio.Protocol):
         """Takes the answer to the oldest request."""
         asked = self.flight.popleft()
         text = line.decode()
-        fields, end = DECODE(text)
+        fields, end = DECODE(text, 0)
         cmd = asked.request.cmd
         is_done = fields.get("ok") == cmd
         if end != len(text) or is_done == ("code" in fields) or is_done != ("ok" in fields):

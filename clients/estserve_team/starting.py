@@ -194,6 +194,7 @@ def replay_and_log_out(writer: RecordWriter, server: Server) -> Tuple[int, int]:
         try:
             if entries or givenup:
                 writer.append(entries, (), givenup)
+                writer.flush()
         except (sqlite3.Error, OSError) as fault:
             raise Failed(f"the record cannot be written: {fault}") from fault
         return replay.count, len(entries)

@@ -40,8 +40,7 @@ class TeamClient(LineClient):
         self._is_busy = False  # a login or a logout is under way
 
     def may_take(self) -> bool:
-        is_free = not self._is_busy and self._choked is None
-        return bool(self.lines) and is_free and self._has_room()
+        return not self._is_busy and self._choked is None and self._has_room()
 
     def settle(self) -> None:
         if self.session is not None and not self.session.is_over:
@@ -220,8 +219,7 @@ class WordClient(LineClient):
         self._task: "Optional[asyncio.Future[None]]" = None
 
     def may_take(self) -> bool:
-        is_free = self._task is None and self._choked is None and not self.is_parked
-        return bool(self.lines) and is_free
+        return self._task is None and self._choked is None and not self.is_parked
 
     def settle(self) -> None:
         if self.is_at_end and not self.lines and self._task is None and self._choked is None:
@@ -229,7 +227,7 @@ class WordClient(LineClient):
 
     def take_turn(self, until: float) -> bool:
         self.has_asked = False
-        if self.may_take() and self.gateway.turns.begin_word(self):
+        if self.lines and self.may_take() and self.gateway.turns.begin_word(self):
             self.take(self.next_line())
         self.settle()
         return False

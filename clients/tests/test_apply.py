@@ -189,6 +189,33 @@ class OnTheProgram(InAFolder):
         (self.folder / "door.strl").unlink()
         self.assertIn("door.strl cannot be read", self.apply()[2][0])
 
+    def test_a_pattern_is_spread_over_the_text_of_its_slot(self):
+        (self.folder / "door.strl").write_text(DOOR)
+        for pattern, granted in (
+            ("observe door.*", ["observe 3.OPEN", "observe 3.LAMP"]),
+            ("offer 3.*", ["offer 3.OPEN"]),
+            ("observe door.L*P", ["observe 3.LAMP"]),
+            ('observe door.*", "observe 3.LAMP', ["observe 3.OPEN", "observe 3.LAMP"] * 2),
+        ):
+            text = POLICY.replace('"offer door.OPEN", "step door", "load 4"', f'"{pattern}"')
+            self.path.write_text(text + '[modules]\ndoor = "door.strl"\n')
+            status, printed, told = self.apply("--dry-run")
+            found = [line.split("grant driver ")[1] for line in printed if "grant driver" in line]
+            wanted = list(dict.fromkeys(granted))
+            again = [f"{one}: there already" for one in ["observe 3.LAMP"] if len(granted) > 2]
+            self.assertEqual((status, found, told), (0, wanted + again, []), pattern)
+        for pattern, fault in (
+            ("offer door.L*", "door.strl has no signal that door.L* fits and that can be offered"),
+            ("observe door.X*", "door.strl has no signal that door.X* fits"),
+            (
+                "observe 4.*",
+                "4.* is spread over the text of 4, which the table modules doesn't name",
+            ),
+        ):
+            text = POLICY.replace('"offer door.OPEN", "step door", "load 4"', f'"{pattern}"')
+            self.path.write_text(text + '[modules]\ndoor = "door.strl"\n')
+            self.assertEqual(self.apply()[::2], (1, [f"p.toml:10: {fault}"]))
+
     def test_a_permission_that_does_nothing_is_warned_of(self):
         wanted = '["step 0.A", "offer policy", "audit 0", "step 0", "audit policy", "observe 0.A"]'
         self.path.write_text(f'roles = ["r"]\n[permissions]\nr = {wanted}\n')

@@ -27,12 +27,14 @@ from estserve_client.applying import ALONE
 
 # what is told besides of the runs that end at an instant which is refused
 REFUSED = {
-    "paradox": f"""instant 2: Stuck: the instant has no constructive reaction; undecided: O
+    "paradox": f"""estserve.py: instant 2: Stuck: the instant has no constructive reaction; undecided: O
 possibly in a circle, each waiting for the next, and the last for the first:
   {EXAMPLES}/paradox/paradox.strl:6:16: emit O
   {EXAMPLES}/paradox/paradox.strl:6:1: present O""",
-    "no_second": "instant 2: Implied: relation 1 (MINUTE => SECOND) asks for SECOND too",
-    "both": "instant 2: Excluded: relation 1 (A # R) excludes R, since A is pending",
+    "no_second": f"{EXAMPLES}/crossing/no_second.inputs:3:1: instant 2: Implied: "
+    "relation 1 (MINUTE => SECOND) asks for SECOND too",
+    "both": f"{EXAMPLES}/team/both.inputs:3:3: instant 2: Excluded: "
+    "relation 1 (A # R) excludes R, since A is pending",
 }
 
 
@@ -46,7 +48,7 @@ class Controllers(unittest.TestCase):
         words = run_words(path.parent.name, path.stem, *more)
         ran = play_dialogue(path.with_suffix(".dialogue"), words)
         told = REFUSED.get(path.stem)
-        self.assertEqual((ran.status, ran.told), (1, f"estserve.py: {told}\n") if told else (0, ""))
+        self.assertEqual((ran.status, ran.told), (1, f"{told}\n") if told else (0, ""))
         return ran.printed
 
     def test_tables(self):

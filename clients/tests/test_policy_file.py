@@ -105,7 +105,12 @@ class Toml(unittest.TestCase):
             "user = []": "; did you mean `users`?",
             '[slots]\ndoor = 3\n[permissions]\na = ["step dor"]': "; did you mean `door`?",
             '[permissions]\na = ["step door"]': "; the table slots gives door no number",
-            '[permissions]\na = ["observe 3.*"]': "; a file names each signal; the page spreads patterns",
+            '[permissions]\na = ["observe 3.*"]': "3.* is spread over the text of 3, which the table"
+            " modules doesn't name",
+            '[permissions]\na = ["observe 3.*"]\n[modules]\n3 = "a"': "3.* is spread by `apply`, where"
+            " the texts are",
+            '[permissions]\na = ["observe *.A"]': "; the table slots gives * no number",
+            '[permissions]\na = ["step 3*"]': "; the table slots gives 3* no number",
             "[separate.s]\ncount = 02": "a whole number doesn't begin with 0",
             'users = ["a"\nroles = []': "; this one begins on line 1",
         }

@@ -64,7 +64,9 @@ class Folders(InAFolder):
         failure, told = wrong.find("failure"), "the first difference is at instant 2"
         self.assertEqual((failure.get("message"), failure.text.split("\n")[0]), (told, told))
         self.assertIn("-      2  A       <O>\n+      2  A", failure.text)
-        self.assertGreaterEqual(float(suite.get("time")), float(both.get("time")))
+        times = [float(one.get("time")) for one in (both, wrong)]
+        self.assertGreater(min(times), 0)  # which take less than a millisecond
+        self.assertAlmostEqual(float(suite.get("time")), sum(times), 5)
 
     def test_lines_of_tap(self):
         lines = run_client(["test", self.folder, "--tap"]).printed.splitlines()

@@ -176,6 +176,27 @@ class Runs(InAFolder):
             ran.told, "standard input:2:1: M has no input STRAT; did you mean `START`?\n"
         )
 
+    def test_inputs_that_a_relation_refuses_are_told_at_their_place(self):
+        text = self.file(
+            "m.strl", "module M: input A, B, C; relation A => B, B # C; halt end module"
+        )
+        excluded = "Excluded: relation 2 (B # C) excludes C, since B is pending"
+        implied = "Implied: relation 1 (A => B) asks for B too"
+        for listed, place, number, told in (
+            ("% first\nB; C; C B; C\n", "2:9", 3, "Excluded: relation 2 (B # C) excludes B"),
+            ("B\n\n B  C % both\n", "3:5", 3, excluded),
+            ("A B\nB;C;A;\n", "2:5", 4, implied),
+        ):
+            inputs = self.file("inputs", listed)
+            ran = run_client(["run", text, "--inputs", inputs])
+            self.assertEqual(ran.status, 1)
+            self.assertIn(f"{inputs}:{place}: instant {number}: {told}", ran.told)
+        self.file("m.inputs", "A\n")
+        self.file("m.expected", "instant  inputs  outputs\n      1  A\n")
+        ran = run_client(["test", self.folder])
+        self.assertIn(f"{self.folder}/m.inputs:1:1: {implied}\n", ran.printed)
+        self.assertIn(f"+instant 1: {implied}\n", ran.printed)
+
     def test_blank_lines_within_are_instants(self):
         ran = run_client(["run", ABRO, "--inputs", self.file("inputs", "\nA\n\nB\n\n\n")])
         self.assertEqual(

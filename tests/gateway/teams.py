@@ -23,6 +23,7 @@ sys.path[:0] = [str(ROOT / "clients"), str(ROOT / "tests" / "socket")]
 sys.dont_write_bytecode = True
 import running as programs  # noqa: E402
 from estserve_client.connection import Client, connect  # noqa: E402
+from estserve_team.chain import Head, row_of  # noqa: E402
 from estserve_team.record import COLUMNS, Entry, open_reader  # noqa: E402
 from estserve_team.replay import Talker  # noqa: E402
 from estserve_team.server import Server  # noqa: E402
@@ -198,15 +199,27 @@ class Team:
         return WordTalker(self.state / "gateway.sock")
 
     def entries(self) -> List[Entry]:
-        """All entries of the record, in the order of their recording."""
+        """All entries of the record, in the order of their recording, with those that only the head
+        has yet."""
+        later = head_entries(self.state)  # before the record, which may take them meanwhile
         with open_reader(self.record) as database:
             rows = database.execute(f"SELECT {COLUMNS} FROM entries ORDER BY number")
-            return list(map(Entry._make, rows))
+            found = list(map(Entry._make, rows))
+            last = database.execute("SELECT max(number) FROM aside").fetchone()[0] or 0
+        last = max([last, *(entry.number for entry in found[-1:])])
+        return found + [entry for entry in later if entry.number > last]
 
     def rows(self, sql: str) -> List[Any]:
-        """The rows of a query on the record."""
+        """The rows of a query on the record, once it has all that the head has."""
+        if self.process is not None and self.process.poll() is None:
+            wait_for(lambda: len(self.entries()) == self._count())
         with open_reader(self.record) as database:
             return database.execute(sql).fetchall()
+
+    def _count(self) -> int:
+        """How many entries the record has by itself."""
+        with open_reader(self.record) as database:
+            return int(database.execute("SELECT count(*) FROM entries").fetchone()[0])
 
     def server(self) -> int:
         """The id of the server's process, once one runs, also where it is just being begun anew."""
@@ -220,6 +233,16 @@ class Team:
                 None,
             )
         )
+
+
+def head_entries(state: pathlib.Path) -> List[Entry]:
+    """The entries that the head of a folder has, some of which the record may have too."""
+    path = state / "private" / "head"
+    if not path.exists():
+        return []
+    head = Head(path)
+    head.close()
+    return [Entry._make(row_of(text)) for block in head.blocks for text in block.entries]
 
 
 def children_of(process: int) -> List[int]:

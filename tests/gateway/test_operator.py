@@ -219,6 +219,26 @@ class Retracted(unittest.TestCase):
             with Team(state=team.state) as again:
                 self.assertEqual(again.end(), 0)
 
+    def test_who_may_not_see_what_is_pending_is_not_told_by_it(self):
+        with self.offered() as (team, client, words):
+            client.addrole("one")
+            client.assign("root", "one")
+            words.word("login", user="root", roles=["one"])
+
+            def told(name):
+                answer = words.word("retract", slot=0, signal=name)
+                return answer["code"], answer["why"]
+
+            needs = "retract needs step on 0"
+            self.assertEqual([told("A"), told("X")], [(1011, needs)] * 2)
+            client.grant("one", "step", "0")
+            needs = "retract needs offer or observe on 0."
+            self.assertEqual([told("A"), told("X")], [(1011, needs + "A"), (1011, needs + "X")])
+            client.grant("one", "offer", "0.A")
+            self.assertEqual(told("A"), (1011, "retract needs offer on each of the others"))
+            client.grant("one", "observe", "0.B")
+            self.assertEqual(told("A"), (1011, "retract needs offer on 0.B"))
+
     def test_nothing_of_others_comes_between(self):
         with self.offered() as (team, client, words):
             is_over = threading.Event()

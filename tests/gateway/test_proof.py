@@ -252,16 +252,19 @@ class Changed(Record):
 
     def grown(self, number=signal.SIGKILL):
         """The files of the record as they were before the last entries, and how many entries there
-        are. The gateway ends by this signal."""
+        are, `self.missing` of them later ones. The gateway ends by this signal."""
         with Team(state=self.state) as team:
             with team.root() as client:
                 client.addrole("one")
+                kept = len(team.entries())
+                teams.wait_for(lambda: len(entries_at(self.record)) == kept)
                 files = [self.record, self.record.with_name("record.sqlite-wal")]
                 before = {path: path.read_bytes() for path in files}
                 client.addrole("two")
                 client.addrole("three")
-                count = len(team.entries())
-            team.end(number)
+                team.end(number)
+            count = len(team.entries())
+        self.missing = count - kept
         return before, count
 
     def put_back(self, before):
@@ -273,11 +276,13 @@ class Changed(Record):
     def test_what_the_system_had_not_on_the_disk_is_taken_over(self):
         before, count = self.grown()
         self.put_back(before)
-        self.assertEqual(len(entries_at(self.record)), count - 2)
+        self.assertEqual((len(entries_at(self.record)), self.missing), (count - 2, 2))
         self.assertIn("the last 2 stand in the head alone", word(self.state, "verify")[1])
-        status, _, told = word(self.state, "backup", str(self.state.parent / "b.sqlite"))
-        self.assertEqual(status, 1)
-        self.assertIn("the last 2 entries stand in the head alone", told)
+        target = self.state.parent / "b.sqlite"
+        status, told, fault = word(self.state, "backup", str(target))
+        self.assertEqual(status, 0, fault)
+        self.assertIn(f"{count} entries", told)
+        self.assertEqual(len(entries_at(target)), count)
         self.assertTrue(self.is_proven())
         self.assertEqual(len(entries_at(self.record)), count)
         with Team(state=self.state) as team, team.root() as client:
@@ -318,8 +323,8 @@ class Changed(Record):
             for _ in range(12):
                 client.load(1, "M", f"module M: output O; emit O end module % {text}")
                 client.unload(1)
-            count = len(team.entries())
             team.end(signal.SIGKILL)
+            count = len(team.entries())
         self.assertTrue(self.is_proven())
         self.assertEqual(len(entries_at(self.record)), count)
 

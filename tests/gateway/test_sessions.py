@@ -158,6 +158,7 @@ class InProcess(unittest.TestCase):
         asyncio.run(whole())
 
     def entries_of(self, gateway):
+        gateway._flush_record()
         with teams.open_reader(gateway.record_path) as database:
             return [
                 teams.Entry._make(row)
@@ -407,6 +408,7 @@ class Shared(InProcess):
                 )
                 await asyncio.sleep(numbers.uniform(0, 0.01))
                 if at % 10 == 5:
+                    await gateway.until_serving()  # else there is no process to be killed
                     os.kill(gateway._server.process, signal.SIGKILL)
             answers = await asyncio.gather(*asked)
             entries = [entry for entry in self.entries_of(gateway) if entry.command == "grant"]

@@ -118,6 +118,7 @@ async def tell_log(context: Context, keys: Dict[str, Any]) -> Dict[str, Any]:
     `before` asks for those under a number of the log; `older` tells whether there may be more."""
     wanted, count = wanted_of(keys)
     gateway, loop = context.gateway, asyncio.get_running_loop()
+    await gateway.settle_record()
     records, written = (list(gateway.old_records()), gateway.record_path), gateway.entries_written
     oversees = await Rights(context.session).oversees()
     if not oversees:

@@ -57,7 +57,7 @@ class PageClient(LineClient):
         return bool(self.lines or self._tasks)
 
     def may_take(self) -> bool:
-        return bool(self.lines) and self._choked is None and len(self._tasks) < AT_ONCE
+        return self._choked is None and len(self._tasks) < AT_ONCE
 
     def settle(self) -> None:
         self.resume()
