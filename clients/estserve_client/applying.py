@@ -17,7 +17,7 @@ from .command_table import KEYS, back_of
 from .connection import Client, Refusal, start
 from .gateway_words import policy_at
 from .module_text import OFFERED, Module, main_of
-from .planning import changes_of, remade
+from .planning import changes_of, needed
 from .policy_file import BadPolicy, KindsOf, Policy, Wish, read_file
 from .pruning import candidates, check_terminal, exact, is_agreed, names_of, prune
 from .programs import program_of
@@ -221,9 +221,9 @@ def to_prune(
     return candidates(policy, before) if known is None else exact(policy, known)
 
 
-def known_policy(arguments: argparse.Namespace, policy: Policy) -> Optional[Dict[str, Any]]:
-    """The whole policy as a gateway tells it, where it is needed; None where none does."""
-    if not arguments.socket or not (arguments.prune or sets_of(policy)):
+def known_policy(arguments: argparse.Namespace) -> Optional[Dict[str, Any]]:
+    """The whole policy as a gateway tells it; None where none does."""
+    if not arguments.socket:
         return None
     arguments.user = user_of(arguments)
     return policy_at(arguments.socket, arguments.user, roles_of(arguments))
@@ -276,7 +276,9 @@ def send(
     """
     path = arguments.file
     with session_of(arguments) as (client, _):
-        applied = apply_wishes(client, remade(policy.wishes, known) if known else policy.wishes)
+        wishes, there = needed(policy.wishes, known) if known else (policy.wishes, [])
+        applied = apply_wishes(client, wishes)
+        applied.there += there
         if applied.refused:
             sys.stdout.flush()
             tell_refusal(applied, path, policy)
@@ -302,7 +304,7 @@ def apply(arguments: argparse.Namespace) -> None:
     if arguments.dry_run:
         return dry_run(arguments, policy)
     before = read_policy_file(arguments.before) if arguments.before else None
-    known = known_policy(arguments, policy)
+    known = known_policy(arguments)
     taken = to_prune(policy, before, known) if arguments.prune else []
     if arguments.prune and not arguments.yes:
         tell_plan(policy, taken, known)

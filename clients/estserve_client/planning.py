@@ -31,17 +31,20 @@ def is_other_set(command: Command, known: Dict[str, Any]) -> bool:
     return sets.get(command["name"], wanted) != wanted
 
 
-def remade(wishes: List[Wish], known: Dict[str, Any]) -> List[Wish]:
-    """The wishes, and before each separation set that is there as another one that it is taken
-    away, which is taken back by making that one.
+def needed(wishes: List[Wish], known: Dict[str, Any]) -> Tuple[List[Wish], List[Wish]]:
+    """The wishes for what is not there, and those for what is. Before each separation set that is
+    there as another one stands that it is taken away, which is taken back by making that one.
     """
-    sets, found = {one["name"]: one for one in known["sets"]}, []
+    sets = {one["name"]: one for one in known["sets"]}
+    found: List[Wish] = []
+    there: List[Wish] = []
     for wish in wishes:
-        if is_other_set(wish.command, known):
+        is_other = is_other_set(wish.command, known)
+        if is_other:
             old = {key: sets[wish.command["name"]][key] for key in KEYS["dsd"]}
             found.append(Wish(wish.line, back_of(wish.command), {"cmd": "dsd", **old}))
-        found.append(wish)
-    return found
+        (there if is_there(wish.command, known) and not is_other else found).append(wish)
+    return found, there
 
 
 def changes_of(commands: List[Command], known: Dict[str, Any]) -> Tuple[List[Command], int]:

@@ -50,6 +50,11 @@ UNKNOWN = {
 WATCHED = 0.1  # seconds between two questions of `watch`
 
 
+def nothing_of(seen: Seen) -> str:
+    """What is said of instants in which nothing may be observed."""
+    return f"{instants_told(len(seen.instants))}: nothing that you may observe"
+
+
 class Shell(cmd.Cmd):
     """The dialogue over one client."""
 
@@ -394,11 +399,13 @@ class Shell(cmd.Cmd):
 
     def do_show(self, line: str) -> None:
         """show [SLOT]: shows all instants so far as a table"""
-        print("\n".join(table_lines(self.seen_of(line))))
+        seen = self.seen_of(line)
+        print("\n".join(table_lines(seen)) if seen.signals else nothing_of(seen))
 
     def do_wave(self, line: str) -> None:
         """wave [SLOT]: shows all instants so far as waves"""
-        print("\n".join(waves_for(sys.stdout, self.seen_of(line))))
+        seen = self.seen_of(line)
+        print("\n".join(waves_for(sys.stdout, seen)) if seen.signals else nothing_of(seen))
 
     def do_vcd(self, line: str) -> None:
         """vcd [SLOT] FILE: writes all instants so far into a VCD file, for a viewer of waves"""

@@ -201,7 +201,7 @@ class Gateway:
     def note_refusal(self, person: str, user: str, cmd: str, fault: str) -> None:
         """Notes that a command was refused, and to whom."""
         self.counts.refused(fault)
-        if self.accounts.may_log_refusal(person):
+        if self.accounts.may_log_refusal(person, fault):
             text = f"{cmd} of {user} is refused: {fault}"
             self.log(text, "refused", person=person, user=user, command=cmd, fault=fault)
 
@@ -594,7 +594,7 @@ class Gateway:
             await asyncio.sleep(WATCH_SECONDS)
             if self.phase == SERVING and not self._server.is_running:
                 self.fail("the server has ended")
-            now = time.time()
+            now = time.monotonic()
             if any(session.is_late(now) for session in self.sessions.values()):
                 self.fail("an answer is missing")
             for client in list(self.clients):

@@ -38,7 +38,7 @@ class Limits(NamedTuple):
     person_http: int = 192  # of them, of one person
     header_seconds: int = 10  # for the head of a request, on a new connection
     body_seconds: int = 20  # for its body
-    refusals_logged: int = 60  # an hour, of one Unix user
+    refusals_logged: int = 60  # an hour, of one Unix user by one fault
     page_seconds: int = 30  # after which a page that asks nothing stands still
 
 
@@ -130,9 +130,10 @@ class Accounts:
         """How many connections there are."""
         return sum(self._connections.values())
 
-    def may_log_refusal(self, person: str) -> bool:
-        """Whether another refusal of this person is told."""
-        return self._refusals.use(person)
+    def may_log_refusal(self, person: str, fault: str) -> bool:
+        """Whether another refusal of this person by this fault is told: those that are of no
+        account push out no others."""
+        return self._refusals.use(f"{fault} {person}")
 
     # ---- logins
 

@@ -76,6 +76,7 @@ class Session(asyncio.Protocol):
         ] = None  # whoever holds it is told that it is lost, or logged out by the gateway
         self._lines: List[bytes] = []
         self._held = b""
+        self._awaited: Tuple[Optional[Asked], float] = None, 0.0  # the oldest, and since when
         self._transport: Any = None
 
     async def connect(self, path: pathlib.Path) -> None:
@@ -177,8 +178,12 @@ class Session(asyncio.Protocol):
             self.gateway.fail("the server has ended a connection")
 
     def is_late(self, now: float) -> bool:
-        """Whether an answer is missing for too long."""
-        return bool(self.flight) and now - self.flight[0].time > WAIT_SECONDS
+        """Whether an answer is missing for too long, by a clock that nobody sets; this is asked
+        again and again."""
+        oldest = self.flight[0] if self.flight else None
+        if oldest is not self._awaited[0]:
+            self._awaited = oldest, now
+        return oldest is not None and now - self._awaited[1] > WAIT_SECONDS
 
     def end(self) -> None:
         """Closes the connection, and frees its seat."""

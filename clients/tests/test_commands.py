@@ -23,6 +23,7 @@ from support import (
 
 import estserve
 from estserve_client.applying import ALONE
+from estserve_client.module_text import main_of
 
 
 # what is told besides of the runs that end at an instant which is refused
@@ -59,6 +60,13 @@ class Controllers(unittest.TestCase):
         for path in paths:
             with self.subTest(path.stem):
                 self.assertEqual(self.check_picture(path), path.read_text())
+
+    def test_each_output_of_the_bus_comes_in_its_run(self):
+        folder = EXAMPLES / "shared_bus"
+        kinds = main_of((folder / "shared_bus.strl").read_text()).kinds()
+        came = {name for row in (folder / "shared_bus.table").read_text().split("\n")
+                for name in row.split()}  # fmt: skip
+        self.assertEqual([name for name in kinds if name not in came], [])
 
     def test_waves(self):
         for path in sorted(EXAMPLES.glob("*/*.wave")):

@@ -91,6 +91,18 @@ class Scripts(unittest.TestCase):
             ),
         )
 
+    def test_pictures_of_what_may_not_be_observed_say_so(self):
+        script = f"grant root load 3\ngrant root step 3\nload 3 {ABRO}\nstep 3\n"
+        status, lines = self.run_script(f"{script}show 3\nmodule 3 {EXAMPLES}/team/team.strl\n")
+        self.assertEqual((status, lines[3:5]), (0, ["instant 1", "instant  inputs  outputs"]))
+        with tempfile.TemporaryDirectory() as name:
+            path = pathlib.Path(name) / "m.strl"
+            path.write_text("module M: pause end module\n")
+            status, lines = self.run_script(
+                f"grant root load 4\ngrant root step 4\nload 4 {path}\n" "step 4\nshow 4\nwave 4\n"
+            )
+        self.assertEqual(lines[4:], ["1 instant: nothing that you may observe"] * 2)
+
     def test_comments_and_the_lines_of_what_is_refused(self):
         status, lines = self.run_script(
             "# a remark\n\n  % another\nstep 0 % the first\nfly\n# a line\nstep 9 # none\nA B; % both\n"

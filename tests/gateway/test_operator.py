@@ -72,11 +72,24 @@ class Seen(unittest.TestCase):
             client.addrole("one")
             self.assertEqual(team.end(), 0)
             refused = [line for line in log_of(team) if line["kind"] == "refused"]
-            self.assertEqual(len(refused), 5)
+            faults = [line["fault"] for line in refused]
+            self.assertEqual(faults, ["Permission"] * 5 + ["NotYou"])  # of each fault so many
             self.assertEqual(
                 {(one["person"], one["user"], one["command"], one["fault"]) for one in refused},
-                {(teams.ME, "root", "step", "Permission")},
+                {
+                    (teams.ME, "root", "step", "Permission"),
+                    (teams.ME, "nobody-else", "login", "NotYou"),
+                },
             )
+
+    def test_a_policy_that_is_applied_again_is_no_refusal(self):
+        command = [sys.executable, "-B", str(teams.ROOT / "clients" / "estserve.py"), "apply"]
+        with Team() as team:
+            command += [str(teams.ROOT / "examples/team/team.toml"), "--socket", str(team.path)]
+            for told in ("0 there already, 22 added\n", "22 there already, 0 added\n"):
+                done = subprocess.run(command, capture_output=True, text=True)
+                self.assertEqual((done.stdout, done.stderr), (told, ""))
+            self.assertNotIn("refused", team.told())
 
     @unittest.skipUnless(visitors.HAS_AIOHTTP, visitors.NO_AIOHTTP)
     def test_health_over_http_needs_no_login(self):

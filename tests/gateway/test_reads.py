@@ -535,6 +535,7 @@ class OverTheGateway(unittest.TestCase):
             with team.words() as words:
                 words.word("login", user="root", roles=["root"])
                 policy, (slot,) = words.word("policy"), words.word("slots")["slots"]
+                team.rows("SELECT 1")  # once the record has all
                 again = models_of(team.record)
                 whole = policy_dict(
                     again.policy, set(again.policy.users), set(again.policy.roles), is_whole=True

@@ -7,15 +7,20 @@ import pathlib
 import signal
 import sqlite3
 import tempfile
+import time
 import unittest
+import unittest.mock
 
 import teams
 from teams import Team, line_of, login_line
 from estserve_client.connection import Disconnected, Refusal
-from estserve_team.gateway import MOST_STARTS, Gateway
+from estserve_team import sessions
+from estserve_team.gateway import MOST_STARTS, WATCH_SECONDS, Gateway
+from estserve_team.lines import request_of
 from estserve_team.people import People, Person
 from estserve_team.places import Places
 from estserve_team.refusals import Refused
+from estserve_team.sessions import ask_later
 from estserve_team.unix_clients import TeamClient
 
 ROOT = Person("admin", ("root",))
@@ -232,6 +237,23 @@ class ServerLost(InProcess):
 
         self.run_with(work)
 
+    def test_what_the_head_can_not_take_is_not_answered(self):
+        def fail(*_):
+            raise OSError(28, "no space left")
+
+        async def work(gateway):
+            shared = await gateway.share(ROOT, "root", ["root"])
+            await shared.ask(GRANT)
+            with unittest.mock.patch.object(gateway._writer.head, "_put", fail):
+                with self.assertRaises(Refused) as held:
+                    await shared.ask({**GRANT, "cmd": "revoke"})
+            self.assertEqual(held.exception.code, 1004)
+            await gateway.until_serving()
+            commands = [one.command for one in self.entries_of(gateway)]
+            self.assertEqual(commands, ["login", "grant", "logout"])
+
+        self.run_with(work)
+
     def test_after_a_login_that_was_recorded_just_before_the_connection_ends(self):
         async def work(gateway):
             path, loop = gateway.state / "lines.sock", asyncio.get_running_loop()
@@ -288,6 +310,27 @@ class ServerLost(InProcess):
                 await gateway.open_session(ROOT, "root", [], session)
             self.assertEqual(held.exception.code, 1002)
             self.assertEqual(len(gateway.sessions), 16)
+
+        self.run_with(work)
+
+
+class Late(InProcess):
+    def test_a_server_that_stands_still_is_replaced_and_a_clock_that_is_set_harms_nobody(self):
+        async def work(gateway):
+            session = await gateway.open_session(ROOT, "root", ["root"])
+            server, clock = gateway._server.process, time.time
+            ServerLost.hold_server_of(gateway)
+            check = request_of({"cmd": "check", "object": "0", "op": "step"})
+            waiting = ask_later(session, check)
+            with unittest.mock.patch("time.time", lambda: clock() + 3_600):
+                await asyncio.sleep(2.5 * WATCH_SECONDS)
+            self.assertEqual((gateway.phase, gateway._server.process), ("serving", server))
+            with unittest.mock.patch.object(sessions, "WAIT_SECONDS", 1):
+                with self.assertRaises(Refused) as held:
+                    await waiting
+            self.assertEqual(held.exception.code, 1004)
+            await gateway.until_serving()
+            self.assertNotEqual(gateway._server.process, server)
 
         self.run_with(work)
 

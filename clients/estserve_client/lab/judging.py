@@ -2,6 +2,7 @@
 from __future__ import annotations
 
 import dataclasses
+import time
 from typing import TYPE_CHECKING, Any, Dict, List, Optional, Sequence, Tuple
 
 from ..connection import Refusal
@@ -44,11 +45,14 @@ class Finding:
 
 @dataclasses.dataclass(frozen=True)
 class Found:
-    """All that is found, and how many states and reactions the search for the claims found."""
+    """All that is found, and how many states and reactions the search for the claims found, and
+    how many seconds all took: claims are judged together.
+    """
 
     findings: List[Finding]
     states: int
     reactions: int
+    seconds: float = 0.0
 
     def of(self, name: str) -> List[Finding]:
         """The findings of a verdict."""
@@ -119,6 +123,7 @@ def compared(lab: Lab, question: Question, other: Subject) -> Finding:
 
 def judge(lab: Lab, question: Question) -> Found:
     """What is found of each claim. Raises Failed, Refusal."""
+    begun = time.monotonic()
     lab.load(question.module)
     findings = [compared(lab, question, other) for other in question.same]
     if question.subject is not question.module:
@@ -127,7 +132,8 @@ def judge(lab: Lab, question: Question) -> Found:
     verdicts = [(STUCK, answer.stuck)]
     verdicts += [(claim.text, one) for claim, one in zip(question.claims, answer.verdicts)]
     own = [Finding(told, one.name, one.word) for told, one in verdicts]
-    return Found(own + findings, answer.states, answer.reactions)
+    seconds = time.monotonic() - begun
+    return Found(own + findings, answer.states, answer.reactions, seconds)
 
 
 def check_inputs(subject: Subject, named: Optional[List[str]]) -> List[str]:

@@ -111,6 +111,7 @@ def report(found: Found, question: Question, where: pathlib.Path) -> List[Outcom
             lines = [*lines_of(finding, question), write_word(finding, next(paths))]
             print("\n".join(lines))
         outcomes.append(outcome_of(finding, lines, question))
+        outcomes[-1].seconds = found.seconds / len(found.findings)
     print(summary(found), flush=True)
     return outcomes
 
