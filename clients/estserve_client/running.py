@@ -2,6 +2,7 @@
 from __future__ import annotations
 
 import contextlib
+import os
 import sys
 
 from .connection import Refusal, start
@@ -130,6 +131,8 @@ def hold_run(
     seen = Seen(scenario.module.name, chosen(scenario.module, arguments.signals), [])
     refusal = play(place, scenario, seen.instants.extend, Progress(len(scenario.inputs), True))
     lines = outcome_lines(seen, refusal.told if refusal else None)
+    if not arguments.update and not os.path.exists(arguments.expect):
+        raise Failed(f"there is no {arguments.expect}: --update writes it")
     told = counted(seen, refusal, len(scenario.inputs))
     if arguments.update:
         how = update(arguments.expect, lines)

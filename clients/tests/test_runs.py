@@ -98,7 +98,7 @@ class Runs(InAFolder):
         words = run_words("abro", None, "--expect", expected)
         self.assertEqual(
             run_client(words).told,
-            f"estserve.py: the expected table {expected} cannot be read: No such file or directory\n",
+            f"estserve.py: there is no {expected}: --update writes it\n",
         )
         self.assertEqual(
             run_client([*words, "--update"]).printed, f"{expected} is written: 7 instants\n"

@@ -6,7 +6,9 @@ import os
 import pathlib
 import sys
 import tempfile
+import time
 import unittest
+import unittest.mock
 
 sys.path.insert(0, str(pathlib.Path(__file__).resolve().parents[2] / "clients"))
 from estserve_team.people import Person  # noqa: E402
@@ -26,6 +28,7 @@ from estserve_team.visiting.visits import (  # noqa: E402
 )
 from estserve_team.web.options import Bad, Options, add_options, read_options  # noqa: E402
 from estserve_team.web.refusing import refusal_of, sentence_of  # noqa: E402
+from estserve_team.web.trials import Trials  # noqa: E402
 from estserve_team.words import Context  # noqa: E402
 
 
@@ -267,6 +270,36 @@ class SeatsTest(unittest.TestCase):
             self.assertIsNone(seats.find(seat.name, "cookie"))
 
         asyncio.run(act())
+
+
+class TriedSeat:
+    """A seat of a person who tries texts."""
+
+    def __init__(self, person):
+        self.person = person
+
+    async def ask(self, request):
+        return {"person": self.person, "session": 1}
+
+
+class TrialsTest(unittest.TestCase):
+    def test_one_who_tries_much_leaves_others_their_turns(self):
+        begun = []
+
+        def try_text(program, text, main, inputs):
+            begun.append(text)
+            time.sleep(0.02)
+            return {}
+
+        async def work():
+            tried = Trials(None)
+            asked = [tried.try_out(TriedSeat("ann"), {"text": "ann"}) for _ in range(8)]
+            await asyncio.gather(*asked, tried.try_out(TriedSeat("bob"), {"text": "bob"}))
+
+        with unittest.mock.patch("estserve_team.web.trials.try_text", try_text):
+            asyncio.run(work())
+        self.assertEqual(len(begun), 9)
+        self.assertLess(begun.index("bob"), 3)
 
 
 class SentencesTest(unittest.TestCase):

@@ -116,8 +116,9 @@ async def leave(page: "PageClient", asked: Told) -> Told:
 
 
 async def here(page: "PageClient", asked: Told) -> Told:
-    """That the seat is there. Raises Denied."""
-    return {"session": page.visiting.seat_of(asked).share.number}
+    """That the seat is there, and whose it is. Raises Denied."""
+    seat = page.visiting.seat_of(asked)
+    return {"person": seat.context.person.name, "session": seat.share.number}
 
 
 async def ask(page: "PageClient", asked: Told) -> Told:

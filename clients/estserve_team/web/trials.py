@@ -2,6 +2,7 @@
 policy. Nothing of the team changes."""
 import asyncio
 import functools
+import weakref
 from typing import Any, Awaitable, Callable, Dict, Optional
 
 from estserve_client.connection import Disconnected, Refusal, TimedOut
@@ -10,7 +11,7 @@ from estserve_client.trying_out import diagnosis_of, try_text
 
 from ..refusals import failed
 
-AT_ONCE = 2  # programs that try texts
+AT_ONCE = 2  # programs that try texts, each for another person
 Told = Dict[str, Any]
 
 
@@ -35,12 +36,15 @@ class Trials:
     def __init__(self, program: Optional[str]) -> None:
         self._program = program
         self._turns = asyncio.Semaphore(AT_ONCE)
+        self._own: "weakref.WeakValueDictionary[str, asyncio.Lock]" = weakref.WeakValueDictionary()
 
     async def try_out(self, seat: Any, body: Told) -> Told:
-        """What becomes of a text on a program of its own. Raises Denied, Refused."""
-        await seat.ask("here")
+        """What becomes of a text on a program of its own. One who tries much waits for oneself
+        alone. Raises Denied, Refused."""
+        person = (await seat.ask("here"))["person"]
+        own = self._own.setdefault(person, asyncio.Lock())
         asked = [body.get(name) for name in ("text", "main", "inputs")]
-        async with self._turns:
+        async with own, self._turns:
             try:
                 return await apart(try_text, self._program, *asked)
             except (Disconnected, TimedOut) as fault:
