@@ -1,9 +1,9 @@
 #!/usr/bin/env python3
 """What the team's gateway costs: a step through it beside one without, accepted commands a second
-over four connections, what one sync costs, a hundred tabs that watch, and a start from a long
-record, and from one whose policy's journal is nearly full.
+over four connections, what one sync costs, and a bare loop that passes lines on and syncs; a hundred
+tabs that watch, and a start from a long record, and from one whose policy's journal is nearly full.
 
-usage: gateway.py PROGRAM [steps | sync | tabs | start | policy ..]
+usage: gateway.py PROGRAM [steps | sync | bare | tabs | start | policy ..]
 
 Clients are processes of their own; each steps a slot of its own. Processor time is that of the
 gateway's process, the core; the record is synced to the disk before each answer, so that the clock
@@ -15,10 +15,14 @@ sys.path[
 ] += "/../tests/gateway"  # where this file stands, a file has the name of a module that is taken
 sys.dont_write_bytecode = True
 
+import hashlib
+import json
 import multiprocessing
 import os
 import pathlib
+import select
 import selectors
+import socket
 import tempfile
 import time
 
@@ -169,6 +173,67 @@ def tell_sync():
         tell("one sync of 512 bytes, by itself", seconds / SYNCS, spent / SYNCS)
 
 
+LINE = b'{"cmd":"step","slot":0}\n'
+REPLY = b'{"instant":3,"ok":"step","place":45,"version":17}\n'
+
+
+def answer_lines(connection):
+    """A server that answers the same to each line."""
+    while connection.recv(4_096):
+        connection.send(REPLY)
+
+
+def ask_lines(connection):
+    """A client that asks one line after the other."""
+    for _ in range(STEPS):
+        connection.send(LINE)
+        connection.recv(4_096)
+
+
+def pass_on(client, server, file):
+    """Passes each line to the server. Its answer is read, its row is hashed and synced, and then it
+    is passed to the client."""
+    poll, last, count = select.epoll(), b"", 0
+    poll.register(client, select.EPOLLIN)
+    poll.register(server, select.EPOLLIN)
+    while count < STEPS:
+        ((number, _),) = poll.poll()
+        if number == client.fileno():
+            server.send(client.recv(4_096))
+            continue
+        reply = server.recv(4_096)
+        fields = json.loads(reply)
+        row = (count, fields["place"], fields["version"], time.time(), LINE, reply)
+        text = ascii(row).encode()
+        last = hashlib.sha256(last + text).digest()
+        os.pwrite(file, last + text, count % SYNCS * 512)
+        os.fdatasync(file)
+        client.send(reply)
+        count += 1
+
+
+def tell_bare():
+    """What a step costs a loop of Python that does no more than has to be: it reads no line, keeps
+    no order and knows nobody."""
+    with tempfile.TemporaryDirectory(prefix="gateway-") as folder:
+        file = os.open(pathlib.Path(folder) / "file", os.O_RDWR | os.O_CREAT)
+        os.pwrite(file, bytes(1 << 18), 0)
+        os.fsync(file)
+        (client, asking), (server, answering) = socket.socketpair(), socket.socketpair()
+        others = [
+            multiprocessing.Process(target=answer_lines, args=(answering,), daemon=True),
+            multiprocessing.Process(target=ask_lines, args=(asking,), daemon=True),
+        ]
+        for process in others:
+            process.start()
+        began, before = time.monotonic(), cpu_of(os.getpid())
+        pass_on(client, server, file)
+        seconds, spent = time.monotonic() - began, cpu_of(os.getpid()) - before
+        os.close(file)
+        others[0].terminate()
+        tell("a bare loop that passes a line on, and syncs", seconds / STEPS, spent / STEPS)
+
+
 def tell_start():
     """How long a start takes that replays a long record."""
     tell_start_of([teams.line_of(cmd="step", slot=at % 2) for at in range(500)], LONG)
@@ -201,6 +266,7 @@ def tell_start_of(lines, count):
 PARTS = {
     "steps": tell_steps,
     "sync": tell_sync,
+    "bare": tell_bare,
     "tabs": tell_tabs,
     "start": tell_start,
     "policy": tell_policy,

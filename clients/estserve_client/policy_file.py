@@ -2,7 +2,6 @@
 from __future__ import annotations
 
 import dataclasses
-import re
 from typing import Any, Callable, Dict, Iterator, List, Optional, Tuple
 
 from .close_words import meant
@@ -90,6 +89,20 @@ def check_object(operation: str, written: str, slots: Dict[str, int], line: int)
         raise BadPolicy(line, asking(told, question))
 
 
+def fits(name: str, pattern: str) -> bool:
+    """Whether a name is one that a pattern means, in which each `*` stands for any letters."""
+    first, *middle, last = pattern.split("*")
+    at, end = len(first), len(name) - len(last)
+    if at > end or not (name.startswith(first) and name.endswith(last)):
+        return False
+    for part in middle:
+        found = name.find(part, at, end)
+        if found < 0:
+            return False
+        at = found + len(part)
+    return True
+
+
 class Patterns:
     """What patterns as `door.*` are spread over: the texts that the file gives the slots."""
 
@@ -115,12 +128,11 @@ class Patterns:
             raise BadPolicy(line, f"{told}, which the table modules doesn't name")
         if self.kinds_of is None:
             raise BadPolicy(line, f"{written} is spread by `apply`, where the texts are")
-        form = re.compile(".*".join(map(re.escape, pattern.split("*"))))
         kinds = self.kinds_of(self.modules[slot][1])
         found = [
             f"{slot}.{signal}"
             for signal, kind in kinds.items()
-            if form.fullmatch(signal) and (operation != "offer" or kind in OFFERED)
+            if fits(signal, pattern) and (operation != "offer" or kind in OFFERED)
         ]
         if not found:
             told = f"{self.modules[slot][1]} has no signal that {written} fits"

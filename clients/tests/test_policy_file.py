@@ -8,7 +8,7 @@ import unittest
 
 from support import EXAMPLES, ROOT
 
-from estserve_client.policy_file import TABLES, BadPolicy, read_file
+from estserve_client.policy_file import TABLES, BadPolicy, fits, read_file
 from estserve_client.toml_reader import tables_of
 
 PAGE = ROOT / "docs" / "POLICY-FILE.md"
@@ -118,6 +118,23 @@ class Toml(unittest.TestCase):
             with self.subTest(text), self.assertRaises(BadPolicy) as raised:
                 read_file(text)
             self.assertTrue(str(raised.exception).endswith(told), str(raised.exception))
+
+    def test_names_that_a_pattern_means(self):
+        for pattern, name, is_meant in (
+            ("*", "A", True),
+            ("*", "", True),
+            ("A*", "A", True),
+            ("A*B", "AB", True),
+            ("A*A", "A", False),
+            ("*OR*", "DOOR_1", True),
+            ("*O*O*", "DOOR", True),
+            ("*O*O*O*", "DOOR", False),
+            ("D*R", "DOORS", False),
+            ("DO*OR", "DOOR", True),
+            ("DOO*OR", "DOOR", False),
+        ):
+            with self.subTest(pattern=pattern, name=name):
+                self.assertEqual(fits(name, pattern), is_meant)
 
     def test_brackets_and_comments_in_strings(self):
         tables = tables_of('users = ["a[", "#b"]  # c "\nroles = [  # x\n"r"\n,]\n')
