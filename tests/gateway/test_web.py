@@ -309,6 +309,11 @@ class OnceTest(OwnTest):
         self.assertEqual(
             sorted(path.name for path in kept.iterdir()), ["0002.sqlite", "0003.sqlite"]
         )
+        for path in list(kept.iterdir()):  # a name that was given is not given again
+            path.unlink()
+        teams.wait_for(lambda: "session" in visitor.login("root", "root"))
+        visitor.post("archive", {"seat": visitor.seat})
+        self.assertEqual([path.name for path in kept.iterdir()], ["0004.sqlite"])
 
     def test_it_is_so_after_kills_too(self):
         visitor = visitor_of(self.team, "cho", "stepper")
