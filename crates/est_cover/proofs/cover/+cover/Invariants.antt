@@ -1,0 +1,4 @@
+use Rattle.est_cover.proofs.cover.+cover.Given as goal
+
+abbrev pub decreases-cover : goal.decreases-cover
+decreases-cover g l = l.part.unasked

@@ -1,0 +1,68 @@
+//! All that something does with lawful inputs.
+ghost use Rattle.std.specs.Prelude.{◌≡◌, ◌≢◌};
+ghost use Rattle.est_kernel.specs.Bits.{bits};
+ghost use Rattle.est_cover.specs.InputSets.{HaveAllInputs, IsAsked, may_offer};
+
+use crate::asked::Asked;
+use crate::cover::{InputSets, cover};
+use crate::part::Part;
+use crate::reactive::Reactive;
+use est_kernel::mask;
+use est_relations::relations::Relations;
+use state_search::machine::{Machine, Step};
+use std::alloc::AllocError;
+
+/// What something does with the sets of inputs that somebody may offer and that keep the relations.
+#[derive(Drop)]
+pub struct Every<'a, R> {
+    pub reactive: &'a R,
+    pub relations: &'a Relations,
+    /// The signals that somebody may offer.
+    pub among: u64,
+    /// Those of which each answer has to say whether they are offered.
+    pub watched: u64,
+}
+
+impl<'a, R: Reactive> Machine for Every<'a, R> {
+    type State = R::State;
+
+    type Label = Asked<R::Answer>;
+
+    type Scratch = R::Scratch;
+
+    ghost fits = { λ s x. R.fits s.reactive.now x };
+
+    ghost is_state = { λ s x. R.is_state s.reactive.now x };
+
+    ghost does = { λ s x i next. IsAsked (R.answers s.reactive.now x)
+        (may_offer (R.signals s.reactive.now) (bits s.among)) s.relations.now (bits s.watched) i
+        next };
+
+    ghost covers = { λ s x steps.
+        HaveAllInputs (may_offer (R.signals s.reactive.now) (bits s.among)) s.relations.now steps };
+
+    ghost apart = { λ s a b. a.inputs ≢ b.inputs };
+
+    fn steps(
+        &self,
+        scratch: &mut R::Scratch,
+        state: &R::State,
+        most: usize,
+        steps: &mut Vec<Step<R::State, Asked<R::Answer>>>,
+    ) -> Result<bool, AllocError> {
+        let interface = self.reactive.interface();
+        let offerable = interface.offerable();
+        let may = mask::common(offerable, self.among);
+        let sets = InputSets {
+            relations: self.relations.as_slice(),
+            offerable,
+            may,
+            watched: mask::either(interface.emittable(), self.watched),
+        };
+        let all = Part {
+            unasked: may,
+            inputs: 0,
+        };
+        cover(self.reactive, &sets, scratch, state, most, all, steps)
+    }
+}
