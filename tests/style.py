@@ -37,7 +37,8 @@ for (const path of process.argv.slice(1)) {
 """
 SHARED = (CLIENTS / "tests" / "support.py", CLIENTS / "tests" / "dialogue.py")
 # what tests of the gateway share
-OF_GATEWAY = ("browsers", "listed_modules", "page_case", "picture", "teams", "visitors")
+OF_GATEWAY = ("browsers", "faulty", "listed_modules", "page_case", "picture", "reads_support")
+OF_GATEWAY += ("teams", "visitors")
 # what tests call of elsewhere has no types yet
 LENIENT = "--follow-imports=silent --ignore-missing-imports --no-warn-return-any".split()
 LENIENT.append("--allow-untyped-calls")

@@ -8,6 +8,8 @@ descriptors are opened until there is none, standard error is a pipe that nobody
 another connection holds the record, or the system refuses to fork. Where such a fault alone hurts
 nobody, the server is killed too.
 """
+from __future__ import annotations
+
 import ctypes
 import json
 import os
@@ -17,9 +19,10 @@ import signal
 import sqlite3
 import struct
 import sys
+from typing import Any, List, Optional, Union
 
 sys.path.insert(0, str(pathlib.Path(__file__).resolve().parents[2] / "clients"))
-import estserve  # noqa: E402
+from estserve_client import command_line  # noqa: E402
 from estserve_team import moments  # noqa: E402
 
 NOBODY = 65_534
@@ -46,33 +49,36 @@ def give_up_forking_at_will() -> None:
 class Fault:
     """One fault, from when it is armed."""
 
-    def __init__(self, name, moment, state):
+    def __init__(self, name: str, moment: str, state: pathlib.Path) -> None:
         self.state, self.make, self.moment = state, getattr(self, name), moment
         self.is_armed = self.is_made = False
-        self.held = []
+        self.held: List[Union[int, sqlite3.Connection]] = []
         self.processes = resource.getrlimit(resource.RLIMIT_NPROC)
         signal.signal(signal.SIGUSR1, self.arm)
         signal.signal(signal.SIGUSR2, self.take_away)
 
-    def arm(self, *_):
+    def arm(self, *_: Any) -> None:
         self.server = self.server_process()
         self.is_armed = True
 
-    def take_away(self, *_):
+    def take_away(self, *_: Any) -> None:
         """Takes the cause away."""
         while self.held:
             held = self.held.pop()
-            held.close() if isinstance(held, sqlite3.Connection) else os.close(held)
+            if isinstance(held, sqlite3.Connection):
+                held.close()
+            else:
+                os.close(held)
         if os.getresuid()[0] == NOBODY:
             os.setresuid(0, 0, 0)
         resource.setrlimit(resource.RLIMIT_NPROC, self.processes)
 
-    def reach(self, moment):
+    def reach(self, moment: str) -> None:
         """What happens at a moment."""
         if self.is_armed and not self.is_made and moment == self.moment:
             self.is_made = self.make() is not False
 
-    def full_disk(self):
+    def full_disk(self) -> None:
         with open(self.state.parent / FILLER, "ab", buffering=0) as filler:
             for size in (1 << 16, 1 << 12, 1):
                 try:
@@ -81,14 +87,14 @@ class Fault:
                 except OSError:
                     pass
 
-    def no_descriptors(self):
+    def no_descriptors(self) -> None:
         try:
             while True:
                 self.held.append(os.open(os.devnull, os.O_RDONLY))
         except OSError:
             self.kill_server()
 
-    def closed_stderr(self):
+    def closed_stderr(self) -> None:
         told = os.stat(2)
         reader, writer = os.pipe()
         os.close(reader)
@@ -101,7 +107,7 @@ class Fault:
                 os.dup2(writer, number)
         self.kill_server()
 
-    def locked_record(self):
+    def locked_record(self) -> Optional[bool]:
         other = sqlite3.connect(
             self.state / "private" / "record.sqlite", isolation_level=None, timeout=0
         )
@@ -111,16 +117,17 @@ class Fault:
             self.moment = moments.COMMITTED
             return False
         self.held.append(other)
+        return None
 
-    def no_forks(self):
+    def no_forks(self) -> None:
         give_up_forking_at_will()
         resource.setrlimit(resource.RLIMIT_NPROC, (0, self.processes[1]))
         self.kill_server()
 
-    def kill_server(self):
+    def kill_server(self) -> None:
         os.kill(self.server, signal.SIGKILL)
 
-    def server_process(self):
+    def server_process(self) -> int:
         told = json.loads((self.state / "private" / "children").read_text())
         for process in map(int, told["processes"]):
             if b"--socket" in pathlib.Path(f"/proc/{process}/cmdline").read_bytes():
@@ -128,11 +135,11 @@ class Fault:
         raise ValueError("there is no server")
 
 
-def main():
+def main() -> None:
     name, moment, *words = sys.argv[1:]
     state = pathlib.Path(words[words.index("--state") + 1])
     moments.reach = Fault(name, moment, state).reach
-    estserve.end(estserve.main(words))
+    command_line.end(command_line.main(words))
 
 
 if __name__ == "__main__":
