@@ -73,10 +73,6 @@ one_or_two present others ms s (Some m) none are is first second told =
     opposite false h = refl
 
 -- an implication whose condition is not offered, and one whose condition is
-pub first_absent : (present : ℕ → Bool) (a b : ℕ) → present a ≡ false → has_implied present a b ≡ true
-unfolding has_implied
-first_absent present a b h = rw h refl
-
 pub first_there : (present : ℕ → Bool) (a b : ℕ) → present a ≡ true → present b ≡ has_implied present a b
 unfolding has_implied
 first_there present a b h = rw h refl

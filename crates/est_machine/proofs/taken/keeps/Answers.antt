@@ -1,11 +1,12 @@
 use Rattle.std.proofs.Common.{◌∙◌, sym}
 use Rattle.est_kernel.specs.Bits.{bits}
-use Rattle.est_machine.proofs.OneOffered.{first_absent, first_there}
+use Rattle.est_relations.proofs.FirstBroken.{not_asked}
+use Rattle.est_machine.proofs.OneOffered.{first_there}
 use Rattle.est_machine.proofs.taken.keeps.Goals as goal
 
 pub returns-then-not-has : goal.returns-then-not-has
 returns-then-not-has c = let there = c.in-Implication in
-    rw there.is (rw c.if-not-has.true (sym (first_absent (bits c.args.inputs) there.condition.index there.implied.index
+    rw there.is (rw c.if-not-has.true (sym (not_asked (bits c.args.inputs) there.condition.index there.implied.index
     (sym c.has.ensures ∙ c.if-not-has.true))))
 
 pub returns-else-not-has : goal.returns-else-not-has
