@@ -111,6 +111,7 @@ documents:
 	python3 scripts/wrong_bodies.py
 	python3 scripts/contracts.py
 	python3 scripts/crate_list.py
+	python3 scripts/stated_twice.py
 	python3 scripts/proof_lines.py --write
 	python3 tests/documents.py
 

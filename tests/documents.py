@@ -1,7 +1,8 @@
 #!/usr/bin/env python3
 """Checks that the documents keep up with the repository.
 
-The lists of docs/generated are those that scripts/reading_list.py, wrong_bodies.py, contracts.py and crate_list.py write;
+The lists of docs/generated are those that scripts/reading_list.py, wrong_bodies.py, contracts.py, crate_list.py and
+stated_twice.py write, the last of which never gets longer;
 each wrong body says why it is wrong, and each crate what it is; README.md has at most 100 lines; each function of the
 walk in docs/ARCHITECTURE.md stands in its file; each script of
 examples/scripts has its answers and its row in examples/README.md, and the opening one is the stored run; each test
@@ -23,6 +24,7 @@ import contracts  # noqa: E402
 import crate_list  # noqa: E402
 import proof_lines  # noqa: E402
 import reading_list  # noqa: E402
+import stated_twice  # noqa: E402
 import version  # noqa: E402
 import words  # noqa: E402
 import wrong_bodies  # noqa: E402
@@ -37,7 +39,7 @@ WIDTHS = {".rt": 100, ".antt": 120}  # characters of a line, at most
 def differing_tables():
     """A line for each list of docs/generated that its script would write otherwise."""
     faults = []
-    for script in [reading_list, wrong_bodies, contracts, crate_list]:
+    for script in [reading_list, wrong_bodies, contracts, crate_list, stated_twice]:
         text = script.DOCUMENT.read_text()
         if script.written(text) != text:
             faults.append(f"{script.DOCUMENT.relative_to(ROOT)} is out of step: run scripts/{script.__name__}.py")
