@@ -13,7 +13,7 @@ import sys
 
 ROOT = pathlib.Path(__file__).resolve().parent.parent
 MOST_WORDS = 35_000  # of all documents
-SENTENCE_WORDS = 35  # of a sentence
+SENTENCE_WORDS = 25  # of a sentence
 END = r"(?<=[.!?:])[)\"]?\s+"
 
 
