@@ -6,8 +6,8 @@ gateway may have ended between the two; one that has not, or has other hashes, w
 exchanged.
 
 After its two places the head has blocks: what was recorded since the record was last synced, with
-the tip after it. So one sync puts an entry and the tip on the disk. Where the system ends before
-the record is synced too, the next start takes those rows over into it.
+the tip after it. So one sync puts an entry and the tip on the disk. Where gateway or
+system ends before the record has them too, the next start takes those rows over into it.
 """
 import ast
 import contextlib

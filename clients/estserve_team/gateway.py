@@ -3,9 +3,10 @@ asyncio loop.
 
 What comes from clients goes to the server by `Session.ask`; what comes from the server goes to
 `Order`, which says what may be written and what may go out. Entries that are ready are written
-in one transaction by `_commit`, and answers that may go out then go out in `_release`. Whatever
-goes wrong between server and record ends in `fail`: from there on nothing is answered, the server
-is ended, and begun anew from the record.
+at once by `_commit`, to the record's head, and answers that may go out then go out in `release`;
+the record's file takes entries of some time together. Whatever goes wrong between server and record
+ends in `fail`: from there on nothing is answered, the server is ended, and begun anew from the
+record.
 """
 import asyncio
 import sqlite3
