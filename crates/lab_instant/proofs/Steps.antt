@@ -27,5 +27,6 @@ pub one_owned : (i n t x : ℕ) (xs ys zs : List StatementCell) (k : CellKind) �
     → xs ≡ zs ++ own_owners i n t x → ys ≡ xs ++ cell_of i n k ∷ [] → ys ≡ zs ++ own_owners i n t (x + 1)
 one_owned i n t x xs ys zs k is so grown =
     let f = λ (y : ℕ). cell_of i n (kind_at t y) in
-    let more : own_owners i n t (x + 1) ≡ own_owners i n t x ++ f x ∷ [] = map-range_with_len_more f 0 x x (omega arith) in
+    let more : own_owners i n t (x + 1) ≡ own_owners i n t x ++ f x ∷ []
+    = map-range_with_len_more f 0 x x (omega arith) in
     rw (grown, so, is, more, append_assoc zs (own_owners i n t x) (f x ∷ [])) refl

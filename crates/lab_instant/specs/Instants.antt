@@ -30,14 +30,16 @@ pub record IsSeen (k : Kernel) (cells : List Status) (seen : Seen) : Type 0 wher
   pub locals : seen.locals.items ≡ all_locals (statement_cells k) (cell_at cells) (output_count k.interface)
 
 -- there is this reaction; in it each cell has its value, and what took part is read off the cells
-pub record IsReactionSeen (k : Kernel) (x : State) (i : Inputs) (cells : List Status) (o : Outcome) (told : Seen) : Type 0 where
+pub record IsReactionSeen (k : Kernel) (x : State) (i : Inputs) (cells : List Status) (o : Outcome) (told : Seen)
+    : Type 0 where
   pub reaction : IsReaction k x i o
   pub values : HasValues k x (bits i.signals) cells
   pub seen : IsSeen k cells told
 
 -- there is no reaction, and the set has the signals of the interface that the meaning leaves undecided; exactly those
 -- cells are open that the meaning leaves open, and by them it is told what took part so far
-pub record IsStuckSeen (k : Kernel) (x : State) (i : Inputs) (cells : List Status) (s : Undecided) (told : Seen) : Type 0 where
+pub record IsStuckSeen (k : Kernel) (x : State) (i : Inputs) (cells : List Status) (s : Undecided) (told : Seen)
+    : Type 0 where
   pub none : HasNoReaction k x i s
   pub meant : IsAsMeant k x (bits i.signals) cells
   pub seen : IsSeen k cells told

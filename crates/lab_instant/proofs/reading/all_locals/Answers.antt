@@ -18,9 +18,12 @@ loop-place-preserved c =
     more_found (λ y. local_at (slice_get c.args.owners.now y) (f (c.args.first + y)))
     c.loop-place.place c.loop-place.found.items c.push_if.new.list.items c.local.result
     (c.local.ensures ∙ (ap (λ (v : Status). local_at (Some owner) v) c.status-told.ensures
-    ∙ ap (λ (o : Option StatementCell). local_at o (f x)) (sym c.owner_at-owner.ensures))) c.in_ok-push_if.ensures c.loop-place.invariant
+    ∙ ap (λ (o : Option StatementCell). local_at o (f x)) (sym c.owner_at-owner.ensures)))
+    c.in_ok-push_if.ensures c.loop-place.invariant
 
 pub returns : goal.returns
 returns c =
     let ended : c.loop-place.place ≡ length c.args.owners.now = omega arith in
-    c.loop-place.invariant ∙ ap (found_below (λ y. local_at (slice_get c.args.owners.now y) (cell_at c.args.net.now.cells.items (c.args.first + y)))) ended
+    c.loop-place.invariant
+    ∙ ap (found_below (λ y. local_at (slice_get c.args.owners.now y)
+    (cell_at c.args.net.now.cells.items (c.args.first + y)))) ended

@@ -21,10 +21,12 @@ loop-place-preserved c =
     (c.status-go.ensures ∙ ap f c.go_place.ensures.same)
     ∙ (ap (λ (v : Status). resumed_by_kind owner.kind (f (go_place owner.kind x)) v (incarnation_of owner))
     c.status-told.ensures
-    ∙ ap (λ (o : Option StatementCell). resumed_at o f x) (sym c.owner_at-owner.ensures)))) c.in_ok-push_if.ensures c.loop-place.invariant
+    ∙ ap (λ (o : Option StatementCell). resumed_at o f x) (sym c.owner_at-owner.ensures))))
+    c.in_ok-push_if.ensures c.loop-place.invariant
 
 pub returns : goal.returns
 returns c =
     let ended : c.loop-place.place ≡ length c.args.owners.now = omega arith in
-    c.loop-place.invariant ∙ ap (found_below (λ y. resumed_at (slice_get c.args.owners.now y) (cell_at c.args.net.now.cells.items)
+    c.loop-place.invariant
+    ∙ ap (found_below (λ y. resumed_at (slice_get c.args.owners.now y) (cell_at c.args.net.now.cells.items)
     (c.args.first + y))) ended
