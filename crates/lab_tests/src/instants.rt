@@ -129,13 +129,14 @@ fn add_instant(
 /// What is seen inside two instants of a module.
 fn two_instants(rt: &impl Abort, alloc: Global, body: &str) -> String {
     let text = format!(in alloc; "module M: {body} end module").expect(rt, "room");
-    let module = read_module(alloc, "M", text.as_str()).ok();
-    let kernel = module.expect(rt, "a module").kernel;
-    let mut inside = Inside::new(alloc, &kernel).expect(rt, "room");
+    let read = read_module(alloc, "M", text.as_str()).ok();
+    let module = read.expect(rt, "a module");
+    let kernel = &module.kernel;
+    let mut inside = Inside::new(alloc, kernel).expect(rt, "room");
     let mut state = State::Fresh;
     let mut told = String::new(alloc);
-    add_instant(rt, alloc, &mut inside, &kernel, &mut state, &mut told);
-    add_instant(rt, alloc, &mut inside, &kernel, &mut state, &mut told);
+    add_instant(rt, alloc, &mut inside, kernel, &mut state, &mut told);
+    add_instant(rt, alloc, &mut inside, kernel, &mut state, &mut told);
     told
 }
 
