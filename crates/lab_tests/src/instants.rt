@@ -126,12 +126,8 @@ fn add_instant(
     add(rt, told, "]");
 }
 
-/// What is seen inside two instants of a module.
-fn two_instants(rt: &impl Abort, alloc: Global, body: &str) -> String {
-    let text = format!(in alloc; "module M: {body} end module").expect(rt, "room");
-    let read = read_module(alloc, "M", text.as_str()).ok();
-    let module = read.expect(rt, "a module");
-    let kernel = &module.kernel;
+/// What is seen inside the first two instants of a kernel.
+fn two_instants(rt: &impl Abort, alloc: Global, kernel: &Kernel) -> String {
     let mut inside = Inside::new(alloc, kernel).expect(rt, "room");
     let mut state = State::Fresh;
     let mut told = String::new(alloc);
@@ -140,11 +136,20 @@ fn two_instants(rt: &impl Abort, alloc: Global, body: &str) -> String {
     told
 }
 
+/// The same of a module. Nothing is told where it can't be read.
+fn module_told(rt: &impl Abort, alloc: Global, body: &str) -> String {
+    let text = format!(in alloc; "module M: {body} end module").expect(rt, "room");
+    match read_module(alloc, "M", text.as_str()) {
+        Ok(module) => two_instants(rt, alloc, &module.kernel),
+        Err(_) => String::new(alloc),
+    }
+}
+
 /// Each instant is seen as it is told above.
 #[test]
 fn instants_seen_from_inside(rt: HostRuntime) {
     for (body, wanted) in SEEN {
-        let told = two_instants(&rt, rt.alloc(), body);
+        let told = module_told(&rt, rt.alloc(), body);
         assert_eq!(rt; told.as_str(), wanted, "{body}");
     }
 }
