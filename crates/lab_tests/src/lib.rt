@@ -5,6 +5,8 @@
 #[cfg(test)]
 mod claims;
 #[cfg(test)]
+mod instants;
+#[cfg(test)]
 mod lines;
 #[cfg(test)]
 mod modules;

@@ -1,0 +1,4 @@
+mod GoCells
+mod Lists
+mod Meant
+mod Steps

@@ -1,0 +1,4 @@
+pub mod Adding
+pub mod Instants
+pub mod Laws
+pub mod Seen
