@@ -15,6 +15,7 @@ from estserve_client import connection
 from estserve_client.inputs import read_inputs
 from estserve_client.lab.asking import Lab, Subject, read_subject, start_lab
 from estserve_client.lab.claims import Claim, read_claims
+from estserve_client.lab.linting import matters
 from estserve_client.lab.marks import mark, parts_to_mark, reached
 from estserve_client.lab.observing import observed
 from estserve_client.lab.parts import parts_of
@@ -161,6 +162,16 @@ class Tables(unittest.TestCase):
         self.assertEqual(numbers, [0, 0, 2, 1])
         self.assertEqual(table.row_for(1, frozenset("AB")).number, 3)
         self.assertEqual([one.number for one in table.word_to(table.rows[3])], [0, 3])
+
+    def test_what_is_not_lawful_has_no_row(self):
+        table = Table(["start"], [row(0, "", "", 0)], ["A # B # C", "D => A"])
+        for names, is_lawful in [("A", True), ("AC", False), ("D", False), ("AD", True)]:
+            self.assertEqual(table.row_for(0, frozenset(names)) is not None, is_lawful, names)
+
+    def test_an_input_that_no_row_asked_for_does_not_matter(self):
+        rows = [row(0, "A C", "", 0), row(0, "A C", "A C", 0, "O")]
+        table = Table(["start"], rows, ["C => A", "A => C"])
+        self.assertEqual([matters(table, name) for name in "ABC"], [True, False, True])
 
     def test_tours_try_each_row(self):
         rows = [row(0, "A", "", 0), row(0, "A", "A", 1), row(1, "A", "", 0), row(1, "A", "A", None)]

@@ -125,6 +125,7 @@ class Lab:
 
     def __init__(self, client: Client) -> None:
         self.client = client
+        self.relations: List[str] = []  # of what is loaded
 
     def __enter__(self) -> Lab:
         return self
@@ -137,6 +138,7 @@ class Lab:
         main, text = subject.module.name, subject.library.text
         try:
             self.client.ask("load", main=main, text=text)
+            self.relations = subject.module.relations
         except Refusal as refusal:
             if refusal.code in OF_TEXTS:
                 raise load_fault(refusal, subject.library, main) from refusal
@@ -175,4 +177,4 @@ class Lab:
                 raise
             found = f"{most:,} states or reactions: --most allows more"
             raise Failed(f"there are more than {found}") from refusal
-        return Table(told["states"], told["rows"])
+        return Table(told["states"], told["rows"], self.relations)

@@ -17,11 +17,11 @@ Told = Tuple[Token, str]  # a place, and what is said of it
 
 def matters(table: Table, name: str) -> bool:
     """Whether some reaction is another one with this input than without it, or no two lawful sets
-    differ in it alone.
+    differ in it alone. A row that did not ask for it stands for both.
     """
     are_alike = []
     for row in table.rows:
-        if name in row.asked and name not in row.inputs:
+        if name not in row.inputs:
             other = table.row_for(row.before, row.inputs | {name})
             are_alike += [other.result() == row.result()] if other else []
     return not (are_alike and all(are_alike))

@@ -42,11 +42,23 @@ def row_of(number: int, told: Dict[str, Any]) -> Row:
     )
 
 
-class Table:
-    """The states, each a list of pauses or `start` or `end`, and the rows."""
+def keeps(inputs: FrozenSet[str], relation: str) -> bool:
+    """Whether inputs keep a relation, by its text: `A # B # C` or `A => B`."""
+    names = relation.split()[::2]
+    if "=>" in relation:
+        return names[0] not in inputs or names[1] in inputs
+    return len(inputs.intersection(names)) < 2
 
-    def __init__(self, states: Sequence[Any], rows: Iterable[Dict[str, Any]]) -> None:
-        self.states = list(states)
+
+class Table:
+    """The states, each a list of pauses or `start` or `end`, the rows, and the relations of the
+    inputs by their texts.
+    """
+
+    def __init__(
+        self, states: Sequence[Any], rows: Iterable[Dict[str, Any]], relations: Sequence[str] = ()
+    ) -> None:
+        self.states, self.relations = list(states), relations
         self.rows = [row_of(number, told) for number, told in enumerate(rows)]
         self.by_inputs: List[Dict[Tuple[FrozenSet[str], FrozenSet[str]], Row]]
         self.by_inputs = [{} for _ in self.states]
@@ -60,6 +72,8 @@ class Table:
 
     def row_for(self, state: int, inputs: FrozenSet[str]) -> Optional[Row]:
         """The row of a state that agrees with these inputs; None where they are not lawful."""
+        if not all(keeps(inputs, relation) for relation in self.relations):
+            return None
         for asked in self.asked[state]:
             row = self.by_inputs[state].get((asked, inputs & asked))
             if row:
