@@ -17,8 +17,7 @@ NUMBERS = re.compile(rb'"(session|version|place)":(\d+)')
 TEXT = "module M: output O, P; emit O; pause; emit P end module"
 KEYWORDS = re.compile("module|output|emit|pause|end")
 READS = 1_000_000  # of a connection
-# how many bytes a line of single bytes has, where all is tried; and where little time is taken
-SHORT, LONG = 1, 60_000
+LONG = 60_000  # bytes of a line that comes in single bytes; `program_tests` has lines of one byte
 
 
 def renumbered(answers, histories):
@@ -171,8 +170,7 @@ class BadBytes(unittest.TestCase):
             os.close(nothing)
 
     def test_a_connection_has_a_million_reads(self):
-        length = SHORT if os.environ.get("HOSTILE_WHOLE") else LONG
-        line = b"x" * length + b"\n"
+        line = b"x" * LONG + b"\n"
         data = (LOGIN + line * (READS // len(line) + 1))[: READS + 1]
         wanted = accepted("login", session=1, version=5) + NOT_JSON * (data[:READS].count(b"\n") - 1)
         with Server("--workers", "1", "--connections", "1") as server, Peer(server.path) as peer:
@@ -182,7 +180,7 @@ class BadBytes(unittest.TestCase):
             sending.join()
             self.assertTrue(answers == wanted, f"{len(answers)} bytes of answers, and not {len(wanted)}")
             self.assertEqual(server.end(), (0, report(6), b""))
-        print(f"cuts: {len(data)} bytes, one a read, in lines of {length}: {wanted.count(NOT_JSON)} answers, and the end")
+        print(f"cuts: {len(data)} bytes, one a read, in lines of {LONG}: {wanted.count(NOT_JSON)} answers, and the end")
 
 
 if __name__ == "__main__":
