@@ -109,7 +109,7 @@ class AtOneServer(unittest.TestCase):
             self.assertEqual(run("shell", "--socket", server.path, typed=typed)[1][1:], ["TEAM runs in slot 0"])
             words = ["shell", "--socket", server.path, "--user"]
             self.assertEqual(run(*words, "cho", "--role", "stepper", typed="step 0\nshow 0\n")[1][1:], [
-                "instant 1", "instant  inputs  outputs", "      1",
+                "instant 1", "1 instant: nothing that you may observe",
             ])
             self.assertEqual(run(*words, "ann", "--role", "driver", "watcher", typed="offer 0 A\n")[1], [
                 "session 4 of ann, with driver watcher; help lists the commands", "A is pending",
