@@ -25,8 +25,8 @@ CRATES = {
     "est_kernel": ("code_set", "completion", "mask", "pause_set", "statement"),
     "est_meaning": ("status",),
     "est_rounds": ("acts", "answer", "signal_set", "resume"),
-    "est_net": ("extents", "lay", "net", "pause_run", "reach", "table"),
-    "est_micro": ("begin", "cells", "decided", "direction", "extents", "idle", "learning", "next", "outputs", "resume", "run", "micro"),
+    "est_net": ("emissions", "extents", "lay", "net", "pause_run", "reach", "reading", "table"),
+    "est_micro": ("begin", "cells", "decided", "direction", "extents", "idle", "learning", "next", "outputs", "pass", "pass_on", "passes", "resume", "run", "micro"),
 }
 BY_HAND = {"est_kernel": ("interface", "kernel", "state")}  # modules of bench/port.rs
 INSTANTS = 20
@@ -66,7 +66,8 @@ def ported(crate, module):
     if (crate, module) == ("est_rounds", "resume"):  # the rest is the plain engine's
         text = f"use est_kernel::pause_set::PauseSet;\nuse est_kernel::statement::Statement;\n{function(text, 'has_live')}\n"
     if crate == "est_net":  # memory is never refused here
-        for ours, theirs in (("alloc: Global, ", ""), ("(alloc, ", "("), ("(alloc)", "()"), ("AllocError", "()")):
+        text = re.sub(r"alloc: Global,\s+", "", text)
+        for ours, theirs in (("(alloc, ", "("), ("(alloc)", "()"), ("AllocError", "()")):
             text = text.replace(ours, theirs)
         text = re.sub(r"(\.push\(.*\))\?;", r"\1;", text)
     if module == "micro":

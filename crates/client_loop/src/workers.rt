@@ -15,6 +15,7 @@ use policy_board::board::Board;
 use policy_board::history::BoardName;
 use policy_board::reader::SlotReader;
 use policy_board::seat::Seat;
+use policy_board::sharing::boards_are_shared;
 use slot_table::table::SlotTable;
 use std::alloc::{AllocError, Global};
 use std::marker::PhantomData;
@@ -23,8 +24,9 @@ use std::thread::Threads;
 use worker_threads::workers::{Back, Turn, Work, run_each};
 
 /// Lends workers a value of type T. By itself the prover doesn't find that threads may share a
-/// table of sixteen slots. So `Service` and `run_over` are generic over what lends it, with the
-/// bound `Sync`, which is proved once: where `run_workers` calls `run_over` (proofs/Sharing).
+/// board, or a table of sixteen slots. So `Service` and `run_over` are generic over what lends it,
+/// with the bound `Sync`, which is proved once: where `run_workers` calls `run_over`
+/// (`boards_are_shared` and proofs/Sharing).
 trait Lends<T> {
     /// The value.
     fn lent(&self) -> &T;
@@ -154,6 +156,7 @@ pub fn run_workers<
         gate,
         of: PhantomData,
     };
+    boards_are_shared::<B>();
     may_cross::<SlotReader<B>>();
     let back = run_over(rt, &service, seats, connections);
     let Service {

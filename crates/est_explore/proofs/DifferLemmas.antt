@@ -1,42 +1,44 @@
 -- How two modules differ, by the rows that a search of both has found.
-use Rattle.std.proofs.Common.{◌≡◌, ◌≢◌, ◌∙◌, ℕ, ◌<◌, ◌≤◌, ◌+◌, Bool, true, false, nat_eq, List, [], ◌∷◌, ◌++◌, length}
+use Rattle.std.proofs.Common.{◌≡◌, ◌≢◌, ◌∙◌, ℕ, ◌<◌, ◌≤◌, Bool, true, false, nat_eq, List, [], ◌∷◌, length}
 use Rattle.std.proofs.Common.{map, get_or}
 use Rattle.std.proofs.Common.{Option, Some, None, sym, refl, ap, subst, arith, inl, inr}
-use Rattle.std.specs.List.{All, AllPairs, Contains}
-use Rattle.std.proofs.lemmas.Bool.{cases_lt, cases_Bool, false≢true}
-use Rattle.std.proofs.lemmas.List.{get_or_default, length-map, get_or-map}
+use Rattle.std.proofs.lemmas.Bool.{cases_lt, cases_Bool}
+use Rattle.std.proofs.lemmas.List.{get_or_default, length-map}
 use Rattle.std.proofs.lemmas.List.Elements.{All-get_or, All-map}
 use Rattle.est_kernel.specs.Bits.{bits}
-use Rattle.est_kernel.specs.Term.{Term}
-use Rattle.est_kernel.specs.declared.state.State.TheVariants.{Fresh}
 use Rattle.est_relations.proofs.Members.{nat_same}
 use Rattle.est_explore.specs.Inner.Answers.{AnswersSo}
 use Rattle.est_explore.specs.Inner.Pairs.{AnswersBoth, ArePositions, agree, joined}
-use Rattle.est_explore.specs.Runs.{Module, IsLawful, Goes, Runs, start}
+use Rattle.est_explore.specs.Runs.{Module, IsLawful, Goes, Runs}
 use Rattle.est_explore.specs.Comparisons.{IsReachedByBoth, HasMorePairs, HasMorePairTrials, PairTrial}
 use Rattle.est_explore.specs.ExploredBoth.{DoesBoth, IsExploredBoth, both_fresh}
-use Rattle.est_explore.specs.Same.{SameFor, AnswersAt, shown_first, DifferBy}
+use Rattle.est_explore.specs.Same.{AnswersAt, shown_first, DifferBy}
 use Rattle.est_explore.specs.Verdicts.{outputs_of}
-use Rattle.est_explore.specs.declared.asked.Asked.{Asked}
+use Rattle.est_cover.specs.declared.asked.Asked.{Asked}
 use Rattle.est_explore.specs.declared.one_module.Answer.{Answer}
 use Rattle.est_explore.specs.declared.one_module.Answer.TheVariants.{Reaction, Stuck}
 use Rattle.est_explore.specs.declared.one_module.Position.{Position}
 use Rattle.est_explore.specs.declared.two_modules.Both.{Both}
 use Rattle.est_explore.specs.declared.two_modules.Positions.{Positions}
-use Rattle.state_search.specs.Table.{Is, At, IsRow}
+use Rattle.state_search.specs.Table.{Is, IsRow}
 use Rattle.state_search.specs.Words.{Path, LedTo}
 use Rattle.state_search.specs.declared.found.Found.{Found}
 use Rattle.state_search.specs.declared.found.Node.{Node}
 use Rattle.state_search.specs.declared.found.Row.{Row}
 use Rattle.state_search.proofs.Nodes.{is_one, is_there}
-use Rattle.state_search.proofs.Ways.{Way, way_to}
+use Rattle.state_search.proofs.Ways.{way_to}
 use Rattle.est_explore.proofs.JudgeLemmas.{pairs_mapped}
 use Rattle.est_explore.proofs.RunLemmas.{term_of_position}
 use Rattle.est_explore.proofs.SameLemmas.{AreTwins, AgreeFor, same_for, lawful_for_second}
 
-lawful_both : (m l : Module) (x : Positions) (i : Asked Both) (next : Option Positions) → DoesBoth m l x i next
-    → IsLawful m (bits i.inputs)
-lawful_both m l x i next d = record { offered = d.lawful.offered; kept = d.lawful.kept }
+lawful_both : (m l : Module) (watched : ℕ → Bool) (x : Positions) (i : Asked Both) (next : Option Positions)
+    → DoesBoth m l watched x i next → IsLawful m (bits i.inputs)
+lawful_both m l watched x i next d = record { offered = d.lawful.offered; kept = d.lawful.kept }
+
+-- what both answer to the inputs themselves
+own : (m l : Module) (watched : ℕ → Bool) (x : Positions) (i : Asked Both) (next : Option Positions)
+    → DoesBoth m l watched x i next → AnswersBoth m.kernel l.kernel x (bits i.inputs) i.answer next
+own m l watched x i next d = d.answer (bits i.inputs) d.lawful.offered (λ n h. refl)
 
 -- what both do, where both go on
 pub record Step (m l : Module) (x z : Positions) (i : ℕ) (p : Answer) : Type 0 where
@@ -44,7 +46,8 @@ pub record Step (m l : Module) (x z : Positions) (i : ℕ) (p : Answer) : Type 0
   pub second : Goes l (term_of_position l x.second) (bits i) (outputs_of p) (term_of_position l z.second)
 
 both_step : (m l : Module) (x z : Positions) (i : ℕ) (p q : Answer) (a b : Option Position)
-    → AnswersSo m.kernel x.first i p a → AnswersSo l.kernel x.second i q b → Some z ≡ joined (agree p q) a b
+    → AnswersSo m.kernel x.first (bits i) p a → AnswersSo l.kernel x.second (bits i) q b
+    → Some z ≡ joined (agree p q) a b
     → Step m l x z i p
 both_step m l x z i (Reaction o) (Stuck u) a b f g j = absurd (none j) where
   none : Some z ≡ None → ⊥
@@ -75,37 +78,44 @@ both_step m l x z i (Reaction o) (Reaction p) (Some y) (Some w) f g j = elim (ca
   some_is k = cc
 
 -- a way is a run of both
-path_first : (m l : Module) (x y : Positions) (word : List (Asked Both)) → Path (DoesBoth m l) x word y
+path_first : (m l : Module) (watched : ℕ → Bool) (x y : Positions) (word : List (Asked Both))
+    → Path (DoesBoth m l watched) x word y
     → Runs m (term_of_position m x.first) (map shown_first word) (term_of_position m y.first)
-path_first m l x y [] path = ap (λ (z : Positions). term_of_position m z.first) path
-path_first m l x y (i ∷ word) path =
-    let d = path.1 in
-    let s = both_step m l x path.0 i.inputs i.answer.first i.answer.second d.answer.first_next d.answer.second_next
-    d.answer.first d.answer.second d.answer.next_is in
-    (term_of_position m path.0.first, lawful_both m l x i (Some path.0) d, s.first, path_first m l path.0 y word path.2)
-
-path_second : (m l : Module) → AreTwins m l → (x y : Positions) (word : List (Asked Both)) → Path (DoesBoth m l) x word
-    y
-    → Runs l (term_of_position l x.second) (map shown_first word) (term_of_position l y.second)
-path_second m l t x y [] path = ap (λ (z : Positions). term_of_position l z.second) path
-path_second m l t x y (i ∷ word) path =
-    let d = path.1 in
-    let s = both_step m l x path.0 i.inputs i.answer.first i.answer.second d.answer.first_next d.answer.second_next
-    d.answer.first d.answer.second d.answer.next_is in (
-      term_of_position l path.0.second,
-      lawful_for_second m l t (bits i.inputs) (lawful_both m l x i (Some path.0) d),
-      s.second,
-      path_second m l t path.0 y word path.2,
+path_first m l watched x y [] path = ap (λ (z : Positions). term_of_position m z.first) path
+path_first m l watched x y (i ∷ word) path =
+    let d = own m l watched x i (Some path.0) path.1 in
+    let s = both_step m l x path.0 i.inputs i.answer.first i.answer.second d.first_next d.second_next d.first d.second
+    d.next_is in (
+      term_of_position m path.0.first,
+      lawful_both m l watched x i (Some path.0) path.1,
+      s.first,
+      path_first m l watched path.0 y word path.2,
     )
 
-answers_at : (m : Module) (x : Position) (i : ℕ) (p : Answer) (a : Option Position) → AnswersSo m.kernel x i p a
+path_second : (m l : Module) (watched : ℕ → Bool) → AreTwins m l → (x y : Positions) (word : List (Asked Both))
+    → Path (DoesBoth m l watched) x word y
+    → Runs l (term_of_position l x.second) (map shown_first word) (term_of_position l y.second)
+path_second m l watched t x y [] path = ap (λ (z : Positions). term_of_position l z.second) path
+path_second m l watched t x y (i ∷ word) path =
+    let d = own m l watched x i (Some path.0) path.1 in
+    let s = both_step m l x path.0 i.inputs i.answer.first i.answer.second d.first_next d.second_next
+    d.first d.second d.next_is in (
+      term_of_position l path.0.second,
+      lawful_for_second m l t (bits i.inputs) (lawful_both m l watched x i (Some path.0) path.1),
+      s.second,
+      path_second m l watched t path.0 y word path.2,
+    )
+
+answers_at : (m : Module) (x : Position) (i : ℕ) (p : Answer) (a : Option Position)
+    → AnswersSo m.kernel x (bits i) p a
     → AnswersAt m (term_of_position m x) i p
 answers_at m x i (Reaction o) (Some y) h = (term_of_position m y, h.reacts)
 answers_at m x i (Reaction o) None h = absurd h
 answers_at m x i (Stuck u) (Some y) h = absurd h
 answers_at m x i (Stuck u) None h = h.cannot
 
-module _ (m l : Module) (twins : AreTwins m l) (f : Found Positions (Asked Both)) (e : IsExploredBoth m l f) where
+module _ (m l : Module) (twins : AreTwins m l) (watched : ℕ → Bool) (f : Found Positions (Asked Both))
+    (e : IsExploredBoth m l watched f) where
   deeper : (p q : ℕ) (a b : Node Positions) → Is f.nodes.items p a → Is f.nodes.items q b → p ≤ q → a.depth ≤ b.depth
   deeper p q a b i j w = elim (cases_lt p q) [
     | inl lt ↦ subst (λ (o : Node Positions). o.depth ≤ b.depth) (i.is a)
@@ -120,7 +130,7 @@ module _ (m l : Module) (twins : AreTwins m l) (f : Found Positions (Asked Both)
   -- where no row tells a difference
   pub agree_all : ((d : Row (Asked Both)) (k : ℕ) → k < length f.rows.items
       → agree (get_or f.rows.items k d).label.answer.first (get_or f.rows.items k d).label.answer.second ≡ true)
-      → length f.nodes.items ≤ f.done → (d : ℕ) → AgreeFor m l twins f e d
+      → length f.nodes.items ≤ f.done → (d : ℕ) → AgreeFor m l twins watched f e d
   agree_all pass all d = record {
     done = λ k n i w. let v = i.within in omega arith;
     agrees = λ row c n i w. subst (λ (r : Row (Asked Both)). agree r.label.answer.first r.label.answer.second ≡ true)
@@ -131,7 +141,7 @@ module _ (m l : Module) (twins : AreTwins m l) (f : Found Positions (Asked Both)
   agree_before : (at : ℕ) (r : Row (Asked Both)) (n : Node Positions) → at < length f.rows.items
       → ((d : Row (Asked Both)) (k : ℕ) → k < at
       → agree (get_or f.rows.items k d).label.answer.first (get_or f.rows.items k d).label.answer.second ≡ true)
-      → get_or f.rows.items at r ≡ r → Is f.nodes.items r.from n → AgreeFor m l twins f e n.depth
+      → get_or f.rows.items at r ≡ r → Is f.nodes.items r.from n → AgreeFor m l twins watched f e n.depth
   agree_before at r n w pass is here = record {
     done = λ k o i v. elim (cases_lt k r.from) [
       | inl lt ↦ let turn : r.from ≤ f.done = subst (λ (a : Row (Asked Both)). a.from ≤ f.done) is (e.found.turn at r w)
@@ -161,7 +171,7 @@ module _ (m l : Module) (twins : AreTwins m l) (f : Found Positions (Asked Both)
       → ((d : Row (Asked Both)) (k : ℕ) → k < at
       → agree (get_or f.rows.items k d).label.answer.first (get_or f.rows.items k d).label.answer.second ≡ true)
       → get_or f.rows.items at r ≡ r → agree r.label.answer.first r.label.answer.second ≡ false
-      → LedTo (DoesBoth m l) both_fresh f.nodes.items r word
+      → LedTo (DoesBoth m l watched) both_fresh f.nodes.items r word
       → DifferBy m l word
   differ_by at r word w pass is bad led = record {
     before = led.before;
@@ -169,29 +179,33 @@ module _ (m l : Module) (twins : AreTwins m l) (f : Found Positions (Asked Both)
     split = led.split;
     first_left = term_of_position m led.node.state.first;
     second_left = term_of_position l led.node.state.second;
-    first_runs = path_first m l _ led.node.state led.before led.path;
-    second_runs = path_second m l twins _ led.node.state led.before led.path;
-    lawful = lawful_both m l led.node.state r.label row.after step;
-    first_answers = answers_at m led.node.state.first r.label.inputs r.label.answer.first step.answer.first_next
-        step.answer.first;
-    second_answers = answers_at l led.node.state.second r.label.inputs r.label.answer.second step.answer.second_next
-        step.answer.second;
+    first_runs = path_first m l watched _ led.node.state led.before led.path;
+    second_runs = path_second m l watched twins _ led.node.state led.before led.path;
+    lawful = lawful_both m l watched led.node.state r.label row.after step;
+    first_answers = answers_at m led.node.state.first r.label.inputs r.label.answer.first answer.first_next
+        answer.first;
+    second_answers = answers_at l led.node.state.second r.label.inputs r.label.answer.second answer.second_next
+        answer.second;
     differ = bad;
-    shortest = rw led.shortest (same_for m l twins f e led.node.depth (agree_before at r led.node w pass is led.from));
+    shortest = rw led.shortest
+        (same_for m l twins watched f e led.node.depth (agree_before at r led.node w pass is led.from));
   } where
-    row : IsRow (DoesBoth m l) f.nodes.items r
-    row = subst (λ (a : Row (Asked Both)). IsRow (DoesBoth m l) f.nodes.items a) is
-        (All-get_or (IsRow (DoesBoth m l) f.nodes.items) f.rows.items at r w e.found.tree.sound)
+    row : IsRow (DoesBoth m l watched) f.nodes.items r
+    row = subst (λ (a : Row (Asked Both)). IsRow (DoesBoth m l watched) f.nodes.items a) is
+        (All-get_or (IsRow (DoesBoth m l watched) f.nodes.items) f.rows.items at r w e.found.tree.sound)
 
-    step : DoesBoth m l led.node.state r.label row.after
-    step = subst (λ (o : Node Positions). DoesBoth m l o.state r.label row.after)
+    step : DoesBoth m l watched led.node.state r.label row.after
+    step = subst (λ (o : Node Positions). DoesBoth m l watched o.state r.label row.after)
         (is_one f.nodes.items r.from row.before led.node row.from led.from) row.step
+
+    answer : AnswersBoth m.kernel l.kernel led.node.state (bits r.label.inputs) r.label.answer row.after
+    answer = own m l watched led.node.state r.label row.after step
 
   -- some row
   abbrev nothing : Row (Asked Both)
   nothing = record {
     from = 0;
-    label = record { inputs = 0; answer = record { first = Stuck 0; second = Stuck 0 } };
+    label = record { inputs = 0; asked = 0; answer = record { first = Stuck 0; second = Stuck 0 } };
     next = None;
   }
 
@@ -200,7 +214,7 @@ module _ (m l : Module) (twins : AreTwins m l) (f : Found Positions (Asked Both)
       (get_or f.rows.items at d).label.answer.second ≡ false)
       → ((d : Row (Asked Both)) (k : ℕ) → k < at
       → agree (get_or f.rows.items k d).label.answer.first (get_or f.rows.items k d).label.answer.second ≡ true)
-      → ((r : Row (Asked Both)) → LedTo (DoesBoth m l) both_fresh
+      → ((r : Row (Asked Both)) → LedTo (DoesBoth m l watched) both_fresh
       f.nodes.items (get_or f.rows.items at r) word)
       → DifferBy m l word
   differ_first at word w bad pass led = differ_by at (get_or f.rows.items at nothing) word w pass
@@ -210,13 +224,14 @@ module _ (m l : Module) (twins : AreTwins m l) (f : Found Positions (Asked Both)
 
   reached : (k : ℕ) (n : Node Positions) → Is f.nodes.items k n → IsReachedByBoth m l n.state
   reached k n here =
-      let way = way_to (ArePositions m.kernel l.kernel) (DoesBoth m l) (λ (a b : Asked Both). a.inputs ≢ b.inputs)
+      let way = way_to (ArePositions m.kernel l.kernel) (DoesBoth m l watched)
+      (λ (a b : Asked Both). a.inputs ≢ b.inputs)
       both_fresh
       f.nodes.items f.rows.items e.found.tree e.begins k n here in
       record {
         run = map shown_first way.word;
-        first_runs = path_first m l both_fresh n.state way.word way.path;
-        second_runs = path_second m l twins both_fresh n.state way.word way.path;
+        first_runs = path_first m l watched both_fresh n.state way.word way.path;
+        second_runs = path_second m l watched twins both_fresh n.state way.word way.path;
       }
 
   pub more_pairs : (most : ℕ) → most < length f.nodes.items → HasMorePairs m l most
@@ -232,12 +247,12 @@ module _ (m l : Module) (twins : AreTwins m l) (f : Found Positions (Asked Both)
   trial : Row (Asked Both) → PairTrial
   trial r = record { positions = (get_or f.nodes.items r.from e.begins.node).state; inputs = r.label.inputs }
 
-  row_at : (k : ℕ) (d : Row (Asked Both)) → k < length f.rows.items → IsRow (DoesBoth m l) f.nodes.items
+  row_at : (k : ℕ) (d : Row (Asked Both)) → k < length f.rows.items → IsRow (DoesBoth m l watched) f.nodes.items
       (get_or f.rows.items k d)
-  row_at k d w = All-get_or (IsRow (DoesBoth m l) f.nodes.items) f.rows.items k d w e.found.tree.sound
+  row_at k d w = All-get_or (IsRow (DoesBoth m l watched) f.nodes.items) f.rows.items k d w e.found.tree.sound
 
-  apart : (a b : Row (Asked Both)) → IsRow (DoesBoth m l) f.nodes.items a → IsRow (DoesBoth m l) f.nodes.items b →
-      a.from ≤ b.from
+  apart : (a b : Row (Asked Both)) → IsRow (DoesBoth m l watched) f.nodes.items a
+      → IsRow (DoesBoth m l watched) f.nodes.items b → a.from ≤ b.from
       → (a.from ≡ b.from → a.label.inputs ≢ b.label.inputs) → trial a ≢ trial b
   unfolding trial
   apart a b i j w differ one = elim (cases_lt a.from b.from) [
@@ -260,6 +275,6 @@ module _ (m l : Module) (twins : AreTwins m l) (f : Found Positions (Asked Both)
         subst (λ (n : Node Positions). IsReachedByBoth m l n.state) (sym (row.from.is e.begins.node))
         (reached _ row.before row.from));
     lawful = All-map (λ a. IsLawful m (bits a.inputs)) trial f.rows.items
-        (λ k d v. let row = row_at k d v in lawful_both m l row.before.state (get_or f.rows.items k d).label row.after
-        row.step);
+        (λ k d v. let row = row_at k d v in
+        lawful_both m l watched row.before.state (get_or f.rows.items k d).label row.after row.step);
   }

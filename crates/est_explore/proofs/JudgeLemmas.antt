@@ -11,11 +11,12 @@ use Rattle.est_kernel.specs.Term.{Term}
 use Rattle.est_kernel.specs.declared.state.State.TheVariants.{Fresh}
 use Rattle.est_meaning.specs.States.{IsState}
 use Rattle.est_explore.specs.Inner.Answers.{AnswersSo}
+use Rattle.est_explore.specs.Claims.{IsClaimToldBy}
 use Rattle.est_explore.specs.Explored.{IsExplored, fails}
 use Rattle.est_explore.specs.Runs.{Module, IsLawful, Instant, Goes, Runs, start}
 use Rattle.est_explore.specs.Verdicts.{shown, outputs_of, FailsAt, FailsBy, IsReached, HasMoreStates, HasMoreTrials}
 use Rattle.est_explore.specs.Verdicts.{Trial}
-use Rattle.est_explore.specs.declared.asked.Asked.{Asked}
+use Rattle.est_cover.specs.declared.asked.Asked.{Asked}
 use Rattle.est_explore.specs.declared.claim.Claim.{Claim}
 use Rattle.est_explore.specs.declared.claim.Claim.TheVariants.{NeverStuck, Always}
 use Rattle.est_explore.specs.declared.one_module.Answer.{Answer}
@@ -31,30 +32,37 @@ use Rattle.state_search.proofs.Nodes.{is_one, is_there}
 use Rattle.est_explore.proofs.RunLemmas.{term_of_position, DoesSo, IsCleared, holds_for}
 
 -- lawful inputs, from their mask
-lawful_of : (m : Module) (x : Position) (i : Asked Answer) (next : Option Position) → DoesSo m x i next → IsLawful m
-    (bits i.inputs)
-lawful_of m x i next d = record { offered = d.lawful.offered; kept = d.lawful.kept }
+lawful_of : (m : Module) (watched : ℕ → Bool) (x : Position) (i : Asked Answer) (next : Option Position)
+    → DoesSo m watched x i next → IsLawful m (bits i.inputs)
+lawful_of m watched x i next d = record { offered = d.lawful.offered; kept = d.lawful.kept }
+
+-- what is answered to the inputs themselves
+own : (m : Module) (watched : ℕ → Bool) (x : Position) (i : Asked Answer) (next : Option Position)
+    → DoesSo m watched x i next → AnswersSo m.kernel x (bits i.inputs) i.answer next
+own m watched x i next d = d.answer (bits i.inputs) d.lawful.offered (λ n h. refl)
 
 -- a step is a reaction
-goes_of : (m : Module) (x y : Position) (inputs : ℕ) (answer : Answer) → AnswersSo m.kernel x inputs answer (Some y)
+goes_of : (m : Module) (x y : Position) (inputs : ℕ) (answer : Answer)
+    → AnswersSo m.kernel x (bits inputs) answer (Some y)
     → Goes m (term_of_position m x) (bits inputs) (outputs_of answer) (term_of_position m y)
 goes_of m x y inputs (Reaction o) a = a.reacts
 goes_of m x y inputs (Stuck u) a = absurd a
 
 -- a way is a run
-pub path_runs : (m : Module) (x y : Position) (word : List (Asked Answer)) → Path (DoesSo m) x word y
+pub path_runs : (m : Module) (watched : ℕ → Bool) (x y : Position) (word : List (Asked Answer))
+    → Path (DoesSo m watched) x word y
     → Runs m (term_of_position m x) (map shown word) (term_of_position m y)
-path_runs m x y [] path = ap (λ (z : Position). term_of_position m z) path
-path_runs m x y (i ∷ word) path = (
+path_runs m watched x y [] path = ap (λ (z : Position). term_of_position m z) path
+path_runs m watched x y (i ∷ word) path = (
   term_of_position m path.0,
-  lawful_of m x i (Some path.0) path.1,
-  goes_of m x path.0 i.inputs i.answer path.1.answer,
-  path_runs m path.0 y word path.2,
+  lawful_of m watched x i (Some path.0) path.1,
+  goes_of m x path.0 i.inputs i.answer (own m watched x i (Some path.0) path.1),
+  path_runs m watched path.0 y word path.2,
 )
 
 -- how a claim fails
 fails_at : (m : Module) (claim : Claim) (x : Position) (inputs : ℕ) (answer : Answer) (next : Option Position)
-    → AnswersSo m.kernel x inputs answer next → fails claim inputs answer ≡ true
+    → AnswersSo m.kernel x (bits inputs) answer next → fails claim inputs answer ≡ true
     → FailsAt m claim (term_of_position m x) inputs answer
 fails_at m NeverStuck x inputs (Stuck u) (Some y) a h = absurd a
 fails_at m NeverStuck x inputs (Stuck u) None a h = (a.cannot, a.undecided)
@@ -81,7 +89,7 @@ pairs_mapped P g xs x h i j d l w =
     let within : j < length xs = rw length-map at w in
     rw (get_or-map g xs i x d (omega arith), get_or-map g xs j x d within) (h i j x l within)
 
-module _ (m : Module) (f : Found Position (Asked Answer)) (e : IsExplored m f) where
+module _ (m : Module) (watched : ℕ → Bool) (f : Found Position (Asked Answer)) (e : IsExplored m watched f) where
   -- nodes come after those of fewer steps
   deeper : (p q : ℕ) (a b : Node Position) → Is f.nodes.items p a → Is f.nodes.items q b → p ≤ q → a.depth ≤ b.depth
   deeper p q a b i j l = elim (cases_lt p q) [
@@ -97,7 +105,7 @@ module _ (m : Module) (f : Found Position (Asked Answer)) (e : IsExplored m f) w
   -- where no row fails
   pub cleared_all : (claim : Claim) → ((d : Row (Asked Answer)) (k : ℕ) → k < length f.rows.items
       → fails claim (get_or f.rows.items k d).label.inputs (get_or f.rows.items k d).label.answer ≡ false)
-      → length f.nodes.items ≤ f.done → (d : ℕ) → IsCleared m f e claim d
+      → length f.nodes.items ≤ f.done → (d : ℕ) → IsCleared m watched f e claim d
   cleared_all claim pass all d = record {
     done = λ k n i l. let w = i.within in omega arith;
     passes = λ row c n i l. subst (λ (r : Row (Asked Answer)). fails claim r.label.inputs r.label.answer ≡ false) c.2
@@ -108,7 +116,7 @@ module _ (m : Module) (f : Found Position (Asked Answer)) (e : IsExplored m f) w
   pub cleared_before : (claim : Claim) (at : ℕ) (r : Row (Asked Answer)) (n : Node Position) → at < length f.rows.items
       → ((d : Row (Asked Answer)) (k : ℕ) → k < at
       → fails claim (get_or f.rows.items k d).label.inputs (get_or f.rows.items k d).label.answer ≡ false)
-      → get_or f.rows.items at r ≡ r → Is f.nodes.items r.from n → IsCleared m f e claim n.depth
+      → get_or f.rows.items at r ≡ r → Is f.nodes.items r.from n → IsCleared m watched f e claim n.depth
   cleared_before claim at r n w pass is here = record {
     done = λ k o i l. elim (cases_lt k r.from) [
       | inl lt ↦ let turn : r.from ≤ f.done = subst (λ (a : Row (Asked Answer)). a.from ≤ f.done) is
@@ -134,44 +142,46 @@ module _ (m : Module) (f : Found Position (Asked Answer)) (e : IsExplored m f) w
     ]
 
   -- a claim fails by the first row by which it fails
-  pub fails_by : (claim : Claim) (at : ℕ) (r : Row (Asked Answer)) (word : List (Asked Answer)) → at < length
-      f.rows.items
+  pub fails_by : (claim : Claim) → IsClaimToldBy claim watched → (at : ℕ) (r : Row (Asked Answer))
+      (word : List (Asked Answer)) → at < length f.rows.items
       → ((d : Row (Asked Answer)) (k : ℕ) → k < at
       → fails claim (get_or f.rows.items k d).label.inputs (get_or f.rows.items k d).label.answer ≡ false)
       → get_or f.rows.items at r ≡ r → fails claim r.label.inputs r.label.answer ≡ true
-      → LedTo (DoesSo m) (record { state = Fresh }) f.nodes.items r word → FailsBy m claim word
-  fails_by claim at r word w pass is bad led = record {
+      → LedTo (DoesSo m watched) (record { state = Fresh }) f.nodes.items r word → FailsBy m claim word
+  fails_by claim told at r word w pass is bad led = record {
     before = led.before;
     last = r.label;
     split = led.split;
     left = term_of_position m led.node.state;
-    runs = path_runs m (record { state = Fresh }) led.node.state led.before led.path;
-    lawful = lawful_of m led.node.state r.label row.after step;
-    fails = fails_at m claim led.node.state r.label.inputs r.label.answer row.after step.answer bad;
-    shortest = rw led.shortest (holds_for m f e claim led.node.depth
+    runs = path_runs m watched (record { state = Fresh }) led.node.state led.before led.path;
+    lawful = lawful_of m watched led.node.state r.label row.after step;
+    fails = fails_at m claim led.node.state r.label.inputs r.label.answer row.after
+        (own m watched led.node.state r.label row.after step) bad;
+    shortest = rw led.shortest (holds_for m watched f e claim told led.node.depth
         (cleared_before claim at r led.node w pass is led.from));
   } where
-    row : IsRow (DoesSo m) f.nodes.items r
-    row = subst (λ (a : Row (Asked Answer)). IsRow (DoesSo m) f.nodes.items a) is
-        (All-get_or (IsRow (DoesSo m) f.nodes.items) f.rows.items at r w e.found.tree.sound)
+    row : IsRow (DoesSo m watched) f.nodes.items r
+    row = subst (λ (a : Row (Asked Answer)). IsRow (DoesSo m watched) f.nodes.items a) is
+        (All-get_or (IsRow (DoesSo m watched) f.nodes.items) f.rows.items at r w e.found.tree.sound)
 
-    step : DoesSo m led.node.state r.label row.after
-    step = subst (λ (o : Node Position). DoesSo m o.state r.label row.after)
+    step : DoesSo m watched led.node.state r.label row.after
+    step = subst (λ (o : Node Position). DoesSo m watched o.state r.label row.after)
         (is_one f.nodes.items r.from row.before led.node row.from led.from) row.step
 
   -- some row
   abbrev nothing : Row (Asked Answer)
-  nothing = record { from = 0; label = record { inputs = 0; answer = Stuck 0 }; next = None }
+  nothing = record { from = 0; label = record { inputs = 0; asked = 0; answer = Stuck 0 }; next = None }
 
-  pub fails_first : (claim : Claim) (at : ℕ) (word : List (Asked Answer)) → at < length f.rows.items
+  pub fails_first : (claim : Claim) → IsClaimToldBy claim watched → (at : ℕ) (word : List (Asked Answer))
+      → at < length f.rows.items
       → ((d : Row (Asked Answer)) → fails claim (get_or f.rows.items at d).label.inputs
       (get_or f.rows.items at d).label.answer ≡ true)
       → ((d : Row (Asked Answer)) (k : ℕ) → k < at
       → fails claim (get_or f.rows.items k d).label.inputs (get_or f.rows.items k d).label.answer ≡ false)
-      → ((r : Row (Asked Answer)) → LedTo (DoesSo m) (record { state = Fresh }) f.nodes.items (get_or f.rows.items at r)
-      word)
+      → ((r : Row (Asked Answer)) → LedTo (DoesSo m watched) (record { state = Fresh }) f.nodes.items
+      (get_or f.rows.items at r) word)
       → FailsBy m claim word
-  fails_first claim at word w bad pass led = fails_by claim at (get_or f.rows.items at nothing) word w pass
+  fails_first claim told at word w bad pass led = fails_by claim told at (get_or f.rows.items at nothing) word w pass
       (get_or_default f.rows.items at (get_or f.rows.items at nothing) nothing w) (bad nothing) (led nothing)
 
   -- ---- what is reached
@@ -189,15 +199,15 @@ module _ (m : Module) (f : Found Position (Asked Answer)) (e : IsExplored m f) w
         f.rows.items k n
         → IsReached m n.state
     by before came =
-        let row : IsRow (DoesSo m) f.nodes.items came.row = subst
-        (λ (a : Row (Asked Answer)). IsRow (DoesSo m) f.nodes.items a)
-        (came.by came.row) (All-get_or (IsRow (DoesSo m) f.nodes.items) f.rows.items n.by came.row came.within
+        let row : IsRow (DoesSo m watched) f.nodes.items came.row = subst
+        (λ (a : Row (Asked Answer)). IsRow (DoesSo m watched) f.nodes.items a)
+        (came.by came.row) (All-get_or (IsRow (DoesSo m watched) f.nodes.items) f.rows.items n.by came.row came.within
         e.found.tree.sound) in
         let to : row.after ≡ Some n.state =
-        leads_there (λ (x : Position). IsState m.kernel.root x.state) (DoesSo m)
+        leads_there (λ (x : Position). IsState m.kernel.root x.state) (DoesSo m watched)
         (λ (a b : Asked Answer). a.inputs ≢ b.inputs)
         f.nodes.items _ k n came.row.next row.after row.leads came.to here in
-        let step : DoesSo m row.before.state came.row.label (Some n.state) = rw to at row.step in
+        let step : DoesSo m watched row.before.state came.row.label (Some n.state) = rw to at row.step in
         let earlier = came.earlier in
         let old = before came.row.from row.before (omega arith) row.from in
         record {
@@ -206,8 +216,9 @@ module _ (m : Module) (f : Found Position (Asked Answer)) (e : IsExplored m f) w
           run = old.run ++ shown came.row.label ∷ [];
           runs = runs_on m (start m) old.run (term_of_position m row.before.state) (shown came.row.label)
               (term_of_position m n.state)
-              old.runs (lawful_of m row.before.state came.row.label (Some n.state) step)
-              (goes_of m row.before.state n.state came.row.label.inputs came.row.label.answer step.answer);
+              old.runs (lawful_of m watched row.before.state came.row.label (Some n.state) step)
+              (goes_of m row.before.state n.state came.row.label.inputs came.row.label.answer
+              (own m watched row.before.state came.row.label (Some n.state) step));
         }
 
   pub reached : (k : ℕ) (n : Node Position) → Is f.nodes.items k n → IsReached m n.state
@@ -226,12 +237,12 @@ module _ (m : Module) (f : Found Position (Asked Answer)) (e : IsExplored m f) w
   trial : Row (Asked Answer) → Trial
   trial r = record { position = (get_or f.nodes.items r.from e.begins.node).state; inputs = r.label.inputs }
 
-  row_at : (k : ℕ) (d : Row (Asked Answer)) → k < length f.rows.items → IsRow (DoesSo m) f.nodes.items
+  row_at : (k : ℕ) (d : Row (Asked Answer)) → k < length f.rows.items → IsRow (DoesSo m watched) f.nodes.items
       (get_or f.rows.items k d)
-  row_at k d w = All-get_or (IsRow (DoesSo m) f.nodes.items) f.rows.items k d w e.found.tree.sound
+  row_at k d w = All-get_or (IsRow (DoesSo m watched) f.nodes.items) f.rows.items k d w e.found.tree.sound
 
-  differ : (a b : Row (Asked Answer)) → IsRow (DoesSo m) f.nodes.items a → IsRow (DoesSo m) f.nodes.items b → a.from ≤
-      b.from
+  differ : (a b : Row (Asked Answer)) → IsRow (DoesSo m watched) f.nodes.items a
+      → IsRow (DoesSo m watched) f.nodes.items b → a.from ≤ b.from
       → (a.from ≡ b.from → a.label.inputs ≢ b.label.inputs) → trial a ≢ trial b
   unfolding trial
   differ a b i j l apart same = elim (cases_lt a.from b.from) [
@@ -253,6 +264,6 @@ module _ (m : Module) (f : Found Position (Asked Answer)) (e : IsExplored m f) w
         subst (λ (n : Node Position). IsReached m n.state) (sym (row.from.is e.begins.node))
         (reached _ row.before row.from));
     lawful = All-map (λ a. IsLawful m (bits a.inputs)) trial f.rows.items
-        (λ k d w. let row = row_at k d w in lawful_of m row.before.state (get_or f.rows.items k d).label row.after
-        row.step);
+        (λ k d w. let row = row_at k d w in
+        lawful_of m watched row.before.state (get_or f.rows.items k d).label row.after row.step);
   }

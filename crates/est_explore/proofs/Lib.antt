@@ -1,10 +1,9 @@
 pub mod JudgeLemmas
-pub mod OneAtMost
 pub mod PartLemmas
+pub mod ReadLemmas
 pub mod RunLemmas
 pub mod SameLemmas
 pub mod TableLemmas
 pub mod TestLemmas
-pub mod CoverLemmas
 pub mod DifferLemmas
-pub mod EveryLemmas
+pub mod MaskLemmas

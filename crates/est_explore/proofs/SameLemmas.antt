@@ -1,28 +1,25 @@
 -- Runs of two modules, by the rows that a search of both has found.
-use Rattle.std.proofs.Common.{◌≡◌, ◌≢◌, ◌∙◌, ℕ, ◌<◌, ◌≤◌, ◌+◌, Bool, true, false, nat_eq, List, [], ◌∷◌, ◌++◌, length}
-use Rattle.std.proofs.Common.{map}
+use Rattle.std.proofs.Common.{◌≡◌, ◌∙◌, ℕ, ◌<◌, ◌≤◌, ◌+◌, Bool, true, List, [], ◌∷◌, length}
 use Rattle.std.proofs.Common.{Option, Some, None, sym, refl, ap, subst, arith}
 use Rattle.std.specs.List.{Contains}
 use Rattle.std.proofs.lemmas.Bool.{false≢true}
 use Rattle.std.proofs.lemmas.List.Elements.{All-contains}
 use Rattle.est_kernel.specs.Bits.{bits}
 use Rattle.est_kernel.specs.Term.{Term}
-use Rattle.est_kernel.specs.declared.kernel.Kernel.{Kernel}
-use Rattle.est_kernel.specs.declared.state.State.TheVariants.{Fresh}
-use Rattle.est_meaning.specs.States.{state_term}
 use Rattle.est_relations.proofs.Members.{nat_same}
 use Rattle.est_explore.specs.Inner.Answers.{AnswersSo}
-use Rattle.est_explore.specs.Inner.Pairs.{AnswersBoth, agree, joined}
-use Rattle.est_explore.specs.Runs.{Module, InputSet, IsLawful, Instant, Goes, Runs, start, IsRun, may_offer}
+use Rattle.est_explore.specs.Inner.Pairs.{agree, joined}
+use Rattle.est_cover.specs.InputSets.{InputSet, Agrees, may_offer}
+use Rattle.est_explore.specs.Runs.{Module, IsLawful, Instant, Goes, Runs, start}
 use Rattle.est_explore.specs.ExploredBoth.{DoesBoth, IsExploredBoth}
 use Rattle.est_explore.specs.Same.{SameFor}
-use Rattle.est_explore.specs.declared.asked.Asked.{Asked}
+use Rattle.est_cover.specs.declared.asked.Asked.{Asked}
 use Rattle.est_explore.specs.declared.one_module.Answer.{Answer}
 use Rattle.est_explore.specs.declared.one_module.Answer.TheVariants.{Reaction, Stuck}
 use Rattle.est_explore.specs.declared.one_module.Position.{Position}
 use Rattle.est_explore.specs.declared.two_modules.Both.{Both}
 use Rattle.est_explore.specs.declared.two_modules.Positions.{Positions}
-use Rattle.state_search.specs.Table.{Is, At, Leads, nowhere, there, IsRow, HasRow, IsFound}
+use Rattle.state_search.specs.Table.{Is, Leads, nowhere, there, IsRow, HasRow}
 use Rattle.state_search.specs.declared.found.Found.{Found}
 use Rattle.state_search.specs.declared.found.Node.{Node}
 use Rattle.state_search.specs.declared.found.Row.{Row}
@@ -39,32 +36,32 @@ pub data BothDo (m l : Module) (t u : Term) (inputs : InputSet) (nodes : List (N
         → Goes m t inputs o (term_of_position m n.state.first) → Goes l u inputs o (term_of_position l n.state.second)
         → BothDo m l t u inputs nodes most
 
-both_do : (m l : Module) (x : Positions) (i : ℕ) (inputs : InputSet) → bits i ≡ inputs → (p q : Answer)
-    (a b : Option Position) → AnswersSo m.kernel x.first i p a → AnswersSo l.kernel x.second i q b → agree p q ≡ true
+both_do : (m l : Module) (x : Positions) (inputs : InputSet) (p q : Answer) (a b : Option Position)
+    → AnswersSo m.kernel x.first inputs p a → AnswersSo l.kernel x.second inputs q b → agree p q ≡ true
     → (nodes : List (Node Positions)) (most : ℕ) (place : Option ℕ) (after : Option Positions) → Leads nodes most place
     after
     → after ≡ joined (agree p q) a b
     → BothDo m l (term_of_position m x.first) (term_of_position l x.second) inputs nodes most
-both_do m l x i inputs e (Reaction o) (Stuck u) a b f g h nodes most place after leads j = absurd (false≢true h)
-both_do m l x i inputs e (Stuck u) (Reaction o) a b f g h nodes most place after leads j = absurd (false≢true h)
-both_do m l x i inputs e (Stuck u) (Stuck v) (Some y) b f g h nodes most place after leads j = absurd f
-both_do m l x i inputs e (Stuck u) (Stuck v) None (Some z) f g h nodes most place after leads j = absurd g
-both_do m l x i inputs e (Stuck u) (Stuck v) None None f g h nodes most place after leads j =
-    rw (← e) (are_stuck (λ o w r. f.cannot r.signals r.code w r.gives) (λ o w r. g.cannot r.signals r.code w r.gives))
-both_do m l x i inputs e (Reaction o) (Reaction p) None b f g h nodes most place after leads j = absurd f
-both_do m l x i inputs e (Reaction o) (Reaction p) (Some y) None f g h nodes most place after leads j = absurd g
-both_do m l x i inputs e (Reaction o) (Reaction p) (Some y) (Some z) f g h nodes most place after nowhere j = absurd
+both_do m l x inputs (Reaction o) (Stuck u) a b f g h nodes most place after leads j = absurd (false≢true h)
+both_do m l x inputs (Stuck u) (Reaction o) a b f g h nodes most place after leads j = absurd (false≢true h)
+both_do m l x inputs (Stuck u) (Stuck v) (Some y) b f g h nodes most place after leads j = absurd f
+both_do m l x inputs (Stuck u) (Stuck v) None (Some z) f g h nodes most place after leads j = absurd g
+both_do m l x inputs (Stuck u) (Stuck v) None None f g h nodes most place after leads j =
+    are_stuck (λ o w r. f.cannot r.signals r.code w r.gives) (λ o w r. g.cannot r.signals r.code w r.gives)
+both_do m l x inputs (Reaction o) (Reaction p) None b f g h nodes most place after leads j = absurd f
+both_do m l x inputs (Reaction o) (Reaction p) (Some y) None f g h nodes most place after leads j = absurd g
+both_do m l x inputs (Reaction o) (Reaction p) (Some y) (Some z) f g h nodes most place after nowhere j = absurd
     (none (rw h at j)) where
       none : ◌≡◌ {A = Option Positions} None (Some (record { first = y; second = z })) → ⊥
       none k = cc
-both_do m l x i inputs e (Reaction o) (Reaction p) (Some y) (Some z) f g h nodes most place after (there k n is few) j =
+both_do m l x inputs (Reaction o) (Reaction p) (Some y) (Some z) f g h nodes most place after (there k n is few) j =
     go_on (bits o) k n is few
-    (rw (← e) (subst (λ (w : Positions). Goes m (term_of_position m x.first) (bits i) (bits o)
-    (term_of_position m w.first)) (sym one) f.reacts))
-    (rw (← e) (subst (λ (w : Positions). Goes l (term_of_position l x.second) (bits i) (bits o)
+    (subst (λ (w : Positions). Goes m (term_of_position m x.first) inputs (bits o)
+    (term_of_position m w.first)) (sym one) f.reacts)
+    (subst (λ (w : Positions). Goes l (term_of_position l x.second) inputs (bits o)
     (term_of_position l w.second)) (sym one)
-    (subst (λ (r : ℕ). Goes l (term_of_position l x.second) (bits i) (bits r) (term_of_position l z))
-    (sym (nat_same o p h)) g.reacts))) where
+    (subst (λ (r : ℕ). Goes l (term_of_position l x.second) inputs (bits r) (term_of_position l z))
+    (sym (nat_same o p h)) g.reacts)) where
       one : n.state ≡ record { first = y; second = z }
       one = some_is (rw h at j) where
         some_is : Some n.state ≡ Some (record { first = y; second = z }) → n.state ≡ record { first = y; second = z }
@@ -90,7 +87,8 @@ lawful_for_second m l t inputs h = record {
   kept = rw t.relations h.kept;
 }
 
-module _ (m l : Module) (twins : AreTwins m l) (f : Found Positions (Asked Both)) (e : IsExploredBoth m l f) where
+module _ (m l : Module) (twins : AreTwins m l) (watched : ℕ → Bool) (f : Found Positions (Asked Both))
+    (e : IsExploredBoth m l watched f) where
   -- all nodes of fewer steps than d have all their rows, and in none of these the two differ
   pub record AgreeFor (d : ℕ) : Type 0 where
     pub done : (k : ℕ) (n : Node Positions) → Is f.nodes.items k n → n.depth < d → k < f.done
@@ -107,14 +105,16 @@ module _ (m l : Module) (twins : AreTwins m l) (f : Found Positions (Asked Both)
       let one = all.all_of inputs lawful.offered lawful.kept in
       let has : HasRow f.nodes.items f.rows.items k n one.step =
       All-contains (HasRow f.nodes.items f.rows.items k n) all.steps one.step all.listed one.listed in
-      let row : IsRow (DoesBoth m l) f.nodes.items has.row =
-      All-contains (IsRow (DoesBoth m l) f.nodes.items) f.rows.items has.row e.found.tree.sound has.listed in
+      let row : IsRow (DoesBoth m l watched) f.nodes.items has.row =
+      All-contains (IsRow (DoesBoth m l watched) f.nodes.items) f.rows.items has.row e.found.tree.sound has.listed in
       let same_node : row.before ≡ n = is_one f.nodes.items k row.before n (rw has.from at row.from) here in
-      let step : DoesBoth m l n.state has.row.label row.after = rw same_node at row.step in
-      both_do m l n.state has.row.label.inputs inputs (ap (λ (a : Asked Both). bits a.inputs) has.label ∙ one.is)
-      has.row.label.answer.first has.row.label.answer.second step.answer.first_next step.answer.second_next
-      step.answer.first step.answer.second (c.agrees has.row has.listed n (rw has.from here) w)
-      f.nodes.items (n.depth + 1) has.row.next row.after (rw same_node at row.leads) step.answer.next_is
+      let step : DoesBoth m l watched n.state has.row.label row.after = rw same_node at row.step in
+      let is : Agrees (bits has.row.label.asked) (bits has.row.label.inputs) inputs =
+      subst (λ (a : Asked Both). Agrees (bits a.asked) (bits a.inputs) inputs) (sym has.label) one.agrees in
+      let answer = step.answer inputs lawful.offered is in
+      both_do m l n.state inputs has.row.label.answer.first has.row.label.answer.second answer.first_next
+      answer.second_next answer.first answer.second (c.agrees has.row has.listed n (rw has.from here) w)
+      f.nodes.items (n.depth + 1) has.row.next row.after (rw same_node at row.leads) answer.next_is
 
   -- what one does, the other does
   second_runs : (d : ℕ) → AgreeFor d → (k : ℕ) (n : Node Positions) → Is f.nodes.items k n → (run : List Instant)

@@ -7,7 +7,8 @@ use Rattle.est_kernel.specs.declared.statement.Test.{Test}
 use Rattle.est_meaning.specs.Environments.{Env, status_of, verdict}
 use Rattle.est_meaning.specs.declared.status.Status.{Status}
 use Rattle.est_meaning.specs.declared.status.Status.TheVariants.{Present, Absent, Unknown}
-use Rattle.est_explore.specs.Runs.{Module, InputSet, IsLawful, Instant, is_present, Goes, Runs, start, IsRun}
+use Rattle.est_cover.specs.InputSets.{InputSet}
+use Rattle.est_explore.specs.Runs.{Module, IsLawful, Instant, is_present, Goes, Runs, start, IsRun}
 use Rattle.est_explore.specs.declared.claim.Claim.{Claim}
 use Rattle.est_explore.specs.declared.claim.Claim.TheVariants.{NeverStuck, Always}
 
@@ -25,6 +26,15 @@ is_yes Unknown = false
 -- whether the test holds where these signals are present: as a `present` of the language asks it
 abbrev pub holds : Test → (present : ℕ → Bool) → Bool
 holds test present = is_yes (status_of (known present) (query_of test))
+
+-- these signals of the interface tell the test: where no other is different, it is the same
+abbrev pub IsToldBy : Test → (signals : ℕ → Bool) → Type 0
+IsToldBy test signals = (p q : ℕ → Bool) → ((n : ℕ) → signals n ≡ true → p n ≡ q n) → holds test p ≡ holds test q
+
+-- these signals tell what the claim asks
+abbrev pub IsClaimToldBy : Claim → (signals : ℕ → Bool) → Type 0
+IsClaimToldBy NeverStuck signals = Unit {0}
+IsClaimToldBy (Always test) signals = IsToldBy test.now signals
 
 -- the term reacts to the inputs
 pub record HasReaction (m : Module) (t : Term) (inputs : InputSet) : Type 0 where

@@ -1,10 +1,10 @@
 -- What a search has found of two modules side by side (this project's own form).
-use Rattle.std.specs.Prelude.{◌≢◌, ℕ, Option}
+use Rattle.std.specs.Prelude.{◌≢◌, ℕ, Bool, Option}
 use Rattle.est_kernel.specs.declared.state.State.TheVariants.{Fresh}
-use Rattle.est_explore.specs.Inner.InputSets.{IsAsked, HaveAllInputs}
+use Rattle.est_cover.specs.InputSets.{IsAsked, HaveAllInputs, may_offer}
 use Rattle.est_explore.specs.Inner.Pairs.{AnswersBoth, ArePositions}
-use Rattle.est_explore.specs.Runs.{Module, may_offer}
-use Rattle.est_explore.specs.declared.asked.Asked.{Asked}
+use Rattle.est_explore.specs.Runs.{Module}
+use Rattle.est_cover.specs.declared.asked.Asked.{Asked}
 use Rattle.est_explore.specs.declared.two_modules.Both.{Both}
 use Rattle.est_explore.specs.declared.two_modules.Positions.{Positions}
 use Rattle.state_search.specs.Table.{At, IsFound}
@@ -15,13 +15,13 @@ abbrev pub both_fresh : Positions
 both_fresh = record { first = record { state = Fresh }; second = record { state = Fresh } }
 
 -- what a search takes for a step of both
-abbrev pub DoesBoth : Module → Module → Positions → Asked Both → Option Positions → Type 0
-DoesBoth m l x i next =
-    IsAsked (AnswersBoth m.kernel l.kernel x) (may_offer m.kernel.interface m.among) m.relations i next
+abbrev pub DoesBoth : Module → Module → (watched : ℕ → Bool) → Positions → Asked Both → Option Positions → Type 0
+DoesBoth m l watched x i next =
+    IsAsked (AnswersBoth m.kernel l.kernel x) (may_offer m.kernel.interface m.among) m.relations watched i next
 
--- the positions and steps are what a search of both has found
-pub record IsExploredBoth (m l : Module) (f : Found Positions (Asked Both)) : Type 0 where
+-- the positions and steps are what a search of both has found, each with these signals asked
+pub record IsExploredBoth (m l : Module) (watched : ℕ → Bool) (f : Found Positions (Asked Both)) : Type 0 where
   pub begins : At f.nodes.items 0 both_fresh
-  pub found : IsFound (ArePositions m.kernel l.kernel) (DoesBoth m l)
+  pub found : IsFound (ArePositions m.kernel l.kernel) (DoesBoth m l watched)
       (λ x steps. HaveAllInputs (may_offer m.kernel.interface m.among) m.relations steps) (λ a b. a.inputs ≢ b.inputs)
       f.nodes.items f.rows.items f.done

@@ -1,3 +1,3 @@
 pub mod Answers
-pub mod InputSets
 pub mod Pairs
+pub mod Reads

@@ -1,11 +1,10 @@
 -- Runs of a module: what it does, instant after instant, with lawful inputs (this project's own form, over the
 -- reactions
 -- of est_meaning and the relations of est_relations).
-use Rattle.std.specs.Prelude.{◌≡◌, ◌&&◌, ◌||◌, ℕ, Bool, List, [], ◌∷◌}
-use Rattle.est_kernel.specs.Interfaces.{offerable}
+use Rattle.std.specs.Prelude.{◌≡◌, ◌||◌, ℕ, Bool, List, [], ◌∷◌}
+use Rattle.est_cover.specs.InputSets.{InputSet, may_offer}
 use Rattle.est_kernel.specs.Term.{Term}
 use Rattle.est_kernel.specs.View.{term_of}
-use Rattle.est_kernel.specs.declared.interface.Declaration.{Declaration}
 use Rattle.est_kernel.specs.declared.kernel.Kernel.{Kernel}
 use Rattle.est_meaning.specs.Knowledge.{IsIn}
 use Rattle.est_meaning.specs.Reaction.{Reacts}
@@ -18,14 +17,6 @@ pub record Module : Type 0 where
   pub kernel : Kernel
   pub relations : List Relation
   pub among : ℕ → Bool
-
--- a set of signals of the interface, by their places
-abbrev pub InputSet : Type 0
-InputSet = ℕ → Bool
-
--- whether a signal may be offered: the interface lets it be, and somebody may
-abbrev pub may_offer : List Declaration → (among : ℕ → Bool) → ℕ → Bool
-may_offer interface among n = offerable interface n && among n
 
 -- each of the inputs may be offered, and each relation holds of them
 pub record IsLawful (m : Module) (inputs : InputSet) : Type 0 where

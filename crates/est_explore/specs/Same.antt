@@ -1,5 +1,5 @@
 -- Two modules that do the same (this project's own form).
-use Rattle.std.specs.Prelude.{◌≡◌, ◌≤◌, ◌↔◌, ℕ, Bool, false, List, [], ◌∷◌, ◌++◌, length, map}
+use Rattle.std.specs.Prelude.{◌≡◌, ◌≤◌, ◌↔◌, ℕ, false, List, [], ◌∷◌, ◌++◌, length, map}
 use Rattle.est_kernel.specs.Bits.{bits}
 use Rattle.est_kernel.specs.Term.{Term}
 use Rattle.est_meaning.specs.Reaction.{CannotReact}
@@ -7,7 +7,7 @@ use Rattle.est_meaning.specs.Rounds.{judged_signals}
 use Rattle.est_explore.specs.Inner.Pairs.{agree}
 use Rattle.est_explore.specs.Runs.{Module, IsLawful, Instant, Goes, Runs, start, IsRun}
 use Rattle.est_explore.specs.Verdicts.{outputs_of}
-use Rattle.est_explore.specs.declared.asked.Asked.{Asked}
+use Rattle.est_cover.specs.declared.asked.Asked.{Asked}
 use Rattle.est_explore.specs.declared.one_module.Answer.{Answer}
 use Rattle.est_explore.specs.declared.one_module.Answer.TheVariants.{Reaction, Stuck}
 use Rattle.est_explore.specs.declared.two_modules.Both.{Both}

@@ -6,8 +6,9 @@ use Rattle.est_kernel.specs.Term.{Term}
 use Rattle.est_meaning.specs.Reaction.{CannotReact}
 use Rattle.est_meaning.specs.Rounds.{judged_signals}
 use Rattle.est_meaning.specs.States.{state_term}
-use Rattle.est_explore.specs.Runs.{Module, InputSet, IsLawful, Instant, Goes, Runs, start}
-use Rattle.est_explore.specs.declared.asked.Asked.{Asked}
+use Rattle.est_explore.specs.Runs.{Module, IsLawful, Instant, Goes, Runs, start}
+use Rattle.est_cover.specs.InputSets.{InputSet, Agrees}
+use Rattle.est_cover.specs.declared.asked.Asked.{Asked}
 use Rattle.est_explore.specs.declared.one_module.Answer.{Answer}
 use Rattle.est_explore.specs.declared.one_module.Answer.TheVariants.{Reaction, Stuck}
 use Rattle.est_explore.specs.declared.one_module.Position.{Position}
@@ -22,29 +23,35 @@ pub record StandsFor (m : Module) (nodes : List (Node Position)) (place : ℕ) (
   pub is : Is nodes place node
   pub term : state_term m.kernel.root node.state.state ≡ u
 
--- what a row says of the term before it: it reacts so, and the row leads to where it goes on; or it is Stuck
-pub data IsRowOf (m : Module) (nodes : List (Node Position)) (t : Term) : (inputs : ℕ) → Answer → (next : Option ℕ) →
-    Type 0 where
-  reacts : (inputs outputs place : ℕ) (u : Term) → Goes m t (bits inputs) (bits outputs) u → StandsFor m nodes place u
+-- what a row says of the term before it and of inputs that it is for: the term reacts so, and the row leads to where it
+-- goes on; or it is Stuck
+pub data IsRowOf (m : Module) (nodes : List (Node Position)) (t : Term) (inputs : InputSet) : Answer
+    → (next : Option ℕ) → Type 0 where
+  reacts : (outputs place : ℕ) (u : Term) → Goes m t inputs (bits outputs) u → StandsFor m nodes place u
       → IsRowOf m nodes t inputs (Reaction outputs) (Some place)
-  is_stuck : (inputs undecided : ℕ) → CannotReact (judged_signals m.kernel.interface (bits inputs)) (bits inputs) t
+  is_stuck : (undecided : ℕ) → CannotReact (judged_signals m.kernel.interface inputs) inputs t
       → IsRowOf m nodes t inputs (Stuck undecided) None
+
+-- the row is for these inputs: where it was asked, its own are the same
+abbrev pub IsFor : Row (Asked Answer) → InputSet → Type 0
+IsFor row inputs = Agrees (bits row.label.asked) (bits row.label.inputs) inputs
 
 -- some row from this place is for these inputs
 pub record HasRowFor (rows : List (Row (Asked Answer))) (place : ℕ) (inputs : InputSet) : Type 0 where
   pub row : Row (Asked Answer)
   pub listed : Contains rows row
   pub from : row.from ≡ place
-  pub is : bits row.label.inputs ≡ inputs
+  pub is : IsFor row inputs
 
 -- the table is closed: it begins where the module does; whatever a run leads to has a place; at each place there is a
--- row
--- for each lawful set of inputs; and each row is what the module does with its inputs
+-- row for each lawful set of inputs; each row is for some; and it is what the module does with each that it is for
 pub record IsClosedTable (m : Module) (f : Found Position (Asked Answer)) : Type 0 where
   pub begins : StandsFor m f.nodes.items 0 (start m)
   pub reached : (run : List Instant) (t : Term) → Runs m (start m) run t
       → (place : ℕ) × StandsFor m f.nodes.items place t
   pub complete : (place : ℕ) (t : Term) → StandsFor m f.nodes.items place t → (inputs : InputSet) → IsLawful m inputs
       → HasRowFor f.rows.items place inputs
+  pub lawful : (row : Row (Asked Answer)) → Contains f.rows.items row → IsLawful m (bits row.label.inputs)
   pub right : (row : Row (Asked Answer)) → Contains f.rows.items row → (t : Term) → StandsFor m f.nodes.items row.from t
-      → IsRowOf m f.nodes.items t row.label.inputs row.label.answer row.next
+      → (inputs : InputSet) → IsLawful m inputs → IsFor row inputs
+      → IsRowOf m f.nodes.items t inputs row.label.answer row.next

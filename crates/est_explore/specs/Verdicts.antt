@@ -8,7 +8,7 @@ use Rattle.est_meaning.specs.Rounds.{judged_signals}
 use Rattle.est_meaning.specs.States.{IsState, state_term}
 use Rattle.est_explore.specs.Claims.{holds, HoldsFor, Holds}
 use Rattle.est_explore.specs.Runs.{Module, IsLawful, Instant, Goes, Runs, start}
-use Rattle.est_explore.specs.declared.asked.Asked.{Asked}
+use Rattle.est_cover.specs.declared.asked.Asked.{Asked}
 use Rattle.est_explore.specs.declared.claim.Claim.{Claim}
 use Rattle.est_explore.specs.declared.claim.Claim.TheVariants.{NeverStuck, Always}
 use Rattle.est_explore.specs.declared.one_module.Answer.{Answer}

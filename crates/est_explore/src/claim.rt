@@ -1,11 +1,12 @@
 //! What is claimed of all runs.
 ghost use Rattle.std.specs.Prelude.{◌≡◌};
 ghost use Rattle.est_kernel.specs.Bits.{bits};
-ghost use Rattle.est_explore.specs.Claims.{holds};
+ghost use Rattle.est_explore.specs.Claims.{IsClaimToldBy, holds};
 ghost use Rattle.est_explore.specs.Explored.{fails};
 
-use crate::asked::Asked;
 use crate::one_module::Answer;
+use crate::reads::signals_of;
+use est_cover::asked::Asked;
 use est_kernel::mask;
 use est_kernel::statement::Test;
 use est_meaning::status::Status;
@@ -40,6 +41,16 @@ fn holds(test: &Test, present: u64) -> bool
 }
 
 impl<'a> Claim<'a> {
+    /// The signals of the interface that tell what the claim asks.
+    pub fn signals(&self) -> u64
+        ensures { IsClaimToldBy self.now (bits result) }
+    {
+        match self {
+            Claim::NeverStuck => 0,
+            Claim::Always(test) => signals_of(test),
+        }
+    }
+
     /// Whether the claim fails by what was answered.
     pub fn fails(&self, asked: &Asked<Answer>) -> bool
         ensures { result ≡ fails self.now asked.now.inputs asked.now.answer }

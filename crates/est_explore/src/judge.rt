@@ -3,19 +3,21 @@ ghost use Rattle.std.specs.Prelude.{◌≡◌, ◌<◌, ℕ, IfOk, MatchOption, 
 ghost use Rattle.std.specs.Prelude.{false};
 ghost use Rattle.state_search.specs.Table.{HasEnded};
 ghost use Rattle.state_search.specs.declared.found.Row.{Row as RowValue};
+ghost use Rattle.est_kernel.specs.Bits.{bits};
+ghost use Rattle.est_explore.specs.Claims.{IsClaimToldBy};
 ghost use Rattle.est_explore.specs.Explored.{IsExplored, fails};
 ghost use Rattle.est_explore.specs.Verdicts.{IsRight};
 ghost use Rattle.est_explore.specs.Views.{module_of};
-ghost use Rattle.est_explore.specs.declared.asked.Asked.{Asked as AskedValue};
+ghost use Rattle.est_cover.specs.declared.asked.Asked.{Asked as AskedValue};
 ghost use Rattle.est_explore.specs.declared.one_module.Answer.{Answer as AnswerValue};
 
-use crate::asked::Asked;
 use crate::claim::Claim;
-use crate::every::Every;
 use crate::one_module::{Answer, OneModule, Position};
 use crate::verdict::Verdict;
+use est_cover::asked::Asked;
+use est_cover::every::Every;
 use est_kernel::state::State;
-use est_rounds::engine::Engine;
+use est_rounds::part_engine::PartEngine;
 use state_search::found::{Found, Row};
 use state_search::search::{Limits, search};
 use state_search::word::word_to;
@@ -44,7 +46,7 @@ fn first_failure(rows: &[Row<Asked<Answer>>], claim: &Claim<'_>) -> Option<usize
 }
 
 /// Searches all that a module does, as far as the limits allow.
-pub fn explore<E: Engine>(
+pub fn explore<E: PartEngine>(
     alloc: Global,
     subject: &Every<'_, OneModule<'_, E>>,
     engine: &mut E,
@@ -54,7 +56,7 @@ pub fn explore<E: Engine>(
     ensures engine { E.is_for engine.new subject.now.reactive.now.kernel.now }
     ensures explored { IfOk result
         (IsExplored (module_of subject.now.reactive.now.kernel.now subject.now.relations.now
-        subject.now.among)) }
+        subject.now.among) (bits subject.now.watched)) }
     ensures ended { IfOk result (λ f.
         HasEnded limits.states limits.steps f.nodes.items f.rows.items f.done) }
 {
@@ -64,15 +66,17 @@ pub fn explore<E: Engine>(
     search(alloc, subject, engine, start, limits)
 }
 
-/// The verdict on a claim of a module, from what a search has found of it.
-pub fn judge<E: Engine>(
+/// The verdict on a claim of a module, from what a search has found of it. What the claim asks was
+/// asked of each row.
+pub fn judge<E: PartEngine>(
     alloc: Global,
     subject: &Every<'_, OneModule<'_, E>>,
     found: &Found<Position, Asked<Answer>>,
     claim: &Claim<'_>,
 ) -> Result<Verdict, AllocError>
     requires explored { IsExplored (module_of subject.now.reactive.now.kernel.now
-        subject.now.relations.now subject.now.among) found.now }
+        subject.now.relations.now subject.now.among) (bits subject.now.watched) found.now }
+    requires watched { IsClaimToldBy claim.now (bits subject.now.watched) }
     ensures { (states steps : ℕ) → HasEnded states steps found.now.nodes.items found.now.rows.items
         found.now.done
         → IfOk result (IsRight (module_of subject.now.reactive.now.kernel.now

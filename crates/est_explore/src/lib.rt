@@ -2,14 +2,10 @@
 //! instant, and whether two modules do the same.
 #![tactic(auto)]
 
-pub mod asked;
 pub mod claim;
-mod cover;
-pub mod every;
-mod input_sets;
 pub mod judge;
 pub mod one_module;
-pub mod reactive;
+pub mod reads;
 pub mod same;
 pub mod table;
 pub mod two_modules;

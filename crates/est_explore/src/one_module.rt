@@ -4,11 +4,11 @@ ghost use Rattle.std.proofs.Common.{rules};
 ghost use Rattle.est_meaning.specs.States.{IsState};
 ghost use Rattle.est_explore.specs.Inner.Answers.{AnswersSo};
 
-use crate::reactive::Reactive;
+use est_cover::reactive::Reactive;
 use est_kernel::interface::Interface;
 use est_kernel::kernel::Kernel;
 use est_kernel::state::{Inputs, State};
-use est_rounds::engine::Engine;
+use est_rounds::part_engine::{PartEngine, Unsettled};
 use state_search::machine::{Standing, Step};
 use std::marker::PhantomData;
 
@@ -38,7 +38,7 @@ pub struct OneModule<'a, E> {
     pub engine: PhantomData<E>,
 }
 
-impl<'a, E: Engine> Reactive for OneModule<'a, E> {
+impl<'a, E: PartEngine> Reactive for OneModule<'a, E> {
     type State = Position;
 
     type Answer = Answer;
@@ -73,6 +73,27 @@ impl<'a, E: Engine> Reactive for OneModule<'a, E> {
                 },
                 next: None,
             },
+        }
+    }
+
+    fn react_to_part(
+        &self,
+        engine: &mut E,
+        position: &Position,
+        asked: u64,
+        inputs: u64,
+    ) -> Result<Step<Position, Answer>, Unsettled> {
+        let inputs = Inputs { signals: inputs };
+        match engine.react_to_part(self.kernel, &position.state, asked, &inputs) {
+            Ok(outcome) => Ok(Step {
+                label: Answer::Reaction {
+                    outputs: outcome.outputs,
+                },
+                next: Some(Position {
+                    state: outcome.next,
+                }),
+            }),
+            Err(unsettled) => Err(unsettled),
         }
     }
 }

@@ -1,21 +1,22 @@
 //! Whether two modules do the same.
 ghost use Rattle.std.specs.Prelude.{◌≡◌, ◌<◌, ℕ, IfOk, MatchOption, slice_index_or, length, true};
 ghost use Rattle.std.specs.Prelude.{false};
+ghost use Rattle.est_kernel.specs.Bits.{bits};
 ghost use Rattle.state_search.specs.Table.{HasEnded};
 ghost use Rattle.state_search.specs.declared.found.Row.{Row as RowValue};
 ghost use Rattle.est_explore.specs.Inner.Pairs.{agree, AreFor};
 ghost use Rattle.est_explore.specs.ExploredBoth.{IsExploredBoth};
 ghost use Rattle.est_explore.specs.Comparisons.{IsRightOfBoth};
 ghost use Rattle.est_explore.specs.Views.{module_of};
-ghost use Rattle.est_explore.specs.declared.asked.Asked.{Asked as AskedValue};
+ghost use Rattle.est_cover.specs.declared.asked.Asked.{Asked as AskedValue};
 ghost use Rattle.est_explore.specs.declared.two_modules.Both.{Both as BothValue};
 
-use crate::asked::Asked;
-use crate::every::Every;
 use crate::one_module::Position;
 use crate::two_modules::{Both, Engines, Positions, TwoModules, agree};
+use est_cover::asked::Asked;
+use est_cover::every::Every;
 use est_kernel::state::State;
-use est_rounds::engine::Engine;
+use est_rounds::part_engine::PartEngine;
 use state_search::found::{Found, Row};
 use state_search::search::{Limits, search};
 use state_search::word::word_to;
@@ -59,7 +60,7 @@ fn first_difference(rows: &[Row<Asked<Both>>]) -> Option<usize>
 }
 
 /// Searches all that two modules do side by side, as far as the limits allow.
-pub fn explore_both<E: Engine, F: Engine>(
+pub fn explore_both<E: PartEngine, F: PartEngine>(
     alloc: Global,
     subject: &Every<'_, TwoModules<'_, E, F>>,
     engines: &mut Engines<E, F>,
@@ -72,7 +73,7 @@ pub fn explore_both<E: Engine, F: Engine>(
         (module_of subject.now.reactive.now.first.kernel.now subject.now.relations.now
         subject.now.among)
         (module_of subject.now.reactive.now.second.kernel.now subject.now.relations.now
-        subject.now.among)) }
+        subject.now.among) (bits subject.now.watched)) }
     ensures ended { IfOk result (λ f.
         HasEnded limits.states limits.steps f.nodes.items f.rows.items f.done) }
 {
@@ -87,7 +88,7 @@ pub fn explore_both<E: Engine, F: Engine>(
 }
 
 /// Whether two modules do the same, from what a search has found of them.
-pub fn compare<E: Engine, F: Engine>(
+pub fn compare<E: PartEngine, F: PartEngine>(
     alloc: Global,
     subject: &Every<'_, TwoModules<'_, E, F>>,
     found: &Found<Positions, Asked<Both>>,
@@ -98,7 +99,7 @@ pub fn compare<E: Engine, F: Engine>(
         (module_of subject.now.reactive.now.first.kernel.now subject.now.relations.now
         subject.now.among)
         (module_of subject.now.reactive.now.second.kernel.now subject.now.relations.now
-        subject.now.among) found.now }
+        subject.now.among) (bits subject.now.watched) found.now }
     ensures { (states steps : ℕ)
         → HasEnded states steps found.now.nodes.items found.now.rows.items found.now.done
         → IfOk result (IsRightOfBoth

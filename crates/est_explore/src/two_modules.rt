@@ -5,9 +5,9 @@ ghost use Rattle.est_explore.specs.Inner.Pairs.{AreFor, ArePositions, joined};
 ghost use Rattle.est_explore.specs.Inner.Pairs.{AnswersBoth, agree};
 
 use crate::one_module::{Answer, OneModule, Position};
-use crate::reactive::Reactive;
+use est_cover::reactive::Reactive;
 use est_kernel::interface::Interface;
-use est_rounds::engine::Engine;
+use est_rounds::part_engine::{PartEngine, Unsettled};
 use state_search::machine::{Standing, Step};
 
 /// What two modules answer to the same inputs.
@@ -63,7 +63,7 @@ fn joined(same: bool, first: Option<Position>, second: Option<Position>) -> Opti
     }
 }
 
-impl<'a, E: Engine, F: Engine> Reactive for TwoModules<'a, E, F> {
+impl<'a, E: PartEngine, F: PartEngine> Reactive for TwoModules<'a, E, F> {
     type State = Positions;
 
     type Answer = Both;
@@ -101,5 +101,28 @@ impl<'a, E: Engine, F: Engine> Reactive for TwoModules<'a, E, F> {
             },
             next: joined(same, first.next, second.next),
         }
+    }
+
+    fn react_to_part(
+        &self,
+        engines: &mut Engines<E, F>,
+        at: &Positions,
+        asked: u64,
+        inputs: u64,
+    ) -> Result<Step<Positions, Both>, Unsettled> {
+        let first = self
+            .first
+            .react_to_part(&mut engines.first, &at.first, asked, inputs)?;
+        let second = self
+            .second
+            .react_to_part(&mut engines.second, &at.second, asked, inputs)?;
+        let same = agree(first.label, second.label);
+        Ok(Step {
+            label: Both {
+                first: first.label,
+                second: second.label,
+            },
+            next: joined(same, first.next, second.next),
+        })
     }
 }

@@ -1,6 +1,6 @@
 //! What is answered to a claim.
-use crate::asked::Asked;
 use crate::one_module::Answer;
+use est_cover::asked::Asked;
 
 /// What is answered to a claim.
 #[derive(Drop)]

@@ -51,7 +51,7 @@ pub same_node_of : {P : Type 0} (g h : Status) (a b m n : Codes) (x y : P) → g
 same_node_of g h a b m n x y e f i j =
     ap (λ z. node z a m x) e ∙ (ap (λ z. node h z m x) f ∙ (ap (λ z. node h b z x) i ∙ ap (λ z. node h b n z) j))
 
-node_same : {P : Type 0} (f g : ℕ → Status) (c t : ℕ) (x y : P) → Same c (c + t + 3) f g → x ≡ y
+pub node_same : {P : Type 0} (f g : ℕ → Status) (c t : ℕ) (x y : P) → Same c (c + t + 3) f g → x ≡ y
     → node_in f c t x ≡ node_in g c t y
 node_same f g c t x y h e = same_node_of (f c) (g c) _ _ _ _ x y (h c (omega arith) (omega arith))
     (sure_same f g (c + 1) (t + 2) (λ i l u. h i (omega arith) (omega arith)))

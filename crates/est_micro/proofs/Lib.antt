@@ -23,3 +23,7 @@ mod PartReactions
 mod Collecting
 mod IdleSheets
 mod Hearing
+mod Passing
+mod PassingOn
+mod PassRounds
+mod PassedNodes

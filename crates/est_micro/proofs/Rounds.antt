@@ -57,7 +57,7 @@ sheet_swept_quiet way s (Paused p) e l T k z c q =
     live_swept_quiet way s (pauses_of p) Present Present e l T (inr refl) k z c q
 
 -- what is surely emitted is present in the last round, where the cells leave it open
-last_heard : (j : JudgedSignals) → IsWithinPlaces j → (inputs : ℕ → Bool) (outputs : ℕ → Status) (s : Statement)
+pub last_heard : (j : JudgedSignals) → IsWithinPlaces j → (inputs : ℕ → Bool) (outputs : ℕ → Status) (s : Statement)
     (x : State)
     → let e = last_env j inputs (state_term s x) in
     Heard (emits is_sure true s (sheet_meaning s x e)) e (known j inputs outputs)
@@ -121,7 +121,7 @@ may_be i inputs n h = go (emittable i n) (inputs n) h refl
     go true b h e = sym e
     go false b h e = let z : false ≡ true = h in cc
 
-set_at : (a : SignalSet) (f : Signals) (n : ℕ) → set_of a ≡ f → bits a.interface n ≡ f (outer n)
+pub set_at : (a : SignalSet) (f : Signals) (n : ℕ) → set_of a ≡ f → bits a.interface n ≡ f (outer n)
 unfolding set_of
 set_at a f n e = ap (λ (g : Signals). g (outer n)) e
 

@@ -34,7 +34,7 @@ use Rattle.est_rounds.specs.declared.signal_set.Env.{Env as Known}
 use Rattle.est_micro.specs.declared.direction.Direction.{Direction}
 use Rattle.est_micro.specs.Parts.{AreInputsAlone, IsClosedBut, known_but}
 use Rattle.est_micro.specs.Runs.{AreOfferedTrue, output_cells, output_gate, IsExchanged, IsRound, IsSettled}
-use Rattle.est_micro.specs.Runs.{IsSettledBut, table_of}
+use Rattle.est_micro.specs.Runs.{IsSettledBut, Ready, table_of}
 use Rattle.est_micro.specs.declared.cells.Found.{Found}
 use Rattle.est_micro.specs.declared.run.Settled.{Settled}
 use Rattle.est_micro.proofs.Exchanging.{emittable_within}
@@ -49,15 +49,6 @@ use Rattle.est_micro.proofs.Rounds.{gate_is}
 pub within_places : (i : List Declaration) (inputs : ℕ → Bool) → IsWithinPlaces (judged_signals i inputs)
 within_places i inputs n h = emittable_within i n (may_be i inputs n h)
 
--- what holds before a round, where some inputs are not asked
-pub record Ready (unasked : ℕ → Bool) (k : Kernel) (x : State) (inputs : ℕ → Bool) (cells : List Status)
-    (env : Known) : Type 0 where
-  pub size : length cells ≡ cell_count k
-  pub sound : TableBelow (judged_signals k.interface inputs) k.root (table_of k.interface k.root cells)
-      (table_meaning (judged_signals k.interface inputs) inputs k.root x)
-  pub knows : env_of env ≡ known_but unasked k.interface inputs (output_cells k.interface cells)
-  pub offered : AreOfferedTrue k.interface inputs cells
-
 -- what holds after one
 pub record Settling (unasked : ℕ → Bool) (k : Kernel) (x : State) (inputs : ℕ → Bool) (before now : ℕ)
     (cells : List Status) (found : Found) (env : Known) : Type 0 where
@@ -68,7 +59,7 @@ pub record Settling (unasked : ℕ → Bool) (k : Kernel) (x : State) (inputs : 
   pub rest : now ≡ before → IsClosedBut unasked k.interface inputs k.root x (table_of k.interface k.root cells)
 
 -- a signal that was offered is told to be present, and what is present stays so
-told_offered : (inputs sure possible : ℕ → Bool) (n : ℕ) → inputs n ≡ true
+pub told_offered : (inputs sure possible : ℕ → Bool) (n : ℕ) → inputs n ≡ true
     → learned Unknown (output_gate inputs sure possible n) ≡ Present
 told_offered inputs sure possible n h = rw h refl
 

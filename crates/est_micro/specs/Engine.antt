@@ -1,5 +1,5 @@
 -- What the engine promises beside the contract of every engine (this project's own form).
-use Rattle.std.specs.Prelude.{◌≡◌, ℕ, Bool, List, length}
+use Rattle.std.specs.Prelude.{◌≡◌, ℕ, Bool, true, List, length}
 use Rattle.est_kernel.specs.Bits.{bits}
 use Rattle.est_kernel.specs.Interfaces.{emittable}
 use Rattle.est_kernel.specs.declared.kernel.Kernel.{Kernel}
@@ -12,6 +12,7 @@ use Rattle.est_cells.specs.Decided.{IsReactionOf, TableDecided}
 use Rattle.est_cells.specs.Whole.{TableBelow, table_meaning}
 use Rattle.est_meaning.specs.Rounds.{judged_signals}
 use Rattle.est_net.specs.Cells.{decided}
+use Rattle.est_net.specs.Emissions.{emissions}
 use Rattle.est_net.specs.Extents.{HasExtents}
 use Rattle.est_net.specs.Layout.{cell_count, output_count}
 use Rattle.est_net.specs.Reach.{IsReachOf}
@@ -25,6 +26,7 @@ pub record IsNetOf (net : Net) (k : Kernel) : Type 0 where
   pub outputs : net.outputs ≡ output_count k.interface
   pub reach : IsReachOf net.reach k.root
   pub extents : HasExtents net.extents.items 0 0 k.root
+  pub emissions : net.emissions.items ≡ emissions true k.root (output_count k.interface) 0
 
 -- every cell is decided, with its value in the reaction; a signal that was offered is present
 pub record HasValues (k : Kernel) (x : State) (inputs : ℕ → Bool) (cells : List Status) : Type 0 where

@@ -10,3 +10,4 @@ pub mod Outcomes
 pub mod Waiting
 pub mod Unsettled
 pub mod Pausing
+pub mod Passes

@@ -67,6 +67,15 @@ abbrev pub AreOfferedTrue : List Declaration → (ℕ → Bool) → List Status 
 AreOfferedTrue i inputs cells = (n : ℕ) → n < length i → emittable i n ≡ true → inputs n ≡ true
     → output_cells i cells n ≡ Present
 
+-- what holds before a round, where some inputs are not asked
+pub record Ready (unasked : ℕ → Bool) (k : Kernel) (x : State) (inputs : ℕ → Bool) (cells : List Status)
+    (env : Known) : Type 0 where
+  pub size : length cells ≡ cell_count k
+  pub sound : TableBelow (judged_signals k.interface inputs) k.root (table_of k.interface k.root cells)
+      (table_meaning (judged_signals k.interface inputs) inputs k.root x)
+  pub knows : env_of env ≡ known_but unasked k.interface inputs (output_cells k.interface cells)
+  pub offered : AreOfferedTrue k.interface inputs cells
+
 -- nothing more can be decided: each cell that is decided is as the meaning says, the gates decide nothing more, and
 -- this is what the cells say
 pub record IsSettled (k : Kernel) (x : State) (inputs : ℕ → Bool) (cells : List Status) (r : Found) : Type 0 where

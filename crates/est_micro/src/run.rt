@@ -9,6 +9,7 @@ ghost use Rattle.est_kernel.specs.Masks.{FitsMasks};
 ghost use Rattle.est_kernel.specs.View.{term_of};
 ghost use Rattle.est_meaning.specs.States.{IsState};
 ghost use Rattle.est_cells.specs.Tables.{sheet_size};
+ghost use Rattle.est_net.specs.Emissions.{emissions};
 ghost use Rattle.est_net.specs.Extents.{HasExtents};
 ghost use Rattle.est_net.specs.Kept.{kept, reopened};
 ghost use Rattle.est_net.specs.Layout.{cell_count, output_count};
@@ -22,6 +23,7 @@ use crate::begin::begin;
 use crate::cells::{Found, Place};
 use crate::direction::Direction;
 use crate::outputs::{exchange, in_doubt};
+use crate::passes::{newly_decided, pass_all};
 use crate::resume::resume;
 use est_kernel::kernel::Kernel;
 use est_kernel::state::State;
@@ -109,14 +111,27 @@ fn goes_on(now: usize, before: usize, cells: usize) -> bool
     now != before && now != cells
 }
 
-/// Which way to sweep next: a sweep that decided less than half, rounded down, of the open cells is
-/// followed by one the other way. The first sweep of an instant has 0 `before` it: what was decided
-/// at the beginning counts with it.
+/// Whether a sweep decided less than half, rounded down, of the open cells. The first sweep of an
+/// instant has 0 `before` it: what was decided at the beginning counts with it.
+fn is_slow(now: usize, before: usize, cells: usize) -> bool {
+    now.saturating_sub(before) < cells.saturating_sub(before) / 2
+}
+
+/// Which way to sweep next: a sweep that was slow is followed by one the other way.
 fn next_direction(direction: Direction, now: usize, before: usize, cells: usize) -> Direction {
-    if now.saturating_sub(before) < cells.saturating_sub(before) / 2 {
+    if is_slow(now, before, cells) {
         direction.turned()
     } else {
         direction
+    }
+}
+
+/// The signals that lead a pass: after a sweep that was slow, those that the last round decided.
+fn to_pass(was: &Env, env: &Env, now: usize, before: usize, cells: usize) -> u64 {
+    if is_slow(now, before, cells) {
+        newly_decided(was, env)
+    } else {
+        0
     }
 }
 
@@ -138,6 +153,8 @@ pub fn settle(
     requires size { length net.old.cells.items ≡ cell_count kernel.now }
     requires signals { bits net.old.signals ≡ emittable kernel.now.interface }
     requires extents { HasExtents net.old.extents.items 0 0 kernel.now.root }
+    requires emissions { net.old.emissions.items
+        ≡ emissions true kernel.now.root (output_count kernel.now.interface) 0 }
     requires possible { HasEmissions kernel.now.root state.now (bits possible) }
     requires apart { AreInputsAlone kernel.now.interface (bits unasked) }
     ensures size { length net.new.cells.items ≡ cell_count kernel.now }
@@ -151,13 +168,19 @@ pub fn settle(
     let mut env = exchange(net, kernel, inputs, unasked, &doubt);
     let mut before = 0;
     let mut direction = first;
+    let mut was = env;
     let mut found = round(
         net, kernel, outputs, state, inputs, unasked, &mut env, direction,
     );
     let mut now = net.steps();
     while goes_on(now, before, cells) {
         direction = next_direction(direction, now, before, cells);
-        before = now;
+        let fresh = to_pass(&was, &env, now, before, cells);
+        pass_all(
+            net, kernel, outputs, state, inputs, unasked, &mut env, fresh,
+        );
+        before = net.steps();
+        was = env;
         found = round(
             net, kernel, outputs, state, inputs, unasked, &mut env, direction,
         );

@@ -9,3 +9,4 @@ mod OwnerCells
 mod OwnerCounts
 mod OwnerLists
 mod OwnerValues
+pub mod EmissionLists

@@ -1,6 +1,7 @@
 -- What a write leaves of a table (this project's own form).
 use Rattle.std.specs.Prelude.{ℕ, ◌+◌, ◌%◌, ◌^◌, List}
 use Rattle.est_net.specs.Cells.{decided}
+use Rattle.est_net.specs.declared.emissions.Emission.{Emission}
 use Rattle.est_net.specs.declared.extents.Extent.{Extent}
 use Rattle.est_net.specs.declared.net.Net.{Net}
 use Rattle.est_net.specs.declared.reach.Reach.{Reach}
@@ -12,6 +13,7 @@ pub record Kept : Type 0 where
   pub outputs : ℕ
   pub reach : Reach
   pub extents : List Extent
+  pub emissions : List Emission
 
 abbrev pub kept : Net → Kept
 kept net = record {
@@ -20,6 +22,7 @@ kept net = record {
   outputs = net.outputs;
   reach = net.reach;
   extents = net.extents.items;
+  emissions = net.emissions.items;
 }
 
 -- what is left of it once its cells are opened: those that were decided count among the earlier ones
@@ -30,4 +33,5 @@ reopened net = record {
   outputs = net.outputs;
   reach = net.reach;
   extents = net.extents.items;
+  emissions = net.emissions.items;
 }

@@ -8,7 +8,9 @@ ghost use Rattle.est_net.specs.Owners.{statements};
 ghost use Rattle.est_net.specs.Inner.Extending.{ArePartsAdded, IsExtended};
 
 use crate::pause_run::PauseRun;
-use est_kernel::statement::{PauseIndex, Statement};
+use crate::reading::read_by;
+use est_kernel::mask;
+use est_kernel::statement::{PauseIndex, Statement, Test};
 use std::alloc::{AllocError, Global};
 
 /// What is known of a statement before any instant.
@@ -22,6 +24,8 @@ pub struct Extent {
     pub statements: usize,
     /// Its pauses, where their numbers are a run.
     pub pauses: Option<PauseRun>,
+    /// The signals of the interface that tests in it read, a bit for each.
+    pub reads: u64,
 }
 
 impl Extent {
@@ -86,6 +90,20 @@ fn leaf(cells: usize, pauses: PauseRun) -> Extent
         again: cells,
         statements: 1,
         pauses: Some(pauses),
+        reads: 0,
+    }
+}
+
+/// What is known of a statement whose own test is this one, and of which the rest is known.
+fn with_test(rest: Extent, test: &Test) -> Extent
+    ensures main { result.main ≡ rest.main }
+    ensures again { result.again ≡ rest.again }
+    ensures statements { result.statements ≡ rest.statements }
+    ensures pauses { result.pauses ≡ rest.pauses }
+{
+    Extent {
+        reads: mask::either(rest.reads, read_by(test)),
+        ..rest
     }
 }
 
@@ -104,6 +122,7 @@ fn with_part(own: usize, p: &Extent) -> Extent
         again: own + p.again,
         statements: 1 + p.statements,
         pauses: p.pauses,
+        reads: p.reads,
     }
 }
 
@@ -121,11 +140,13 @@ fn with_body(own: usize, p: &Extent) -> Extent
         again: own + p.again,
         statements: 1 + p.statements,
         pauses: p.pauses,
+        reads: p.reads,
     }
 }
 
-/// What is known of a statement that has these cells of its own and these two parts.
-fn with_parts(own: usize, p: &Extent, q: &Extent) -> Extent
+/// What is known of a statement that has these cells of its own and these two parts, and whose own
+/// test, if it has one, reads these signals.
+fn with_parts(own: usize, p: &Extent, q: &Extent, reads: u64) -> Extent
     requires main { own + p.now.main + q.now.main ≤ 18446744073709551615 }
     requires again { own + p.now.again + q.now.again ≤ 18446744073709551615 }
     requires statements { 1 + p.now.statements + q.now.statements ≤ 18446744073709551615 }
@@ -141,6 +162,7 @@ fn with_parts(own: usize, p: &Extent, q: &Extent) -> Extent
         again: own + p.again + q.again,
         statements: 1 + p.statements + q.statements,
         pauses: joined(p.pauses, q.pauses),
+        reads: mask::either(reads, mask::either(p.reads, q.reads)),
     }
 }
 
@@ -158,12 +180,12 @@ fn add_parts(extents: &mut Vec<Extent>, s: &Statement, traps: usize) -> Result<E
         Statement::Emit(_) => Ok(leaf(traps + 3, no_pause())),
         Statement::Exit(_) => Ok(leaf(traps + 3, no_pause())),
         Statement::Pause(pause) => Ok(leaf(traps + 3, one_pause(*pause))),
-        Statement::Present(_, p, q) => add_two(extents, p, q, traps),
-        Statement::Seq(p, q) => add_two(extents, p, q, traps),
-        Statement::Par(p, q) => add_two(extents, p, q, traps),
-        Statement::Suspend(_, p) => {
+        Statement::Present(test, p, q) => add_two(extents, p, q, traps, read_by(test)),
+        Statement::Seq(p, q) => add_two(extents, p, q, traps, 0),
+        Statement::Par(p, q) => add_two(extents, p, q, traps, 0),
+        Statement::Suspend(test, p) => {
             let body = add(extents, p, traps)?;
-            Ok(with_part(traps + 3, &body))
+            Ok(with_test(with_part(traps + 3, &body), test))
         }
         Statement::Loop(p) => {
             let body = add(extents, p, traps)?;
@@ -181,13 +203,14 @@ fn add_parts(extents: &mut Vec<Extent>, s: &Statement, traps: usize) -> Result<E
 }
 
 /// Adds the entries of two parts, or memory was refused. Answers what is known of the statement
-/// that has these parts.
+/// that has these parts, and whose own test, if it has one, reads these signals.
 #[cycle(add)]
 fn add_two(
     extents: &mut Vec<Extent>,
     p: &Statement,
     q: &Statement,
     traps: usize,
+    reads: u64,
 ) -> Result<Extent, AllocError>
     requires main { traps + 3 + sheet_size true p.now traps + sheet_size true q.now traps
         ≤ 18446744073709551615 }
@@ -203,7 +226,7 @@ fn add_two(
 {
     let first = add(extents, p, traps)?;
     let second = add(extents, q, traps)?;
-    Ok(with_parts(traps + 3, &first, &second))
+    Ok(with_parts(traps + 3, &first, &second, reads))
 }
 
 /// Adds the entries of a statement and of its parts, or memory was refused. Answers its own.

@@ -1,5 +1,6 @@
 //! The laws of the list of owners.
 
+ghost use Rattle.est_net.specs.Emissions.{EmissionsAreListed};
 ghost use Rattle.est_net.specs.Laws.{OwnersAreCounted, EachOwnerHasOneCell, StatementsHaveCells};
 ghost use Rattle.est_net.specs.Laws.{OwnersAreRead};
 
@@ -23,4 +24,10 @@ pub fn statements_have_cells()
 /// In the table read off a list of cells, the cell of an owner is the one at the owner's place.
 pub fn owners_are_read()
     ensures { OwnersAreRead }
+{}
+
+/// In a sheet that is read off a list of cells, a signal is emitted where the go cell of one of its
+/// emissions passes the test.
+pub fn emissions_are_listed()
+    ensures { EmissionsAreListed }
 {}

@@ -6,6 +6,7 @@
 //! all of them open. A cell is decided once, by one assignment, which changes no other cell.
 #![tactic(auto)]
 
+pub mod emissions;
 pub mod extents;
 pub mod laws;
 mod lay;
@@ -13,4 +14,5 @@ pub mod net;
 pub mod owners;
 pub mod pause_run;
 pub mod reach;
+mod reading;
 mod table;

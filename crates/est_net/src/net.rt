@@ -1,17 +1,21 @@
 //! The table of cells of a kernel.
 
 ghost use Rattle.std.specs.Prelude.{◌≡◌, ◌↔◌, ◌<◌, ◌≤◌, ◌+◌, ◌%◌, ◌^◌, true, length, set};
-ghost use Rattle.std.specs.Prelude.{Some, IfOk, option_map, replicate, slice_get};
+ghost use Rattle.std.specs.Prelude.{ℕ, Some, IfOk, option_map, replicate, slice_get};
+ghost use Rattle.std.specs.List.{list_any};
 ghost use Rattle.est_kernel.specs.Bits.{bits};
 ghost use Rattle.est_kernel.specs.Interfaces.{emittable};
 ghost use Rattle.est_meaning.specs.Rounds.{how_many};
 ghost use Rattle.est_meaning.specs.declared.status.Status.TheVariants.{Unknown};
+ghost use Rattle.est_cells.specs.Tables.{is_possible, is_sure};
 ghost use Rattle.est_net.specs.Cells.{AllDecided, AllOpen, AreFalse, NoneTrue, cell_at, decided};
 ghost use Rattle.est_net.specs.Cells.{is_known, known_as, value_of};
+ghost use Rattle.est_net.specs.Emissions.{emissions, is_of};
 ghost use Rattle.est_net.specs.Extents.{HasExtents, extent_at};
 ghost use Rattle.est_net.specs.Layout.{cell_count, output_count};
 ghost use Rattle.est_net.specs.Reach.{IsReachOf};
 
+use crate::emissions::{Emission, Emitted, emissions_of};
 use crate::extents::{Extent, extents_of};
 use crate::lay::lay;
 use crate::reach::Reach;
@@ -38,6 +42,8 @@ pub struct Net {
     reach: Reach,
     /// What is known of each statement, in the order of the text.
     extents: Vec<Extent>,
+    /// The emissions of signals of the interface, in the order of their cells.
+    emissions: Vec<Emission>,
     /// All others are decided.
     ghost counted: { decided cells.items + left_open ≡ length cells.items },
 }
@@ -79,6 +85,8 @@ impl Net {
         ensures outputs { IfOk result (λ net. net.outputs ≡ output_count kernel.now.interface) }
         ensures reach { IfOk result (λ net. IsReachOf net.reach kernel.now.root) }
         ensures extents { IfOk result (λ net. HasExtents net.extents.items 0 0 kernel.now.root) }
+        ensures emissions { IfOk result (λ net. net.emissions.items
+            ≡ emissions true kernel.now.root (output_count kernel.now.interface) 0) }
     {
         let signals = kernel.interface().emittable();
         let outputs = rank(signals, kernel.interface().len());
@@ -87,6 +95,7 @@ impl Net {
         table::open_all(cells.as_mut_slice());
         let reach = Reach::of(alloc, kernel.root())?;
         let extents = extents_of(alloc, kernel.root())?;
+        let emissions = emissions_of(alloc, kernel.root(), outputs)?;
         Ok(Net {
             left_open: cells.len(),
             cells,
@@ -95,6 +104,7 @@ impl Net {
             outputs,
             reach,
             extents,
+            emissions,
         })
     }
 
@@ -133,6 +143,33 @@ impl Net {
         ensures { result.now ≡ extent_at self.now.extents.items number }
     {
         &self.extents[number]
+    }
+
+    /// What a cell knows. One that isn't there is never true.
+    #[inline(always)]
+    fn known(&self, cell: usize) -> Status
+        ensures { result ≡ cell_at self.now.cells.items cell }
+    {
+        if cell < self.cells.len() {
+            self.cells[cell]
+        } else {
+            Status::Absent
+        }
+    }
+
+    /// Which signals of the interface are emitted, by the go cells of their emissions.
+    pub fn emitted(&self) -> Emitted
+        ensures sure { (n : ℕ) → bits result.sure n
+            ≡ list_any (is_of is_sure (cell_at self.now.cells.items) n) self.now.emissions.items }
+        ensures possible { (n : ℕ) → bits result.possible n
+            ≡ list_any (is_of is_possible (cell_at self.now.cells.items) n)
+            self.now.emissions.items }
+    {
+        let mut said = Emitted::nothing();
+        for emission in &self.emissions {
+            said = said.beside(emission.signal, self.known(emission.go));
+        }
+        said
     }
 
     /// How many cells are decided.

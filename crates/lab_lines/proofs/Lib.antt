@@ -2,3 +2,4 @@ pub mod NameLemmas
 pub mod PauseLemmas
 pub mod RequestLemmas
 pub mod ToldLemmas
+pub mod WatchLemmas

@@ -1,10 +1,10 @@
 -- What is answered of all runs of two modules (this project's own form).
-use Rattle.std.specs.Prelude.{◌≡◌, ℕ, length}
+use Rattle.std.specs.Prelude.{◌≡◌, ℕ, Bool, length}
 use Rattle.serde_json.specs.Data.{Data}
 use Rattle.est_explore.specs.Comparisons.{IsRightOfBoth}
 use Rattle.est_explore.specs.ExploredBoth.{IsExploredBoth}
 use Rattle.est_explore.specs.Runs.{Module}
-use Rattle.est_explore.specs.declared.asked.Asked.{Asked}
+use Rattle.est_cover.specs.declared.asked.Asked.{Asked}
 use Rattle.est_explore.specs.declared.same.Comparison.{Comparison}
 use Rattle.est_explore.specs.declared.two_modules.Both.{Both}
 use Rattle.est_explore.specs.declared.two_modules.Positions.{Positions}
@@ -15,7 +15,8 @@ use Rattle.lab_lines.specs.Told.{comparison_json}
 -- the same
 pub record IsComparison (m l : Module) (states steps : ℕ) (d : Data) : Type 0 where
   pub found : Found Positions (Asked Both)
-  pub explored : IsExploredBoth m l found
+  pub watched : ℕ → Bool
+  pub explored : IsExploredBoth m l watched found
   pub comparison : Comparison
   pub right : IsRightOfBoth m l states steps comparison
   pub said : d ≡ comparison_json m.kernel.interface (length found.rows.items) (length found.nodes.items) comparison

@@ -1,11 +1,11 @@
 -- What is answered of all runs of a module (this project's own form).
-use Rattle.std.specs.Prelude.{◌≡◌, ℕ, List, [], ◌∷◌, length}
+use Rattle.std.specs.Prelude.{◌≡◌, ℕ, Bool, List, [], ◌∷◌, length}
 use Rattle.serde_json.specs.Data.{Data}
 use Rattle.est_kernel.specs.declared.statement.Test.{Test}
 use Rattle.est_explore.specs.Explored.{IsExplored}
 use Rattle.est_explore.specs.Runs.{Module}
 use Rattle.est_explore.specs.Verdicts.{IsRight}
-use Rattle.est_explore.specs.declared.asked.Asked.{Asked}
+use Rattle.est_cover.specs.declared.asked.Asked.{Asked}
 use Rattle.est_explore.specs.declared.claim.Claim.{Claim}
 use Rattle.est_explore.specs.declared.claim.Claim.TheVariants.{NeverStuck, Always}
 use Rattle.est_explore.specs.declared.one_module.Answer.{Answer}
@@ -41,7 +41,8 @@ AreTold m states steps _ _ = ⊥
 -- never Stuck, and that on each test in turn
 pub record IsExploration (m : Module) (tests : List Test) (states steps : ℕ) (d : Data) : Type 0 where
   pub found : Found Position (Asked Answer)
-  pub explored : IsExplored m found
+  pub watched : ℕ → Bool
+  pub explored : IsExplored m watched found
   pub stuck : Data
   pub stuck_told : IsTold m NeverStuck states steps stuck
   pub verdicts : List Data

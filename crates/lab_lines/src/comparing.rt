@@ -8,11 +8,11 @@ ghost use Rattle.lab_lines.specs.Comparing.{IsComparison};
 ghost use Rattle.lab_lines.specs.Told.{comparison_json};
 
 use crate::told::word_of_both;
-use est_explore::every::Every;
+use est_cover::every::Every;
 use est_explore::same::{Comparison, compare, explore_both};
 use est_explore::two_modules::{Engines, TwoModules};
 use est_kernel::interface::{Declaration, Interface};
-use est_rounds::engine::Engine;
+use est_rounds::part_engine::PartEngine;
 use serde_json::{Value, json};
 use state_search::search::Limits;
 use std::alloc::{AllocError, Global};
@@ -73,7 +73,7 @@ fn comparison_told(
 }
 
 /// Whether two modules do the same.
-pub fn compare_modules<E: Engine, F: Engine>(
+pub fn compare_modules<E: PartEngine, F: PartEngine>(
     alloc: Global,
     subject: &Every<'_, TwoModules<'_, E, F>>,
     engines: &mut Engines<E, F>,

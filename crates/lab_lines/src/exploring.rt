@@ -1,8 +1,11 @@
 //! Claims are judged over all runs of a module.
 
 ghost use Rattle.std.specs.Prelude.{◌≡◌, IfOk, map};
+ghost use Rattle.std.specs.List.{All};
 ghost use Rattle.serde_json.specs.View.{view};
 ghost use Rattle.state_search.specs.Table.{HasEnded};
+ghost use Rattle.est_kernel.specs.Bits.{bits};
+ghost use Rattle.est_explore.specs.Claims.{IsToldBy};
 ghost use Rattle.est_explore.specs.Explored.{IsExplored};
 ghost use Rattle.est_explore.specs.Views.{module_of};
 ghost use Rattle.lab_lines.specs.Tests.{test_of};
@@ -11,72 +14,55 @@ ghost use Rattle.lab_lines.specs.Told.{exploration_json};
 
 use crate::asked_test::AskedTest;
 use crate::told::verdict;
-use est_explore::asked::Asked;
+use est_cover::asked::Asked;
+use est_cover::every::Every;
 use est_explore::claim::Claim;
-use est_explore::every::Every;
 use est_explore::judge::{explore, judge};
 use est_explore::one_module::{Answer, OneModule, Position};
-use est_explore::verdict::Verdict;
-use est_rounds::engine::Engine;
+use est_explore::reads::signals_of;
+use est_kernel::mask;
+use est_rounds::part_engine::PartEngine;
 use serde_json::{Value, json};
 use state_search::found::Found;
 use state_search::search::Limits;
 use std::alloc::{AllocError, Global};
 
-/// What is found of all claims together.
-#[derive(Clone, Copy, PartialEq, Eq, Debug)]
-pub enum Outcome {
-    /// Each holds.
-    Holds,
-    /// None fails, and of some it is not known: there are too many states or reactions.
-    TooMany,
-    /// One fails.
-    Fails,
-}
-
-/// What claims are answered, and what is found of them together.
-#[derive(Drop)]
-pub struct Judged {
-    pub answer: Value,
-    pub outcome: Outcome,
-}
-
-/// What is found with one verdict more.
-fn with_verdict(outcome: Outcome, verdict: &Verdict) -> Outcome {
-    match (outcome, verdict) {
-        (Outcome::Fails, _) | (_, Verdict::Fails { .. }) => Outcome::Fails,
-        (Outcome::TooMany, _) | (_, Verdict::TooMany) => Outcome::TooMany,
-        (Outcome::Holds, Verdict::Holds) => Outcome::Holds,
+/// The signals that tell the tests.
+fn watched_by(tests: &[AskedTest]) -> u64
+    ensures { All (λ t. IsToldBy (test_of t) (bits result)) tests.now }
+{
+    let mut signals = 0;
+    for test in tests {
+        signals = mask::either(signals, signals_of(test.test()));
     }
+    signals
 }
 
-/// The verdicts on tests, and what is found of them and of `outcome` together.
-fn judge_tests<E: Engine>(
+/// The verdicts on tests.
+fn judge_tests<E: PartEngine>(
     alloc: Global,
     subject: &Every<'_, OneModule<'_, E>>,
     found: &Found<Position, Asked<Answer>>,
     tests: &[AskedTest],
-    outcome: Outcome,
     limits: Limits,
-) -> Result<(Vec<Value>, Outcome), AllocError>
+) -> Result<Vec<Value>, AllocError>
     requires explored { IsExplored (module_of subject.now.reactive.now.kernel.now
-        subject.now.relations.now subject.now.among) found.now }
+        subject.now.relations.now subject.now.among) (bits subject.now.watched) found.now }
+    requires watched { All (λ t. IsToldBy (test_of t) (bits subject.now.watched)) tests.now }
     requires ended { HasEnded limits.states limits.steps found.now.nodes.items found.now.rows.items
         found.now.done }
     ensures { IfOk result (λ told. AreTold (module_of subject.now.reactive.now.kernel.now
         subject.now.relations.now subject.now.among) limits.states limits.steps
-        (map test_of tests.now) (map view told.0.items)) }
+        (map test_of tests.now) (map view told.items)) }
 {
-    let mut outcome = outcome;
     let mut verdicts = Vec::new(alloc);
     for test in tests {
         let claim = Claim::Always(test.test());
         let given = judge(alloc, subject, found, &claim)?;
         let told = verdict(alloc, subject.reactive.kernel.interface(), &given)?;
         verdicts.push(told)?;
-        outcome = with_verdict(outcome, &given);
     }
-    Ok((verdicts, outcome))
+    Ok(verdicts)
 }
 
 /// What is found of a module.
@@ -100,25 +86,30 @@ fn exploration_told(
 }
 
 /// The verdicts on a module: whether it is ever Stuck, and whether the tests always hold.
-pub fn judge_module<E: Engine>(
+pub fn judge_module<E: PartEngine>(
     alloc: Global,
     subject: &Every<'_, OneModule<'_, E>>,
     engine: &mut E,
     tests: &[AskedTest],
     limits: Limits,
-) -> Result<Judged, AllocError>
+) -> Result<Value, AllocError>
     requires engine { E.is_for engine.old subject.now.reactive.now.kernel.now }
-    ensures { IfOk result (λ judged. IsExploration (module_of subject.now.reactive.now.kernel.now
+    ensures { IfOk result (λ v. IsExploration (module_of subject.now.reactive.now.kernel.now
         subject.now.relations.now subject.now.among) (map test_of tests.now) limits.states
-        limits.steps (view judged.answer)) }
+        limits.steps (view v)) }
 {
-    let found = explore(alloc, subject, engine, limits)?;
-    let given = judge(alloc, subject, &found, &Claim::NeverStuck)?;
+    let watching = Every {
+        reactive: subject.reactive,
+        relations: subject.relations,
+        among: subject.among,
+        watched: watched_by(tests),
+    };
+    let found = explore(alloc, &watching, engine, limits)?;
+    let given = judge(alloc, &watching, &found, &Claim::NeverStuck)?;
     let stuck = verdict(alloc, subject.reactive.kernel.interface(), &given)?;
-    let outcome = with_verdict(Outcome::Holds, &given);
-    let (verdicts, outcome) = judge_tests(alloc, subject, &found, tests, outcome, limits)?;
+    let verdicts = judge_tests(alloc, &watching, &found, tests, limits)?;
     let reactions = found.rows.len();
     let states = found.nodes.len();
-    let answer = exploration_told(alloc, reactions, states, stuck, verdicts)?;
-    Ok(Judged { answer, outcome })
+    let told = exploration_told(alloc, reactions, states, stuck, verdicts)?;
+    Ok(told)
 }

@@ -1,6 +1,6 @@
 //! The closed table of a module, as JSON.
 
-ghost use Rattle.std.specs.Prelude.{◌≡◌, ◌⊎◌, ℕ, IfOk, codes, map};
+ghost use Rattle.std.specs.Prelude.{◌≡◌, ◌⊎◌, IfOk, codes, map};
 ghost use Rattle.serde_json.specs.Data.{array, member, no_members, number};
 ghost use Rattle.serde_json.specs.Data.{object, string, unsigned};
 ghost use Rattle.serde_json.specs.View.{items_of, view};
@@ -10,18 +10,17 @@ ghost use Rattle.lab_lines.specs.Tables.{IsTableTold, IsTooLarge, node_json, pla
 ghost use Rattle.lab_lines.specs.Tables.{state_json};
 
 use crate::told::names;
-use est_explore::asked::Asked;
-use est_explore::every::Every;
+use est_cover::asked::Asked;
+use est_cover::every::Every;
 use est_explore::judge::explore;
 use est_explore::one_module::{Answer, OneModule, Position};
 use est_explore::table::is_closed;
 use est_kernel::interface::Interface;
 use est_kernel::limits::MOST_STATEMENTS;
-use est_kernel::mask;
 use est_kernel::pause_set::PauseSet;
 use est_kernel::state::State;
 use est_kernel::statement::PauseIndex;
-use est_rounds::engine::Engine;
+use est_rounds::part_engine::PartEngine;
 use serde_json::{Value, json};
 use state_search::found::{Found, Node, Row};
 use state_search::search::Limits;
@@ -76,12 +75,11 @@ fn place(place: Option<usize>) -> Value
 fn row(
     alloc: Global,
     interface: &Interface,
-    asked: u64,
     row: &Row<Asked<Answer>>,
 ) -> Result<Value, AllocError>
-    ensures { IfOk result (λ v. view v ≡ row_json interface.now asked row.now) }
+    ensures { IfOk result (λ v. view v ≡ row_json interface.now row.now) }
 {
-    let asked = names(alloc, interface, asked)?;
+    let asked = names(alloc, interface, row.label.asked)?;
     let inputs = names(alloc, interface, row.label.inputs)?;
     match row.label.answer {
         Answer::Reaction { outputs } => json!(in alloc; {
@@ -104,15 +102,14 @@ fn row(
 fn rows(
     alloc: Global,
     interface: &Interface,
-    asked: u64,
     rows: &[Row<Asked<Answer>>],
 ) -> Result<Value, AllocError>
-    ensures { IfOk result (λ v. view v ≡ array (items_of (map (row_json interface.now asked)
+    ensures { IfOk result (λ v. view v ≡ array (items_of (map (row_json interface.now)
         rows.now))) }
 {
     let mut values = Vec::new(alloc);
     for each in rows {
-        values.push(row(alloc, interface, asked, each)?)?;
+        values.push(row(alloc, interface, each)?)?;
     }
     Ok(Value::from(values))
 }
@@ -137,16 +134,15 @@ fn too_large_told(alloc: Global, reactions: usize, states: usize) -> Result<Valu
 }
 
 /// The table of a module; or that there are too many states or reactions.
-pub fn find_table<E: Engine>(
+pub fn find_table<E: PartEngine>(
     alloc: Global,
     subject: &Every<'_, OneModule<'_, E>>,
     engine: &mut E,
     limits: Limits,
 ) -> Result<Value, AllocError>
     requires { E.is_for engine.old subject.now.reactive.now.kernel.now }
-    ensures { IfOk result (λ v. ((asked : ℕ) × IsTableTold (module_of
-        subject.now.reactive.now.kernel.now subject.now.relations.now subject.now.among) asked
-        (view v))
+    ensures { IfOk result (λ v. IsTableTold (module_of
+        subject.now.reactive.now.kernel.now subject.now.relations.now subject.now.among) (view v)
         ⊎ IsTooLarge (module_of subject.now.reactive.now.kernel.now subject.now.relations.now
         subject.now.among) limits.states limits.steps (view v)) }
 {
@@ -158,9 +154,8 @@ pub fn find_table<E: Engine>(
         let told = too_large_told(alloc, reactions, states)?;
         return Ok(told);
     }
-    let asked = mask::common(interface.offerable(), subject.among);
     let states = states(alloc, found.nodes.as_slice())?;
-    let rows = rows(alloc, interface, asked, found.rows.as_slice())?;
+    let rows = rows(alloc, interface, found.rows.as_slice())?;
     let told = table_told(alloc, rows, states)?;
     Ok(told)
 }

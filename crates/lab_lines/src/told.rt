@@ -6,7 +6,7 @@ ghost use Rattle.serde_json.specs.View.{items_of, view};
 ghost use Rattle.lab_lines.specs.Told.{names_json, answer_members, instant_json, verdict_json};
 ghost use Rattle.lab_lines.specs.Told.{instant_of_both_json};
 
-use est_explore::asked::Asked;
+use est_cover::asked::Asked;
 use est_explore::one_module::Answer;
 use est_explore::two_modules::Both;
 use est_explore::verdict::Verdict;

@@ -127,7 +127,7 @@ TellsOfBoth m main text scope (Says v) = IsComparisonOf m main text scope (view 
 pub record IsTableOf (m : Module) (scope : Scope) (d : Data) : Type 0 where
   pub among : ℕ
   pub named : AreNamed m.kernel.interface (map (λ t. t.now) scope.inputs.items) among
-  pub right : ((asked : ℕ) × IsTableTold (module_of m.kernel m.relations among) asked d)
+  pub right : IsTableTold (module_of m.kernel m.relations among) d
       ⊎ IsTooLarge (module_of m.kernel m.relations among) scope.most scope.most d
 
 -- what is answered to the question for the table

@@ -1,6 +1,6 @@
 //! A module, and what is asked of it.
 
-ghost use Rattle.std.specs.Prelude.{◌≡◌, ◌⊎◌, ℕ, None, IfOk, IfErr, map};
+ghost use Rattle.std.specs.Prelude.{◌≡◌, ◌⊎◌, None, IfOk, IfErr, map};
 ghost use Rattle.serde_json.specs.View.{view};
 ghost use Rattle.est_explore.specs.Views.{module_of};
 ghost use Rattle.est_micro.specs.Engine.{IsNetOf};
@@ -15,7 +15,7 @@ ghost use Rattle.lab_run.specs.Answers.{TellsOfTwo};
 
 use access_core::refusal::Refusal;
 use access_core::reply::Reply;
-use est_explore::every::Every;
+use est_cover::every::Every;
 use est_explore::one_module::OneModule;
 use est_explore::two_modules::{Engines, TwoModules};
 use est_micro::micro::Micro;
@@ -126,9 +126,9 @@ fn judge_tests(
         reactive: &reactive,
         relations: &loaded.relations,
         among,
+        watched: 0,
     };
-    let judged = judge_module(alloc, &subject, &mut engine, tests, limits)?;
-    Ok(judged.answer)
+    judge_module(alloc, &subject, &mut engine, tests, limits)
 }
 
 /// Judges claims of a module that is offered these inputs alone.
@@ -189,6 +189,7 @@ fn compare_both(
         reactive: &both,
         relations: &one.relations,
         among,
+        watched: 0,
     };
     compare_modules(alloc, &subject, &mut engines, limits)
 }
@@ -247,8 +248,8 @@ fn table_among(
     among: u64,
     limits: Limits,
 ) -> Result<Value, AllocError>
-    ensures { IfOk result (λ v. ((asked : ℕ) × IsTableTold (module_of loaded.now.kernel
-        loaded.now.relations among) asked (view v))
+    ensures { IfOk result (λ v.
+        IsTableTold (module_of loaded.now.kernel loaded.now.relations among) (view v)
         ⊎ IsTooLarge (module_of loaded.now.kernel loaded.now.relations among) limits.states
         limits.steps (view v)) }
 {
@@ -258,6 +259,7 @@ fn table_among(
         reactive: &reactive,
         relations: &loaded.relations,
         among,
+        watched: 0,
     };
     find_table(alloc, &subject, &mut engine, limits)
 }

@@ -1,17 +1,23 @@
 //! Claims of modules, and what is answered.
 
+ghost use Rattle.est_micro.specs.Engine.{IsNetOf};
+
 use crate::modules::{A, B, O, both, is_absent, late, paradox};
-use est_explore::asked::Asked;
+use est_cover::asked::Asked;
+use est_cover::every::Every;
 use est_explore::claim::Claim;
-use est_explore::every::Every;
 use est_explore::judge::{explore, judge};
 use est_explore::one_module::{Answer, OneModule};
 use est_explore::same::{Comparison, compare, explore_both};
 use est_explore::two_modules::{Engines, TwoModules};
 use est_explore::verdict::Verdict;
 use est_kernel::kernel::Kernel;
+use est_micro::micro::Micro;
+use est_net::net::Net;
 use est_relations::relations::{Members, Relation, Relations};
+use est_rounds::part_engine::PartEngine;
 use est_rounds::rounds::Rounds;
+use lab_lines::comparing::are_same;
 use state_search::search::Limits;
 use std::alloc::Global;
 use std::marker::PhantomData;
@@ -46,7 +52,46 @@ fn told(rt: &impl Abort, alloc: Global, verdict: &Verdict) -> String {
     }
 }
 
-/// What is answered to a claim of a kernel.
+/// The engine that reacts by parts of the inputs.
+pub fn engine_of(rt: &impl Abort, alloc: Global, kernel: &Kernel) -> Micro
+    ensures { IsNetOf result.net kernel.now }
+{
+    Micro::new(Net::build(alloc, kernel).expect(rt, "room"))
+}
+
+/// What is answered to a claim of a kernel, by an engine for it.
+fn answer_by<E: PartEngine>(
+    rt: &impl Abort,
+    alloc: Global,
+    engine: &mut E,
+    kernel: &Kernel,
+    relations: &Relations,
+    among: u64,
+    claim: &Claim<'_>,
+    most: usize,
+) -> String
+    requires { E.is_for engine.old kernel.now }
+{
+    let reactive = OneModule {
+        kernel,
+        engine: PhantomData,
+    };
+    let subject = Every {
+        reactive: &reactive,
+        relations,
+        among,
+        watched: claim.signals(),
+    };
+    let limits = Limits {
+        states: most,
+        steps: 99,
+    };
+    let found = explore(alloc, &subject, engine, limits).expect(rt, "room");
+    let verdict = judge(alloc, &subject, &found, claim).expect(rt, "room");
+    told(rt, alloc, &verdict)
+}
+
+/// What is answered to a claim of a kernel. Both engines tell the same.
 pub fn answer_told(
     rt: &impl Abort,
     alloc: Global,
@@ -56,22 +101,12 @@ pub fn answer_told(
     claim: &Claim<'_>,
     most: usize,
 ) -> String {
-    let reactive = OneModule {
-        kernel,
-        engine: PhantomData,
-    };
-    let subject = Every {
-        reactive: &reactive,
-        relations,
-        among,
-    };
-    let limits = Limits {
-        states: most,
-        steps: 99,
-    };
-    let found = explore(alloc, &subject, &mut Rounds::new(), limits).expect(rt, "room");
-    let verdict = judge(alloc, &subject, &found, claim).expect(rt, "room");
-    told(rt, alloc, &verdict)
+    let mut plain = Rounds::new();
+    let wanted = answer_by(rt, alloc, &mut plain, kernel, relations, among, claim, most);
+    let mut engine = engine_of(rt, alloc, kernel);
+    let told = answer_by(rt, alloc, &mut engine, kernel, relations, among, claim, most);
+    assert_eq!(rt; told.as_str(), wanted.as_str());
+    told
 }
 
 /// Fails where something else is answered to a claim of a kernel.
@@ -148,6 +183,18 @@ fn stuck(rt: HostRuntime) {
     expect_answer(&rt, alloc, &kernel, &free, 2, &claim, 9, " holds");
 }
 
+/// A claim sees what is offered, also where the module does not look at it.
+#[test]
+fn what_no_module_looks_at(rt: HostRuntime) {
+    let alloc = rt.alloc();
+    let kernel = late(&rt, alloc);
+    let free = Relations::new(alloc);
+    let no_b = is_absent(&rt, alloc, B);
+    let claim = Claim::Always(&no_b);
+    expect_answer(&rt, alloc, &kernel, &free, ALL, &claim, 9, " 2>0");
+    expect_answer(&rt, alloc, &kernel, &free, 1, &claim, 9, " holds");
+}
+
 /// A search that may not look far enough says so.
 #[test]
 fn limits(rt: HostRuntime) {
@@ -160,36 +207,51 @@ fn limits(rt: HostRuntime) {
     expect_answer(&rt, alloc, &kernel, &free, 0, &claim, 2, " too many");
 }
 
-/// A module does the same as itself.
-#[test]
-fn twins(rt: HostRuntime) {
-    let alloc = rt.alloc();
-    let kernel = both(&rt, alloc);
+/// What is answered of two kernels of one interface: after how many instants they differ, or 0
+/// where they do the same.
+fn instants_alike(rt: &impl Abort, alloc: Global, first: &Kernel, second: &Kernel) -> usize
+    requires { second.now.interface ≡ first.now.interface }
+{
     let free = Relations::new(alloc);
-    let twins = TwoModules {
+    let two = TwoModules {
         first: OneModule {
-            kernel: &kernel,
+            kernel: first,
             engine: PhantomData,
         },
         second: OneModule {
-            kernel: &kernel,
+            kernel: second,
             engine: PhantomData,
         },
     };
     let subject = Every {
-        reactive: &twins,
+        reactive: &two,
         relations: &free,
         among: ALL,
+        watched: 0,
     };
     let mut engines = Engines {
-        first: Rounds::new(),
-        second: Rounds::new(),
+        first: engine_of(rt, alloc, first),
+        second: engine_of(rt, alloc, second),
     };
     let limits = Limits {
         states: 9,
         steps: 99,
     };
-    let found = explore_both(alloc, &subject, &mut engines, limits).expect(&rt, "room");
-    let answer = compare(alloc, &subject, &found).expect(&rt, "room");
-    assert!(rt; matches!(answer, Comparison::Same));
+    let found = explore_both(alloc, &subject, &mut engines, limits).expect(rt, "room");
+    match compare(alloc, &subject, &found).expect(rt, "room") {
+        Comparison::Same => 0,
+        Comparison::Differ { word } => word.len(),
+        Comparison::TooMany => 99,
+    }
+}
+
+/// A module does the same as itself, and not as one that is Stuck where it reacts.
+#[test]
+fn twins(rt: HostRuntime) {
+    let alloc = rt.alloc();
+    let kernel = paradox(&rt, alloc);
+    assert_eq!(rt; instants_alike(&rt, alloc, &kernel, &kernel), 0);
+    let other = late(&rt, alloc);
+    assert!(rt; are_same(other.interface(), kernel.interface()));
+    assert_eq!(rt; instants_alike(&rt, alloc, &kernel, &other), 2);
 }

@@ -1,9 +1,11 @@
 //! Requests as JSON, and the answers to them.
 
+use crate::claims::engine_of;
 use crate::modules::late;
-use est_explore::every::Every;
+use est_cover::every::Every;
 use est_explore::one_module::OneModule;
 use est_kernel::kernel::Kernel;
+use est_micro::micro::Micro;
 use est_relations::relations::Relations;
 use est_rounds::rounds::Rounds;
 use lab_lines::reading::request_of;
@@ -27,6 +29,14 @@ const REQUESTS: [(&str, &str); 6] = [
 
 /// A kernel with an engine.
 fn machine(kernel: &Kernel) -> OneModule<'_, Rounds> {
+    OneModule {
+        kernel,
+        engine: PhantomData,
+    }
+}
+
+/// A kernel with an engine that reacts by parts of the inputs.
+fn by_parts(kernel: &Kernel) -> OneModule<'_, Micro> {
     OneModule {
         kernel,
         engine: PhantomData,
@@ -62,6 +72,36 @@ fn expect_text(rt: &impl Abort, alloc: Global, value: &Value, wanted: &str) {
     assert_eq!(rt; text.as_str(), wanted);
 }
 
+/// The table of a kernel in which A and B may be offered.
+fn table_of(rt: &impl Abort, alloc: Global, kernel: &Kernel) -> Value {
+    let free = Relations::new(alloc);
+    let subject = Every {
+        reactive: &by_parts(kernel),
+        relations: &free,
+        among: 3,
+        watched: 0,
+    };
+    let limits = Limits {
+        states: 9,
+        steps: 99,
+    };
+    let mut engine = engine_of(rt, alloc, kernel);
+    find_table(alloc, &subject, &mut engine, limits).expect(rt, "room")
+}
+
+/// A row stands for all inputs that are the same where it was asked.
+#[test]
+fn rows_of_a_table(rt: HostRuntime) {
+    let alloc = rt.alloc();
+    let table = table_of(&rt, alloc, &late(&rt, alloc));
+    let rows = table.get("rows").expect(&rt, "rows");
+    let wanted = "[{\"asked\":[],\"from\":0,\"inputs\":[],\"next\":1,\"outputs\":[]},\
+        {\"asked\":[],\"from\":1,\"inputs\":[],\"next\":2,\"outputs\":[]},\
+        {\"asked\":[],\"from\":2,\"inputs\":[],\"next\":3,\"outputs\":[\"O\"]},\
+        {\"asked\":[],\"from\":3,\"inputs\":[],\"next\":3,\"outputs\":[]}]";
+    expect_text(&rt, alloc, rows, wanted);
+}
+
 /// The states of a table are the start, the pauses and the end.
 #[test]
 fn states_of_a_table(rt: HostRuntime) {
@@ -72,6 +112,7 @@ fn states_of_a_table(rt: HostRuntime) {
         reactive: &machine(&kernel),
         relations: &free,
         among: 0,
+        watched: 0,
     };
     let limits = Limits {
         states: 9,

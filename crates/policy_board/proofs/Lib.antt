@@ -4,3 +4,4 @@ pub mod Rules
 pub mod Publishing
 pub mod Receipts
 pub mod Reading
+pub mod SharedBoards

@@ -19,6 +19,7 @@ use rbac_policy::journal::PolicyJournal;
 use rbac_policy::objects::{Object, Operation};
 use seat_receipts::mismatch::Mismatch;
 use seat_receipts::receipt::{Kept, SlotReceipt};
+use std::snapshot::Snapshot;
 use std::sync::{Mutex, MutexGuard, Wait};
 
 /// The policy of a server, which many threads share, and the tally of its slot commands. Commands
@@ -27,11 +28,16 @@ pub struct Board<B: BoardName> {
     policy: Mutex<LockedPolicy<B>>,
     // The number of the last slot command that was counted.
     tally: Mutex<u64>,
+    // The list that it was made with, for the proofs alone.
+    began: Snapshot<PolicyJournal>,
 }
 
 impl<B: BoardName> Board<B> {
-    pub(crate) fn new(policy: LockedPolicy<B>) -> Board<B> {
+    pub(crate) fn new(policy: LockedPolicy<B>) -> Board<B>
+        ensures { result.began.value ≡ policy }
+    {
         Board {
+            began: Snapshot::of(policy.journal()),
             policy: Mutex::new(policy),
             tally: Mutex::new(0),
         }
@@ -99,7 +105,11 @@ impl<B: BoardName> Board<B> {
 
     /// Ends the board.
     pub fn close(self) -> Closed<B> {
-        let Board { policy, tally: _ } = self;
+        let Board {
+            policy,
+            tally: _,
+            began: _,
+        } = self;
         Closed {
             policy: policy.into_inner(),
         }

@@ -21,4 +21,5 @@ mod publisher;
 pub mod reader;
 pub mod refusal;
 pub mod seat;
+pub mod sharing;
 mod shown;

@@ -90,6 +90,13 @@ impl<B: BoardName> LockedPolicy<B> {
         }
     }
 
+    /// The journal.
+    pub fn journal(&self) -> &PolicyJournal
+        ensures { result.now ≡ self.now }
+    {
+        &self.journal
+    }
+
     // Publishes the entry and answers its `Receipt`; the seat keeps a receipt of its own, a `Kept`.
     // Every refusal but Memory was asked before. All memory is taken first, so that nothing is
     // refused once the entry is published.

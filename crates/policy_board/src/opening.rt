@@ -108,7 +108,8 @@ fn open_parts<B: BoardName, R: Wait>(
 ) -> Result<Opened<B>, AllocError>
     requires name { fresh.seen.book ≡ B.book }
     requires seats { (1 ≤ seats) × (seats ≤ SEATS) }
-    ensures { IfOk result (λ o. (o.seats.items ≡ replicate seats new_seat)
+    ensures { IfOk result (λ o. (o.board.began.value ≡ opening_entries)
+        × (o.seats.items ≡ replicate seats new_seat)
         × (o.readers.items ≡ replicate SLOTS opening_entries)) }
 {
     let (head, opening) = fresh.named::<B>();
@@ -138,8 +139,8 @@ fn open_parts<B: BoardName, R: Wait>(
 }
 
 impl<B: BoardName> Board<B> {
-    /// A board under the name of a fresh list, with n seats, and a reader for each slot. Each can
-    /// read, and none has seen more than the opening entries.
+    /// A board under the name of a fresh list, with n seats, and a reader for each slot. The board
+    /// is made with the opening entries. Each seat and slot can read, and none has seen more.
     ///
     /// # Errors
     ///
@@ -152,7 +153,8 @@ impl<B: BoardName> Board<B> {
     ) -> Result<Opened<B>, Refusal>
         requires name { fresh.seen.book ≡ B.book }
         requires seats { (1 ≤ seats) × (seats ≤ SEATS) }
-        ensures opened { IfOk result (λ o. (o.seats.items ≡ replicate seats new_seat)
+        ensures opened { IfOk result (λ o. (o.board.began.value ≡ opening_entries)
+            × (o.seats.items ≡ replicate seats new_seat)
             × (o.readers.items ≡ replicate SLOTS opening_entries)) }
         ensures refused { IfErr result (λ refusal. refusal ≡ Memory) }
     {

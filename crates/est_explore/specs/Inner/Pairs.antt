@@ -1,7 +1,8 @@
 -- What two modules answer in an instant; for private clauses (this project's own form).
-use Rattle.std.specs.Prelude.{◌≡◌, ℕ, Bool, true, false, nat_eq, Option, Some, None}
+use Rattle.std.specs.Prelude.{◌≡◌, Bool, true, false, nat_eq, Option, Some, None}
 use Rattle.est_kernel.specs.declared.kernel.Kernel.{Kernel}
 use Rattle.est_meaning.specs.States.{IsState}
+use Rattle.est_cover.specs.InputSets.{InputSet}
 use Rattle.est_explore.specs.Inner.Answers.{AnswersSo}
 use Rattle.est_explore.specs.declared.one_module.Answer.{Answer}
 use Rattle.est_explore.specs.declared.one_module.Answer.TheVariants.{Reaction, Stuck}
@@ -35,10 +36,10 @@ pub record AreFor (first second : Type 0) (k l : Kernel) : Type 0 where
   pub interface : l.interface ≡ k.interface
 
 -- each module answers so, and where they do the same, both go on
-pub record AnswersBoth (k l : Kernel) (x : Positions) (inputs : ℕ) (answer : Both) (next : Option Positions) : Type 0
-  where
-    pub first_next : Option Position
-    pub second_next : Option Position
-    pub first : AnswersSo k x.first inputs answer.first first_next
-    pub second : AnswersSo l x.second inputs answer.second second_next
-    pub next_is : next ≡ joined (agree answer.first answer.second) first_next second_next
+pub record AnswersBoth (k l : Kernel) (x : Positions) (inputs : InputSet) (answer : Both) (next : Option Positions) :
+    Type 0 where
+  pub first_next : Option Position
+  pub second_next : Option Position
+  pub first : AnswersSo k x.first inputs answer.first first_next
+  pub second : AnswersSo l x.second inputs answer.second second_next
+  pub next_is : next ≡ joined (agree answer.first answer.second) first_next second_next

@@ -4,6 +4,7 @@ use policy_board::board::Board;
 use policy_board::history::{BoardName, Fresh};
 use policy_board::refusal::Refusal;
 use policy_board::seat::{Receipt, Seat};
+use policy_board::sharing::boards_are_shared;
 use rbac_admin::refusals::Refusal as PolicyRefusal;
 use rbac_policy::commands::{AdminCommand, SessionId};
 use rbac_policy::names::{Name, RoleNames};
@@ -168,6 +169,7 @@ pub(crate) fn tell<B: BoardName + Send + Sync, R: Threads + Wait + Abort + Sync>
     _idle: Seat<B>,
 ) {
     assert!(rt; matches!(may_audit(board, &mut asker), Ok(false)));
+    boards_are_shared::<B>();
     let (receipt, mut asker) = join(
         rt,
         || grant_at(rt, alloc, board, giver),
@@ -187,6 +189,7 @@ fn ask_both<B: BoardName + Send + Sync, R: Threads + Abort + Sync>(
     one: Seat<B>,
     other: Seat<B>,
 ) {
+    boards_are_shared::<B>();
     join(rt, || ask(rt, board, one), || ask(rt, board, other));
 }
 
@@ -199,6 +202,7 @@ pub(crate) fn share<B: BoardName + Send + Sync, R: Threads + Wait + Abort + Sync
     one: Seat<B>,
     other: Seat<B>,
 ) {
+    boards_are_shared::<B>();
     join(
         rt,
         || change(rt, alloc, board, changer),

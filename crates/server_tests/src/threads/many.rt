@@ -11,6 +11,7 @@ use policy_board::board::Board;
 use policy_board::history::{BoardName, Fresh};
 use policy_board::reader::SlotReader;
 use policy_board::seat::Seat;
+use policy_board::sharing::boards_are_shared;
 use rbac_policy::names::Name;
 use rbac_policy::objects::{Object, Operation, SLOTS, SlotNumber};
 use slot_table::closing::Histories;
@@ -136,6 +137,7 @@ fn run_over<B: BoardName + Send + Sync, T: Lends<SlotTable<B>> + Sync, R: Thread
     workers: Vec<Worker<B>>,
 ) -> Result<Vec<Worker<B>>, AllocError> {
     let service = Service { board, table };
+    boards_are_shared::<B>();
     let back = run_each(rt, alloc, &service, workers, u64::MAX)?;
     Ok(back.seats)
 }

@@ -13,6 +13,7 @@ use policy_board::board::Board;
 use policy_board::history::{BoardName, Fresh};
 use policy_board::reader::SlotReader;
 use policy_board::seat::{Receipt, Seat};
+use policy_board::sharing::boards_are_shared;
 use rbac_admin::refusals::Refusal as PolicyRefusal;
 use rbac_policy::commands::{AdminCommand, SessionId};
 use rbac_policy::names::Name;
@@ -147,10 +148,12 @@ fn change_at_once<
         asker,
         third,
     } = seats;
+    boards_are_shared::<B>();
     let ((giver, receipt), (mut asker, third)) = join(
         rt,
         || change(rt, board, giver, command),
         || {
+            boards_are_shared::<B>();
             join(
                 rt,
                 || offer_on(rt, board, table.lent(), asker),

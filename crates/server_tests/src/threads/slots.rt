@@ -10,6 +10,7 @@ use policy_board::board::Board;
 use policy_board::history::{BoardName, Fresh};
 use policy_board::reader::SlotReader;
 use policy_board::seat::Seat;
+use policy_board::sharing::boards_are_shared;
 use rbac_policy::names::Name;
 use slot_table::table::SlotTable;
 use std::alloc::Global;
@@ -76,6 +77,7 @@ fn step_at_once<
     slots: (u8, u8),
 ) -> ((Seat<B>, u64), (Seat<B>, u64)) {
     let (one, other) = seats;
+    boards_are_shared::<B>();
     join(
         rt,
         || step_often(rt, board, table.lent(), one, slots.0),

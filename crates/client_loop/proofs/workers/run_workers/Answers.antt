@@ -10,3 +10,6 @@ run_over-back-requires-sync-T g c =
     record { owned = c.may_cross.ensures.owned; leaving = λ k d w. tt } in
     let shares = table_shares (param 0 g.row.B) g.B.BoardName reads in
     search shares
+
+pub run_over-back-requires-sync-L : goal.run_over-back-requires-sync-L
+run_over-back-requires-sync-L g c = search c.boards_are_shared.ensures

@@ -1,7 +1,7 @@
 use Rattle.std.proofs.Common.{◌≡◌, ◌<◌, ℕ, true, slice_index_or}
 use Rattle.state_search.specs.declared.found.Row.{Row}
 use Rattle.est_explore.specs.Inner.Pairs.{agree}
-use Rattle.est_explore.specs.declared.asked.Asked.{Asked}
+use Rattle.est_cover.specs.declared.asked.Asked.{Asked}
 use Rattle.est_explore.specs.declared.two_modules.Both.{Both}
 use Rattle.est_explore.proofs.same.first_difference.Given as goal
 

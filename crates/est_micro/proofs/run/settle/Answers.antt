@@ -36,6 +36,10 @@ loop-found-init c =
 
 pub round-found-requires-in-loop-found-clause-size : goal.round-found-requires-in-loop-found-clause-size
 round-found-requires-in-loop-found-clause-size c =
+    c.pass_all.ensures.size ∙ (c.loop-found.invariant.settling (bits c.args.inputs) (λ n h. refl)).ready.size
+
+pub pass_all-requires-clause-size : goal.pass_all-requires-clause-size
+pass_all-requires-clause-size c =
     (c.loop-found.invariant.settling (bits c.args.inputs) (λ n h. refl)).ready.size
 
 pub loop-found-preserved : goal.loop-found-preserved
@@ -45,26 +49,31 @@ loop-found-preserved c =
     record {
       settling = λ others a.
           let was = c.loop-found.invariant.settling others a in
-          round_made unasked _ c.args.kernel.now c.args.state.now others _ _ _ _ _ _ _ c.requires.apart was.ready
+          round_made unasked _ c.args.kernel.now c.args.state.now others _ _ _ _ _ _ _ c.requires.apart
+          (c.pass_all.ensures.ready others a was.ready)
           (round_by _ i unasked (bits c.args.inputs) _ _ _ _ _ _ _ c.requires.apart
           c.round-found-in-loop-found.ensures.made others a)
-          (let counted = was.counted in omega arith)
+          (let count = c.steps-before.ensures.count in omega arith)
           c.steps-now-in-loop-found.ensures.count;
-      once = c.round-found-in-loop-found.ensures.kept ∙ c.loop-found.invariant.once;
+      once = c.round-found-in-loop-found.ensures.kept ∙ (c.pass_all.ensures.kept ∙ c.loop-found.invariant.once);
     }
 
 pub loop-found-smaller : goal.loop-found-smaller
 loop-found-smaller c =
     let was = c.loop-found.invariant.settling (bits c.args.inputs) (λ n h. refl) in
+    let passed = c.pass_all.ensures.ready (bits c.args.inputs) (λ n h. refl) was.ready in
     let m = round_made (bits c.args.unasked) _ c.args.kernel.now c.args.state.now (bits c.args.inputs) _ _
-    c.loop-found.net.cells.items _ _ c.loop-found.now _ c.requires.apart was.ready
+    c.pass_all.new.net.cells.items _ _ c.steps-before.result _ c.requires.apart passed
     c.round-found-in-loop-found.ensures.made
-    (let counted = was.counted in omega arith) c.steps-now-in-loop-found.ensures.count in
+    (let count = c.steps-before.ensures.count in omega arith) c.steps-now-in-loop-found.ensures.count in
     let a = m.ready.size in
     let b = was.ready.size in
     let d = was.rising in
     let e = was.counted in
-    let f = decided_within c.loop-found.net.cells.items in
+    let f = decided_within c.pass_all.new.net.cells.items in
+    let size = c.pass_all.ensures.size in
+    let more = c.pass_all.ensures.more in
+    let count = c.steps-before.ensures.count in
     let g = c.goes_on.ensures.more c.loop-found-test.true in
     omega arith
 

@@ -1,4 +1,5 @@
 use Rattle.std.proofs.Common.{◌≡◌, length, arith, rules}
+use Rattle.est_kernel.specs.Bits.{bits}
 use Rattle.lab_lines.proofs.comparing.compare_modules.Goals as goal
 
 pub returns : goal.returns
@@ -9,6 +10,7 @@ returns g c =
     let e = c.len-states.ensures in let o = c.in_ok-found.found.nodes.ok.0 in omega arith in
     record {
       found = c.in_ok-found.found;
+      watched = bits c.args.subject.now.watched;
       explored = c.in_ok-found.ensures.explored;
       comparison = c.in_ok-comparison.comparison;
       right = c.in_ok-comparison.ensures _ _ c.in_ok-found.ensures.ended;

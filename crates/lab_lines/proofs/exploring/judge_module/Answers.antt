@@ -1,5 +1,6 @@
 use Rattle.std.proofs.Common.{◌≡◌, map, length, arith, rules}
 use Rattle.serde_json.specs.View.{view}
+use Rattle.est_kernel.specs.Bits.{bits}
 use Rattle.lab_lines.proofs.exploring.judge_module.Goals as goal
 
 pub returns : goal.returns
@@ -10,6 +11,7 @@ returns g c =
     let e = c.len-states.ensures in let o = c.in_ok-found.found.nodes.ok.0 in omega arith in
     record {
       found = c.in_ok-found.found;
+      watched = bits c.watched_by.result;
       explored = c.in_ok-found.ensures.explored;
       stuck = view c.in_ok-stuck.stuck;
       stuck_told = record {
@@ -19,5 +21,5 @@ returns g c =
       };
       verdicts = map view c.in_ok-verdicts.verdicts.items;
       verdicts_told = c.in_ok-verdicts.ensures;
-      said = rw (← reactions, ← states) c.in_ok-answer.ensures;
+      said = rw (← reactions, ← states) c.in_ok-told.ensures;
     }

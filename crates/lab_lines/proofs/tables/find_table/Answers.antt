@@ -1,8 +1,9 @@
 use Rattle.std.proofs.Common.{◌≡◌, ◌∙◌, List, length, map, ap, codes, arith, rules, inl, inr, true, false}
 use Rattle.serde_json.specs.Data.{Data, array, member, no_members, object, string}
 use Rattle.serde_json.specs.View.{items_of, view}
+use Rattle.est_kernel.specs.Bits.{bits}
 use Rattle.est_kernel.specs.declared.interface.Declaration.{Declaration}
-use Rattle.est_explore.specs.declared.asked.Asked.{Asked}
+use Rattle.est_cover.specs.declared.asked.Asked.{Asked}
 use Rattle.est_explore.specs.declared.one_module.Answer.{Answer}
 use Rattle.state_search.specs.declared.found.Row.{Row}
 use Rattle.lab_lines.specs.Tables.{node_json, row_json}
@@ -22,6 +23,7 @@ returns-then-not-is_closed g c =
     let more_left : c.is_closed.result ≡ false = search rules in
     inr (record {
       found = c.in_ok-found.found;
+      watched = bits c.args.subject.now.watched;
       explored = c.in_ok-found.ensures.explored;
       more = elim c.in_ok-found.ensures.ended [
         | inl all ↦ absurd (let yes : c.is_closed.result ≡ true = c.is_closed.ensures.all.1 all in cc)
@@ -33,22 +35,18 @@ returns-then-not-is_closed g c =
 pub returns : goal.returns
 returns g c =
     let k = c.args.subject.now.reactive.now.kernel.now.interface in
-    let a = c.common-asked.result in
     let closed : c.is_closed.result ≡ true = search rules in
     let states : map view c.in_ok-states.states.items ≡ map node_json c.in_ok-found.found.nodes.items =
     c.in_ok-states.ensures ∙ ap (map node_json) c.as_slice.ensures.value in
-    let rows : view c.in_ok-rows.rows ≡ array (items_of (map (row_json k a) c.in_ok-found.found.rows.items)) =
+    let rows : view c.in_ok-rows.rows ≡ array (items_of (map (row_json k) c.in_ok-found.found.rows.items)) =
     c.in_ok-rows.ensures
-    ∙ ap (λ (i : List Declaration). array (items_of (map (row_json i a) c.as_slice-2.result.now)))
+    ∙ ap (λ (i : List Declaration). array (items_of (map (row_json i) c.as_slice-2.result.now)))
     c.interface-interface.ensures
-    ∙ ap (λ (xs : List (Row (Asked Answer))). array (items_of (map (row_json k a) xs))) c.as_slice-2.ensures.value in
-    inl (
-      a,
-      record {
-        found = c.in_ok-found.found;
-        closed = c.is_closed.ensures.table _ c.in_ok-found.ensures.explored closed;
-        said = c.in_ok-told-2.ensures
-            ∙ ap (λ (xs : Data). table_of xs (map view c.in_ok-states.states.items)) rows
-            ∙ ap (table_of (array (items_of (map (row_json k a) c.in_ok-found.found.rows.items)))) states;
-      },
-    )
+    ∙ ap (λ (xs : List (Row (Asked Answer))). array (items_of (map (row_json k) xs))) c.as_slice-2.ensures.value in
+    inl (record {
+      found = c.in_ok-found.found;
+      closed = c.is_closed.ensures.table _ _ c.in_ok-found.ensures.explored closed;
+      said = c.in_ok-told-2.ensures
+          ∙ ap (λ (xs : Data). table_of xs (map view c.in_ok-states.states.items)) rows
+          ∙ ap (table_of (array (items_of (map (row_json k) c.in_ok-found.found.rows.items)))) states;
+    })

@@ -1,0 +1,210 @@
+-- Passes between rounds: what holds before one holds after it, and after the signals are told what is emitted.
+use Rattle.std.specs.Prelude.{◌≡◌, ◌<◌, ◌≤◌, ◌+◌, ℕ, Bool, true, false, List, length}
+use Rattle.std.proofs.Common.{refl, ap, sym, ◌∙◌, arith, inr, subst}
+use Rattle.std.specs.List.{list_any}
+use Rattle.est_kernel.specs.Bits.{bits}
+use Rattle.est_kernel.specs.Interfaces.{emittable}
+use Rattle.est_kernel.specs.Pauses.{pauses_of}
+use Rattle.est_kernel.specs.Term.{outer}
+use Rattle.est_kernel.specs.declared.interface.Declaration.{Declaration}
+use Rattle.est_kernel.specs.declared.kernel.Kernel.{Kernel}
+use Rattle.est_kernel.specs.declared.state.State.{State}
+use Rattle.est_kernel.specs.declared.state.State.TheVariants.{Fresh, Done, Paused}
+use Rattle.est_kernel.specs.declared.statement.Statement.{Statement}
+use Rattle.est_meaning.specs.Environments.{Env, verdict}
+use Rattle.est_meaning.specs.Knowledge.{IsBelow, KnowsLess}
+use Rattle.est_meaning.specs.Rounds.{judged_signals, last_env}
+use Rattle.est_meaning.specs.States.{state_term}
+use Rattle.est_meaning.specs.declared.status.Status.{Status}
+use Rattle.est_meaning.specs.declared.status.Status.TheVariants.{Present, Absent}
+use Rattle.est_cells.proofs.Order.{below_then}
+use Rattle.est_cells.proofs.WholeTable.{table_known, table_sound}
+use Rattle.est_cells.specs.Tables.{Below, Sheet, emits, is_possible, is_sure, sheet_size}
+use Rattle.est_cells.specs.Whole.{Table, TableBelow, known, sheet_meaning, table_meaning}
+use Rattle.est_net.specs.Cells.{cell_at, decided, learned}
+use Rattle.est_net.proofs.EmissionLists.{emitted_listed}
+use Rattle.est_net.specs.Emissions.{emissions, is_of}
+use Rattle.est_net.specs.Layout.{output_count, rank, sheet_in}
+use Rattle.est_net.specs.declared.emissions.Emission.{Emission}
+use Rattle.est_rounds.specs.declared.acts.Judgement.{Judgement}
+use Rattle.est_rounds.specs.Views.{env_of}
+use Rattle.est_rounds.specs.declared.signal_set.Env.{Env as Known}
+use Rattle.est_micro.specs.Hearing.{Heard}
+use Rattle.est_micro.specs.Parts.{AgreeBut, AreInputsAlone}
+use Rattle.est_micro.specs.Passes.{IsPassRound, SheetPasses}
+use Rattle.est_micro.specs.Runs.{IsExchanged, Ready, output_cells, output_gate, table_of}
+use Rattle.est_micro.specs.Views.{Changes}
+use Rattle.est_micro.proofs.Frames.{sheet_same}
+use Rattle.est_micro.proofs.Passing.{passed}
+use Rattle.est_micro.proofs.PassingOn.{passed_on}
+use Rattle.est_micro.proofs.Rounds.{gate_is, last_heard, may_be, not_input, rank_within}
+use Rattle.est_micro.proofs.Settling.{within_places}
+use Rattle.est_micro.proofs.Told.{learned_below}
+use Rattle.est_micro.proofs.Unasked.{emitted_there, exchange_by, heard_but, opened_less}
+
+sheet_passed : (s : Statement) (x : State) (c : ℕ) (e l : Env) (old new : List Status) → KnowsLess l e
+    → Heard (emits is_sure true s (sheet_meaning s x e)) e l → SheetPasses s x c l old new
+    → Below true s (sheet_in (cell_at old) true s c 0) (sheet_meaning s x e)
+    → Below true s (sheet_in (cell_at new) true s c 0) (sheet_meaning s x e)
+sheet_passed s Fresh c e l old new k u h b = passed true s c 0 Present l old new h Present e (inr refl) k u b
+sheet_passed s Done c e l old new k u h b = passed true s c 0 Absent l old new h Absent e (inr refl) k u b
+sheet_passed s (Paused p) c e l old new k u h b =
+    passed_on s (pauses_of p) c 0 Present l old new h Present e (inr refl) k u b
+
+pub pass_changes : (s : Statement) (x : State) (c : ℕ) (l : Env) (old new : List Status) → SheetPasses s x c l old new
+    → Changes c (c + sheet_size true s 0) old new
+pass_changes s Fresh c l old new h = h.changes
+pass_changes s Done c l old new h = h.changes
+pass_changes s (Paused p) c l old new h = h.changes
+
+-- a signal's cell is not one of the statement
+same_output : (k : Kernel) (old new : List Status) (n hi : ℕ) → Changes (output_count k.interface) hi old new
+    → n < length k.interface → emittable k.interface n ≡ true
+    → output_cells k.interface new n ≡ output_cells k.interface old n
+same_output k old new n hi h l o =
+    h.before (rank k.interface n) (rank_within (emittable k.interface) (length k.interface) n l o)
+
+-- what holds before a pass holds after it, but for what is known by the cells of the signals, which stay
+pub pass_sound : (unasked : ℕ → Bool) (k : Kernel) (x : State) (inputs : ℕ → Bool) (e : Known)
+    (old new : List Status) → AreInputsAlone k.interface unasked → Ready unasked k x inputs old e
+    → SheetPasses k.root x (output_count k.interface) (env_of e) old new
+    → TableBelow (judged_signals k.interface inputs) k.root (table_of k.interface k.root new)
+    (table_meaning (judged_signals k.interface inputs) inputs k.root x)
+pass_sound unasked k x inputs e old new a ready h =
+    let i = k.interface in
+    let s = k.root in
+    let j = judged_signals i inputs in
+    let w = within_places i inputs in
+    let last = last_env j inputs (state_term s x) in
+    let o = known j inputs (output_cells i old) in
+    let c = ready.sound in
+    let g = pass_changes s x (output_count i) (env_of e) old new h in
+    let less : KnowsLess (env_of e) last = subst (λ (z : Env). KnowsLess z last) (sym ready.knows)
+    (λ n. below_then (opened_less unasked o n) (table_known j inputs s x (table_of i s old) c n)) in
+    record {
+      outputs = λ n l. subst (λ (v : Status). IsBelow v (last (outer n)))
+          (sym (same_output k old new n _ g (w n l) (may_be i inputs n l))) (c.outputs n l);
+      sheet = sheet_passed s x (output_count i) last (env_of e) old new less
+          (subst (λ (z : Env). Heard (emits is_sure true s (sheet_meaning s x last)) last z) (sym ready.knows)
+          (heard_but unasked i _ last o a (emitted_there is_sure true s i 0 0 k.closed (sheet_meaning s x last))
+          (last_heard j w inputs (output_cells i old) s x))) h c.sheet;
+    }
+
+-- a table of which no more was decided than the meaning says, and whose signals were offered as before
+pub record Passed (k : Kernel) (x : State) (inputs : ℕ → Bool) (old new : List Status) : Type 0 where
+  pub size : length new ≡ length old
+  pub sound : TableBelow (judged_signals k.interface inputs) k.root (table_of k.interface k.root new)
+      (table_meaning (judged_signals k.interface inputs) inputs k.root x)
+  pub same : (n : ℕ) → n < length k.interface → emittable k.interface n ≡ true
+      → output_cells k.interface new n ≡ output_cells k.interface old n
+
+pub pass_made : (unasked : ℕ → Bool) (k : Kernel) (x : State) (inputs : ℕ → Bool) (e : Known)
+    (old new : List Status) → AreInputsAlone k.interface unasked → Ready unasked k x inputs old e
+    → SheetPasses k.root x (output_count k.interface) (env_of e) old new → Passed k x inputs old new
+pass_made unasked k x inputs e old new a ready h =
+    let g = pass_changes k.root x (output_count k.interface) (env_of e) old new h in
+    record {
+      size = g.size;
+      sound = pass_sound unasked k x inputs e old new a ready h;
+      same = λ n l o. same_output k old new n _ g l o;
+    }
+
+-- The signals are told what is emitted. What they are told of a signal may fall short of what the cells of its
+-- emissions say
+pub exchange_ready : (unasked : ℕ → Bool) (k : Kernel) (x : State) (inputs sure possible : ℕ → Bool) (e f : Known)
+    (old mid new : List Status)
+    → Ready unasked k x inputs old e → Passed k x inputs old mid
+    → ((n : ℕ) → IsBelow (verdict (sure n) (possible n))
+    (verdict (emits is_sure true k.root (sheet_in (cell_at mid) true k.root (output_count k.interface) 0) (outer n))
+    (emits is_possible true k.root (sheet_in (cell_at mid) true k.root (output_count k.interface) 0) (outer n))))
+    → IsExchanged k.interface unasked inputs sure possible mid new f
+    → Ready unasked k x inputs new f
+exchange_ready unasked k x inputs sure possible e f old mid new ready pass judged h =
+    let i = k.interface in
+    let s = k.root in
+    let j = judged_signals i inputs in
+    let w = within_places i inputs in
+    let last = last_env j inputs (state_term s x) in
+    let T = table_of i s mid in
+    let g = table_sound j w inputs s x T pass.sound in
+    record {
+      size = h.changes.size ∙ (pass.size ∙ ready.size);
+      sound = record {
+        outputs = λ n l.
+            let o = may_be i inputs n l in
+            let told : output_cells i new n ≡ learned (output_cells i mid n) (verdict (sure n) (possible n))
+            = h.told n (w n l) o
+            ∙ ap (λ (v : Status). learned (output_cells i mid n) v)
+            (gate_is inputs sure possible n (not_input i inputs n l)) in
+            subst (λ (v : Status). IsBelow v (last (outer n))) (sym told)
+            (learned_below (output_cells i mid n) _ (last (outer n)) (pass.sound.outputs n l)
+            (below_then (judged n) (g.outputs n l)));
+        sheet = subst (λ (z : Sheet true s). Below true s z (sheet_meaning s x last))
+            (sym (sheet_same (cell_at new) (cell_at mid) true s (output_count i) 0 (λ m l u. h.changes.after m l)))
+            pass.sound.sheet;
+      };
+      knows = h.knows;
+      offered = λ n l o p. h.told n l o
+          ∙ ap (λ (v : Status). learned v (output_gate inputs sure possible n))
+          (pass.same n l o ∙ ready.offered n l o p);
+    }
+
+-- a pass, and what the signals are told after it
+pub pass_round_ready : (unasked : ℕ → Bool) (k : Kernel) (x : State) (inputs : ℕ → Bool) (e f : Known)
+    (old new : List Status) → AreInputsAlone k.interface unasked
+    → IsPassRound k.interface unasked inputs k.root x e f old new → Ready unasked k x inputs old e
+    → Ready unasked k x inputs new f
+pass_round_ready unasked k x inputs e f old new a h ready =
+    exchange_ready unasked k x inputs h.sure h.possible e f old h.mid new ready
+    (pass_made unasked k x inputs e old h.mid a ready h.pass)
+    (λ n. inr (ap (λ (b : Bool). verdict b (h.possible n)) (h.sure_is n)
+    ∙ ap (λ (b : Bool). verdict (emits is_sure true k.root
+    (sheet_in (cell_at h.mid) true k.root (output_count k.interface) 0) (outer n)) b) (h.possible_is n)))
+    h.exchange
+
+pub pass_round_by : (i : List Declaration) (unasked inputs : ℕ → Bool) (s : Statement) (x : State) (e f : Known)
+    (old new : List Status) → AreInputsAlone i unasked → IsPassRound i unasked inputs s x e f old new
+    → (others : ℕ → Bool) → AgreeBut unasked inputs others → IsPassRound i unasked others s x e f old new
+pass_round_by i unasked inputs s x e f old new a h others agree = record {
+  mid = h.mid;
+  sure = h.sure;
+  possible = h.possible;
+  pass = h.pass;
+  sure_is = h.sure_is;
+  possible_is = h.possible_is;
+  exchange = exchange_by i unasked inputs _ _ _ _ _ a h.exchange others agree;
+}
+
+pub pass_round_size : (i : List Declaration) (unasked inputs : ℕ → Bool) (s : Statement) (x : State) (e f : Known)
+    (old new : List Status) → IsPassRound i unasked inputs s x e f old new → length new ≡ length old
+pass_round_size i unasked inputs s x e f old new h =
+    h.exchange.changes.size ∙ (pass_changes s x (output_count i) (env_of e) old h.mid h.pass).size
+
+pub pass_round_more : (i : List Declaration) (unasked inputs : ℕ → Bool) (s : Statement) (x : State) (e f : Known)
+    (old new : List Status) → IsPassRound i unasked inputs s x e f old new → decided old ≤ decided new
+pass_round_more i unasked inputs s x e f old new h =
+    let a = h.exchange.changes.more in
+    let b = (pass_changes s x (output_count i) (env_of e) old h.mid h.pass).more in
+    omega arith
+
+pub pass_round_is : (k : Kernel) (x : State) (inputs unasked : ℕ) (root : Statement) (outputs : ℕ) (e f : Known)
+    (old mid new : List Status) (j : Judgement) (listed : List Emission) → root ≡ k.root
+    → outputs ≡ output_count k.interface → listed ≡ emissions true k.root (output_count k.interface) 0
+    → SheetPasses root x outputs (env_of e) old mid
+    → ((n : ℕ) → bits j.must.signals.interface n ≡ list_any (is_of is_sure (cell_at mid) n) listed)
+    → ((n : ℕ) → bits j.can.signals.interface n ≡ list_any (is_of is_possible (cell_at mid) n) listed)
+    → IsExchanged k.interface (bits unasked) (bits inputs) (bits j.must.signals.interface)
+    (bits j.can.signals.interface) mid new f
+    → IsPassRound k.interface (bits unasked) (bits inputs) k.root x e f old new
+pass_round_is k x inputs unasked root outputs e f old mid new j listed a b l h sure possible ex = record {
+  mid = mid;
+  sure = bits j.must.signals.interface;
+  possible = bits j.can.signals.interface;
+  pass = subst (λ (n : ℕ). SheetPasses k.root x n (env_of e) old mid) b
+      (subst (λ (z : Statement). SheetPasses z x outputs (env_of e) old mid) a h);
+  sure_is = λ n. sure n ∙ (ap (λ (z : List Emission). list_any (is_of is_sure (cell_at mid) n) z) l
+      ∙ sym (emitted_listed is_sure n true k.root (output_count k.interface) 0 (cell_at mid)));
+  possible_is = λ n. possible n ∙ (ap (λ (z : List Emission). list_any (is_of is_possible (cell_at mid) n) z) l
+      ∙ sym (emitted_listed is_possible n true k.root (output_count k.interface) 0 (cell_at mid)));
+  exchange = ex;
+}

@@ -1,0 +1,308 @@
+-- A pass over a part of a statement is one over the statement; passes follow one another; what a sweep of the
+-- statement, or what its codes are told, is a pass too.
+use Rattle.std.specs.Prelude.{◌≡◌, ◌≤◌, ◌<◌, ◌+◌, ℕ, Bool, true, false, List}
+use Rattle.std.proofs.Common.{refl, ap, sym, ◌∙◌, arith, inr, subst}
+use Rattle.est_kernel.specs.Codes.{Codes}
+use Rattle.est_kernel.specs.CodeViews.{codes_of}
+use Rattle.est_kernel.specs.View.{query_of, term_of}
+use Rattle.est_kernel.specs.declared.statement.LocalSignal.{LocalSignal}
+use Rattle.est_kernel.specs.declared.statement.Statement.{Statement}
+use Rattle.est_kernel.specs.declared.statement.Statement.TheVariants.{Present', Suspend', Seq'}
+use Rattle.est_kernel.specs.declared.statement.Statement.TheVariants.{Loop', Par', Trap', Local' as Binder'}
+use Rattle.est_meaning.proofs.KnowledgeIsMonotone.{and_below, opposite_below, query_below, local_below}
+use Rattle.est_meaning.specs.Environments.{Env, and_status, opposite, status_of, with_local}
+use Rattle.est_meaning.specs.Knowledge.{IsBelow, KnowsLess}
+use Rattle.est_meaning.specs.declared.status.Status.{Status}
+use Rattle.est_meaning.specs.declared.status.Status.TheVariants.{Absent}
+use Rattle.est_cells.proofs.Order.{ends_below}
+use Rattle.est_cells.proofs.Sound.{sound, local_sound}
+use Rattle.est_cells.specs.Gates.{ends, emitted_status, gates}
+use Rattle.est_cells.specs.Meaning.{begun, begun_parts, cells_at, status_at}
+use Rattle.est_cells.specs.Tables.{Below, Cells, PartsBelow, Sheet, emits, is_sure, sheet_size}
+use Rattle.est_net.specs.Cells.{Learns, cell_at, learned}
+use Rattle.est_net.specs.Layout.{node_in, parts_in, possible_codes, sheet_in, sure_codes}
+use Rattle.est_rounds.specs.declared.acts.Judgement.{Judgement}
+use Rattle.est_micro.specs.Hearing.{Heard}
+use Rattle.est_micro.specs.Passes.{Keeps, Passes}
+use Rattle.est_micro.specs.Sweeps.{left, may_told, sure_told, swept}
+use Rattle.est_micro.specs.Views.{Changes, IsLeft, IsSwept}
+use Rattle.est_micro.specs.declared.cells.Found.{Found}
+use Rattle.est_micro.specs.declared.direction.Direction.{Direction}
+use Rattle.est_micro.proofs.BegunNodes.{nothing_changes, widen}
+use Rattle.est_micro.proofs.Frames.{changes_then, learn_changes, node_same, parts_same, same_node_of, sheet_same}
+use Rattle.est_micro.proofs.Frames.{size_least}
+use Rattle.est_micro.proofs.Hearing.{begun_local, heard_left, heard_local, heard_right, idle_heard}
+use Rattle.est_micro.proofs.SweepsAreSound.{swept_sound}
+use Rattle.est_micro.proofs.Told.{learned_below, told_below}
+
+-- what changes nothing; one after another
+pub keeps_nothing : (main : Bool) (s : Statement) (c t : ℕ) (Meant : Sheet main s → Type 0) (cells : List Status)
+    → Keeps main s c t Meant cells cells
+keeps_nothing main s c t Meant cells = record { changes = nothing_changes _ _ cells; sound = λ M m b. b }
+
+pub keeps_then : (main : Bool) (s : Statement) (c t : ℕ) (Meant : Sheet main s → Type 0) (old mid new : List Status)
+    → Keeps main s c t Meant old mid → Keeps main s c t Meant mid new → Keeps main s c t Meant old new
+keeps_then main s c t Meant old mid new h k =
+    let e = c + sheet_size main s t in
+    record {
+      changes = changes_then c e c e c e old mid new (omega arith) (omega arith) (omega arith) (omega arith) h.changes
+          k.changes;
+      sound = λ M m b. k.sound M m (h.sound M m b);
+    }
+
+-- a statement that is left alone
+pub after_it : (main : Bool) (q : Statement) (e t lo hi : ℕ) (old new : List Status) (N : Sheet main q)
+    → Changes lo hi old new → hi ≤ e → Below main q (sheet_in (cell_at old) main q e t) N
+    → Below main q (sheet_in (cell_at new) main q e t) N
+after_it main q e t lo hi old new N h l b = subst (λ (z : Sheet main q). Below main q z N)
+    (sym (sheet_same (cell_at new) (cell_at old) main q e t (λ i k u. h.after i (omega arith)))) b
+
+pub before_it : (main : Bool) (q : Statement) (e t lo hi : ℕ) (old new : List Status) (N : Sheet main q)
+    → Changes lo hi old new → e + sheet_size main q t ≤ lo → Below main q (sheet_in (cell_at old) main q e t) N
+    → Below main q (sheet_in (cell_at new) main q e t) N
+before_it main q e t lo hi old new N h l b = subst (λ (z : Sheet main q). Below main q z N)
+    (sym (sheet_same (cell_at new) (cell_at old) main q e t (λ i k u. h.before i (omega arith)))) b
+
+-- what a pass keeps
+pub passed : (main : Bool) (p : Statement) (d t : ℕ) (h : Status) (l : Env) (old new : List Status)
+    → Passes main p d t h l old new → (r : Status) (e : Env) → IsBelow h r → KnowsLess l e
+    → Heard (emits is_sure main p (begun main p r e)) e l
+    → Below main p (sheet_in (cell_at old) main p d t) (begun main p r e)
+    → Below main p (sheet_in (cell_at new) main p d t) (begun main p r e)
+passed main p d t h l old new k r e i j u b =
+    k.sound (begun main p r e) (record { reach = r; env = e; is = refl; below = i; less = j; heard = u }) b
+
+-- where only parts change
+pub parts_pass : (main : Bool) (s : Statement) (c t : ℕ) (g : Status) (l : Env) (old new : List Status) (lo hi : ℕ)
+    → c + t + 3 ≤ lo → hi ≤ c + sheet_size main s t → Changes lo hi old new
+    → ((r : Status) (e : Env) → IsBelow g r → KnowsLess l e → Heard (emits is_sure main s (begun main s r e)) e l
+    → Below main s (sheet_in (cell_at old) main s c t) (begun main s r e)
+    → PartsBelow main s (parts_in (cell_at new) main s c t) (begun_parts main s r e))
+    → Passes main s c t g l old new
+parts_pass main s c t g l old new lo hi x y h f =
+    let P = parts_in (cell_at new) main s c t in
+    let same : sheet_in (cell_at new) main s c t ≡ node_in (cell_at old) c t P
+    = node_same (cell_at new) (cell_at old) c t P P (λ i k u. h.before i (omega arith)) refl in
+    record {
+      changes = widen lo c hi (c + sheet_size main s t) old new (omega arith) y h;
+      sound = λ M m b.
+          let N = begun main s m.reach m.env in
+          let o = subst (λ (z : Sheet main s). Below main s (sheet_in (cell_at old) main s c t) z) m.is b in
+          subst (λ (z : Sheet main s). Below main s (sheet_in (cell_at new) main s c t) z) (sym m.is)
+          (subst (λ (z : Sheet main s). Below main s z N) (sym same)
+          (record { cells = o.cells; parts = f m.reach m.env m.below m.less m.heard o }));
+    }
+
+pub par_first : (main : Bool) (a : _) (p : Statement) (b : _) (q : Statement) (c t : ℕ) (g h : Status) (l : Env)
+    (old new : List Status) → h ≡ cell_at old c → Passes main p (c + t + 3) t h l old new
+    → Passes main (Par' a p b q) c t g l old new
+par_first main a p b q c t g h l old new z k =
+    parts_pass main (Par' a p b q) c t g l old new (c + t + 3) (c + t + 3 + sheet_size main p t) (omega arith)
+    (omega arith) k.changes (λ r e i j u o. record {
+      first = passed main p (c + t + 3) t h l old new k r e
+          (subst (λ (v : Status). IsBelow v r) (sym z) o.cells.go) j (heard_left _ _ e l u) o.parts.first;
+      second = after_it main q (c + t + 3 + sheet_size main p t) t _ _ old new _ k.changes (omega arith)
+          o.parts.second;
+    })
+
+pub par_second : (main : Bool) (a : _) (p : Statement) (b : _) (q : Statement) (c t : ℕ) (g h : Status) (l : Env)
+    (old new : List Status) → h ≡ cell_at old c → Passes main q (c + t + 3 + sheet_size main p t) t h l old new
+    → Passes main (Par' a p b q) c t g l old new
+par_second main a p b q c t g h l old new z k =
+    let d = c + t + 3 + sheet_size main p t in
+    parts_pass main (Par' a p b q) c t g l old new d (d + sheet_size main q t) (omega arith)
+    (omega arith) k.changes (λ r e i j u o. record {
+      first = before_it main p (c + t + 3) t _ _ old new _ k.changes (omega arith) o.parts.first;
+      second = passed main q d t h l old new k r e
+          (subst (λ (v : Status). IsBelow v r) (sym z) o.cells.go) j (heard_right _ _ e l u) o.parts.second;
+    })
+
+pub seq_first : (main : Bool) (a : _) (p : Statement) (b : _) (q : Statement) (c t : ℕ) (g h : Status) (l : Env)
+    (old new : List Status) → h ≡ cell_at old c → Passes main p (c + t + 3) t h l old new
+    → Passes main (Seq' a p b q) c t g l old new
+seq_first main a p b q c t g h l old new z k =
+    parts_pass main (Seq' a p b q) c t g l old new (c + t + 3) (c + t + 3 + sheet_size main p t) (omega arith)
+    (omega arith) k.changes (λ r e i j u o. record {
+      first = passed main p (c + t + 3) t h l old new k r e
+          (subst (λ (v : Status). IsBelow v r) (sym z) o.cells.go) j (heard_left _ _ e l u) o.parts.first;
+      second = after_it main q (c + t + 3 + sheet_size main p t) t _ _ old new _ k.changes (omega arith)
+          o.parts.second;
+    })
+
+pub seq_second : (main : Bool) (a : _) (p : Statement) (b : _) (q : Statement) (c t : ℕ) (g h : Status) (l : Env)
+    (old new : List Status) → h ≡ ends (sheet_in (cell_at old) main p (c + t + 3) t).cells
+    → Passes main q (c + t + 3 + sheet_size main p t) t h l old new → Passes main (Seq' a p b q) c t g l old new
+seq_second main a p b q c t g h l old new z k =
+    let d = c + t + 3 + sheet_size main p t in
+    parts_pass main (Seq' a p b q) c t g l old new d (d + sheet_size main q t) (omega arith)
+    (omega arith) k.changes (λ r e i j u o. record {
+      first = before_it main p (c + t + 3) t _ _ old new _ k.changes (omega arith) o.parts.first;
+      second = passed main q d t h l old new k (ends (cells_at r r (term_of p) e)) e
+          (subst (λ (v : Status). IsBelow v (ends (cells_at r r (term_of p) e))) (sym z)
+          (ends_below _ _ o.parts.first.cells)) j (heard_right _ _ e l u) o.parts.second;
+    })
+
+pub present_first : (main : Bool) (y a : _) (p : Statement) (b : _) (q : Statement) (c t : ℕ) (g h : Status) (l : Env)
+    (old new : List Status) → h ≡ and_status (cell_at old c) (status_of l (query_of y))
+    → Passes main p (c + t + 3) t h l old new → Passes main (Present' y a p b q) c t g l old new
+present_first main y a p b q c t g h l old new z k =
+    parts_pass main (Present' y a p b q) c t g l old new (c + t + 3) (c + t + 3 + sheet_size main p t) (omega arith)
+    (omega arith) k.changes (λ r e i j u o. record {
+      first = passed main p (c + t + 3) t h l old new k (and_status r (status_of e (query_of y))) e
+          (subst (λ (v : Status). IsBelow v (and_status r (status_of e (query_of y)))) (sym z)
+          (and_below (cell_at old c) r (status_of l (query_of y)) (status_of e (query_of y)) o.cells.go
+          (query_below l e (query_of y) j))) j (heard_left _ _ e l u) o.parts.first;
+      second = after_it main q (c + t + 3 + sheet_size main p t) t _ _ old new _ k.changes (omega arith)
+          o.parts.second;
+    })
+
+pub present_second : (main : Bool) (y a : _) (p : Statement) (b : _) (q : Statement) (c t : ℕ) (g h : Status)
+    (l : Env) (old new : List Status) → h ≡ and_status (cell_at old c) (opposite (status_of l (query_of y)))
+    → Passes main q (c + t + 3 + sheet_size main p t) t h l old new
+    → Passes main (Present' y a p b q) c t g l old new
+present_second main y a p b q c t g h l old new z k =
+    let d = c + t + 3 + sheet_size main p t in
+    parts_pass main (Present' y a p b q) c t g l old new d (d + sheet_size main q t) (omega arith)
+    (omega arith) k.changes (λ r e i j u o.
+    let v = status_of e (query_of y) in
+    let w = status_of l (query_of y) in
+    record {
+      first = before_it main p (c + t + 3) t _ _ old new _ k.changes (omega arith) o.parts.first;
+      second = passed main q d t h l old new k (and_status r (opposite v)) e
+          (subst (λ (x : Status). IsBelow x (and_status r (opposite v))) (sym z)
+          (and_below (cell_at old c) r (opposite w) (opposite v) o.cells.go
+          (opposite_below w v (query_below l e (query_of y) j)))) j (heard_right _ _ e l u) o.parts.second;
+    })
+
+pub suspend_body : (main : Bool) (y a : _) (p : Statement) (c t : ℕ) (g h : Status) (l : Env)
+    (old new : List Status) → h ≡ cell_at old c → Passes main p (c + t + 3) t h l old new
+    → Passes main (Suspend' y a p) c t g l old new
+suspend_body main y a p c t g h l old new z k =
+    parts_pass main (Suspend' y a p) c t g l old new (c + t + 3) (c + t + 3 + sheet_size main p t) (omega arith)
+    (omega arith) k.changes (λ r e i j u o. passed main p (c + t + 3) t h l old new k r e
+    (subst (λ (v : Status). IsBelow v r) (sym z) o.cells.go) j u o.parts)
+
+pub trap_body : (main : Bool) (a : _) (p : Statement) (c t : ℕ) (g h : Status) (l : Env)
+    (old new : List Status) → h ≡ cell_at old c → Passes main p (c + t + 3) (t + 1) h l old new
+    → Passes main (Trap' a p) c t g l old new
+trap_body main a p c t g h l old new z k =
+    parts_pass main (Trap' a p) c t g l old new (c + t + 3) (c + t + 3 + sheet_size main p (t + 1)) (omega arith)
+    (omega arith) k.changes (λ r e i j u o. passed main p (c + t + 3) (t + 1) h l old new k r e
+    (subst (λ (v : Status). IsBelow v r) (sym z) o.cells.go) j u o.parts)
+
+-- a local signal's binder: its body, and its status
+pub local_body : (main : Bool) (s : LocalSignal) (a : _) (p : Statement) (c t : ℕ) (g h : Status) (l : Env)
+    (old new : List Status) → h ≡ cell_at old c
+    → Passes main p (c + t + 4) t h (with_local l s.index (cell_at old (c + t + 3))) old new
+    → Passes main (Binder' s a p) c t g l old new
+local_body main s a p c t g h l old new z k =
+    parts_pass main (Binder' s a p) c t g l old new (c + t + 4) (c + t + 4 + sheet_size main p t) (omega arith)
+    (omega arith) k.changes (λ r e i j u o.
+    let v = status_at r s.index (term_of p) e in
+    let w = cell_at old (c + t + 3) in
+    record {
+      status = subst (λ (x : Status). IsBelow x v) (sym (k.changes.before (c + t + 3) (omega arith))) o.parts.status;
+      body = passed main p (c + t + 4) t h (with_local l s.index w) old new k r (with_local e s.index v)
+          (subst (λ (x : Status). IsBelow x r) (sym z) o.cells.go) (local_below l e s.index w v j o.parts.status)
+          (heard_local s.index v w e l _ (begun_local main p s.index r e) u) o.parts.body;
+    })
+
+pub local_status : (main : Bool) (s : LocalSignal) (a : _) (p : Statement) (c t : ℕ) (g now : Status) (l : Env)
+    (old new : List Status) → now ≡ emitted_status main p s.index (sheet_in (cell_at old) main p (c + t + 4) t)
+    → Learns (c + t + 3) now old new → Passes main (Binder' s a p) c t g l old new
+local_status main s a p c t g now l old new z k =
+    let h = learn_changes (c + t + 3) now old new k in
+    parts_pass main (Binder' s a p) c t g l old new (c + t + 3) (c + t + 3 + 1) (omega arith)
+    (let o = size_least main p t in omega arith) h (λ r e i j u o.
+    let v = status_at r s.index (term_of p) e in
+    record {
+      status = subst (λ (x : Status). IsBelow x v) (sym k.here)
+          (learned_below (cell_at old (c + t + 3)) now v o.parts.status
+          (subst (λ (x : Status). IsBelow x v) (sym z)
+          (local_sound main p s.index r e (sheet_in (cell_at old) main p (c + t + 4) t) o.parts.body)));
+      body = after_it main p (c + t + 4) t _ _ old new _ h (omega arith) o.parts.body;
+    })
+
+-- what is judged by the gates is told
+pub record GivenBy (y : Cells) (own : Judgement) : Type 0 where
+  pub must : codes_of own.must.codes ≡ y.must
+  pub can : codes_of own.can.codes ≡ y.may
+
+pub left_sheet : (main : Bool) (s : Statement) (c t : ℕ) (y : Cells) (old new : List Status) (own : Judgement)
+    (past : ℕ) (r : Found) → GivenBy y own → IsLeft c t own past old new r
+    → sheet_in (cell_at new) main s c t ≡ left (sheet_in (cell_at old) main s c t) y
+left_sheet main s c t y old new own past r given is_left =
+    let f2 = cell_at old in
+    let f3 = cell_at new in
+    let S = sheet_in f2 main s c t in
+    let told = is_left.told in
+    let told_sure : sure_codes f3 (c + 1) (t + 2) ≡ sure_told S.cells.must S.cells.may y.must y.may
+    = told.sure ∙ (ap (λ (z : Codes). sure_told S.cells.must S.cells.may z (codes_of own.can.codes)) given.must
+    ∙ ap (λ (z : Codes). sure_told S.cells.must S.cells.may y.must z) given.can) in
+    let told_may : possible_codes f3 (c + 1) (t + 2) ≡ may_told S.cells.must S.cells.may y.must y.may
+    = told.may ∙ (ap (λ (z : Codes). may_told S.cells.must S.cells.may z (codes_of own.can.codes)) given.must
+    ∙ ap (λ (z : Codes). may_told S.cells.must S.cells.may y.must z) given.can) in
+    same_node_of (f3 c) (f2 c) _ _ _ _ _ _ (told.changes.before c (omega arith)) told_sure told_may
+    (parts_same f3 f2 main s c t (λ i l u. told.changes.after i (omega arith)))
+
+pub codes_pass : (main : Bool) (s : Statement) (c t : ℕ) (g : Status) (l : Env) (old new : List Status)
+    (own : Judgement) (past : ℕ) (r : Found)
+    → GivenBy (gates main s g l (sheet_in (cell_at old) main s c t)).cells own → IsLeft c t own past old new r
+    → Passes main s c t g l old new
+codes_pass main s c t g l old new own past r given is_left =
+    let o = size_least main s t in
+    let S = sheet_in (cell_at old) main s c t in
+    let y = (gates main s g l S).cells in
+    let same = left_sheet main s c t y old new own past r given is_left in
+    record {
+      changes = widen (c + 1) c (c + 1 + (t + 2)) (c + sheet_size main s t) old new (omega arith) (omega arith)
+          is_left.told.changes;
+      sound = λ M m b.
+          let N = begun main s m.reach m.env in
+          let k = subst (λ (z : Sheet main s). Below main s S z) m.is b in
+          subst (λ (z : Sheet main s). Below main s (sheet_in (cell_at new) main s c t) z) (sym m.is)
+          (subst (λ (z : Sheet main s). Below main s z N) (sym same) (record {
+            cells = told_below S.cells y N.cells S.cells.go k.cells.go k.cells
+                (sound main s m.reach g m.env l S m.below m.less k).cells;
+            parts = k.parts;
+          }));
+    }
+
+-- a sweep is a pass
+pub sweep_passes : (way : Direction) (main : Bool) (s : Statement) (c t : ℕ) (g : Status) (l : Env)
+    (old new : List Status) (r : Found) → IsSwept main s c t (swept way main s l g) old new r
+    → Passes main s c t g l old new
+sweep_passes way main s c t g l old new r h = record {
+  changes = h.changes;
+  sound = λ M m b.
+      let S = sheet_in (cell_at old) main s c t in
+      let k = subst (λ (z : Sheet main s). Below main s S z) m.is b in
+      subst (λ (z : Sheet main s). Below main s (sheet_in (cell_at new) main s c t) z) (sym m.is)
+      (subst (λ (z : Sheet main s). Below main s z (begun main s m.reach m.env)) (sym h.sheet)
+      (swept_sound way main s m.reach g m.env l S m.below m.less m.heard k));
+}
+
+pub loop_first : (main : Bool) (a : _) (p : Statement) (c t : ℕ) (g h : Status) (l : Env)
+    (old new : List Status) → main ≡ true → h ≡ cell_at old c → Passes main p (c + t + 3) t h l old new
+    → Passes main (Loop' a p) c t g l old new
+loop_first false a p c t g h l old new m z k = let x : false ≡ true = m in cc
+loop_first true a p c t g h l old new m z k =
+    parts_pass true (Loop' a p) c t g l old new (c + t + 3) (c + t + 3 + sheet_size true p t) (omega arith)
+    (omega arith) k.changes (λ r e i j u o. record {
+      first = passed true p (c + t + 3) t h l old new k r e
+          (subst (λ (v : Status). IsBelow v r) (sym z) o.cells.go) j (heard_left _ _ e l u) o.parts.first;
+      second = after_it false p (c + t + 3 + sheet_size true p t) t _ _ old new _ k.changes (omega arith)
+          o.parts.second;
+    })
+
+pub again_first : (main : Bool) (a : _) (p : Statement) (c t : ℕ) (g h : Status) (l : Env)
+    (old new : List Status) → main ≡ false → h ≡ cell_at old c → Passes main p (c + t + 3) t h l old new
+    → Passes main (Loop' a p) c t g l old new
+again_first true a p c t g h l old new m z k = let x : true ≡ false = m in cc
+again_first false a p c t g h l old new m z k =
+    parts_pass false (Loop' a p) c t g l old new (c + t + 3) (c + t + 3 + sheet_size false p t) (omega arith)
+    (omega arith) k.changes (λ r e i j u o. record {
+      first = passed false p (c + t + 3) t h l old new k r e
+          (subst (λ (v : Status). IsBelow v r) (sym z) o.cells.go) j (heard_left _ _ e l u) o.parts.first;
+      second = tt;
+    })
