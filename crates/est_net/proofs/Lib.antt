@@ -7,6 +7,6 @@ mod Finding
 mod KernelOwners
 mod OwnerCells
 mod OwnerCounts
-mod OwnerLists
+pub mod OwnerLists
 mod OwnerValues
 pub mod EmissionLists
