@@ -2,8 +2,9 @@
 //!
 //! `est_load_module` reads a module from a text and hands out a machine; `est_ask` asks it
 //! something. The header `estserve_react.h` has a function for each question. The contract of
-//! `est_ask` says that a machine lies at the pointer, that one lies there afterwards, and what was
-//! answered.
+//! `est_load_module` says that a machine lies at the pointer after status 0; that of `est_ask` that
+//! one lies there before and afterwards, and what was answered.
 #![tactic(auto)]
 
 mod exports;
+mod handed;
