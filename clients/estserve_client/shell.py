@@ -83,7 +83,7 @@ class Shell(cmd.Cmd):
     def set_prompt(self, user: str) -> None:
         self.user = user
         named = [name for name, slot in self.names.items() if slot == self.slot]
-        slot = f" {(named or [self.slot])[0]}" if named or self.slot else ""
+        slot = f" {(named or [str(self.slot)])[0]}" if named or self.slot else ""
         self.prompt = f"{user}{slot}> " if self.is_typed else ""
 
     # One line.
@@ -271,7 +271,9 @@ class Shell(cmd.Cmd):
         if key == "object":
             known = {str(slot): module for slot, module in self.modules.items()}
             called = {slot: known.get(str(self.names.get(slot, slot))) for slot in slots}
-            of_signals = [f"{slot}.{name}" for slot, one in called.items() if one for name in one.kinds()]
+            of_signals = [
+                f"{slot}.{name}" for slot, one in called.items() if one for name in one.kinds()
+            ]
             return ["policy", *slots, *of_signals]
         if key == "signal":
             known = {str(slot): module for slot, module in self.modules.items()}

@@ -86,7 +86,9 @@ class Lines(unittest.TestCase):
     def test_a_script_uses_them(self):
         grants = "".join(f"grant root {op} door\n" for op in ("load", "step"))
         grants += "grant root offer door.A\ngrant root observe door.O\n"
-        typed = f"{grants}load door {ABRO}\noffer door A\nstep door\nuse door\nA;\nstep dor\nnames\n"
+        typed = (
+            f"{grants}load door {ABRO}\noffer door A\nstep door\nuse door\nA;\nstep dor\nnames\n"
+        )
         ran = run_client(["shell", "--names", str(self.policy)], typed)
         self.assertEqual((ran.status, ran.told), (1, ""))
         wanted = """root may load on 3

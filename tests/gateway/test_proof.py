@@ -479,7 +479,6 @@ class Kept(Record):
             self.assertEqual(team.end(), 0)
         self.assertTrue(self.is_proven())
 
-
     def put_aside_tomorrow(self, place):
         """Puts aside by a clock that is set back by a day afterwards."""
         tomorrow = time.time() + 86_400
