@@ -9,6 +9,7 @@ from estserve_client.trying_out import INSTANTS, try_text
 
 TEXT = "module T:\ninput A, B;\noutput O;\nevery A do emit O end\nend module\n"
 TOML = (EXAMPLES / "team" / "team.toml").read_text()
+TEAM = {0: {"A": "input", "B": "input", "R": "input", "O": "output"}}  # what runs, by its slot
 KNOWN = {
     "users": ["root", "ann"],
     "roles": ["root", "driver", "old"],
@@ -63,7 +64,7 @@ class TextTest(unittest.TestCase):
 
 class PlanTest(unittest.TestCase):
     def test_what_is_added_taken_and_there(self):
-        told = plan(TOML, KNOWN, {})
+        told = plan(TOML, KNOWN, TEAM)
         added = [tuple(command.values()) for command in told["add"]]
         self.assertNotIn(("adduser", "ann"), added)
         self.assertIn(("adduser", "bob"), added)
