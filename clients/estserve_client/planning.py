@@ -4,11 +4,12 @@ from __future__ import annotations
 from typing import Any, Dict, List, Tuple
 
 from .command_table import KEYS, back_of
-from .policy_file import BadPolicy, Wish, read_file
+from .policy_file import BadPolicy, Interfaces, Kinds, Wish, read_file
 from .pruning import exact
 
 Command = Dict[str, Any]
 PLACES = {"assign": "assigned", "grant": "granted", "inherit": "edges"}
+NOT_SEEN = "of which you may see nothing"
 NAMES = {"addrole": "roles", "adduser": "users"}
 
 
@@ -47,29 +48,36 @@ def needed(wishes: List[Wish], known: Dict[str, Any]) -> Tuple[List[Wish], List[
     return found, there
 
 
-def changes_of(commands: List[Command], known: Dict[str, Any]) -> Tuple[List[Command], int]:
-    """The commands that would make something, and how many would not."""
-    made: List[Command] = []
-    for command in commands:
-        if is_other_set(command, known):
-            made += [back_of(command), command]
-        elif not is_there(command, known):
-            made.append(command)
-    return made, sum(is_there(one, known) and not is_other_set(one, known) for one in commands)
+def changes_of(wishes: List[Wish], known: Dict[str, Any]) -> Tuple[List[Wish], int]:
+    """The wishes that would make something, one before each separation set that is made anew, and
+    how many would not.
+    """
+    made: List[Wish] = []
+    there = 0
+    for wish in wishes:
+        if is_other_set(wish.command, known):
+            made += [Wish(wish.line, back_of(wish.command)), wish]
+        elif is_there(wish.command, known):
+            there += 1
+        else:
+            made.append(wish)
+    return made, there
 
 
-def plan(text: Any, known: Dict[str, Any]) -> Dict[str, Any]:
+def plan(text: Any, known: Dict[str, Any], kinds: Dict[int, Kinds]) -> Dict[str, Any]:
     """The commands by which the policy that is known becomes what a file asks for: those that `add`,
-    those that `take` away what the file doesn't ask for, and how many things are `there`.
+    those that `take` away what the file doesn't ask for, and how many things are `there`. Patterns
+    are spread over the interfaces that are known of slots; of each command that adds, `patterns` has
+    the one that it is a part of, or an empty text.
 
     A file that is none has a `fault`, with its `line`.
     """
     if not isinstance(text, str):
         return {"fault": "there is no text", "line": 1}
     try:
-        policy = read_file(text)
+        policy = read_file(text, Interfaces(lambda slot, _: kinds.get(slot), NOT_SEEN))
     except BadPolicy as bad:
         return {"fault": bad.what, "line": bad.line}
-    commands = [wish.command for wish in policy.wishes]
-    made, there = changes_of(commands, known)
-    return {"add": made, "take": exact(policy, known), "there": there}
+    made, there = changes_of(policy.wishes, known)
+    told = {"add": [wish.command for wish in made], "patterns": [wish.pattern for wish in made]}
+    return {**told, "take": exact(policy, known), "there": there}
