@@ -22,7 +22,7 @@ def fact_of(command: Command) -> Fact:
 
 def facts_of(known: Dict[str, Any]) -> Set[Fact]:
     """What a policy has, as what commands would make."""
-    found = {(cmd, name) for cmd, place in NAMES.items() for name in known[place]}
+    found: Set[Fact] = {(cmd, name) for cmd, place in NAMES.items() for name in known[place]}
     found |= {(cmd, *one) for cmd, place in PLACES.items() for one in known[place]}
     return found | {("dsd", one["name"]) for one in known["sets"]}
 
