@@ -1,26 +1,30 @@
 """What a policy file would change of a policy that is known whole, before anything is sent."""
 from __future__ import annotations
 
-from typing import Any, Dict, List, Tuple
+from typing import Any, Dict, List, Set, Tuple
 
 from .command_table import KEYS, back_of
 from .policy_file import BadPolicy, Interfaces, Kinds, Wish, read_file
 from .pruning import exact
 
 Command = Dict[str, Any]
+Fact = Tuple[Any, ...]
 PLACES = {"assign": "assigned", "grant": "granted", "inherit": "edges"}
 NOT_SEEN = "of which you may see nothing"
 NAMES = {"addrole": "roles", "adduser": "users"}
 
 
-def is_there(command: Command, known: Dict[str, Any]) -> bool:
-    """Whether a policy has what a command would make."""
+def fact_of(command: Command) -> Fact:
+    """What a command would make; of a separation set the name alone."""
     cmd = command["cmd"]
-    if cmd in NAMES:
-        return command[KEYS[cmd][0]] in known[NAMES[cmd]]
-    if cmd == "dsd":
-        return command["name"] in [one["name"] for one in known["sets"]]
-    return [command[key] for key in KEYS[cmd]] in [list(one) for one in known[PLACES[cmd]]]
+    return (cmd, command["name"]) if cmd == "dsd" else (cmd, *[command[key] for key in KEYS[cmd]])
+
+
+def facts_of(known: Dict[str, Any]) -> Set[Fact]:
+    """What a policy has, as what commands would make."""
+    found: Set[Fact] = {(cmd, name) for cmd, place in NAMES.items() for name in known[place]}
+    found |= {(cmd, *one) for cmd, place in PLACES.items() for one in known[place]}
+    return found | {("dsd", one["name"]) for one in known["sets"]}
 
 
 def is_other_set(command: Command, known: Dict[str, Any]) -> bool:
@@ -36,7 +40,7 @@ def needed(wishes: List[Wish], known: Dict[str, Any]) -> Tuple[List[Wish], List[
     """The wishes for what is not there, and those for what is. Before each separation set that is
     there as another one stands that it is taken away, which is taken back by making that one.
     """
-    sets = {one["name"]: one for one in known["sets"]}
+    sets, facts = {one["name"]: one for one in known["sets"]}, facts_of(known)
     found: List[Wish] = []
     there: List[Wish] = []
     for wish in wishes:
@@ -44,7 +48,7 @@ def needed(wishes: List[Wish], known: Dict[str, Any]) -> Tuple[List[Wish], List[
         if is_other:
             old = {key: sets[wish.command["name"]][key] for key in KEYS["dsd"]}
             found.append(Wish(wish.line, back_of(wish.command), {"cmd": "dsd", **old}))
-        (there if is_there(wish.command, known) and not is_other else found).append(wish)
+        (there if fact_of(wish.command) in facts and not is_other else found).append(wish)
     return found, there
 
 
@@ -53,11 +57,11 @@ def changes_of(wishes: List[Wish], known: Dict[str, Any]) -> Tuple[List[Wish], i
     how many would not.
     """
     made: List[Wish] = []
-    there = 0
+    facts, there = facts_of(known), 0
     for wish in wishes:
         if is_other_set(wish.command, known):
             made += [Wish(wish.line, back_of(wish.command)), wish]
-        elif is_there(wish.command, known):
+        elif fact_of(wish.command) in facts:
             there += 1
         else:
             made.append(wish)

@@ -10,6 +10,7 @@ from .module_text import OFFERED
 from .toml_reader import BadPolicy, Table, tables_of
 
 Kinds = Dict[str, str]  # the signals of a text, with their kinds
+MOST_PERMISSIONS = 16_384  # permissions of a policy: 256 for each of 64 roles
 NOT_NAMED = "which the table modules doesn't name"
 TABLES = ("inherit", "assign", "permissions", "slots", "modules")
 __all__ = ["BadPolicy", "Policy", "Table", "Wish", "lists_of", "read_file", "tables_of"]
@@ -161,7 +162,7 @@ class Patterns:
 
 def permissions_of(table: Optional[Table], patterns: Patterns) -> Iterator[Wish]:
     """The grants of the permissions' table. Raises BadPolicy."""
-    spread = set()  # what patterns stand for, which is granted once
+    found = set()  # what stands for itself is granted as often as it stands there
     for role, written, line in lists_of(table):
         words = written.split()
         if len(words) != 2:
@@ -170,10 +171,13 @@ def permissions_of(table: Optional[Table], patterns: Patterns) -> Iterator[Wish]
         operation, named = words
         pattern = f"{operation} {named}" if "*" in named else ""
         for object in patterns.objects_of(operation, named, line):
-            if not pattern or (role, operation, object) not in spread:
+            if not pattern or (role, operation, object) not in found:
                 grant = {"cmd": "grant", "role": role, "op": operation, "object": object}
                 yield Wish(line, grant, pattern=pattern)
-            spread.add((role, operation, object))
+            found.add((role, operation, object))
+        if len(found) > MOST_PERMISSIONS:
+            told = f"up to here there are over {MOST_PERMISSIONS:,} permissions"
+            raise BadPolicy(line, f"{told}: a policy has no room for so many")
 
 
 def modules_of(table: Optional[Table], slots: Dict[str, int]) -> Dict[int, Tuple[int, str]]:

@@ -1,12 +1,15 @@
 """What is tried before it is done: texts on a program of their own, policy files beside a policy."""
 import os
 import unittest
+import unittest.mock
 
 from support import EXAMPLES, needs_program
 
+from estserve_client.connection import Client
 from estserve_client.planning import plan
 from estserve_client.trying_out import INSTANTS, try_text
 
+ASK_ALL = Client.ask_all
 TEXT = "module T:\ninput A, B;\noutput O;\nevery A do emit O end\nend module\n"
 TOML = (EXAMPLES / "team" / "team.toml").read_text()
 TEAM = {0: {"A": "input", "B": "input", "R": "input", "O": "output"}}  # what runs, by its slot
@@ -38,6 +41,14 @@ class TextTest(unittest.TestCase):
         self.assertIn("`do` expected", found["told"])
         self.assertEqual([(one["line"], one["column"]) for one in found["marks"]], [(4, 9)])
         self.assertEqual(found["remedies"], ["did you mean `do`?"])
+
+    def test_a_text_with_too_many_signals_is_asked_about_once(self):
+        names = ",".join(f"I{at}" for at in range(300))
+        with unittest.mock.patch.object(Client, "ask_all", autospec=True) as asked:
+            asked.side_effect = ASK_ALL
+            told = trial(f"module M: input {names}; halt end module")
+        self.assertEqual(told["diagnosis"]["fault"], "TooLarge")
+        self.assertEqual([len(call.args[1]) for call in asked.call_args_list], [3])
 
     def test_an_instant_that_is_refused(self):
         told = trial(
