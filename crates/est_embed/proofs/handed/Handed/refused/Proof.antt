@@ -1,5 +1,6 @@
 -- `refused` makes a value that owns nothing.
-use Rattle.est_embed.proofs.Steps.{◌≡◌, ℕ, ◌<◌, ◌^◌, List, [], ◌∷◌, refl, w64, proved, tables, ‵, raw, ◌⊛◌, ◌$◌, ◌∵◌, ! }
+use Rattle.est_embed.proofs.Steps.{◌≡◌, ℕ, ◌<◌, ◌^◌, List, [], ◌∷◌, refl, w64, proved, tables, ‵, raw, ◌⊛◌}
+use Rattle.est_embed.proofs.Steps.{◌$◌, ◌∵◌, ! }
 use Rattle.est_embed.proofs.Steps.{qed, drop, enter, of_opd, no_more, and_then, returns, alloc_all, pass_all, free_all}
 use Rattle.est_embed.proofs.Steps.{look_at, get, sets, u64, uint_vals, uint_Tells, Ptr, RawPtr, rawptr_vals}
 use Rattle.est_embed.proofs.Steps.{rawptr_Tells, rawptr_Lawful, plain, nothing, on_entry, Stays, walk_of, stay_dropped}
