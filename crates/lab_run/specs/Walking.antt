@@ -1,0 +1,135 @@
+-- Instants of the module that is loaded, one after another, and the way back (this project's own form).
+use Rattle.std.specs.Prelude.{◌≡◌, ◌≤◌, ◌⊎◌, ◌+◌, ◌++◌, ◌∷◌, [], ℕ, List, Option, Some, None, Result, Ok, Err}
+use Rattle.std.specs.Prelude.{false, length, slice_get, take}
+use Rattle.serde_json.specs.Data.{Data}
+use Rattle.serde_json.specs.View.{view}
+use Rattle.est_text.specs.Identifiers.{is_identifier}
+use Rattle.est_kernel.specs.declared.state.State.{State}
+use Rattle.est_kernel.specs.declared.state.State.TheVariants.{Fresh}
+use Rattle.est_meaning.specs.declared.status.Status.{Status}
+use Rattle.est_relations.specs.Offers.{PendingInputs, OfferAnswer, ReadyAnswer, pending_inputs}
+use Rattle.est_relations.specs.declared.refusal.Refusal.{Refusal as OfferFault}
+use Rattle.est_relations.specs.declared.refusal.Refusal.TheVariants.{UnknownSignal}
+use Rattle.reactor_core.specs.declared.loaded.Module.{Module}
+use Rattle.reactor_core.specs.declared.refusal.ModuleRefusal.TheVariants as of_module
+use Rattle.access_core.specs.declared.refusal.Refusal.{Refusal}
+use Rattle.access_core.specs.declared.refusal.Refusal.TheVariants as refusal
+use Rattle.lab_instant.specs.Instants.{IsInstant}
+use Rattle.lab_instant.specs.declared.seen.Instant.{Instant}
+use Rattle.lab_instant.specs.declared.seen.Instant.TheVariants.{Reaction, Stuck}
+use Rattle.lab_lines.specs.Inside.{back_json, inside_json}
+use Rattle.lab_run.specs.declared.lab.Told.{Told}
+use Rattle.lab_run.specs.declared.lab.Told.TheVariants.{Refused, Says}
+
+-- what is loaded: a module, and where it stood at the start and after each instant, of which the last is where it
+-- stands
+pub record Standing : Type 0 where
+  pub module : Module
+  pub states : List State
+
+-- a module that stands at its start
+abbrev pub at_start : Module → Standing
+at_start m = record { module = m; states = Fresh ∷ [] }
+
+-- the same module, where it stood so and so
+abbrev pub standing_at : Standing → List State → Standing
+standing_at s states = record { module = s.module; states = states }
+
+-- it stands there
+pub record StandsAt (states : List State) (x : State) : Type 0 where
+  pub earlier : List State
+  pub is : states ≡ earlier ++ x ∷ []
+
+-- ---- the inputs of an instant
+
+-- inputs of these names are offered one after another: all of them are taken, and pending then is what is answered; or
+-- the first that is refused is why, where a text that is no identifier is no signal's name
+abbrev pub AreOffered : PendingInputs → (names : List (List ℕ)) → Result PendingInputs OfferFault → Type 0
+AreOffered p [] (Ok after) = (after ≡ p) × ReadyAnswer p (Ok (record {}))
+AreOffered p [] (Err fault) = ReadyAnswer p (Err fault)
+AreOffered p (name ∷ names) answer =
+    ((next : PendingInputs) × OfferAnswer p name (Ok (record {})) next × AreOffered next names answer)
+    ⊎ (((fault : OfferFault) × OfferAnswer p name (Err fault) p × (answer ≡ Err fault))
+    ⊎ ((is_identifier name ≡ false) × (answer ≡ Err UnknownSignal)))
+
+-- nothing is pending of a module, or these inputs
+abbrev pub pending_of : Module → (inputs : ℕ) → PendingInputs
+pending_of m inputs = pending_inputs m.kernel.interface m.relations inputs
+
+-- an instant of the module may take these inputs, which have these names
+abbrev pub MayTake : Module → (names : List (List ℕ)) → (inputs : ℕ) → Type 0
+MayTake m names inputs = AreOffered (pending_of m 0) names (Ok (pending_of m inputs))
+
+-- no instant of the module may take the inputs of these names, for this reason
+pub record MayNotTake (m : Module) (names : List (List ℕ)) (given : Refusal) : Type 0 where
+  pub fault : OfferFault
+  pub told : given ≡ refusal.Module (of_module.Pending fault)
+  pub first : AreOffered (pending_of m 0) names (Err fault)
+
+-- ---- an instant
+
+-- the instant of the module from where it stands, with the inputs of these names, is told as it is seen from inside
+pub record IsInstantTold (s : Standing) (names : List (List ℕ)) (instant : Instant) (d : Data) : Type 0 where
+  pub inputs : ℕ
+  pub taken : MayTake s.module names inputs
+  pub state : State
+  pub stands : StandsAt s.states state
+  pub cells : List Status
+  pub right : IsInstant s.module.kernel state (record { signals = inputs }) cells instant
+  pub said : d ≡ inside_json s.module.kernel.interface instant
+
+-- where the module stands after the instant: at its next state, or if it is stuck where it stood
+abbrev pub states_after : List State → Instant → List State
+states_after states (Reaction o seen) = states ++ o.next ∷ []
+states_after states (Stuck undecided seen) = states
+
+-- the instant is made
+abbrev pub Makes : (before : Standing) → (names : List (List ℕ)) → Told → (after : Standing) → Type 0
+Makes before names (Refused given) after = MayNotTake before.module names given × (after ≡ before)
+Makes before names (Says v) after = (instant : Instant) × IsInstantTold before names instant (view v)
+    × (after ≡ standing_at before (states_after before.states instant))
+
+-- the instant is told, and the module stays where it stands
+abbrev pub Tries : (before : Standing) → (names : List (List ℕ)) → Told → (after : Standing) → Type 0
+Tries before names (Refused given) after = MayNotTake before.module names given × (after ≡ before)
+Tries before names (Says v) after =
+    ((instant : Instant) × IsInstantTold before names instant (view v)) × (after ≡ before)
+
+-- ---- the way back
+
+-- the module stands where it stood after so many instants, and what came later is gone
+pub record IsBack (before : Standing) (to : ℕ) (d : Data) (after : Standing) : Type 0 where
+  pub state : State
+  pub there : slice_get before.states to ≡ Some state
+  pub is : after ≡ standing_at before (take (to + 1) before.states)
+  pub said : d ≡ back_json state
+
+-- the same, or there were not so many
+abbrev pub GoesBack : (before : Standing) → (to : ℕ) → Told → (after : Standing) → Type 0
+GoesBack before to (Refused given) after =
+    (given ≡ refusal.Module of_module.NoInstant) × (length before.states ≤ to) × (after ≡ before)
+GoesBack before to (Says v) after = IsBack before to (view v) after
+
+-- ---- where nothing may be loaded
+
+-- nothing is loaded, and that is told
+abbrev pub IsEmpty : Told → (after : Option Standing) → Type 0
+IsEmpty told after = (told ≡ Refused refusal.Empty) × (after ≡ None)
+
+-- what is done with what is loaded, of which something is loaded afterwards too
+pub record Moves (P : Told → Standing → Type 0) (told : Told) (after : Option Standing) : Type 0 where
+  pub standing : Standing
+  pub is : after ≡ Some standing
+  pub done : P told standing
+
+abbrev pub MakesIf : (before : Option Standing) → (names : List (List ℕ)) → Told → (after : Option Standing) → Type 0
+MakesIf None names told after = IsEmpty told after
+MakesIf (Some s) names told after = Moves (Makes s names) told after
+
+abbrev pub TriesIf : (before : Option Standing) → (names : List (List ℕ)) → Told → (after : Option Standing) → Type 0
+TriesIf None names told after = IsEmpty told after
+TriesIf (Some s) names told after = Moves (Tries s names) told after
+
+abbrev pub GoesBackIf : (before : Option Standing) → (to : ℕ) → Told → (after : Option Standing) → Type 0
+GoesBackIf None to told after = IsEmpty told after
+GoesBackIf (Some s) to told after = Moves (GoesBack s to) told after

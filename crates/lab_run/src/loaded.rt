@@ -1,0 +1,143 @@
+//! The module that is loaded, and where it stood after each instant.
+
+ghost use Rattle.std.specs.Prelude.{◌≡◌, ◌++◌, ◌∷◌, [], MatchResult, IfOk, IfErr, map};
+ghost use Rattle.std.specs.List.{list_all};
+ghost use Rattle.serde_json.specs.View.{view};
+ghost use Rattle.est_kernel.specs.Bits.{bits};
+ghost use Rattle.lab_run.specs.Walking.{AreOffered, GoesBack, IsInstantTold, Makes, MayNotTake};
+ghost use Rattle.lab_run.specs.Walking.{MayTake, StandsAt, Tries, at_start, pending_of};
+ghost use Rattle.lab_run.specs.Walking.{states_after};
+
+use crate::lab::{Told, not_offered};
+use access_core::refusal::Refusal;
+use est_kernel::state::{Inputs, State};
+use est_relations::pending::Pending;
+use est_relations::refusal::Refusal as OfferFault;
+use est_text::identifier::Identifier;
+use lab_instant::instant::Inside;
+use lab_instant::seen::Instant;
+use lab_lines::inside::{back, inside};
+use reactor_core::loaded::Module;
+use reactor_core::refusal::ModuleRefusal;
+use serde_json::Value;
+use std::alloc::{AllocError, Global};
+use std::marker::Model;
+
+/// A module with the states in which it stood, of which the last is where it stands. A contract
+/// sees these two.
+#[derive(Drop)]
+pub struct Loaded {
+    module: Module,
+    inside: Inside,
+    states: Vec<State>,
+}
+
+impl Model for Loaded {
+    ghost use Rattle.lab_run.specs.Walking.{AreLoaded, Standing};
+
+    ghost Value = { Standing };
+
+    ghost view = { λ l. record { module = l.module; states = l.states.items } };
+
+    ghost invariant = { λ l. AreLoaded l.module l.inside l.states.items };
+}
+
+/// The inputs of these names, where an instant of the module may take them.
+fn inputs_of(module: &Module, names: &[&str]) -> Result<u64, OfferFault>
+    ensures { MatchResult result (MayTake module.now (map (λ t. t.now) names.now))
+        (λ fault. AreOffered (pending_of module.now 0) (map (λ t. t.now) names.now) (Err fault)) }
+{
+    let mut pending = Pending::new(module.kernel.interface(), &module.relations);
+    for name in names {
+        let Some(name) = Identifier::from_text(*name) else {
+            return Err(OfferFault::UnknownSignal);
+        };
+        pending.offer(&name)?;
+    }
+    pending.ready()?;
+    Ok(pending.inputs())
+}
+
+impl Loaded {
+    /// A module at its start.
+    pub fn begin(alloc: Global, module: Module) -> Result<Loaded, AllocError>
+        ensures { IfOk result (λ loaded. loaded ≡ at_start module) }
+    {
+        let inside = Inside::new(alloc, &module.kernel)?;
+        let mut states = Vec::new(alloc);
+        states.push(State::Fresh)?;
+        Ok(Loaded {
+            module,
+            inside,
+            states,
+        })
+    }
+
+    /// The module.
+    pub fn module(&self) -> &Module
+        ensures { result.now ≡ self.now.module }
+    {
+        &self.module
+    }
+
+    /// Its next instant from inside, with these inputs.
+    fn look(&mut self, alloc: Global, signals: u64) -> Result<(Instant, Value), AllocError>
+        ensures kept { self.new ≡ self.old }
+    {
+        let state = match self.states.last() {
+            Some(state) => *state,
+            None => State::Fresh,
+        };
+        let inputs = Inputs { signals };
+        let instant = self
+            .inside
+            .look(alloc, &self.module.kernel, &state, &inputs)?;
+        let value = inside(alloc, self.module.kernel.interface(), &instant)?;
+        Ok((instant, value))
+    }
+
+    /// Makes the next instant, with the inputs of these names.
+    pub fn make(&mut self, alloc: Global, names: &[&str]) -> Result<Told, AllocError>
+        ensures done { IfOk result (λ told. Makes self.old (map (λ t. t.now) names.now) told
+            self.new) }
+        ensures kept { IfErr result (λ _. self.new ≡ self.old) }
+    {
+        let signals = match inputs_of(&self.module, names) {
+            Ok(signals) => signals,
+            Err(fault) => return Ok(Told::Refused(not_offered(fault))),
+        };
+        let (instant, value) = self.look(alloc, signals)?;
+        if let Instant::Reaction { outcome, .. } = instant {
+            self.states.push(outcome.next)?;
+        }
+        Ok(Told::Says(value))
+    }
+
+    /// Tells the next instant, with the inputs of these names, and stays where it stands.
+    pub fn try_instant(&mut self, alloc: Global, names: &[&str]) -> Result<Told, AllocError>
+        ensures done { IfOk result (λ told. Tries self.old (map (λ t. t.now) names.now) told
+            self.new) }
+        ensures kept { IfErr result (λ _. self.new ≡ self.old) }
+    {
+        let signals = match inputs_of(&self.module, names) {
+            Ok(signals) => signals,
+            Err(fault) => return Ok(Told::Refused(not_offered(fault))),
+        };
+        let (_, value) = self.look(alloc, signals)?;
+        Ok(Told::Says(value))
+    }
+
+    /// Goes back to where it stood after so many instants.
+    pub fn go_back(&mut self, alloc: Global, to: u64) -> Result<Told, AllocError>
+        ensures done { IfOk result (λ told. GoesBack self.old to told self.new) }
+        ensures kept { IfErr result (λ _. self.new ≡ self.old) }
+    {
+        if to >= self.states.len() as u64 {
+            return Ok(Told::Refused(Refusal::Module(ModuleRefusal::NoInstant)));
+        }
+        let to = to as usize;
+        let value = back(alloc, &self.states[to])?;
+        self.states.truncate(to + 1);
+        Ok(Told::Says(value))
+    }
+}
