@@ -1,11 +1,13 @@
 -- Instants of the module that is loaded, one after another, and the way back (this project's own form).
-use Rattle.std.specs.Prelude.{◌≡◌, ◌≤◌, ◌⊎◌, ◌+◌, ◌++◌, ◌∷◌, [], ℕ, List, Option, Some, None, Result, Ok, Err}
+use Rattle.std.specs.Prelude.{◌≡◌, ◌≤◌, ◌<◌, ◌⊎◌, ◌+◌, ◌-◌, ◌++◌, ◌∷◌, [], ℕ, List, Option, Some, None, Result, Ok, Err}
 use Rattle.std.specs.Prelude.{false, length, slice_get, take}
+use Rattle.std.specs.List.{Contains}
 use Rattle.serde_json.specs.Data.{Data}
 use Rattle.serde_json.specs.View.{view}
 use Rattle.est_text.specs.Identifiers.{is_identifier}
 use Rattle.est_kernel.specs.declared.state.State.{State}
 use Rattle.est_kernel.specs.declared.state.State.TheVariants.{Fresh}
+use Rattle.est_meaning.specs.States.{IsState}
 use Rattle.est_meaning.specs.declared.status.Status.{Status}
 use Rattle.est_relations.specs.Offers.{PendingInputs, OfferAnswer, ReadyAnswer, pending_inputs}
 use Rattle.est_relations.specs.declared.refusal.Refusal.{Refusal as OfferFault}
@@ -14,7 +16,8 @@ use Rattle.reactor_core.specs.declared.loaded.Module.{Module}
 use Rattle.reactor_core.specs.declared.refusal.ModuleRefusal.TheVariants as of_module
 use Rattle.access_core.specs.declared.refusal.Refusal.{Refusal}
 use Rattle.access_core.specs.declared.refusal.Refusal.TheVariants as refusal
-use Rattle.lab_instant.specs.Instants.{IsInstant}
+use Rattle.lab_instant.specs.Instants.{IsFor, IsInstant}
+use Rattle.lab_instant.specs.declared.instant.Inside.{Inside}
 use Rattle.lab_instant.specs.declared.seen.Instant.{Instant}
 use Rattle.lab_instant.specs.declared.seen.Instant.TheVariants.{Reaction, Stuck}
 use Rattle.lab_lines.specs.Inside.{back_json, inside_json}
@@ -35,10 +38,15 @@ at_start m = record { module = m; states = Fresh ∷ [] }
 abbrev pub standing_at : Standing → List State → Standing
 standing_at s states = record { module = s.module; states = states }
 
--- it stands there
-pub record StandsAt (states : List State) (x : State) : Type 0 where
-  pub earlier : List State
-  pub is : states ≡ earlier ++ x ∷ []
+-- it stands there: this is the last of the states
+abbrev pub StandsAt : List State → State → Type 0
+StandsAt states x = slice_get states (length states - 1) ≡ Some x
+
+-- what reads instants is for the module's kernel, and each state is one of its root; there is one
+pub record AreLoaded (m : Module) (inside : Inside) (states : List State) : Type 0 where
+  pub engine : IsFor inside m.kernel
+  pub fit : (x : State) → Contains states x → IsState m.kernel.root x
+  pub some : 0 < length states
 
 -- ---- the inputs of an instant
 
@@ -68,15 +76,23 @@ pub record MayNotTake (m : Module) (names : List (List ℕ)) (given : Refusal) :
 
 -- ---- an instant
 
--- the instant of the module from where it stands, with the inputs of these names, is told as it is seen from inside
+-- the instant of the module in this state with these inputs is told as it is seen from inside
+pub record IsInstantAt (m : Module) (state : State) (inputs : ℕ) (instant : Instant) (d : Data) : Type 0 where
+  pub cells : List Status
+  pub right : IsInstant m.kernel state (record { signals = inputs }) cells instant
+  pub said : d ≡ inside_json m.kernel.interface instant
+
+-- the same of the state where the module stands
+pub record IsInstantOf (s : Standing) (inputs : ℕ) (instant : Instant) (d : Data) : Type 0 where
+  pub state : State
+  pub stands : StandsAt s.states state
+  pub is : IsInstantAt s.module state inputs instant d
+
+-- the same, with the inputs of these names
 pub record IsInstantTold (s : Standing) (names : List (List ℕ)) (instant : Instant) (d : Data) : Type 0 where
   pub inputs : ℕ
   pub taken : MayTake s.module names inputs
-  pub state : State
-  pub stands : StandsAt s.states state
-  pub cells : List Status
-  pub right : IsInstant s.module.kernel state (record { signals = inputs }) cells instant
-  pub said : d ≡ inside_json s.module.kernel.interface instant
+  pub is : IsInstantOf s inputs instant d
 
 -- where the module stands after the instant: at its next state, or if it is stuck where it stood
 abbrev pub states_after : List State → Instant → List State

@@ -1,10 +1,11 @@
 //! The module that is loaded, and where it stood after each instant.
 
-ghost use Rattle.std.specs.Prelude.{◌≡◌, ◌++◌, ◌∷◌, [], MatchResult, IfOk, IfErr, map};
-ghost use Rattle.std.specs.List.{list_all};
+ghost use Rattle.std.specs.Prelude.{◌≡◌, ◌<◌, Err, length, MatchResult, IfOk, IfErr, map};
+ghost use Rattle.std.specs.List.{Contains};
 ghost use Rattle.serde_json.specs.View.{view};
-ghost use Rattle.est_kernel.specs.Bits.{bits};
-ghost use Rattle.lab_run.specs.Walking.{AreOffered, GoesBack, IsInstantTold, Makes, MayNotTake};
+ghost use Rattle.est_meaning.specs.States.{IsState};
+ghost use Rattle.lab_instant.specs.Instants.{IsFor};
+ghost use Rattle.lab_run.specs.Walking.{AreOffered, GoesBack, IsInstantAt, IsInstantOf, Makes};
 ghost use Rattle.lab_run.specs.Walking.{MayTake, StandsAt, Tries, at_start, pending_of};
 ghost use Rattle.lab_run.specs.Walking.{states_after};
 
@@ -16,7 +17,7 @@ use est_relations::refusal::Refusal as OfferFault;
 use est_text::identifier::Identifier;
 use lab_instant::instant::Inside;
 use lab_instant::seen::Instant;
-use lab_lines::inside::{back, inside};
+use lab_lines::inside::{back, inside as inside_told};
 use reactor_core::loaded::Module;
 use reactor_core::refusal::ModuleRefusal;
 use serde_json::Value;
@@ -58,14 +59,57 @@ fn inputs_of(module: &Module, names: &[&str]) -> Result<u64, OfferFault>
     Ok(pending.inputs())
 }
 
+/// The last of the states.
+fn last_of(states: &[State]) -> State
+    requires { 0 < length states.now }
+    ensures stands { StandsAt states.now result }
+    ensures among { Contains states.now result }
+{
+    states[states.len() - 1]
+}
+
+/// The instant of a module in a state with these inputs, and how it is told.
+fn look_inside(
+    alloc: Global,
+    inside: &mut Inside,
+    module: &Module,
+    state: &State,
+    signals: u64,
+) -> Result<(Instant, Value), AllocError>
+    requires is_for { IsFor inside.old module.now.kernel }
+    requires state { IsState module.now.kernel.root state.now }
+    ensures is_for { IsFor inside.new module.now.kernel }
+    ensures told { IfOk result (λ told. IsInstantAt module.now state.now signals told.0
+        (view told.1)) }
+{
+    let inputs = Inputs { signals };
+    let instant = inside.look(alloc, &module.kernel, state, &inputs)?;
+    let value = inside_told(alloc, module.kernel.interface(), &instant)?;
+    Ok((instant, value))
+}
+
+/// The states after an instant.
+fn advance(states: &mut Vec<State>, instant: &Instant) -> Result<(), AllocError>
+    ensures done { IfOk result (λ _. states.new.items ≡ states_after states.old.items
+        instant.now) }
+    ensures kept { IfErr result (λ _. states.new.items ≡ states.old.items) }
+{
+    match instant {
+        Instant::Reaction { outcome, .. } => {
+            states.push(outcome.next)?;
+            Ok(())
+        }
+        Instant::Stuck { .. } => Ok(()),
+    }
+}
+
 impl Loaded {
     /// A module at its start.
     pub fn begin(alloc: Global, module: Module) -> Result<Loaded, AllocError>
         ensures { IfOk result (λ loaded. loaded ≡ at_start module) }
     {
         let inside = Inside::new(alloc, &module.kernel)?;
-        let mut states = Vec::new(alloc);
-        states.push(State::Fresh)?;
+        let states = vec![in alloc; State::Fresh]?;
         Ok(Loaded {
             module,
             inside,
@@ -80,20 +124,13 @@ impl Loaded {
         &self.module
     }
 
-    /// Its next instant from inside, with these inputs.
+    /// Its next instant from inside, with these inputs, and how it is told.
     fn look(&mut self, alloc: Global, signals: u64) -> Result<(Instant, Value), AllocError>
+        ensures told { IfOk result (λ told. IsInstantOf self.old signals told.0 (view told.1)) }
         ensures kept { self.new ≡ self.old }
     {
-        let state = match self.states.last() {
-            Some(state) => *state,
-            None => State::Fresh,
-        };
-        let inputs = Inputs { signals };
-        let instant = self
-            .inside
-            .look(alloc, &self.module.kernel, &state, &inputs)?;
-        let value = inside(alloc, self.module.kernel.interface(), &instant)?;
-        Ok((instant, value))
+        let state = last_of(self.states.as_slice());
+        look_inside(alloc, &mut self.inside, &self.module, &state, signals)
     }
 
     /// Makes the next instant, with the inputs of these names.
@@ -107,9 +144,7 @@ impl Loaded {
             Err(fault) => return Ok(Told::Refused(not_offered(fault))),
         };
         let (instant, value) = self.look(alloc, signals)?;
-        if let Instant::Reaction { outcome, .. } = instant {
-            self.states.push(outcome.next)?;
-        }
+        advance(&mut self.states, &instant)?;
         Ok(Told::Says(value))
     }
 
