@@ -4,12 +4,14 @@ ghost use Rattle.std.specs.Prelude.{◌≡◌, ◌<◌, Err, length, MatchResult
 ghost use Rattle.std.specs.List.{Contains};
 ghost use Rattle.serde_json.specs.View.{view};
 ghost use Rattle.est_meaning.specs.States.{IsState};
+ghost use Rattle.reactor_core.specs.declared.refusal.ModuleRefusal.TheVariants as of_module;
+ghost use Rattle.access_core.specs.declared.refusal.Refusal.TheVariants as refusal;
 ghost use Rattle.lab_instant.specs.Instants.{IsFor};
 ghost use Rattle.lab_run.specs.Walking.{AreOffered, GoesBack, IsInstantAt, IsInstantOf, Makes};
 ghost use Rattle.lab_run.specs.Walking.{MayTake, StandsAt, Tries, at_start, pending_of};
 ghost use Rattle.lab_run.specs.Walking.{states_after};
 
-use crate::lab::{Told, not_offered};
+use crate::lab::Told;
 use access_core::refusal::Refusal;
 use est_kernel::state::{Inputs, State};
 use est_relations::pending::Pending;
@@ -41,6 +43,13 @@ impl Model for Loaded {
     ghost view = { λ l. record { module = l.module; states = l.states.items } };
 
     ghost invariant = { λ l. AreLoaded l.module l.inside l.states.items };
+}
+
+/// Why no instant may take the inputs.
+fn refusal_of(fault: OfferFault) -> Refusal
+    ensures { result ≡ refusal.Module (of_module.Pending fault) }
+{
+    Refusal::Module(ModuleRefusal::Pending(fault))
 }
 
 /// The inputs of these names, where an instant of the module may take them.
@@ -141,7 +150,7 @@ impl Loaded {
     {
         let signals = match inputs_of(&self.module, names) {
             Ok(signals) => signals,
-            Err(fault) => return Ok(Told::Refused(not_offered(fault))),
+            Err(fault) => return Ok(Told::Refused(refusal_of(fault))),
         };
         let (instant, value) = self.look(alloc, signals)?;
         advance(&mut self.states, &instant)?;
@@ -156,7 +165,7 @@ impl Loaded {
     {
         let signals = match inputs_of(&self.module, names) {
             Ok(signals) => signals,
-            Err(fault) => return Ok(Told::Refused(not_offered(fault))),
+            Err(fault) => return Ok(Told::Refused(refusal_of(fault))),
         };
         let (_, value) = self.look(alloc, signals)?;
         Ok(Told::Says(value))
