@@ -27,16 +27,16 @@ use Rattle.lab_run.specs.declared.lab.Told.TheVariants.{Refused, Says}
 -- what is loaded: a module, and where it stood at the start and after each instant, of which the last is where it
 -- stands
 pub record Standing : Type 0 where
-  pub module : Module
+  pub loaded : Module
   pub states : List State
 
 -- a module that stands at its start
 abbrev pub at_start : Module → Standing
-at_start m = record { module = m; states = Fresh ∷ [] }
+at_start m = record { loaded = m; states = Fresh ∷ [] }
 
 -- the same module, where it stood so and so
 abbrev pub standing_at : Standing → List State → Standing
-standing_at s states = record { module = s.module; states = states }
+standing_at s states = record { loaded = s.loaded; states = states }
 
 -- it stands there: this is the last of the states
 abbrev pub StandsAt : List State → State → Type 0
@@ -50,14 +50,15 @@ pub record AreLoaded (m : Module) (inside : Inside) (states : List State) : Type
 
 -- ---- the inputs of an instant
 
--- inputs of these names are offered one after another: all of them are taken, and pending then is what is answered; or
--- the first that is refused is why, where a text that is no identifier is no signal's name
+-- inputs of these names are offered one after another: all of them are taken, and may come in one instant, and what is
+-- pending then is answered; or it is answered why the first that is refused is, where a text that is no identifier is no
+-- signal's name
 abbrev pub AreOffered : PendingInputs → (names : List (List ℕ)) → Result PendingInputs OfferFault → Type 0
 AreOffered p [] (Ok after) = (after ≡ p) × ReadyAnswer p (Ok (record {}))
 AreOffered p [] (Err fault) = ReadyAnswer p (Err fault)
 AreOffered p (name ∷ names) answer =
     ((next : PendingInputs) × OfferAnswer p name (Ok (record {})) next × AreOffered next names answer)
-    ⊎ (((fault : OfferFault) × OfferAnswer p name (Err fault) p × (answer ≡ Err fault))
+    ⊎ (((fault : OfferFault) × (after : PendingInputs) × OfferAnswer p name (Err fault) after × (answer ≡ Err fault))
     ⊎ ((is_identifier name ≡ false) × (answer ≡ Err UnknownSignal)))
 
 -- nothing is pending of a module, or these inputs
@@ -65,8 +66,10 @@ abbrev pub pending_of : Module → (inputs : ℕ) → PendingInputs
 pending_of m inputs = pending_inputs m.kernel.interface m.relations inputs
 
 -- an instant of the module may take these inputs, which have these names
-abbrev pub MayTake : Module → (names : List (List ℕ)) → (inputs : ℕ) → Type 0
-MayTake m names inputs = AreOffered (pending_of m 0) names (Ok (pending_of m inputs))
+pub record MayTake (m : Module) (names : List (List ℕ)) (inputs : ℕ) : Type 0 where
+  pub pending : PendingInputs
+  pub offered : AreOffered (pending_of m 0) names (Ok pending)
+  pub taken : inputs ≡ pending.mask
 
 -- no instant of the module may take the inputs of these names, for this reason
 pub record MayNotTake (m : Module) (names : List (List ℕ)) (given : Refusal) : Type 0 where
@@ -86,12 +89,12 @@ pub record IsInstantAt (m : Module) (state : State) (inputs : ℕ) (instant : In
 pub record IsInstantOf (s : Standing) (inputs : ℕ) (instant : Instant) (d : Data) : Type 0 where
   pub state : State
   pub stands : StandsAt s.states state
-  pub is : IsInstantAt s.module state inputs instant d
+  pub is : IsInstantAt s.loaded state inputs instant d
 
 -- the same, with the inputs of these names
 pub record IsInstantTold (s : Standing) (names : List (List ℕ)) (instant : Instant) (d : Data) : Type 0 where
   pub inputs : ℕ
-  pub taken : MayTake s.module names inputs
+  pub taken : MayTake s.loaded names inputs
   pub is : IsInstantOf s inputs instant d
 
 -- where the module stands after the instant: at its next state, or if it is stuck where it stood
@@ -101,13 +104,13 @@ states_after states (Stuck undecided seen) = states
 
 -- the instant is made
 abbrev pub Makes : (before : Standing) → (names : List (List ℕ)) → Told → (after : Standing) → Type 0
-Makes before names (Refused given) after = MayNotTake before.module names given × (after ≡ before)
+Makes before names (Refused given) after = MayNotTake before.loaded names given × (after ≡ before)
 Makes before names (Says v) after = (instant : Instant) × IsInstantTold before names instant (view v)
     × (after ≡ standing_at before (states_after before.states instant))
 
 -- the instant is told, and the module stays where it stands
 abbrev pub Tries : (before : Standing) → (names : List (List ℕ)) → Told → (after : Standing) → Type 0
-Tries before names (Refused given) after = MayNotTake before.module names given × (after ≡ before)
+Tries before names (Refused given) after = MayNotTake before.loaded names given × (after ≡ before)
 Tries before names (Says v) after =
     ((instant : Instant) × IsInstantTold before names instant (view v)) × (after ≡ before)
 

@@ -30,19 +30,23 @@ use std::marker::Model;
 /// sees these two.
 #[derive(Drop)]
 pub struct Loaded {
-    module: Module,
+    loaded: Module,
     inside: Inside,
     states: Vec<State>,
 }
 
 impl Model for Loaded {
+    ghost use Rattle.std.specs.Coded.{codes};
+    ghost use Rattle.reactor_core.specs.contracts.loaded.Module as held;
     ghost use Rattle.lab_run.specs.Walking.{AreLoaded, Standing};
 
     ghost Value = { Standing };
 
-    ghost view = { λ l. record { module = l.module; states = l.states.items } };
+    ghost coded = { Prim.hlevel (codes, held.the_row.coded) };
 
-    ghost invariant = { λ l. AreLoaded l.module l.inside l.states.items };
+    ghost view = { λ l. record { loaded = l.loaded; states = l.states.items } };
+
+    ghost invariant = { λ l. AreLoaded l.loaded l.inside l.states.items };
 }
 
 /// Why no instant may take the inputs.
@@ -53,11 +57,11 @@ fn refusal_of(fault: OfferFault) -> Refusal
 }
 
 /// The inputs of these names, where an instant of the module may take them.
-fn inputs_of(module: &Module, names: &[&str]) -> Result<u64, OfferFault>
-    ensures { MatchResult result (MayTake module.now (map (λ t. t.now) names.now))
-        (λ fault. AreOffered (pending_of module.now 0) (map (λ t. t.now) names.now) (Err fault)) }
+fn inputs_of(loaded: &Module, names: &[&str]) -> Result<u64, OfferFault>
+    ensures { MatchResult result (MayTake loaded.now (map (λ t. t.now) names.now))
+        (λ fault. AreOffered (pending_of loaded.now 0) (map (λ t. t.now) names.now) (Err fault)) }
 {
-    let mut pending = Pending::new(module.kernel.interface(), &module.relations);
+    let mut pending = Pending::new(loaded.kernel.interface(), &loaded.relations);
     for name in names {
         let Some(name) = Identifier::from_text(*name) else {
             return Err(OfferFault::UnknownSignal);
@@ -81,19 +85,19 @@ fn last_of(states: &[State]) -> State
 fn look_inside(
     alloc: Global,
     inside: &mut Inside,
-    module: &Module,
+    loaded: &Module,
     state: &State,
     signals: u64,
 ) -> Result<(Instant, Value), AllocError>
-    requires is_for { IsFor inside.old module.now.kernel }
-    requires state { IsState module.now.kernel.root state.now }
-    ensures is_for { IsFor inside.new module.now.kernel }
-    ensures told { IfOk result (λ told. IsInstantAt module.now state.now signals told.0
+    requires is_for { IsFor inside.old loaded.now.kernel }
+    requires state { IsState loaded.now.kernel.root state.now }
+    ensures is_for { IsFor inside.new loaded.now.kernel }
+    ensures told { IfOk result (λ told. IsInstantAt loaded.now state.now signals told.0
         (view told.1)) }
 {
     let inputs = Inputs { signals };
-    let instant = inside.look(alloc, &module.kernel, state, &inputs)?;
-    let value = inside_told(alloc, module.kernel.interface(), &instant)?;
+    let instant = inside.look(alloc, &loaded.kernel, state, &inputs)?;
+    let value = inside_told(alloc, loaded.kernel.interface(), &instant)?;
     Ok((instant, value))
 }
 
@@ -114,13 +118,13 @@ fn advance(states: &mut Vec<State>, instant: &Instant) -> Result<(), AllocError>
 
 impl Loaded {
     /// A module at its start.
-    pub fn begin(alloc: Global, module: Module) -> Result<Loaded, AllocError>
-        ensures { IfOk result (λ loaded. loaded ≡ at_start module) }
+    pub fn begin(alloc: Global, loaded: Module) -> Result<Loaded, AllocError>
+        ensures { IfOk result (λ begun. begun ≡ at_start loaded) }
     {
-        let inside = Inside::new(alloc, &module.kernel)?;
+        let inside = Inside::new(alloc, &loaded.kernel)?;
         let states = vec![in alloc; State::Fresh]?;
         Ok(Loaded {
-            module,
+            loaded,
             inside,
             states,
         })
@@ -128,9 +132,9 @@ impl Loaded {
 
     /// The module.
     pub fn module(&self) -> &Module
-        ensures { result.now ≡ self.now.module }
+        ensures { result.now ≡ self.now.loaded }
     {
-        &self.module
+        &self.loaded
     }
 
     /// Its next instant from inside, with these inputs, and how it is told.
@@ -139,7 +143,7 @@ impl Loaded {
         ensures kept { self.new ≡ self.old }
     {
         let state = last_of(self.states.as_slice());
-        look_inside(alloc, &mut self.inside, &self.module, &state, signals)
+        look_inside(alloc, &mut self.inside, &self.loaded, &state, signals)
     }
 
     /// Makes the next instant, with the inputs of these names.
@@ -148,7 +152,7 @@ impl Loaded {
             self.new) }
         ensures kept { IfErr result (λ _. self.new ≡ self.old) }
     {
-        let signals = match inputs_of(&self.module, names) {
+        let signals = match inputs_of(&self.loaded, names) {
             Ok(signals) => signals,
             Err(fault) => return Ok(Told::Refused(refusal_of(fault))),
         };
@@ -163,7 +167,7 @@ impl Loaded {
             self.new) }
         ensures kept { IfErr result (λ _. self.new ≡ self.old) }
     {
-        let signals = match inputs_of(&self.module, names) {
+        let signals = match inputs_of(&self.loaded, names) {
             Ok(signals) => signals,
             Err(fault) => return Ok(Told::Refused(refusal_of(fault))),
         };
