@@ -1,6 +1,8 @@
 -- Inputs that are offered one after another, and the states in which a module stood.
-use Rattle.std.proofs.Common.{◌≡◌, ◌<◌, ◌+◌, ◌++◌, ◌∷◌, [], ℕ, List, Bor, Ok, Err, length, get_or, drop}
-use Rattle.std.proofs.Common.{map, refl, subst, arith, inl, inr}
+use Rattle.std.proofs.Common.{◌≡◌, ◌<◌, ◌+◌, ◌++◌, ◌∷◌, [], ℕ, List, Bor, Bool, true, false, Some, None, Ok, Err}
+use Rattle.std.proofs.Common.{length, drop, map, refl, subst, arith, inl, inr}
+use Rattle.std.specs.Prelude.{slice_get, if◌then◌else◌}
+use Rattle.std.proofs.lemmas.Option.{get_or_from_slice_get, slice_get_within}
 use Rattle.std.specs.List.{Contains}
 use Rattle.std.proofs.lemmas.List.{drop_more, length-append}
 use Rattle.std.proofs.lemmas.List.Elements.{Contains-push_cases}
@@ -9,7 +11,7 @@ use Rattle.est_kernel.specs.declared.state.State.{State}
 use Rattle.est_kernel.specs.declared.state.Inputs.{Inputs}
 use Rattle.est_meaning.specs.States.{IsState}
 use Rattle.est_meaning.specs.declared.status.Status.{Status}
-use Rattle.est_relations.specs.Offers.{PendingInputs, OfferAnswer}
+use Rattle.est_relations.specs.Offers.{PendingInputs}
 use Rattle.est_relations.specs.declared.refusal.Refusal.{Refusal as OfferFault}
 use Rattle.lab_instant.specs.Instants.{IsInstant}
 use Rattle.lab_instant.specs.declared.seen.Instant.{Instant}
@@ -17,24 +19,29 @@ use Rattle.lab_instant.specs.declared.seen.Instant.TheVariants.{Reaction, Stuck}
 use Rattle.lab_instant.specs.declared.instant.Inside.{Inside}
 use Rattle.reactor_core.specs.declared.loaded.Module.{Module}
 use Rattle.serde_json.specs.Data.{Data}
-use Rattle.lab_run.specs.Walking.{AreLoaded, AreOffered, IsInstantOf, Standing, states_after}
+use Rattle.lab_run.specs.Walking.{AreLoaded, AreOffered, IsInstantOf, NameAnswer, Standing, states_after}
 
--- the next name is taken, whatever stands where no name does
-pub one_taken : (names : List (Bor (List ℕ))) (i : ℕ) (p next : PendingInputs) (answer : _) → i < length names
-    → ((d : Bor (List ℕ)) → OfferAnswer p (get_or names i d).now (Ok (record {})) next)
+-- a text that is given as an identifier is that
+pub given_name : (b : Bool) (text name : List ℕ) → (if b then Some text else None) ≡ Some name → text ≡ name
+given_name true text name given = cc
+given_name false text name given = cc
+
+-- the next name is taken
+pub one_taken : (names : List (Bor (List ℕ))) (i : ℕ) (name : Bor (List ℕ)) (p next : PendingInputs) (answer : _)
+    → slice_get names i ≡ Some name → NameAnswer p name.now (Ok (record {})) next
     → AreOffered next (map (λ t. t.now) (drop (i + 1) names)) answer
     → AreOffered p (map (λ t. t.now) (drop i names)) answer
-one_taken [] i p next answer within taken later = absurd (omega arith)
-one_taken (x ∷ xs) i p next answer within taken later =
-    rw (drop_more (x ∷ xs) i x within) (inl (next, taken x, later))
+one_taken names i name p next answer there taken later =
+    rw (drop_more names i name (slice_get_within names i name there), get_or_from_slice_get names i name name there)
+    (inl (next, taken, later))
 
 -- it is refused
-pub one_refused : (names : List (Bor (List ℕ))) (i : ℕ) (p after : PendingInputs) (fault : OfferFault)
-    → i < length names → ((d : Bor (List ℕ)) → OfferAnswer p (get_or names i d).now (Err fault) after)
+pub one_refused : (names : List (Bor (List ℕ))) (i : ℕ) (name : Bor (List ℕ)) (p after : PendingInputs)
+    (fault : OfferFault) → slice_get names i ≡ Some name → NameAnswer p name.now (Err fault) after
     → AreOffered p (map (λ t. t.now) (drop i names)) (Err fault)
-one_refused [] i p after fault within refused = absurd (omega arith)
-one_refused (x ∷ xs) i p after fault within refused =
-    rw (drop_more (x ∷ xs) i x within) (inr (inl (fault, after, refused x, refl)))
+one_refused names i name p after fault there refused =
+    rw (drop_more names i name (slice_get_within names i name there), get_or_from_slice_get names i name name there)
+    (inr (fault, after, refused, refl))
 
 -- the states after an instant are states of the kernel
 pub fit_after : (k : Kernel) (x : State) (i : Inputs) (cells : List Status) (instant : Instant) (states : List State)

@@ -50,16 +50,19 @@ pub record AreLoaded (m : Module) (inside : Inside) (states : List State) : Type
 
 -- ---- the inputs of an instant
 
+-- the answer to an offer of the name, and what is pending afterwards; a text that is no identifier is no signal's name
+abbrev pub NameAnswer : PendingInputs → (name : List ℕ) → Result (Unit {0}) OfferFault → PendingInputs → Type 0
+NameAnswer p name answer after =
+    OfferAnswer p name answer after ⊎ ((is_identifier name ≡ false) × (answer ≡ Err UnknownSignal) × (after ≡ p))
+
 -- inputs of these names are offered one after another: all of them are taken, and may come in one instant, and what is
--- pending then is answered; or it is answered why the first that is refused is, where a text that is no identifier is no
--- signal's name
+-- pending then is answered; or it is answered why the first that is refused is
 abbrev pub AreOffered : PendingInputs → (names : List (List ℕ)) → Result PendingInputs OfferFault → Type 0
 AreOffered p [] (Ok after) = (after ≡ p) × ReadyAnswer p (Ok (record {}))
 AreOffered p [] (Err fault) = ReadyAnswer p (Err fault)
 AreOffered p (name ∷ names) answer =
-    ((next : PendingInputs) × OfferAnswer p name (Ok (record {})) next × AreOffered next names answer)
-    ⊎ (((fault : OfferFault) × (after : PendingInputs) × OfferAnswer p name (Err fault) after × (answer ≡ Err fault))
-    ⊎ ((is_identifier name ≡ false) × (answer ≡ Err UnknownSignal)))
+    ((next : PendingInputs) × NameAnswer p name (Ok (record {})) next × AreOffered next names answer)
+    ⊎ ((fault : OfferFault) × (after : PendingInputs) × NameAnswer p name (Err fault) after × (answer ≡ Err fault))
 
 -- nothing is pending of a module, or these inputs
 abbrev pub pending_of : Module → (inputs : ℕ) → PendingInputs

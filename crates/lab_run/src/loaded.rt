@@ -1,6 +1,7 @@
 //! The module that is loaded, and where it stood after each instant.
 
-ghost use Rattle.std.specs.Prelude.{◌≡◌, ◌<◌, Err, length, MatchResult, IfOk, IfErr, map};
+ghost use Rattle.std.specs.Prelude.{◌≡◌, ◌<◌, Some, Err, length, MatchResult, IfOk, IfErr, map};
+ghost use Rattle.std.specs.Prelude.{slice_get};
 ghost use Rattle.std.specs.List.{Contains};
 ghost use Rattle.serde_json.specs.View.{view};
 ghost use Rattle.est_meaning.specs.States.{IsState};
@@ -8,7 +9,7 @@ ghost use Rattle.reactor_core.specs.declared.refusal.ModuleRefusal.TheVariants a
 ghost use Rattle.access_core.specs.declared.refusal.Refusal.TheVariants as refusal;
 ghost use Rattle.lab_instant.specs.Instants.{IsFor};
 ghost use Rattle.lab_run.specs.Walking.{AreOffered, GoesBack, IsInstantAt, IsInstantOf, Makes};
-ghost use Rattle.lab_run.specs.Walking.{MayTake, StandsAt, Tries, at_start, pending_of};
+ghost use Rattle.lab_run.specs.Walking.{MayTake, NameAnswer, StandsAt, Tries, at_start, pending_of};
 ghost use Rattle.lab_run.specs.Walking.{states_after};
 
 use crate::lab::Told;
@@ -56,17 +57,32 @@ fn refusal_of(fault: OfferFault) -> Refusal
     Refusal::Module(ModuleRefusal::Pending(fault))
 }
 
+/// The name at a place.
+fn name_at<'a>(names: &[&'a str], place: usize) -> &'a str
+    requires { place < length names.now }
+    ensures { slice_get names.now place ≡ Some result }
+{
+    names[place]
+}
+
+/// Offers the input of this name.
+fn offer_name(pending: &mut Pending<'_>, name: &str) -> Result<(), OfferFault>
+    ensures { NameAnswer pending.old name.now result pending.new }
+{
+    match Identifier::from_text(name) {
+        Some(name) => pending.offer(&name),
+        None => Err(OfferFault::UnknownSignal),
+    }
+}
+
 /// The inputs of these names, where an instant of the module may take them.
 fn inputs_of(loaded: &Module, names: &[&str]) -> Result<u64, OfferFault>
     ensures { MatchResult result (MayTake loaded.now (map (λ t. t.now) names.now))
         (λ fault. AreOffered (pending_of loaded.now 0) (map (λ t. t.now) names.now) (Err fault)) }
 {
     let mut pending = Pending::new(loaded.kernel.interface(), &loaded.relations);
-    for name in names {
-        let Some(name) = Identifier::from_text(*name) else {
-            return Err(OfferFault::UnknownSignal);
-        };
-        pending.offer(&name)?;
+    for place in 0..names.len() {
+        offer_name(&mut pending, name_at(names, place))?;
     }
     pending.ready()?;
     Ok(pending.inputs())
