@@ -26,9 +26,9 @@ use Rattle.lab_lines.specs.declared.request.Request.TheVariants.{Load, Kernel, E
 use Rattle.lab_lines.specs.declared.request.Request.TheVariants.{Instant, Try, Back}
 use Rattle.lab_lines.specs.declared.request.Scope.{Scope}
 use Rattle.lab_claims.specs.Claims.{AreClaimTexts}
-use Rattle.lab_run.specs.Walking.{Standing, at_start, GoesBackIf, MakesIf, TriesIf}
 use Rattle.lab_run.specs.declared.lab.Told.{Told}
 use Rattle.lab_run.specs.declared.lab.Told.TheVariants.{Refused, Says}
+use Rattle.lab_run.specs.Walking.{Standing, at_start, GoesBackIf, MakesIf, TriesIf}
 
 -- ---- what is loaded
 

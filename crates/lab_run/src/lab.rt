@@ -8,11 +8,11 @@ ghost use Rattle.lab_lines.specs.Comparing.{IsComparison};
 ghost use Rattle.lab_lines.specs.Exploring.{IsExploration};
 ghost use Rattle.lab_lines.specs.Tables.{IsTableTold, IsTooLarge};
 ghost use Rattle.lab_lines.specs.Tests.{test_of};
+ghost use Rattle.lab_run.specs.Walking.{GoesBackIf, MakesIf, TriesIf};
 ghost use Rattle.lab_run.specs.Answers.{Answers, AnswersIf, IsBadClaim, IsLoadedTold};
 ghost use Rattle.lab_run.specs.Answers.{IsNotOffered, IsOtherInterface, Loads, Obeys};
 ghost use Rattle.lab_run.specs.Answers.{TellsAmong, TellsOfBoth, TellsOfClaims, TellsOfTable};
 ghost use Rattle.lab_run.specs.Answers.{TellsOfTwo};
-ghost use Rattle.lab_run.specs.Walking.{GoesBackIf, MakesIf, TriesIf};
 
 use crate::loaded::Loaded;
 use access_core::refusal::Refusal;
