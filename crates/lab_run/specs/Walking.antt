@@ -138,20 +138,18 @@ GoesBack before to (Says v) after = IsBack before to (view v) after
 abbrev pub IsEmpty : Told → (after : Option Standing) → Type 0
 IsEmpty told after = (told ≡ Refused refusal.Empty) × (after ≡ None)
 
--- what is done with what is loaded, of which something is loaded afterwards too
-pub record Moves (P : Told → Standing → Type 0) (told : Told) (after : Option Standing) : Type 0 where
-  pub standing : Standing
-  pub is : after ≡ Some standing
-  pub done : P told standing
-
+-- the same, or what is done with what is loaded, which is loaded afterwards too
 abbrev pub MakesIf : (before : Option Standing) → (names : List (List ℕ)) → Told → (after : Option Standing) → Type 0
 MakesIf None names told after = IsEmpty told after
-MakesIf (Some s) names told after = Moves (Makes s names) told after
+MakesIf (Some s) names told None = ⊥
+MakesIf (Some s) names told (Some t) = Makes s names told t
 
 abbrev pub TriesIf : (before : Option Standing) → (names : List (List ℕ)) → Told → (after : Option Standing) → Type 0
 TriesIf None names told after = IsEmpty told after
-TriesIf (Some s) names told after = Moves (Tries s names) told after
+TriesIf (Some s) names told None = ⊥
+TriesIf (Some s) names told (Some t) = Tries s names told t
 
 abbrev pub GoesBackIf : (before : Option Standing) → (to : ℕ) → Told → (after : Option Standing) → Type 0
 GoesBackIf None to told after = IsEmpty told after
-GoesBackIf (Some s) to told after = Moves (GoesBack s to) told after
+GoesBackIf (Some s) to told None = ⊥
+GoesBackIf (Some s) to told (Some t) = GoesBack s to told t

@@ -345,7 +345,10 @@ impl Lab {
         ensures kept { IfErr result (λ _. self.new ≡ self.old) }
     {
         match &mut self.loaded {
-            Some(loaded) => loaded.make(alloc, names),
+            Some(loaded) => {
+                let told = loaded.make(alloc, names)?;
+                Ok(told)
+            }
             None => Ok(Told::Refused(Refusal::Empty)),
         }
     }
@@ -357,7 +360,10 @@ impl Lab {
         ensures kept { IfErr result (λ _. self.new ≡ self.old) }
     {
         match &mut self.loaded {
-            Some(loaded) => loaded.try_instant(alloc, names),
+            Some(loaded) => {
+                let told = loaded.try_instant(alloc, names)?;
+                Ok(told)
+            }
             None => Ok(Told::Refused(Refusal::Empty)),
         }
     }
@@ -368,7 +374,10 @@ impl Lab {
         ensures kept { IfErr result (λ _. self.new ≡ self.old) }
     {
         match &mut self.loaded {
-            Some(loaded) => loaded.go_back(alloc, to),
+            Some(loaded) => {
+                let told = loaded.go_back(alloc, to)?;
+                Ok(told)
+            }
             None => Ok(Told::Refused(Refusal::Empty)),
         }
     }
