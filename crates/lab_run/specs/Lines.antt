@@ -54,7 +54,8 @@ IsValueTold before value told after =
     IsDone before value told after ⊎ IsLeft before refusal.NotARequest told after
 
 -- the line has a value, and what that is told
-pub record IsToldOfValue (before : Option Standing) (line : List ℕ) (told : Told) (after : Option Standing) : Type 0 where
+pub record IsToldOfValue (before : Option Standing) (line : List ℕ) (told : Told)
+    (after : Option Standing) : Type 0 where
   pub value : Data
   pub is : IsValue line value
   pub right : IsValueTold before value told after

@@ -1,3 +1,0 @@
-mod Operands
-mod Signals
-mod Tying
