@@ -62,16 +62,16 @@ fn locals(alloc: Global, seen: &[Local]) -> Result<Value, AllocError>
 }
 
 /// An instant from inside.
-pub fn inside(
-    alloc: Global,
-    interface: &Interface,
-    instant: &Instant,
-) -> Result<Value, AllocError>
+pub fn inside(alloc: Global, interface: &Interface, instant: &Instant) -> Result<Value, AllocError>
     ensures { IfOk result (λ v. view v ≡ inside_json interface.now instant.now) }
 {
     match instant {
         Instant::Reaction { outcome, seen } => {
-            let Seen { began, went_on, locals: signals } = seen;
+            let Seen {
+                began,
+                went_on,
+                locals: signals,
+            } = seen;
             json!(in alloc; {
                 "began": statements(alloc, began.as_slice())?,
                 "locals": locals(alloc, signals.as_slice())?,
@@ -82,7 +82,11 @@ pub fn inside(
             })
         }
         Instant::Stuck { stuck, seen } => {
-            let Seen { began, went_on, locals: signals } = seen;
+            let Seen {
+                began,
+                went_on,
+                locals: signals,
+            } = seen;
             json!(in alloc; {
                 "began": statements(alloc, began.as_slice())?,
                 "code": 50,

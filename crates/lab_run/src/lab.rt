@@ -393,10 +393,8 @@ impl Lab {
             Request::Instant(names) => self.make_instant(alloc, names.as_slice()),
             Request::Try(names) => self.try_instant(alloc, names.as_slice()),
             Request::Back(to) => self.go_back(alloc, *to),
-            Request::Kernel
-            | Request::Explore { .. }
-            | Request::Same { .. }
-            | Request::Table(_) => self.ask(alloc, request),
+            Request::Kernel | Request::Explore { .. } | Request::Same { .. } | Request::Table(_) =>
+                self.ask(alloc, request),
         }
     }
 }

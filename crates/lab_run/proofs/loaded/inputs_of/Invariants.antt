@@ -1,4 +1,4 @@
-use Rattle.std.proofs.Common.{List, ℕ, Result, drop, map}
+use Rattle.std.proofs.Common.{Result, drop, map}
 use Rattle.est_relations.specs.Offers.{PendingInputs}
 use Rattle.est_relations.specs.declared.refusal.Refusal.{Refusal}
 use Rattle.lab_run.specs.Walking.{AreOffered, pending_of}

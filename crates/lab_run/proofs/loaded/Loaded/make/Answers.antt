@@ -14,8 +14,7 @@ invariant_of-self-2 c =
 
 pub returns-clause-done : goal.returns-clause-done
 returns-clause-done c =
-    let taken : MayTake c.args.self.now.loaded (map (λ t. t.now) c.args.names.now) c.in-Ok.signals = search rules in
-    (
+    let taken : MayTake c.args.self.now.loaded (map (λ t. t.now) c.args.names.now) c.in-Ok.signals = search rules in (
       c.in_ok-instant.instant,
       record { inputs = c.in-Ok.signals; taken = taken; is = c.in_ok-instant.ensures.told },
       search rules,
