@@ -9,7 +9,7 @@ use Rattle.est_net.specs.Owners.{cell_of, inside_loop, kind_at, own_owners, owne
 use Rattle.est_net.specs.declared.owners.CellKind.{CellKind}
 use Rattle.est_net.specs.declared.owners.CellKind.TheVariants.{Go, Code, Status}
 use Rattle.est_net.specs.declared.owners.StatementCell.{StatementCell}
-use Rattle.lab_instant.proofs.Lists.{at_left, at_right, own_at, own_there, split}
+use Rattle.est_net.proofs.OwnerLists.{at_left, at_right, own_at, own_there, split}
 
 -- the go cell of the same statement stands k + 1 places before place x
 record GoBefore (list : List StatementCell) (x k : ℕ) (o : StatementCell) : Type 0 where

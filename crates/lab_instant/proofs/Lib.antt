@@ -1,4 +1,3 @@
 mod GoCells
-mod Lists
 mod Meant
 mod Steps

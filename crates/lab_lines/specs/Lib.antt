@@ -1,6 +1,7 @@
 pub mod AskedTests
 pub mod Comparing
 pub mod Exploring
+pub mod Inside
 pub mod Offers
 pub mod Requests
 pub mod Tables

@@ -5,6 +5,7 @@ use Rattle.serde_json.specs.Find.{as_object, get}
 use Rattle.serde_json.specs.View.{items_of}
 use Rattle.lab_lines.specs.declared.request.Request.{Request}
 use Rattle.lab_lines.specs.declared.request.Request.TheVariants.{Load, Kernel, Explore, Same, Table}
+use Rattle.lab_lines.specs.declared.request.Request.TheVariants.{Instant, Try, Back}
 use Rattle.lab_lines.specs.declared.request.Scope.{Scope}
 
 -- how many members
@@ -40,6 +41,9 @@ word_of Kernel = codes "kernel"
 word_of (Explore claims scope) = codes "explore"
 word_of (Same main text scope) = codes "same"
 word_of (Table scope) = codes "table"
+word_of (Instant names) = codes "instant"
+word_of (Try names) = codes "try"
+word_of (Back to) = codes "back"
 
 -- how many members a request has, its word included
 abbrev pub count_of : Request → ℕ
@@ -48,6 +52,9 @@ count_of Kernel = 1
 count_of (Explore claims scope) = 4
 count_of (Same main text scope) = 5
 count_of (Table scope) = 3
+count_of (Instant names) = 2
+count_of (Try names) = 2
+count_of (Back to) = 2
 
 -- the value has what the request has besides its word
 abbrev pub HasParts : Data → Request → Type 0
@@ -57,6 +64,9 @@ HasParts d (Explore claims scope) = HasTexts d (codes "claims") (map (λ t. t.no
 HasParts d (Same main text scope) =
     HasText d (codes "main") main.now × HasText d (codes "text") text.now × HasScope d scope
 HasParts d (Table scope) = HasScope d scope
+HasParts d (Instant names) = HasTexts d (codes "inputs") (map (λ t. t.now) names.items)
+HasParts d (Try names) = HasTexts d (codes "inputs") (map (λ t. t.now) names.items)
+HasParts d (Back to) = HasNumber d (codes "to") to
 
 -- the value asks for this: it is an object with the request's word and parts, and nothing else
 pub record Says (d : Data) (r : Request) : Type 0 where

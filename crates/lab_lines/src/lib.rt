@@ -3,12 +3,14 @@
 //! `reading` reads the request of a JSON value, and `offers` the signals that somebody may offer.
 //! `asked_test` is a test over the signals of a module. `exploring` judges tests over all runs,
 //! `comparing` compares two modules, and `tables` writes the closed table; each answers a JSON
-//! value whose parts `told` writes. `statements` lists the statements of a kernel.
+//! value whose parts `told` writes. `statements` lists the statements of a kernel, and `inside`
+//! tells an instant from inside.
 #![tactic(auto)]
 
 pub mod asked_test;
 pub mod comparing;
 pub mod exploring;
+pub mod inside;
 pub mod offers;
 pub mod reading;
 pub mod request;

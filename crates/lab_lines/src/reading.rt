@@ -172,6 +172,48 @@ fn table_of<'v>(alloc: Global, value: &'v Value) -> Result<Option<Request<'v>>, 
     }
 }
 
+/// The request for the next instant.
+fn instant_of<'v>(alloc: Global, value: &'v Value) -> Result<Option<Request<'v>>, AllocError>
+    requires { HasText (view value.now) (codes "cmd") (codes "instant") }
+    ensures { IfOk result (λ read. MatchOption read (SaysNothing (view value.now))
+        (Says (view value.now))) }
+{
+    if !has_members(value, 2) {
+        return Ok(None);
+    }
+    match texts_at(alloc, value, "inputs")? {
+        Some(names) => Ok(Some(Request::Instant(names))),
+        None => Ok(None),
+    }
+}
+
+/// The request to try an instant.
+fn try_of<'v>(alloc: Global, value: &'v Value) -> Result<Option<Request<'v>>, AllocError>
+    requires { HasText (view value.now) (codes "cmd") (codes "try") }
+    ensures { IfOk result (λ read. MatchOption read (SaysNothing (view value.now))
+        (Says (view value.now))) }
+{
+    if !has_members(value, 2) {
+        return Ok(None);
+    }
+    match texts_at(alloc, value, "inputs")? {
+        Some(names) => Ok(Some(Request::Try(names))),
+        None => Ok(None),
+    }
+}
+
+/// The request to go back.
+fn back_of<'v>(value: &'v Value) -> Option<Request<'v>>
+    requires { HasText (view value.now) (codes "cmd") (codes "back") }
+    ensures { MatchOption result (SaysNothing (view value.now)) (Says (view value.now)) }
+{
+    if !has_members(value, 2) {
+        return None;
+    }
+    let to = number_at(value, "to")?;
+    Some(Request::Back(to))
+}
+
 /// The request that a value spells, if it spells one.
 pub fn request_of<'v>(alloc: Global, value: &'v Value) -> Result<Option<Request<'v>>, AllocError>
     ensures { IfOk result (λ read. MatchOption read (SaysNothing (view value.now))
@@ -186,6 +228,9 @@ pub fn request_of<'v>(alloc: Global, value: &'v Value) -> Result<Option<Request<
         "explore" => explore_of(alloc, value),
         "same" => same_of(alloc, value),
         "table" => table_of(alloc, value),
+        "instant" => instant_of(alloc, value),
+        "try" => try_of(alloc, value),
+        "back" => Ok(back_of(value)),
         _ => Ok(None),
     }
 }

@@ -26,6 +26,12 @@ pub enum Request<'v> {
     },
     /// All its states, and what it does at each.
     Table(Scope<'v>),
+    /// Its next instant, with the inputs of these names.
+    Instant(Vec<&'v str>),
+    /// The same, and it stays where it stands.
+    Try(Vec<&'v str>),
+    /// To go back to where it stood after so many instants.
+    Back(u64),
 }
 
 /// What a search looks at.

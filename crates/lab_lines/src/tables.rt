@@ -40,7 +40,7 @@ fn pauses(alloc: Global, paused: &PauseSet) -> Result<Value, AllocError>
 }
 
 /// Where a module stands.
-fn state(alloc: Global, state: &State) -> Result<Value, AllocError>
+pub fn state(alloc: Global, state: &State) -> Result<Value, AllocError>
     ensures { IfOk result (λ v. view v ≡ state_json state.now) }
 {
     match state {

@@ -23,10 +23,12 @@ use Rattle.lab_lines.specs.Tables.{IsTableTold, IsTooLarge}
 use Rattle.lab_lines.specs.Told.{names_json}
 use Rattle.lab_lines.specs.declared.request.Request.{Request}
 use Rattle.lab_lines.specs.declared.request.Request.TheVariants.{Load, Kernel, Explore, Same, Table}
+use Rattle.lab_lines.specs.declared.request.Request.TheVariants.{Instant, Try, Back}
 use Rattle.lab_lines.specs.declared.request.Scope.{Scope}
 use Rattle.lab_claims.specs.Claims.{AreClaimTexts}
 use Rattle.lab_run.specs.declared.lab.Told.{Told}
 use Rattle.lab_run.specs.declared.lab.Told.TheVariants.{Refused, Says}
+use Rattle.lab_run.specs.Walking.{Standing, at_start, GoesBackIf, MakesIf, TriesIf}
 
 -- ---- what is loaded
 
@@ -46,15 +48,15 @@ pub record IsNotLoaded (main text : List ℕ) (given : Refusal) : Type 0 where
   pub told : given ≡ of_reactor fault
   pub right : IsLoadFault main text fault
 
--- the module that the text and the name of its main module give is loaded
-pub record IsLoaded (main text : List ℕ) (d : Data) (after : Option Module) : Type 0 where
+-- the module that the text and the name of its main module give is loaded, and stands at its start
+pub record IsLoaded (main text : List ℕ) (d : Data) (after : Option Standing) : Type 0 where
   pub loaded : Module
-  pub is : after ≡ Some loaded
+  pub is : after ≡ Some (at_start loaded)
   pub gives : Gives main text (given_by loaded)
   pub said : IsLoadedTold loaded d
 
 -- a module is loaded; or it is told why there is none, and what was loaded stays
-abbrev pub Loads : (main text : List ℕ) → (before : Option Module) → Told → (after : Option Module) → Type 0
+abbrev pub Loads : (main text : List ℕ) → (before : Option Standing) → Told → (after : Option Standing) → Type 0
 Loads main text before (Refused given) after = IsNotLoaded main text given × (after ≡ before)
 Loads main text before (Says v) after = IsLoaded main text (view v) after
 
@@ -149,16 +151,22 @@ Answers m Kernel told = IsSaid told
 Answers m (Explore claims scope) told = TellsOfClaims m (map (λ t. t.now) claims.items) scope told
 Answers m (Same main text scope) told = TellsOfBoth m main.now text.now scope told
 Answers m (Table scope) told = TellsOfTable m scope told
+Answers m (Instant names) told = ⊥
+Answers m (Try names) told = ⊥
+Answers m (Back to) told = ⊥
 
 -- the same where nothing may be loaded
-abbrev pub AnswersIf : Option Module → Request → Told → Type 0
+abbrev pub AnswersIf : Option Standing → Request → Told → Type 0
 AnswersIf None request told = told ≡ Refused refusal.Empty
-AnswersIf (Some m) request told = Answers m request told
+AnswersIf (Some s) request told = Answers s.loaded request told
 
 -- a request is done: what is loaded before it, what is told, and what is loaded afterwards
-abbrev pub Obeys : (before : Option Module) → Request → Told → (after : Option Module) → Type 0
+abbrev pub Obeys : (before : Option Standing) → Request → Told → (after : Option Standing) → Type 0
 Obeys before (Load main text) told after = Loads main.now text.now before told after
 Obeys before Kernel told after = AnswersIf before Kernel told × (after ≡ before)
 Obeys before (Explore claims scope) told after = AnswersIf before (Explore claims scope) told × (after ≡ before)
 Obeys before (Same main text scope) told after = AnswersIf before (Same main text scope) told × (after ≡ before)
 Obeys before (Table scope) told after = AnswersIf before (Table scope) told × (after ≡ before)
+Obeys before (Instant names) told after = MakesIf before (map (λ t. t.now) names.items) told after
+Obeys before (Try names) told after = TriesIf before (map (λ t. t.now) names.items) told after
+Obeys before (Back to) told after = GoesBackIf before to told after

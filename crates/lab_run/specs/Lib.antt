@@ -3,3 +3,4 @@ pub mod Lines
 pub mod Proving
 pub mod Runs
 pub mod Statuses
+pub mod Walking

@@ -4,7 +4,6 @@ use Rattle.serde_json.specs.Data.{Data}
 use Rattle.serde_json.specs.View.{view}
 use Rattle.serde_json.specs.Written.{IsInOrder}
 use Rattle.serde_json.specs.declared.value.Value.{Value}
-use Rattle.reactor_core.specs.declared.loaded.Module.{Module}
 use Rattle.access_core.specs.declared.refusal.Refusal.{Refusal}
 use Rattle.access_core.specs.declared.refusal.Refusal.TheVariants as refusal
 use Rattle.access_core.specs.declared.reply.Reply.TheVariants as reply
@@ -13,6 +12,7 @@ use Rattle.wire_lines.specs.Requests.{IsValue}
 use Rattle.lab_lines.specs.Requests.{Says as SaysRequest}
 use Rattle.lab_lines.specs.declared.request.Request.{Request}
 use Rattle.lab_run.specs.Answers.{Obeys}
+use Rattle.lab_run.specs.Walking.{Standing}
 use Rattle.lab_run.specs.declared.lab.Told.{Told}
 use Rattle.lab_run.specs.declared.lab.Told.TheVariants.{Refused, Says}
 
@@ -39,43 +39,44 @@ IsReadAs line (Err refusal.Memory) = Unit {0}
 IsReadAs line (Err _) = ⊥
 
 -- the value asks for something, and that is done
-pub record IsDone (before : Option Module) (value : Data) (told : Told) (after : Option Module) : Type 0 where
+pub record IsDone (before : Option Standing) (value : Data) (told : Told) (after : Option Standing) : Type 0 where
   pub request : Request
   pub says : SaysRequest value request
   pub obeyed : Obeys before request told after
 
 -- it is told this, and what was loaded stays
-abbrev pub IsLeft : (before : Option Module) → (given : Refusal) → Told → (after : Option Module) → Type 0
+abbrev pub IsLeft : (before : Option Standing) → (given : Refusal) → Told → (after : Option Standing) → Type 0
 IsLeft before given told after = (told ≡ Refused given) × (after ≡ before)
 
 -- what a value is told: what it asks for is done, or it is refused as no request
-abbrev pub IsValueTold : (before : Option Module) → (value : Data) → Told → (after : Option Module) → Type 0
+abbrev pub IsValueTold : (before : Option Standing) → (value : Data) → Told → (after : Option Standing) → Type 0
 IsValueTold before value told after =
     IsDone before value told after ⊎ IsLeft before refusal.NotARequest told after
 
 -- the line has a value, and what that is told
-pub record IsToldOfValue (before : Option Module) (line : List ℕ) (told : Told) (after : Option Module) : Type 0 where
+pub record IsToldOfValue (before : Option Standing) (line : List ℕ) (told : Told)
+    (after : Option Standing) : Type 0 where
   pub value : Data
   pub is : IsValue line value
   pub right : IsValueTold before value told after
 
 -- the line has no value
-pub record IsNoJson (before : Option Module) (line : List ℕ) (told : Told) (after : Option Module) : Type 0 where
+pub record IsNoJson (before : Option Standing) (line : List ℕ) (told : Told) (after : Option Standing) : Type 0 where
   pub right : HasNoValue line
   pub left : IsLeft before refusal.NotJson told after
 
 -- what a line is told: what its value is, or that it has none, or that memory was refused
-abbrev pub IsTold : (before : Option Module) → (line : List ℕ) → Told → (after : Option Module) → Type 0
+abbrev pub IsTold : (before : Option Standing) → (line : List ℕ) → Told → (after : Option Standing) → Type 0
 IsTold before line told after = IsToldOfValue before line told after
     ⊎ (IsNoJson before line told after ⊎ IsLeft before refusal.Memory told after)
 
 -- the text is that of what a line is told
-pub record IsAnswer (before : Option Module) (line text : List ℕ) (after : Option Module) : Type 0 where
+pub record IsAnswer (before : Option Standing) (line text : List ℕ) (after : Option Standing) : Type 0 where
   pub told : Told
   pub right : IsTold before line told after
   pub written : IsTextOf told text
 
 -- a line is told something, and memory was refused for its text
-pub record HasNoText (before : Option Module) (line : List ℕ) (after : Option Module) : Type 0 where
+pub record HasNoText (before : Option Standing) (line : List ℕ) (after : Option Standing) : Type 0 where
   pub told : Told
   pub right : IsTold before line told after

@@ -8,11 +8,13 @@ ghost use Rattle.lab_lines.specs.Comparing.{IsComparison};
 ghost use Rattle.lab_lines.specs.Exploring.{IsExploration};
 ghost use Rattle.lab_lines.specs.Tables.{IsTableTold, IsTooLarge};
 ghost use Rattle.lab_lines.specs.Tests.{test_of};
+ghost use Rattle.lab_run.specs.Walking.{GoesBackIf, MakesIf, TriesIf};
 ghost use Rattle.lab_run.specs.Answers.{Answers, AnswersIf, IsBadClaim, IsLoadedTold};
 ghost use Rattle.lab_run.specs.Answers.{IsNotOffered, IsOtherInterface, Loads, Obeys};
 ghost use Rattle.lab_run.specs.Answers.{TellsAmong, TellsOfBoth, TellsOfClaims, TellsOfTable};
 ghost use Rattle.lab_run.specs.Answers.{TellsOfTwo};
 
+use crate::loaded::Loaded;
 use access_core::refusal::Refusal;
 use access_core::reply::Reply;
 use est_cover::every::Every;
@@ -51,7 +53,7 @@ pub enum Told {
 /// What is loaded.
 #[derive(Drop)]
 pub struct Lab {
-    loaded: Option<Module>,
+    loaded: Option<Loaded>,
 }
 
 /// The engine of a module.
@@ -291,7 +293,9 @@ fn answer(alloc: Global, loaded: &Module, request: &Request<'_>) -> Result<Told,
     ensures { IfOk result (Answers loaded.now request.now) }
 {
     match request {
-        Request::Load { .. } => Err(AllocError),
+        Request::Load { .. } | Request::Instant(_) | Request::Try(_) | Request::Back(_) => {
+            Err(AllocError)
+        }
         Request::Kernel => Ok(Told::Says(kernel_told(alloc, &loaded.kernel)?)),
         Request::Explore { claims, scope } => {
             explore_claims(alloc, loaded, claims.as_slice(), scope)
@@ -320,7 +324,7 @@ impl Lab {
             Err(refusal) => return Ok(Told::Refused(Refusal::from(refusal))),
         };
         let value = loaded_told(alloc, &loaded)?;
-        self.loaded = Some(loaded);
+        self.loaded = Some(Loaded::begin(alloc, loaded)?);
         Ok(Told::Says(value))
     }
 
@@ -329,7 +333,51 @@ impl Lab {
         ensures { IfOk result (AnswersIf self.now.loaded request.now) }
     {
         match &self.loaded {
-            Some(loaded) => answer(alloc, loaded, request),
+            Some(loaded) => answer(alloc, loaded.module(), request),
+            None => Ok(Told::Refused(Refusal::Empty)),
+        }
+    }
+
+    /// Makes the next instant of the module that is loaded.
+    fn make_instant(&mut self, alloc: Global, names: &[&str]) -> Result<Told, AllocError>
+        ensures done { IfOk result (λ told. MakesIf self.old.loaded (map (λ t. t.now) names.now)
+            told self.new.loaded) }
+        ensures kept { IfErr result (λ _. self.new ≡ self.old) }
+    {
+        match &mut self.loaded {
+            Some(loaded) => {
+                let told = loaded.make(alloc, names)?;
+                Ok(told)
+            }
+            None => Ok(Told::Refused(Refusal::Empty)),
+        }
+    }
+
+    /// Tries the next instant of the module that is loaded.
+    fn try_instant(&mut self, alloc: Global, names: &[&str]) -> Result<Told, AllocError>
+        ensures done { IfOk result (λ told. TriesIf self.old.loaded (map (λ t. t.now) names.now)
+            told self.new.loaded) }
+        ensures kept { IfErr result (λ _. self.new ≡ self.old) }
+    {
+        match &mut self.loaded {
+            Some(loaded) => {
+                let told = loaded.try_instant(alloc, names)?;
+                Ok(told)
+            }
+            None => Ok(Told::Refused(Refusal::Empty)),
+        }
+    }
+
+    /// Goes back with the module that is loaded.
+    fn go_back(&mut self, alloc: Global, to: u64) -> Result<Told, AllocError>
+        ensures done { IfOk result (λ told. GoesBackIf self.old.loaded to told self.new.loaded) }
+        ensures kept { IfErr result (λ _. self.new ≡ self.old) }
+    {
+        match &mut self.loaded {
+            Some(loaded) => {
+                let told = loaded.go_back(alloc, to)?;
+                Ok(told)
+            }
             None => Ok(Told::Refused(Refusal::Empty)),
         }
     }
@@ -342,7 +390,11 @@ impl Lab {
     {
         match request {
             Request::Load { main, text } => self.load(alloc, *main, *text),
-            _ => self.ask(alloc, request),
+            Request::Instant(names) => self.make_instant(alloc, names.as_slice()),
+            Request::Try(names) => self.try_instant(alloc, names.as_slice()),
+            Request::Back(to) => self.go_back(alloc, *to),
+            Request::Kernel | Request::Explore { .. } | Request::Same { .. } | Request::Table(_) =>
+                self.ask(alloc, request),
         }
     }
 }

@@ -18,13 +18,18 @@ use std::marker::PhantomData;
 use std::process::Abort;
 
 /// Lines, and what each asks for.
-const REQUESTS: [(&str, &str); 6] = [
+const REQUESTS: [(&str, &str); 11] = [
     ("{\"cmd\":\"kernel\"}", "kernel"),
     ("{\"cmd\":\"kernel\",\"most\":9}", "nothing"),
     ("{\"text\":\"\",\"main\":\"M\",\"cmd\":\"load\"}", "load"),
     ("{\"cmd\":\"table\",\"inputs\":[],\"most\":9}", "table"),
     ("{\"cmd\":\"table\",\"inputs\":[1],\"most\":9}", "nothing"),
     ("{\"cmd\":\"tables\",\"inputs\":[],\"most\":9}", "nothing"),
+    ("{\"inputs\":[\"A\"],\"cmd\":\"instant\"}", "instant"),
+    ("{\"cmd\":\"try\",\"inputs\":[]}", "try"),
+    ("{\"cmd\":\"try\",\"inputs\":[],\"most\":9}", "nothing"),
+    ("{\"cmd\":\"back\",\"to\":0}", "back"),
+    ("{\"cmd\":\"back\",\"to\":-1}", "nothing"),
 ];
 
 /// A kernel with an engine.
@@ -52,6 +57,9 @@ fn word_told(request: &Option<Request<'_>>) -> &'static str {
         Some(Request::Explore { .. }) => "explore",
         Some(Request::Same { .. }) => "same",
         Some(Request::Table(_)) => "table",
+        Some(Request::Instant(_)) => "instant",
+        Some(Request::Try(_)) => "try",
+        Some(Request::Back(_)) => "back",
     }
 }
 

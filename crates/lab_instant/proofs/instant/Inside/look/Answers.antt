@@ -2,7 +2,7 @@ use Rattle.std.proofs.Common.{◌≡◌, ◌+◌, ◌∙◌, refl, ap, arith, le
 use Rattle.est_cells.specs.Tables.{sheet_size}
 use Rattle.est_net.specs.Layout.{cell_count, output_count}
 use Rattle.est_net.specs.declared.net.Net.{Net}
-use Rattle.lab_instant.proofs.Lists.{owners_length}
+use Rattle.est_net.proofs.OwnerLists.{owners_length}
 use Rattle.lab_instant.proofs.instant.Inside.look.Goals as goal
 
 pub seen_in-requires : goal.seen_in-requires

@@ -1,0 +1,155 @@
+-- Instants of the module that is loaded, one after another, and the way back (this project's own form).
+use Rattle.std.specs.Prelude.{◌≡◌, ◌≤◌, ◌<◌, ◌⊎◌, ◌+◌, ◌-◌, ◌++◌, ◌∷◌, [], ℕ, List, Option, Some, None, Result, Ok, Err}
+use Rattle.std.specs.Prelude.{false, length, slice_get, take}
+use Rattle.std.specs.List.{Contains}
+use Rattle.serde_json.specs.Data.{Data}
+use Rattle.serde_json.specs.View.{view}
+use Rattle.est_text.specs.Identifiers.{is_identifier}
+use Rattle.est_kernel.specs.declared.state.State.{State}
+use Rattle.est_kernel.specs.declared.state.State.TheVariants.{Fresh}
+use Rattle.est_meaning.specs.States.{IsState}
+use Rattle.est_meaning.specs.declared.status.Status.{Status}
+use Rattle.est_relations.specs.Offers.{PendingInputs, OfferAnswer, ReadyAnswer, pending_inputs}
+use Rattle.est_relations.specs.declared.refusal.Refusal.{Refusal as OfferFault}
+use Rattle.est_relations.specs.declared.refusal.Refusal.TheVariants.{UnknownSignal}
+use Rattle.reactor_core.specs.declared.loaded.Module.{Module}
+use Rattle.reactor_core.specs.declared.refusal.ModuleRefusal.TheVariants as of_module
+use Rattle.access_core.specs.declared.refusal.Refusal.{Refusal}
+use Rattle.access_core.specs.declared.refusal.Refusal.TheVariants as refusal
+use Rattle.lab_instant.specs.Instants.{IsFor, IsInstant}
+use Rattle.lab_instant.specs.declared.instant.Inside.{Inside}
+use Rattle.lab_instant.specs.declared.seen.Instant.{Instant}
+use Rattle.lab_instant.specs.declared.seen.Instant.TheVariants.{Reaction, Stuck}
+use Rattle.lab_lines.specs.Inside.{back_json, inside_json}
+use Rattle.lab_run.specs.declared.lab.Told.{Told}
+use Rattle.lab_run.specs.declared.lab.Told.TheVariants.{Refused, Says}
+
+-- what is loaded: a module, and where it stood at the start and after each instant, of which the last is where it
+-- stands
+pub record Standing : Type 0 where
+  pub loaded : Module
+  pub states : List State
+
+-- a module that stands at its start
+abbrev pub at_start : Module → Standing
+at_start m = record { loaded = m; states = Fresh ∷ [] }
+
+-- the same module, where it stood so and so
+abbrev pub standing_at : Standing → List State → Standing
+standing_at s states = record { loaded = s.loaded; states = states }
+
+-- it stands there: this is the last of the states
+abbrev pub StandsAt : List State → State → Type 0
+StandsAt states x = slice_get states (length states - 1) ≡ Some x
+
+-- what reads instants is for the module's kernel, and each state is one of its root; there is one
+pub record AreLoaded (m : Module) (inside : Inside) (states : List State) : Type 0 where
+  pub engine : IsFor inside m.kernel
+  pub fit : (x : State) → Contains states x → IsState m.kernel.root x
+  pub some : 0 < length states
+
+-- ---- the inputs of an instant
+
+-- the answer to an offer of the name, and what is pending afterwards; a text that is no identifier is no signal's name
+abbrev pub NameAnswer : PendingInputs → (name : List ℕ) → Result (Unit {0}) OfferFault → PendingInputs → Type 0
+NameAnswer p name answer after =
+    OfferAnswer p name answer after ⊎ ((is_identifier name ≡ false) × (answer ≡ Err UnknownSignal) × (after ≡ p))
+
+-- inputs of these names are offered one after another: all of them are taken, and may come in one instant, and what is
+-- pending then is answered; or it is answered why the first that is refused is
+abbrev pub AreOffered : PendingInputs → (names : List (List ℕ)) → Result PendingInputs OfferFault → Type 0
+AreOffered p [] (Ok after) = (after ≡ p) × ReadyAnswer p (Ok (record {}))
+AreOffered p [] (Err fault) = ReadyAnswer p (Err fault)
+AreOffered p (name ∷ names) answer =
+    ((next : PendingInputs) × NameAnswer p name (Ok (record {})) next × AreOffered next names answer)
+    ⊎ ((fault : OfferFault) × (after : PendingInputs) × NameAnswer p name (Err fault) after × (answer ≡ Err fault))
+
+-- nothing is pending of a module, or these inputs
+abbrev pub pending_of : Module → (inputs : ℕ) → PendingInputs
+pending_of m inputs = pending_inputs m.kernel.interface m.relations inputs
+
+-- an instant of the module may take these inputs, which have these names
+pub record MayTake (m : Module) (names : List (List ℕ)) (inputs : ℕ) : Type 0 where
+  pub pending : PendingInputs
+  pub offered : AreOffered (pending_of m 0) names (Ok pending)
+  pub taken : inputs ≡ pending.mask
+
+-- no instant of the module may take the inputs of these names, for this reason
+pub record MayNotTake (m : Module) (names : List (List ℕ)) (given : Refusal) : Type 0 where
+  pub fault : OfferFault
+  pub told : given ≡ refusal.Module (of_module.Pending fault)
+  pub first : AreOffered (pending_of m 0) names (Err fault)
+
+-- ---- an instant
+
+-- the instant of the module in this state with these inputs is told as it is seen from inside
+pub record IsInstantAt (m : Module) (state : State) (inputs : ℕ) (instant : Instant) (d : Data) : Type 0 where
+  pub cells : List Status
+  pub right : IsInstant m.kernel state (record { signals = inputs }) cells instant
+  pub said : d ≡ inside_json m.kernel.interface instant
+
+-- the same of the state where the module stands
+pub record IsInstantOf (s : Standing) (inputs : ℕ) (instant : Instant) (d : Data) : Type 0 where
+  pub state : State
+  pub stands : StandsAt s.states state
+  pub is : IsInstantAt s.loaded state inputs instant d
+
+-- the same, with the inputs of these names
+pub record IsInstantTold (s : Standing) (names : List (List ℕ)) (instant : Instant) (d : Data) : Type 0 where
+  pub inputs : ℕ
+  pub taken : MayTake s.loaded names inputs
+  pub is : IsInstantOf s inputs instant d
+
+-- where the module stands after the instant: at its next state, or if it is stuck where it stood
+abbrev pub states_after : List State → Instant → List State
+states_after states (Reaction o seen) = states ++ o.next ∷ []
+states_after states (Stuck undecided seen) = states
+
+-- the instant is made
+abbrev pub Makes : (before : Standing) → (names : List (List ℕ)) → Told → (after : Standing) → Type 0
+Makes before names (Refused given) after = MayNotTake before.loaded names given × (after ≡ before)
+Makes before names (Says v) after = (instant : Instant) × IsInstantTold before names instant (view v)
+    × (after ≡ standing_at before (states_after before.states instant))
+
+-- the instant is told, and the module stays where it stands
+abbrev pub Tries : (before : Standing) → (names : List (List ℕ)) → Told → (after : Standing) → Type 0
+Tries before names (Refused given) after = MayNotTake before.loaded names given × (after ≡ before)
+Tries before names (Says v) after =
+    ((instant : Instant) × IsInstantTold before names instant (view v)) × (after ≡ before)
+
+-- ---- the way back
+
+-- the module stands where it stood after so many instants, and what came later is gone
+pub record IsBack (before : Standing) (to : ℕ) (d : Data) (after : Standing) : Type 0 where
+  pub state : State
+  pub there : slice_get before.states to ≡ Some state
+  pub is : after ≡ standing_at before (take (to + 1) before.states)
+  pub said : d ≡ back_json state
+
+-- the same, or there were not so many
+abbrev pub GoesBack : (before : Standing) → (to : ℕ) → Told → (after : Standing) → Type 0
+GoesBack before to (Refused given) after =
+    (given ≡ refusal.Module of_module.NoInstant) × (length before.states ≤ to) × (after ≡ before)
+GoesBack before to (Says v) after = IsBack before to (view v) after
+
+-- ---- where nothing may be loaded
+
+-- nothing is loaded, and that is told
+abbrev pub IsEmpty : Told → (after : Option Standing) → Type 0
+IsEmpty told after = (told ≡ Refused refusal.Empty) × (after ≡ None)
+
+-- the same, or what is done with what is loaded, which is loaded afterwards too
+abbrev pub MakesIf : (before : Option Standing) → (names : List (List ℕ)) → Told → (after : Option Standing) → Type 0
+MakesIf None names told after = IsEmpty told after
+MakesIf (Some s) names told None = ⊥
+MakesIf (Some s) names told (Some t) = Makes s names told t
+
+abbrev pub TriesIf : (before : Option Standing) → (names : List (List ℕ)) → Told → (after : Option Standing) → Type 0
+TriesIf None names told after = IsEmpty told after
+TriesIf (Some s) names told None = ⊥
+TriesIf (Some s) names told (Some t) = Tries s names told t
+
+abbrev pub GoesBackIf : (before : Option Standing) → (to : ℕ) → Told → (after : Option Standing) → Type 0
+GoesBackIf None to told after = IsEmpty told after
+GoesBackIf (Some s) to told None = ⊥
+GoesBackIf (Some s) to told (Some t) = GoesBack s to told t

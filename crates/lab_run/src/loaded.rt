@@ -1,0 +1,207 @@
+//! The module that is loaded, and where it stood after each instant.
+
+ghost use Rattle.std.specs.Prelude.{◌≡◌, ◌<◌, Some, Err, length, MatchResult, IfOk, IfErr, map};
+ghost use Rattle.std.specs.Prelude.{slice_get};
+ghost use Rattle.std.specs.List.{Contains};
+ghost use Rattle.serde_json.specs.View.{view};
+ghost use Rattle.est_meaning.specs.States.{IsState};
+ghost use Rattle.reactor_core.specs.declared.refusal.ModuleRefusal.TheVariants as of_module;
+ghost use Rattle.access_core.specs.declared.refusal.Refusal.TheVariants as refusal;
+ghost use Rattle.lab_instant.specs.Instants.{IsFor};
+ghost use Rattle.lab_run.specs.Walking.{AreOffered, GoesBack, IsInstantAt, IsInstantOf, Makes};
+ghost use Rattle.lab_run.specs.Walking.{MayTake, NameAnswer, StandsAt, Tries, at_start, pending_of};
+ghost use Rattle.lab_run.specs.Walking.{states_after};
+
+use crate::lab::Told;
+use access_core::refusal::Refusal;
+use est_kernel::state::{Inputs, State};
+use est_relations::pending::Pending;
+use est_relations::refusal::Refusal as OfferFault;
+use est_text::identifier::Identifier;
+use lab_instant::instant::Inside;
+use lab_instant::seen::Instant;
+use lab_lines::inside::{back, inside as inside_told};
+use reactor_core::loaded::Module;
+use reactor_core::refusal::ModuleRefusal;
+use serde_json::Value;
+use std::alloc::{AllocError, Global};
+use std::marker::Model;
+
+/// A module with the states in which it stood, of which the last is where it stands. A contract
+/// sees these two.
+#[derive(Drop)]
+pub struct Loaded {
+    loaded: Module,
+    inside: Inside,
+    states: Vec<State>,
+}
+
+impl Model for Loaded {
+    ghost use Rattle.std.specs.Coded.{codes};
+    ghost use Rattle.reactor_core.specs.contracts.loaded.Module as held;
+    ghost use Rattle.lab_run.specs.Walking.{AreLoaded, Standing};
+
+    ghost Value = { Standing };
+
+    ghost coded = { Prim.hlevel (codes, held.the_row.coded) };
+
+    ghost view = { λ l. record { loaded = l.loaded; states = l.states.items } };
+
+    ghost invariant = { λ l. AreLoaded l.loaded l.inside l.states.items };
+}
+
+/// Why no instant may take the inputs.
+fn refusal_of(fault: OfferFault) -> Refusal
+    ensures { result ≡ refusal.Module (of_module.Pending fault) }
+{
+    Refusal::Module(ModuleRefusal::Pending(fault))
+}
+
+/// The name at a place.
+fn name_at<'a>(names: &[&'a str], place: usize) -> &'a str
+    requires { place < length names.now }
+    ensures { slice_get names.now place ≡ Some result }
+{
+    names[place]
+}
+
+/// Offers the input of this name.
+fn offer_name(pending: &mut Pending<'_>, name: &str) -> Result<(), OfferFault>
+    ensures { NameAnswer pending.old name.now result pending.new }
+{
+    match Identifier::from_text(name) {
+        Some(name) => pending.offer(&name),
+        None => Err(OfferFault::UnknownSignal),
+    }
+}
+
+/// The inputs of these names, where an instant of the module may take them.
+fn inputs_of(loaded: &Module, names: &[&str]) -> Result<u64, OfferFault>
+    ensures { MatchResult result (MayTake loaded.now (map (λ t. t.now) names.now))
+        (λ fault. AreOffered (pending_of loaded.now 0) (map (λ t. t.now) names.now) (Err fault)) }
+{
+    let mut pending = Pending::new(loaded.kernel.interface(), &loaded.relations);
+    for place in 0..names.len() {
+        offer_name(&mut pending, name_at(names, place))?;
+    }
+    pending.ready()?;
+    Ok(pending.inputs())
+}
+
+/// The last of the states.
+fn last_of(states: &[State]) -> State
+    requires { 0 < length states.now }
+    ensures stands { StandsAt states.now result }
+    ensures among { Contains states.now result }
+{
+    states[states.len() - 1]
+}
+
+/// The instant of a module in a state with these inputs, and how it is told.
+fn look_inside(
+    alloc: Global,
+    inside: &mut Inside,
+    loaded: &Module,
+    state: &State,
+    signals: u64,
+) -> Result<(Instant, Value), AllocError>
+    requires is_for { IsFor inside.old loaded.now.kernel }
+    requires state { IsState loaded.now.kernel.root state.now }
+    ensures is_for { IsFor inside.new loaded.now.kernel }
+    ensures told { IfOk result (λ told. IsInstantAt loaded.now state.now signals told.0
+        (view told.1)) }
+{
+    let inputs = Inputs { signals };
+    let instant = inside.look(alloc, &loaded.kernel, state, &inputs)?;
+    let value = inside_told(alloc, loaded.kernel.interface(), &instant)?;
+    Ok((instant, value))
+}
+
+/// The states after an instant.
+fn advance(states: &mut Vec<State>, instant: &Instant) -> Result<(), AllocError>
+    ensures done { IfOk result (λ _. states.new.items ≡ states_after states.old.items
+        instant.now) }
+    ensures kept { IfErr result (λ _. states.new.items ≡ states.old.items) }
+{
+    match instant {
+        Instant::Reaction { outcome, .. } => {
+            states.push(outcome.next)?;
+            Ok(())
+        }
+        Instant::Stuck { .. } => Ok(()),
+    }
+}
+
+impl Loaded {
+    /// A module at its start.
+    pub fn begin(alloc: Global, loaded: Module) -> Result<Loaded, AllocError>
+        ensures { IfOk result (λ begun. begun ≡ at_start loaded) }
+    {
+        let inside = Inside::new(alloc, &loaded.kernel)?;
+        let states = vec![in alloc; State::Fresh]?;
+        Ok(Loaded {
+            loaded,
+            inside,
+            states,
+        })
+    }
+
+    /// The module.
+    pub fn module(&self) -> &Module
+        ensures { result.now ≡ self.now.loaded }
+    {
+        &self.loaded
+    }
+
+    /// Its next instant from inside, with these inputs, and how it is told.
+    fn look(&mut self, alloc: Global, signals: u64) -> Result<(Instant, Value), AllocError>
+        ensures told { IfOk result (λ told. IsInstantOf self.old signals told.0 (view told.1)) }
+        ensures kept { self.new ≡ self.old }
+    {
+        let state = last_of(self.states.as_slice());
+        look_inside(alloc, &mut self.inside, &self.loaded, &state, signals)
+    }
+
+    /// Makes the next instant, with the inputs of these names.
+    pub fn make(&mut self, alloc: Global, names: &[&str]) -> Result<Told, AllocError>
+        ensures done { IfOk result (λ told. Makes self.old (map (λ t. t.now) names.now) told
+            self.new) }
+        ensures kept { IfErr result (λ _. self.new ≡ self.old) }
+    {
+        let signals = match inputs_of(&self.loaded, names) {
+            Ok(signals) => signals,
+            Err(fault) => return Ok(Told::Refused(refusal_of(fault))),
+        };
+        let (instant, value) = self.look(alloc, signals)?;
+        advance(&mut self.states, &instant)?;
+        Ok(Told::Says(value))
+    }
+
+    /// Tells the next instant, with the inputs of these names, and stays where it stands.
+    pub fn try_instant(&mut self, alloc: Global, names: &[&str]) -> Result<Told, AllocError>
+        ensures done { IfOk result (λ told. Tries self.old (map (λ t. t.now) names.now) told
+            self.new) }
+        ensures kept { IfErr result (λ _. self.new ≡ self.old) }
+    {
+        let signals = match inputs_of(&self.loaded, names) {
+            Ok(signals) => signals,
+            Err(fault) => return Ok(Told::Refused(refusal_of(fault))),
+        };
+        let (_, value) = self.look(alloc, signals)?;
+        Ok(Told::Says(value))
+    }
+
+    /// Goes back to where it stood after so many instants.
+    pub fn go_back(&mut self, alloc: Global, to: u64) -> Result<Told, AllocError>
+        ensures done { IfOk result (λ told. GoesBack self.old to told self.new) }
+        ensures kept { IfErr result (λ _. self.new ≡ self.old) }
+    {
+        if to >= self.states.len() as u64 {
+            return Ok(Told::Refused(Refusal::Module(ModuleRefusal::NoInstant)));
+        }
+        let to = to as usize;
+        let value = back(alloc, &self.states[to])?;
+        self.states.truncate(to + 1);
+        Ok(Told::Says(value))
+    }
+}
