@@ -1,5 +1,5 @@
 -- What a lab answers to a request (this project's own form).
-use Rattle.std.specs.Prelude.{◌≡◌, ◌⊎◌, ℕ, List, Option, Some, None, codes, map}
+use Rattle.std.specs.Prelude.{◌≡◌, ◌≢◌, ◌⊎◌, ℕ, List, Option, Some, None, codes, map}
 use Rattle.serde_json.specs.Data.{Data, number, unsigned, string, object, member, no_members}
 use Rattle.serde_json.specs.View.{view}
 use Rattle.est_kernel.specs.Interfaces.{offerable, emittable}
@@ -16,6 +16,9 @@ use Rattle.reactor_core.specs.declared.refusal.ModuleRefusal.TheVariants as of_m
 use Rattle.access_core.specs.Refusals.{of_reactor}
 use Rattle.access_core.specs.declared.refusal.Refusal.{Refusal}
 use Rattle.access_core.specs.declared.refusal.Refusal.TheVariants as refusal
+use Rattle.access_core.specs.declared.reply.Reply.TheVariants as reply
+use Rattle.wire_lines.specs.Replies.{line_of}
+use Rattle.wire_lines.specs.Requests.{IsValue}
 use Rattle.lab_lines.specs.Comparing.{IsComparison}
 use Rattle.lab_lines.specs.Exploring.{IsExploration}
 use Rattle.lab_lines.specs.Offers.{AreNamed}
@@ -25,6 +28,8 @@ use Rattle.lab_lines.specs.declared.request.Request.{Request}
 use Rattle.lab_lines.specs.declared.request.Request.TheVariants.{Load, Kernel, Explore, Same, Table}
 use Rattle.lab_lines.specs.declared.request.Scope.{Scope}
 use Rattle.lab_claims.specs.Claims.{AreClaimTexts}
+use Rattle.lab_claims.specs.Refused.{IsFirstBad}
+use Rattle.lab_claims.specs.declared.claims.BadClaim.{BadClaim}
 use Rattle.lab_run.specs.declared.lab.Told.{Told}
 use Rattle.lab_run.specs.declared.lab.Told.TheVariants.{Refused, Says}
 
@@ -65,13 +70,19 @@ pub record IsNotOffered (given : Refusal) : Type 0 where
   pub fault : OfferFault
   pub told : given ≡ refusal.Module (of_module.Pending fault)
 
--- a claim of this number can't be read, and why
-pub record IsBadClaim (d : Data) : Type 0 where
-  pub place : ℕ
+-- what is told of a claim that can't be read: its number, and the server's refusal
+pub record IsBadClaimTold (bad : BadClaim) (d : Data) : Type 0 where
   pub why : Data
-  pub said : d ≡ object (member (codes "claim") (number (unsigned place))
+  pub refused : IsValue (line_of (reply.Refused (of_reactor bad.why))) why
+  pub said : d ≡ object (member (codes "claim") (number (unsigned bad.number))
       (member (codes "code") (number (unsigned 81))
       (member (codes "fault") (string (codes "Claim")) (member (codes "why") why no_members))))
+
+-- one of the claims can't be read, and that is told of the first one
+pub record IsBadClaim (interface : List Declaration) (claims : List (List ℕ)) (d : Data) : Type 0 where
+  pub bad : BadClaim
+  pub first : IsFirstBad interface claims bad
+  pub told : IsBadClaimTold bad d
 
 -- of the module it is answered to these claims that they are right or wrong in all runs in which only those inputs are
 -- offered, or that there are too many states or reactions
@@ -82,7 +93,8 @@ pub record IsExplorationAmong (m : Module) (claims : List (List ℕ)) (among sta
 
 -- the claims are judged, or one of them can't be read
 abbrev pub TellsAmong : Module → (claims : List (List ℕ)) → (among states steps : ℕ) → Data → Type 0
-TellsAmong m claims among states steps d = IsExplorationAmong m claims among states steps d ⊎ IsBadClaim d
+TellsAmong m claims among states steps d =
+    IsExplorationAmong m claims among states steps d ⊎ IsBadClaim m.kernel.interface claims d
 
 -- the same, where only the inputs of these names are offered
 pub record IsExplorationOf (m : Module) (claims : List (List ℕ)) (scope : Scope) (d : Data) : Type 0 where
@@ -101,14 +113,15 @@ pub record IsComparisonAmong (m other : Module) (among states steps : ℕ) (d : 
   pub right : IsComparison (module_of m.kernel m.relations among) (module_of other.kernel m.relations among) states
       steps d
 
--- the other has another interface
-abbrev pub IsOtherInterface : Data → Type 0
-IsOtherInterface d = d ≡ object (member (codes "code") (number (unsigned 82))
-    (member (codes "fault") (string (codes "Interface")) no_members))
+-- the other has another interface, and that is told
+pub record IsOtherInterface (m other : Module) (d : Data) : Type 0 where
+  pub differ : other.kernel.interface ≢ m.kernel.interface
+  pub said : d ≡ object (member (codes "code") (number (unsigned 82))
+      (member (codes "fault") (string (codes "Interface")) no_members))
 
 -- the two are compared, or the other has another interface
 abbrev pub TellsOfTwo : (m other : Module) → (among states steps : ℕ) → Data → Type 0
-TellsOfTwo m other among states steps d = IsComparisonAmong m other among states steps d ⊎ IsOtherInterface d
+TellsOfTwo m other among states steps d = IsComparisonAmong m other among states steps d ⊎ IsOtherInterface m other d
 
 -- the same of the module and that of a text, where only the inputs of these names are offered
 pub record IsComparisonOf (m : Module) (main text : List ℕ) (scope : Scope) (d : Data) : Type 0 where
