@@ -3,6 +3,7 @@ pub mod Comparing
 pub mod Exploring
 pub mod Offers
 pub mod Requests
+pub mod Statements
 pub mod Tables
 pub mod Tests
 pub mod Told
