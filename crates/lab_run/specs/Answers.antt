@@ -22,6 +22,7 @@ use Rattle.wire_lines.specs.Requests.{IsValue}
 use Rattle.lab_lines.specs.Comparing.{IsComparison}
 use Rattle.lab_lines.specs.Exploring.{IsExploration}
 use Rattle.lab_lines.specs.Offers.{AreNamed}
+use Rattle.lab_lines.specs.Statements.{IsKernelTold}
 use Rattle.lab_lines.specs.Tables.{IsTableTold, IsTooLarge}
 use Rattle.lab_lines.specs.Told.{names_json}
 use Rattle.lab_lines.specs.declared.request.Request.{Request}
@@ -150,15 +151,15 @@ TellsOfTable m scope (Says v) = IsTableOf m scope (view v)
 
 -- ---- what a request does
 
--- it is no refusal
-abbrev pub IsSaid : Told → Type 0
-IsSaid (Refused given) = ⊥
-IsSaid (Says v) = Unit {0}
+-- what is answered to the question for the statements
+abbrev pub TellsOfKernel : Module → Told → Type 0
+TellsOfKernel m (Refused given) = ⊥
+TellsOfKernel m (Says v) = IsKernelTold m.kernel (view v)
 
 -- what is answered of the module that is loaded
 abbrev pub Answers : Module → Request → Told → Type 0
 Answers m (Load main text) told = ⊥
-Answers m Kernel told = IsSaid told
+Answers m Kernel told = TellsOfKernel m told
 Answers m (Explore claims scope) told = TellsOfClaims m (map (λ t. t.now) claims.items) scope told
 Answers m (Same main text scope) told = TellsOfBoth m main.now text.now scope told
 Answers m (Table scope) told = TellsOfTable m scope told
