@@ -1,17 +1,13 @@
 //! Requests as JSON, and the answers to them.
 
-ghost use Rattle.std.specs.Prelude.{◌≡◌};
-
 use crate::claims::engine_of;
-use crate::modules::{both, late, paradox};
+use crate::modules::{both, late};
 use est_cover::every::Every;
 use est_explore::one_module::OneModule;
-use est_explore::two_modules::{Engines, TwoModules};
 use est_kernel::kernel::Kernel;
 use est_micro::micro::Micro;
 use est_relations::relations::Relations;
 use est_rounds::rounds::Rounds;
-use lab_lines::comparing::{are_same, compare_modules};
 use lab_lines::reading::request_of;
 use lab_lines::request::Request;
 use lab_lines::statements::kernel_told;
@@ -139,45 +135,4 @@ fn statements_of_a_kernel(rt: HostRuntime) {
         {\"kind\":\"present\",\"parts\":[4,5]},{\"kind\":\"emit\",\"signal\":\"O\"},\
         {\"kind\":\"nothing\"},{\"kind\":\"nothing\"},{\"kind\":\"pause\",\"pause\":0}]}";
     expect_text(&rt, alloc, &told, wanted);
-}
-
-/// What is told of two kernels of one interface, whose inputs are never offered.
-fn comparison_of(rt: &impl Abort, alloc: Global, first: &Kernel, second: &Kernel) -> Value
-    requires { second.now.interface ≡ first.now.interface }
-{
-    let free = Relations::new(alloc);
-    let two = TwoModules {
-        first: by_parts(first),
-        second: by_parts(second),
-    };
-    let subject = Every {
-        reactive: &two,
-        relations: &free,
-        among: 0,
-        watched: 0,
-    };
-    let mut engines = Engines {
-        first: engine_of(rt, alloc, first),
-        second: engine_of(rt, alloc, second),
-    };
-    let limits = Limits {
-        states: 9,
-        steps: 99,
-    };
-    compare_modules(alloc, &subject, &mut engines, limits).expect(rt, "room")
-}
-
-/// Two modules do the same until one of them emits.
-#[test]
-fn a_comparison_as_a_line(rt: HostRuntime) {
-    let alloc = rt.alloc();
-    let one = late(&rt, alloc);
-    let other = paradox(&rt, alloc);
-    assert!(rt; are_same(other.interface(), one.interface()));
-    let told = comparison_of(&rt, alloc, &one, &other);
-    let verdict = told.get("verdict").expect(&rt, "a verdict");
-    expect_text(&rt, alloc, verdict, "\"differ\"");
-    let told = comparison_of(&rt, alloc, &one, &one);
-    let verdict = told.get("verdict").expect(&rt, "a verdict");
-    expect_text(&rt, alloc, verdict, "\"same\"");
 }
