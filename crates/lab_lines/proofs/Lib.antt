@@ -1,5 +1,6 @@
 pub mod NameLemmas
 pub mod PauseLemmas
 pub mod RequestLemmas
+pub mod StatementLemmas
 pub mod ToldLemmas
 pub mod WatchLemmas

@@ -4,6 +4,7 @@ pub mod Exploring
 pub mod Inside
 pub mod Offers
 pub mod Requests
+pub mod Statements
 pub mod Tables
 pub mod Tests
 pub mod Told

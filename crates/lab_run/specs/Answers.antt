@@ -1,5 +1,5 @@
 -- What a lab answers to a request (this project's own form).
-use Rattle.std.specs.Prelude.{◌≡◌, ◌⊎◌, ℕ, List, Option, Some, None, codes, map}
+use Rattle.std.specs.Prelude.{◌≡◌, ◌≢◌, ◌⊎◌, ℕ, List, Option, Some, None, codes, map}
 use Rattle.serde_json.specs.Data.{Data, number, unsigned, string, object, member, no_members}
 use Rattle.serde_json.specs.View.{view}
 use Rattle.est_kernel.specs.Interfaces.{offerable, emittable}
@@ -16,9 +16,13 @@ use Rattle.reactor_core.specs.declared.refusal.ModuleRefusal.TheVariants as of_m
 use Rattle.access_core.specs.Refusals.{of_reactor}
 use Rattle.access_core.specs.declared.refusal.Refusal.{Refusal}
 use Rattle.access_core.specs.declared.refusal.Refusal.TheVariants as refusal
+use Rattle.access_core.specs.declared.reply.Reply.TheVariants as reply
+use Rattle.wire_lines.specs.Replies.{line_of}
+use Rattle.wire_lines.specs.Requests.{IsValue}
 use Rattle.lab_lines.specs.Comparing.{IsComparison}
 use Rattle.lab_lines.specs.Exploring.{IsExploration}
 use Rattle.lab_lines.specs.Offers.{AreNamed}
+use Rattle.lab_lines.specs.Statements.{IsKernelTold}
 use Rattle.lab_lines.specs.Tables.{IsTableTold, IsTooLarge}
 use Rattle.lab_lines.specs.Told.{names_json}
 use Rattle.lab_lines.specs.declared.request.Request.{Request}
@@ -26,6 +30,8 @@ use Rattle.lab_lines.specs.declared.request.Request.TheVariants.{Load, Kernel, E
 use Rattle.lab_lines.specs.declared.request.Request.TheVariants.{Instant, Try, Back}
 use Rattle.lab_lines.specs.declared.request.Scope.{Scope}
 use Rattle.lab_claims.specs.Claims.{AreClaimTexts}
+use Rattle.lab_claims.specs.Refused.{IsFirstBad}
+use Rattle.lab_claims.specs.declared.claims.BadClaim.{BadClaim}
 use Rattle.lab_run.specs.declared.lab.Told.{Told}
 use Rattle.lab_run.specs.declared.lab.Told.TheVariants.{Refused, Says}
 use Rattle.lab_run.specs.Walking.{Standing, at_start, GoesBackIf, MakesIf, TriesIf}
@@ -67,13 +73,19 @@ pub record IsNotOffered (given : Refusal) : Type 0 where
   pub fault : OfferFault
   pub told : given ≡ refusal.Module (of_module.Pending fault)
 
--- a claim of this number can't be read, and why
-pub record IsBadClaim (d : Data) : Type 0 where
-  pub place : ℕ
+-- what is told of a claim that can't be read: its number, and the server's refusal
+pub record IsBadClaimTold (bad : BadClaim) (d : Data) : Type 0 where
   pub why : Data
-  pub said : d ≡ object (member (codes "claim") (number (unsigned place))
+  pub refused : IsValue (line_of (reply.Refused (of_reactor bad.why))) why
+  pub said : d ≡ object (member (codes "claim") (number (unsigned bad.number))
       (member (codes "code") (number (unsigned 81))
       (member (codes "fault") (string (codes "Claim")) (member (codes "why") why no_members))))
+
+-- one of the claims can't be read, and that is told of the first one
+pub record IsBadClaim (interface : List Declaration) (claims : List (List ℕ)) (d : Data) : Type 0 where
+  pub bad : BadClaim
+  pub first : IsFirstBad interface claims bad
+  pub told : IsBadClaimTold bad d
 
 -- of the module it is answered to these claims that they are right or wrong in all runs in which only those inputs are
 -- offered, or that there are too many states or reactions
@@ -84,7 +96,8 @@ pub record IsExplorationAmong (m : Module) (claims : List (List ℕ)) (among sta
 
 -- the claims are judged, or one of them can't be read
 abbrev pub TellsAmong : Module → (claims : List (List ℕ)) → (among states steps : ℕ) → Data → Type 0
-TellsAmong m claims among states steps d = IsExplorationAmong m claims among states steps d ⊎ IsBadClaim d
+TellsAmong m claims among states steps d =
+    IsExplorationAmong m claims among states steps d ⊎ IsBadClaim m.kernel.interface claims d
 
 -- the same, where only the inputs of these names are offered
 pub record IsExplorationOf (m : Module) (claims : List (List ℕ)) (scope : Scope) (d : Data) : Type 0 where
@@ -103,14 +116,15 @@ pub record IsComparisonAmong (m other : Module) (among states steps : ℕ) (d : 
   pub right : IsComparison (module_of m.kernel m.relations among) (module_of other.kernel m.relations among) states
       steps d
 
--- the other has another interface
-abbrev pub IsOtherInterface : Data → Type 0
-IsOtherInterface d = d ≡ object (member (codes "code") (number (unsigned 82))
-    (member (codes "fault") (string (codes "Interface")) no_members))
+-- the other has another interface, and that is told
+pub record IsOtherInterface (m other : Module) (d : Data) : Type 0 where
+  pub differ : other.kernel.interface ≢ m.kernel.interface
+  pub said : d ≡ object (member (codes "code") (number (unsigned 82))
+      (member (codes "fault") (string (codes "Interface")) no_members))
 
 -- the two are compared, or the other has another interface
 abbrev pub TellsOfTwo : (m other : Module) → (among states steps : ℕ) → Data → Type 0
-TellsOfTwo m other among states steps d = IsComparisonAmong m other among states steps d ⊎ IsOtherInterface d
+TellsOfTwo m other among states steps d = IsComparisonAmong m other among states steps d ⊎ IsOtherInterface m other d
 
 -- the same of the module and that of a text, where only the inputs of these names are offered
 pub record IsComparisonOf (m : Module) (main text : List ℕ) (scope : Scope) (d : Data) : Type 0 where
@@ -139,15 +153,15 @@ TellsOfTable m scope (Says v) = IsTableOf m scope (view v)
 
 -- ---- what a request does
 
--- it is no refusal
-abbrev pub IsSaid : Told → Type 0
-IsSaid (Refused given) = ⊥
-IsSaid (Says v) = Unit {0}
+-- what is answered to the question for the statements
+abbrev pub TellsOfKernel : Module → Told → Type 0
+TellsOfKernel m (Refused given) = ⊥
+TellsOfKernel m (Says v) = IsKernelTold m.kernel (view v)
 
 -- what is answered of the module that is loaded
 abbrev pub Answers : Module → Request → Told → Type 0
 Answers m (Load main text) told = ⊥
-Answers m Kernel told = IsSaid told
+Answers m Kernel told = TellsOfKernel m told
 Answers m (Explore claims scope) told = TellsOfClaims m (map (λ t. t.now) claims.items) scope told
 Answers m (Same main text scope) told = TellsOfBoth m main.now text.now scope told
 Answers m (Table scope) told = TellsOfTable m scope told

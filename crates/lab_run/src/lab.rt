@@ -1,7 +1,8 @@
 //! A module, and what is asked of it.
 
-ghost use Rattle.std.specs.Prelude.{◌≡◌, ◌⊎◌, None, IfOk, IfErr, map};
+ghost use Rattle.std.specs.Prelude.{◌≡◌, ◌≢◌, ◌⊎◌, None, IfOk, IfErr, map};
 ghost use Rattle.serde_json.specs.View.{view};
+ghost use Rattle.access_core.specs.declared.reply.Reply.TheVariants as reply;
 ghost use Rattle.est_explore.specs.Views.{module_of};
 ghost use Rattle.est_micro.specs.Engine.{IsNetOf};
 ghost use Rattle.lab_lines.specs.Comparing.{IsComparison};
@@ -9,10 +10,12 @@ ghost use Rattle.lab_lines.specs.Exploring.{IsExploration};
 ghost use Rattle.lab_lines.specs.Tables.{IsTableTold, IsTooLarge};
 ghost use Rattle.lab_lines.specs.Tests.{test_of};
 ghost use Rattle.lab_run.specs.Walking.{GoesBackIf, MakesIf, TriesIf};
-ghost use Rattle.lab_run.specs.Answers.{Answers, AnswersIf, IsBadClaim, IsLoadedTold};
+ghost use Rattle.lab_run.specs.Answers.{Answers, AnswersIf, IsBadClaimTold, IsLoadedTold};
 ghost use Rattle.lab_run.specs.Answers.{IsNotOffered, IsOtherInterface, Loads, Obeys};
 ghost use Rattle.lab_run.specs.Answers.{TellsAmong, TellsOfBoth, TellsOfClaims, TellsOfTable};
 ghost use Rattle.lab_run.specs.Answers.{TellsOfTwo};
+ghost use Rattle.wire_lines.specs.Replies.{line_of};
+ghost use Rattle.wire_lines.specs.Requests.{IsValue};
 
 use crate::loaded::Loaded;
 use access_core::refusal::Refusal;
@@ -94,7 +97,9 @@ pub fn not_offered(fault: OfferFault) -> Refusal
 }
 
 /// The line of a refusal, as a value.
-fn refusal_told(alloc: Global, refusal: Refusal) -> Result<Value, AllocError> {
+fn refusal_told(alloc: Global, refusal: Refusal) -> Result<Value, AllocError>
+    ensures { IfOk result (λ v. IsValue (line_of (reply.Refused refusal)) (view v)) }
+{
     let line = reply_line(alloc, &Reply::Refused(refusal))?;
     match Value::from_slice(alloc, line.as_slice()) {
         Ok(value) => Ok(value),
@@ -104,7 +109,7 @@ fn refusal_told(alloc: Global, refusal: Refusal) -> Result<Value, AllocError> {
 
 /// That a claim can't be read.
 fn bad_claim_told(alloc: Global, bad: BadClaim) -> Result<Value, AllocError>
-    ensures { IfOk result (λ v. IsBadClaim (view v)) }
+    ensures { IfOk result (λ v. IsBadClaimTold bad (view v)) }
 {
     let number = bad.number;
     let why = refusal_told(alloc, Refusal::from(bad.why))?;
@@ -197,8 +202,9 @@ fn compare_both(
 }
 
 /// That the module of a text has another interface.
-fn other_interface(alloc: Global) -> Result<Value, AllocError>
-    ensures { IfOk result (λ v. IsOtherInterface (view v)) }
+fn other_interface(alloc: Global, loaded: &Module, other: &Module) -> Result<Value, AllocError>
+    requires { other.now.kernel.interface ≢ loaded.now.kernel.interface }
+    ensures { IfOk result (λ v. IsOtherInterface loaded.now other.now (view v)) }
 {
     json!(in alloc; {"code": 82, "fault": "Interface"})
 }
@@ -217,7 +223,7 @@ fn compare_modules_of(
     if are_same(other.kernel.interface(), loaded.kernel.interface()) {
         compare_both(alloc, loaded, other, among, limits)
     } else {
-        other_interface(alloc)
+        other_interface(alloc, loaded, other)
     }
 }
 

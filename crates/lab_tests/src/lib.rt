@@ -11,4 +11,6 @@ mod lines;
 #[cfg(test)]
 mod modules;
 #[cfg(test)]
+mod searching;
+#[cfg(test)]
 mod texts;

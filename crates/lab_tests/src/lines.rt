@@ -1,7 +1,7 @@
 //! Requests as JSON, and the answers to them.
 
 use crate::claims::engine_of;
-use crate::modules::late;
+use crate::modules::{both, late};
 use est_cover::every::Every;
 use est_explore::one_module::OneModule;
 use est_kernel::kernel::Kernel;
@@ -10,6 +10,7 @@ use est_relations::relations::Relations;
 use est_rounds::rounds::Rounds;
 use lab_lines::reading::request_of;
 use lab_lines::request::Request;
+use lab_lines::statements::kernel_told;
 use lab_lines::tables::find_table;
 use serde_json::Value;
 use state_search::search::Limits;
@@ -129,4 +130,17 @@ fn states_of_a_table(rt: HostRuntime) {
     let table = find_table(alloc, &subject, &mut Rounds::new(), limits).expect(&rt, "room");
     let states = table.get("states").expect(&rt, "states");
     expect_text(&rt, alloc, states, "[\"start\",[0],[1],\"end\"]");
+}
+
+/// The statements of a kernel, each with the numbers of its parts.
+#[test]
+fn statements_of_a_kernel(rt: HostRuntime) {
+    let alloc = rt.alloc();
+    let told = kernel_told(alloc, &both(&rt, alloc)).expect(&rt, "room");
+    let wanted = "{\"inputs\":2,\"ok\":\"kernel\",\"statements\":[\
+        {\"kind\":\"loop\",\"parts\":[1]},{\"kind\":\"seq\",\"parts\":[2,7]},\
+        {\"kind\":\"present\",\"parts\":[3,6]},\
+        {\"kind\":\"present\",\"parts\":[4,5]},{\"kind\":\"emit\",\"signal\":\"O\"},\
+        {\"kind\":\"nothing\"},{\"kind\":\"nothing\"},{\"kind\":\"pause\",\"pause\":0}]}";
+    expect_text(&rt, alloc, &told, wanted);
 }
