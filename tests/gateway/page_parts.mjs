@@ -65,7 +65,7 @@ const tests = {
     assert.deepEqual([plain.marks, plain.path, plain.is_chain], [[], [], false]);
     assert.equal(faultWords(plain), sentence);
     assert.deepEqual(furtherPlaces(plain), []);
-    const circle = "possibly in a circle:\n  text:6:7: emit O\n  text:4:3: abort when O";
+    const circle = "O waits for itself: ..\n  text:6:7: emit O, once O is absent";
     for (const ended of [sentence, `${sentence}\n${circle}`]) {
       assert.equal(
         endedWords({ ended, rows: ["00"] }), `Your version was refused at instant 2: ${sentence}`
