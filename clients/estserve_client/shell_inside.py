@@ -128,7 +128,9 @@ class InsideCommands:
             look = explorer.tried(pending)
             return explorer.stuck_lines() if look.is_stuck else []
         except (Usage, Failed, Refusal, Disconnected) as fault:
-            return [f"what waits for what can't be said: {fault}"]
+            from .lab.stuck import CANT
+
+            return [CANT.format(fault)]
         finally:
             self.slot = before
 

@@ -125,6 +125,18 @@ STOPS = [
     ("await case [A and B] do emit O end", "[", "cases"),
     ("do await A or B; emit O watching B", "do", "watching"),
 ]
+# Texts of which M is stuck at its first step, and what is undecided then.
+STUCK = [
+    ("module M: output O; present [O or not O] then emit O end end module", ["O"]),
+    ("module M: input A; output O, P; present [A or O] then emit P else emit O end end module",
+     ["O", "P"]),
+    ("module M: inputoutput B; output O;\n"
+     "present not (B or tick and not O) then emit O end end module", ["O"]),
+    ("module M: inputoutput B; present B else emit B end end module", ["B"]),
+    ("module N: inputoutput X; output Y; present not X or Y then emit Y end end module\n"
+     "module M: inputoutput B; output O;\n"
+     "run N [signal B/X, O/Y] || present O then emit B end end module", ["B", "O"]),
+]  # fmt: skip
 # Each statement that has a test: how many statements its kernel has besides the test, and how often
 # that stands there.
 SIZES = [
@@ -424,7 +436,7 @@ class OnTheProgram(unittest.TestCase):
             self.assertEqual((fields.get("line"), fields.get("column")), (1, wanted), body)
 
     def test_stuck_instants(self):
-        for text, undecided, _ in STUCK:
+        for text, undecided in STUCK:
             with self.subTest(text):
                 self.client.load(0, "M", text)
                 with self.assertRaises(estserve.Refusal) as raised:

@@ -138,13 +138,13 @@ class Proving(InAFolder):
         ran = run_client(["run", path, "--inputs", word, "--wave"])
         self.assertEqual(ran.printed.splitlines()[1:], wave)
 
-    def test_a_module_that_gets_stuck_is_shown_with_what_waits(self):
+    def test_a_module_that_gets_stuck_is_shown_with_what_is_open(self):
         path = self.copied(EXAMPLES / "paradox" / "paradox.strl")
         printed, status = self.ran("prove", path)
         self.assertEqual(status, 1)
         self.assertIn("FAILED  it is never Stuck: fails in instant 2\n", printed)
         self.assertIn("instant 2: Stuck: the instant has no constructive reaction", printed)
-        self.assertIn(f"{path}:6:16: emit O\n", printed)
+        self.assertIn(f"{path}:4:8: O is undecided\n", printed)
         self.assertEqual(self.ran("prove", path, "--inputs", "")[1], 0)
 
     def test_inputs_say_what_may_be_offered(self):

@@ -32,9 +32,9 @@ from .inside import At, Inside, Look, Tie, undecided_lines
 Open = Union[
     str, At
 ]  # an open signal: of the interface by its name, a local one by its declaration
+CANT = "which signals are open inside can't be said: {}"
 NOT_STUCK = "estlab comes to a reaction there, with the inputs that are known here"
 NO_CIRCLE = "no circle is found among them: each neither must nor can't be emitted"
-NO_TIES = "which of them wait for one another is told by a newer estlab"
 
 
 @dataclasses.dataclass(frozen=True)
@@ -162,7 +162,7 @@ class Stuck:
         """What is said of the instant."""
         opened = undecided_lines(self.inside, self.look)
         if self.look.ties is None:
-            return [*opened, NO_TIES]
+            return opened
         circle = self.circle()
         if not circle:
             return [*opened, NO_CIRCLE]
@@ -182,4 +182,4 @@ def stuck_lines(
             *_, last = inside.looks(word)
             return Stuck(inside, last).lines() if last.is_stuck else [NOT_STUCK]
     except (Disconnected, Failed, Refusal, TimedOut, TooLong) as fault:
-        return [f"what waits for what can't be said: {fault}"]
+        return [CANT.format(fault)]
