@@ -123,7 +123,7 @@ class Proving(InAFolder):
         lines = printed.splitlines()
         self.assertEqual(lines[1], "FAILED  never O: fails in instant 2")
         self.assertEqual(lines[6], "O        output _____/‾\\")
-        self.assertEqual(lines[-1], "2 of 3 fail: 5 states, 40 reactions")
+        self.assertEqual(lines[-1], "2 of 3 fail: 5 states, 36 reactions")
         words = [self.folder / f"abro.counterexample{more}.inputs" for more in ("", "2")]
         head = "% never O: fails in the last of these instants.\n"
         self.assertEqual(words[0].read_text(), head + ";\nA B\n")
@@ -203,7 +203,7 @@ class Claims(InAFolder):
         self.file("c.claims", "never O and\n")
         ran = run_client(["prove", self.folder])
         lines = ran.printed.splitlines()
-        told = "holds in every run: 5 states, 20 reactions"
+        told = "holds in every run: 5 states, 10 reactions"
         self.assertEqual((lines[0], lines[3]), ("abro (ABRO):", told))
         self.assertEqual((lines[-1], ran.status), ("1 passed, 2 failed", 1))
         told = f"{self.folder}/c.claims:1: the claim `never O and` cannot be read"
@@ -266,12 +266,12 @@ class Coverage(InAFolder):
         self.copied(abro())  # mouse.MORE.inputs are of the mouse all the same
         printed, status = self.ran("coverage", self.folder)
         lines = printed.splitlines()
-        head = "MOUSE, 1 scenario: 9 of 13 states, 10 of 104 reactions, 3 of 3 emissions"
+        head = "MOUSE, 1 scenario: 9 of 13 states, 10 of 73 reactions, 3 of 3 emissions"
         self.assertEqual((lines[0], status), (head, 1))
         self.assertEqual(lines[1], "  state 2: tried by `; RIGHT`")
         self.assertEqual(self.ran("coverage", self.folder, "--write")[1], 1)
         printed, status = self.ran("coverage", self.folder)
-        told = "13 of 13 states, 104 of 104 reactions, 3 of 3 emissions\n"
+        told = "13 of 13 states, 73 of 73 reactions, 3 of 3 emissions\n"
         self.assertEqual((printed.partition(": ")[2], status), (told, 0))
 
     def test_a_name_that_is_no_input_is_refused(self):
@@ -293,16 +293,16 @@ class Coverage(InAFolder):
         ran = run_client(["coverage", self.folder, other])
         wrong = f"FAILED  {self.folder}/abro.wrong.inputs:1:1: ABRO has no input PUSH\n"
         self.assertTrue(ran.printed.startswith(wrong), ran.printed)
-        self.assertIn("ABRO, 1 scenario: 3 of 5 states, 2 of 40 reactions", ran.printed)
+        self.assertIn("ABRO, 1 scenario: 3 of 5 states, 2 of 14 reactions", ran.printed)
         self.assertIn(f"FAILED  {path}:1:21: Syntax", ran.printed)
-        self.assertIn("ABRO, 1 scenario: 2 of 5 states, 1 of 40 reactions", ran.printed)
+        self.assertIn("ABRO, 1 scenario: 2 of 5 states, 1 of 14 reactions", ran.printed)
         self.assertEqual((ran.status, ran.told), (1, ""))
 
     def test_an_emission_that_is_not_tried(self):
         self.copied(abro())
         self.file("abro.inputs", ";\nA\n;\n")
         printed, _ = self.ran("coverage", self.folder)
-        head = "ABRO, 1 scenario: 3 of 5 states, 3 of 40 reactions, 0 of 1 emissions"
+        head = "ABRO, 1 scenario: 3 of 5 states, 3 of 14 reactions, 0 of 1 emissions"
         place = f"{self.folder}/abro.strl:7:3"
         self.assertIn(f"{head}\n  emission of O at {place}: tried by `; A B`\n", printed)
 
@@ -317,7 +317,7 @@ class Linting(InAFolder):
             {path}:2:10: no reaction looks at IDLE
             {path}:3:11: no run emits SILENT
             {path}:6:24: no run begins this statement
-            3 found: 2 states, 8 reactions
+            3 found: 2 states, 4 reactions
             """))  # fmt: skip
 
     def test_inputs_that_come_together_alone_are_not_told_of(self):
@@ -326,7 +326,7 @@ class Linting(InAFolder):
         self.assertEqual(self.ran("lint", path)[1], 0)
 
     def test_examples(self):
-        self.assertEqual(self.ran("lint", abro()), ("nothing found: 5 states, 40 reactions\n", 0))
+        self.assertEqual(self.ran("lint", abro()), ("nothing found: 5 states, 14 reactions\n", 0))
         path = EXAMPLES / "paradox" / "paradox.strl"
         told = "Stuck: the instant has no constructive reaction; undecided: O"
         self.assertIn(f"{path}:2:8: with the inputs `; I`: {told}\n", self.ran("lint", path)[0])
