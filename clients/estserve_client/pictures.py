@@ -23,7 +23,6 @@ else:
 
 HIGH, LOW, HIDDEN = "_/‾\\", "____", "...."
 PLAIN_HIGH = "_/^\\"
-MOST_WIDE = 60  # characters are kept free for a column that others follow
 STEP = 10  # an instant of a VCD file takes this many units of time: instant n begins at n * STEP
 # of signals, in the order of a table's columns; some modules have none of those in RARE
 KINDS = ("input", "inout", "output", "local")
@@ -87,7 +86,8 @@ def present_of(names: List[str], instant: Instant) -> str:
 
 class Table:
     """A table that is written as its instants come: the width of the column after the numbers is
-    known before. That of the inouts, which are emitted too, has room for all of them.
+    known before. Those of inouts and outputs have room for all of them where others follow; that of
+    local signals, which may be many, has none.
     """
 
     def __init__(self, seen: Seen, wide: int = 0) -> None:
@@ -95,7 +95,7 @@ class Table:
         self.heads = [kind + "s" for kind in seen.kinds()] + ["lines"] * seen.traced
         self.wide = max(wide, len(self.heads[0]))
         self.others = [
-            max(len(head), min(MOST_WIDE, len(" ".join(names))))
+            max(len(head), len(" ".join(names)) * (head != "locals"))
             for head, names in zip(self.heads[1:-1], self.kinds[1:])
         ]
         self.drawn: Dict[int, Tuple[Instant, str]] = {}  # cells of instants, by their identity
