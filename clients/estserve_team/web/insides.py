@@ -75,7 +75,8 @@ class Insides:
             held = self._held.get(slot)
             if held is None or not 1 <= instant <= len(held.word):
                 return {"load": told["load"], "instant": None}
-            return await self._apart(slot, held.told, instant)
+            found: Told = await self._apart(slot, held.told, instant)
+            return found
 
     async def _taken(self, seat: Any, slot: int) -> Told:
         """Takes in what a slot has made meanwhile. What the gateway told last. Raises Denied,

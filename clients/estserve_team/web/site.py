@@ -93,7 +93,10 @@ class Site:
             "try": Trials(program).try_out,
         }
         self._insides = Insides()
-        self._reads = {**asking.READS, "inside": self._insides.look}
+        self._reads: Dict[str, Callable[[Any, Any], Awaitable[Dict[str, Any]]]] = {
+            **asking.READS,
+            "inside": self._insides.look,
+        }
         self._streams: "set[Stream]" = set()
         self._files = files()
         self._runner: Optional[web.AppRunner] = None
