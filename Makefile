@@ -26,7 +26,8 @@ help:
 	@echo 'make gateway   the tests of the team'"'"'s gateway and its page, on the program built WITHOUT proof'
 	@echo 'make faults    each growth of memory refused in turn, of each command and of whole runs, on the program built WITHOUT proof'
 	@echo 'make hostile   lines that are cut or wrong, full journals and clients that go away, on the program built WITHOUT proof'
-	@echo 'make soak      hostile, with all journals filled and a soak of ten minutes, and half an hour of faults of the gateway; make build, and then'
+	@echo 'make soak      hostile, with all journals filled and a soak of ten minutes, half an hour of faults of the gateway, and the instants of 2,000'
+	@echo '               random modules beside the rules; make build, and then'
 	@echo '               make soak ESTSERVE=$$PWD/$(PROGRAM) takes the proved program; no part of make test'
 	@echo 'make abro      the waves of ABRO, by the client, on the program built WITHOUT proof: about a minute, and at once from then on'
 	@echo 'make library   prove and build the library for C programs, $(LIBRARY)'
@@ -104,6 +105,7 @@ hostile:
 soak:
 	tests/hostile/run --long
 	tests/gateway/run --soak
+	tests/lab/run --soak
 
 documents:
 	python3 scripts/version.py

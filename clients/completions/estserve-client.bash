@@ -14,11 +14,11 @@ _estserve_client() {
         words='run test format lsp shell apply proof prove coverage lint whocan graph compile team --help --version'
         ;;
     'run')
-        words='--help --main --inputs --signals --table --wave --vcd --expect --update --watch --program --unproved --socket --user --role --reads --slot --loaded'
+        words='--help --main --inputs --signals --locals --trace --until --table --wave --vcd --expect --update --watch --program --unproved --estlab --socket --user --role --reads --slot --loaded'
         files=1
         case "$before" in
-        --inputs | --vcd | --expect | --program | --socket) words='' files=1 ;;
-        --main | --signals | --user | --role | --reads | --slot) return ;;
+        --inputs | --vcd | --expect | --program | --estlab | --socket) words='' files=1 ;;
+        --main | --signals | --until | --user | --role | --reads | --slot) return ;;
         esac
         ;;
     'test')
@@ -40,9 +40,9 @@ _estserve_client() {
         esac
         ;;
     'shell')
-        words='--help --socket --user --role --reads --program --unproved --stop --names'
+        words='--help --socket --user --role --reads --program --unproved --estlab --stop --names'
         case "$before" in
-        --socket | --program | --names) words='' files=1 ;;
+        --socket | --program | --estlab | --names) words='' files=1 ;;
         --user | --role | --reads) return ;;
         esac
         ;;

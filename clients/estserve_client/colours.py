@@ -23,7 +23,7 @@ class Colours:
         self.is_on = has_colours(stream)
 
     def put(self, colour: str, text: str) -> str:
-        return f"{colour}{text}{PLAIN}" if self.is_on and text else text
+        return f"{colour}{text}{PLAIN}" if self.is_on and text and colour else text
 
     def word(self, text: str, is_good: bool) -> str:
         """A word for what came out well or not."""

@@ -74,6 +74,11 @@ def add_program(parser: Parser) -> None:
     programs.add_argument("--unproved", action="store_true", help=help)
 
 
+def add_lab(parser: Parser) -> None:
+    help = "what tells the inside of instants (default: that of the variable ESTLAB, or estlab on PATH)"
+    parser.add_argument("--estlab", metavar="PATH", help=help)
+
+
 def add_server(parser: Parser, roles: Any) -> None:
     help = "the server's Unix socket; without it the program is started for you alone"
     parser.add_argument("--socket", metavar="PATH", help=help)
@@ -113,6 +118,10 @@ def add_run(commands: Any) -> None:
         help="the list of inputs, one instant a line (default: standard input)",
     )
     add("--signals", action="append", metavar="A,B", help="draw these signals, and no others")
+    add("--locals", action="store_true", help="draw local signals too, as MODULE.S")
+    add("--trace", action="store_true", help="say of each instant which lines of the text ran")
+    help = "stop at the first instant in which this holds, as `A and not B`"
+    add("--until", metavar="TEST", help=help)
     add_pictures(parser)
     add(
         "--expect",
@@ -122,6 +131,7 @@ def add_run(commands: Any) -> None:
     add("--update", action="store_true", help="write the file of --expect anew")
     add("--watch", action="store_true", help="run again whenever a file is saved, until Ctrl-C")
     add_program(parser)
+    add_lab(parser)
     add_server(parser, 1)
     add("--slot", type=int, default=0, metavar="N", help="the server's slot to run in (default: 0)")
     add(
@@ -159,6 +169,7 @@ def add_shell(commands: Any) -> None:
     )
     add_server(parser, "+")
     add_program(parser)
+    add_lab(parser)
     parser.add_argument(
         "--stop", action="store_true", help="end a script at the first line that is refused"
     )

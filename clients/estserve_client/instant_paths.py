@@ -9,8 +9,8 @@ import dataclasses
 from typing import Dict, List, Optional, Tuple
 
 from .fault_places import FAR, trapped
-from .stuck_chains import written
 from .syntax_tree import ModuleTree, Node, Token, by_name
+from .words_of_tests import written
 
 MOST = 12  # steps of a path that are drawn
 
@@ -51,7 +51,7 @@ def coded(paths: Paths, old: int, new: int) -> Paths:
 
 def asked(node: Node) -> str:
     """The test of a statement, as it could stand in a text."""
-    return written(node.test, {}) if node.test else ""
+    return written(node.test) if node.test else ""
 
 
 class InstantPaths:

@@ -17,12 +17,27 @@ if TYPE_CHECKING:
 
     Instant = Dict[str, bool]
     Signals = List[Tuple[str, str]]
+    Presences = Dict[str, bool]
+else:
+    Presences = dict
 
 HIGH, LOW, HIDDEN = "_/‾\\", "____", "...."
 PLAIN_HIGH = "_/^\\"
 STEP = 10  # an instant of a VCD file takes this many units of time: instant n begins at n * STEP
-KINDS = ("input", "inout", "output")  # of signals, in the order of a table's columns
+# of signals, in the order of a table's columns; some modules have none of those in RARE
+KINDS = ("input", "inout", "output", "local")
+RARE = ("inout", "local")
 TICK = "tick"  # the wire that goes up with each instant, and down in its middle
+
+
+class Within(Presences):
+    """An instant with what happens inside it: its local signals too, what stands after the name of one
+    in a table, and the lines that ran.
+    """
+
+    def __init__(self, present: Instant, marks: Dict[str, str], lines: str) -> None:
+        super().__init__(present)
+        self.marks, self.lines = marks, lines
 
 
 class Seen:
@@ -30,8 +45,9 @@ class Seen:
     of these.
 
     The signals stand in declaration order, pairs of a name and `input`, `output` or `inout` (an
-    inputoutput), or `signal` where it isn't known which of these it is. `scopes` has the modules
-    that it runs, where they are known.
+    inputoutput), or `signal` where it isn't known which of these it is; `local` ones stand last.
+    `scopes` has the modules that it runs, where they are known. Where it is `traced`, its instants
+    are `Within`, and a table has their lines.
     """
 
     def __init__(
@@ -41,16 +57,17 @@ class Seen:
         instants: List[Instant],
         first: int = 1,
         scopes: Optional[List[Scope]] = None,
+        traced: bool = False,
     ) -> None:
         self.module, self.signals, self.instants = module, signals, instants
-        self.first, self.scopes = first, scopes
+        self.first, self.scopes, self.traced = first, scopes, traced
 
     def kinds(self) -> Tuple[str, ...]:
-        """The kinds of signals that are told apart: `inout` where there is one."""
+        """The kinds of signals that are told apart: `inout` and `local` where there is one."""
         kinds = {kind for _, kind in self.signals}
         if not kinds <= set(KINDS):
             return ("signal",)
-        return tuple(kind for kind in KINDS if kind != "inout" or kind in kinds)
+        return tuple(kind for kind in KINDS if kind not in RARE or kind in kinds)
 
     def of_kind(self, kind: str) -> List[str]:
         """The names of the signals of a kind."""
@@ -59,23 +76,27 @@ class Seen:
 
 def present_of(names: List[str], instant: Instant) -> str:
     """The names that were present in an instant, and `.` for each that could not be observed."""
+    marks = instant.marks if isinstance(instant, Within) else {}
     return " ".join(
-        "." if name not in instant else name for name in names if instant.get(name, True)
+        "." if name not in instant else name + marks.get(name, "")
+        for name in names
+        if instant.get(name, True)
     )
 
 
 class Table:
     """A table that is written as its instants come: the width of the column after the numbers is
-    known before. That of the inouts, which are emitted too, has room for all of them.
+    known before. Those of inouts and outputs have room for all of them where others follow; that of
+    local signals, which may be many, has none.
     """
 
     def __init__(self, seen: Seen, wide: int = 0) -> None:
         self.kinds = [seen.of_kind(kind) for kind in seen.kinds()]
-        self.heads = [kind + "s" for kind in seen.kinds()]
+        self.heads = [kind + "s" for kind in seen.kinds()] + ["lines"] * seen.traced
         self.wide = max(wide, len(self.heads[0]))
         self.others = [
-            max(len(head), len(" ".join(names)))
-            for head, names in zip(self.heads[1:-1], self.kinds[1:-1])
+            max(len(head), len(" ".join(names)) * (head != "locals"))
+            for head, names in zip(self.heads[1:-1], self.kinds[1:])
         ]
         self.drawn: Dict[int, Tuple[Instant, str]] = {}  # cells of instants, by their identity
 
@@ -106,7 +127,9 @@ class Table:
 
     def draw(self, instant: Instant) -> Tuple[Instant, str]:
         """An instant with its cells, as they stand after its number."""
-        line = self.line("", [present_of(names, instant) for names in self.kinds])
+        cells = [present_of(names, instant) for names in self.kinds]
+        cells += [instant.lines] if isinstance(instant, Within) else []
+        line = self.line("", cells[: len(self.heads)])
         if len(self.drawn) >= MOST:
             self.drawn.clear()
         self.drawn[id(instant)] = drawn = (instant, line[7:])
@@ -199,14 +222,13 @@ def vcd_lines(seen: Seen) -> List[str]:
 
     Instant n lasts from time 10 n to 10 n + 10, and `tick` is 1 in its first half, so that instants
     can be counted. A wire is `x` in an instant in which its signal, which could be observed in
-    others, could not be.
+    others, could not be. A local signal of a module that is run stands in that one's scope alone.
     """
     wires = wires_of(seen)
     codes = {name: code_of(number) for number, name in enumerate(wires, 1)}
+    outer = {TICK: code_of(0), **{name: codes[name] for name in wires if "." not in name}}
     lines = ["$version estserve $end", "$timescale 1 ns $end", f"$scope module {seen.module} $end"]
-    lines += [
-        f"$var wire 1 {code} {name} $end" for name, code in {TICK: code_of(0), **codes}.items()
-    ]
+    lines += [f"$var wire 1 {code} {name} $end" for name, code in outer.items()]
     lines += [*scope_lines(seen.scopes or [], codes), "$upscope $end", "$enddefinitions $end"]
     before: Dict[str, str] = {}
     for number, instant in enumerate(seen.instants, seen.first):

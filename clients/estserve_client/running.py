@@ -10,17 +10,21 @@ from .drawing import Drawing, Progress
 from .pictures import Seen
 from .programs import program_of
 from .stage import Refused, Scenario, SharedSlot, Stage, check_inputs, stopping
+from .telling import TELLER
 from .texts import Failed, Interrupted, read_library, read_text
 from .texts_beside import chosen_of
 
 TYPE_CHECKING = False
 if TYPE_CHECKING:
     import argparse
-    from typing import Callable, Iterator, List, Optional, Union
+    from typing import Callable, Iterable, Iterator, List, Optional, Union
 
+    from .lab.asking import Lab
+    from .lab.within import Beside
     from .module_text import Module
     from .pictures import Instant, Signals
     from .scopes import Scope
+    from .until import Until
 
 
 def read_scenario(arguments: argparse.Namespace) -> Scenario:
@@ -32,18 +36,27 @@ def read_scenario(arguments: argparse.Namespace) -> Scenario:
     library = read_library(arguments.file)
     module = chosen_of(library.text, arguments.main)
     listed = read_text(arguments.inputs, "the list of inputs")
-    return Scenario(library, module, listed, arguments.inputs)
+    return Scenario(library, module, listed, arguments.inputs, lambda: lab_for(arguments))
 
 
-def chosen(module: Module, named: Optional[List[str]]) -> Signals:
-    """The signals that are drawn: those that are named, in that order, or all. Raises Failed."""
+def lab_for(arguments: argparse.Namespace) -> Lab:
+    """The program estlab that the arguments name. Raises Disconnected."""
+    from .lab.asking import lab_beside
+
+    return lab_beside(arguments)
+
+
+def chosen(module: Module, named: Optional[List[str]], inner: Signals = []) -> Signals:
+    """The signals that are drawn: those that are named, in that order, or all, with the local ones
+    inside. Raises Failed.
+    """
     names = [name for names in named or () for name in names.replace(",", " ").split()]
-    unknown = [name for name in names if name not in module.kinds()]
+    kinds = {**module.kinds(), **dict(inner)}
+    unknown = [name for name in names if name not in kinds]
     if unknown:
         raise Failed(f"{module.name} has no signal {unknown[0]}")
-    return (
-        [(name, module.kinds()[name]) for name in dict.fromkeys(names)] if names else module.signals
-    )
+    listed = dict.fromkeys(names)
+    return [(name, kinds[name]) for name in listed] if names else [*module.signals, *inner]
 
 
 @contextlib.contextmanager
@@ -65,11 +78,11 @@ def place_to_run(arguments: argparse.Namespace) -> Iterator[Union[Stage, SharedS
 def play(
     place: Union[Stage, SharedSlot],
     scenario: Scenario,
-    add: Callable[[List[Instant]], None],
+    add: Callable[[List[Instant]], object],
     progress: Progress,
 ) -> Optional[Refused]:
-    """Runs the module that is loaded, and gives the instants to `add` as they come. Answers the
-    refusal that ended it, if one did.
+    """Runs the module that is loaded, and gives the instants to `add` as they come, until that answers
+    True. Answers the refusal that ended it, if one did.
 
     Raises Interrupted after the first Ctrl-C, when what was sent is answered.
     """
@@ -77,7 +90,8 @@ def play(
     with stopping() as stopped:
         try:
             for instants in place.play(scenario, stopped):
-                add(instants)
+                if add(instants):
+                    return None
                 number += len(instants)
                 progress.at(number)
         except Refused as refusal:
@@ -96,6 +110,68 @@ def scopes_in(scenario: Scenario) -> List[Scope]:
     return scopes_of(scenario.library.text, scenario.module.name)
 
 
+@contextlib.contextmanager
+def beside(arguments: argparse.Namespace, scenario: Scenario) -> Iterator[Optional[Beside]]:
+    """The same module in estlab, where the inside of its instants is asked for. Raises Failed,
+    Disconnected.
+    """
+    if not (arguments.locals or arguments.trace):
+        yield None
+        return
+    from .lab.asking import Subject
+    from .lab.inside import Inside
+    from .lab.within import Beside
+
+    with lab_for(arguments) as lab:
+        yield Beside(Inside(lab, Subject(scenario.library, scenario.module)))
+
+
+def until_of(text: Optional[str], shown: Iterable[str], hidden: Iterable[str]) -> Optional[Until]:
+    """What a run goes on until, where that is asked for. Raises Failed."""
+    if text is None:
+        return None
+    from .until import Until
+
+    return Until(text, shown, hidden)
+
+
+class Coming:
+    """The instants of a run as they come: what happens inside them is added, and they are drawn up to
+    the one that ends the run.
+    """
+
+    def __init__(
+        self,
+        scenario: Scenario,
+        drawing: Drawing,
+        inner: Optional[Beside],
+        until: Optional[Until],
+    ) -> None:
+        self.scenario, self.drawing, self.inner, self.until = scenario, drawing, inner, until
+        self.number = 0  # of them
+
+    def add(self, instants: List[Instant]) -> bool:
+        """Adds instants that came. Answers whether the run ends with them. Raises Failed."""
+        if self.inner:
+            word = self.scenario.inputs.names[self.number : self.number + len(instants)]
+            instants = self.inner.within(word, instants)
+        if self.until:
+            instants = self.until.cut(instants)
+        self.number += len(instants)
+        self.drawing.add(instants)
+        return bool(self.until and self.until.is_met)
+
+    def tell_end(self) -> None:
+        """Tells where the run ended that went on until something held. Raises Failed where it never
+        did.
+        """
+        if self.until and not self.until.is_met:
+            told = instants_told(self.number)
+            raise Failed(f"{self.until.text} held in none of {told}")
+        if self.until:
+            TELLER.tell(f"instant {self.number:,}: {self.until.text} holds")
+
+
 def draw_run(
     arguments: argparse.Namespace, place: Union[Stage, SharedSlot], scenario: Scenario
 ) -> None:
@@ -103,20 +179,28 @@ def draw_run(
     an instant is refused.
     """
     module = scenario.module
-    signals = chosen(module, arguments.signals)
-    scopes = scopes_in(scenario) if arguments.vcd else None
-    drawing = Drawing(Seen(module.name, signals, [], 1, scopes), arguments.wave, arguments.vcd)
-    hidden = place.hidden(module) if isinstance(place, SharedSlot) else ()
-    drawing.begin(scenario, frozenset(hidden))
-    assert place.client
-    place.client.when_waiting = drawing.show
-    is_silent = bool(arguments.wave or arguments.vcd) or not sys.stdout.isatty()
-    try:
-        refusal = play(place, scenario, drawing.add, Progress(len(scenario.inputs), is_silent))
-    finally:
-        drawing.end()
+    hidden = frozenset(place.hidden(module)) if isinstance(place, SharedSlot) else frozenset()
+    with beside(arguments, scenario) as inner:
+        locals = inner.signals if inner and arguments.locals else []
+        signals = chosen(module, arguments.signals, locals)
+        scopes = scopes_in(scenario) if arguments.vcd else None
+        if scopes is not None and inner:
+            inner.add_scopes(scopes)
+        seen = Seen(module.name, signals, [], 1, scopes, arguments.trace)
+        drawing = Drawing(seen, arguments.wave, arguments.vcd)
+        shown = [name for name, _ in (*module.signals, *locals) if name not in hidden]
+        coming = Coming(scenario, drawing, inner, until_of(arguments.until, shown, hidden))
+        drawing.begin(scenario, hidden)
+        assert place.client
+        place.client.when_waiting = drawing.show
+        is_silent = bool(arguments.wave or arguments.vcd) or not sys.stdout.isatty()
+        try:
+            refusal = play(place, scenario, coming.add, Progress(len(scenario.inputs), is_silent))
+        finally:
+            drawing.end()
     if refusal:
         raise refusal
+    coming.tell_end()
 
 
 def hold_run(
@@ -202,6 +286,13 @@ def check_words(arguments: argparse.Namespace) -> None:
         raise Failed("--watch looks at files: name the inputs by --inputs FILE")
     if arguments.expect and (arguments.wave or arguments.vcd):
         raise Failed("--expect compares tables: leave --wave and --vcd away")
+    inner = arguments.locals or arguments.trace
+    if arguments.expect and (inner or arguments.until):
+        raise Failed("--expect compares whole tables: leave --locals, --trace and --until away")
+    if arguments.trace and (arguments.wave or arguments.vcd):
+        raise Failed("--trace is a column of the table: leave --wave and --vcd away")
+    if inner and arguments.loaded:
+        raise Failed("--locals and --trace begin where the module does: leave --loaded away")
     if not arguments.socket and (arguments.loaded or arguments.slot):
         raise Failed("--slot and --loaded are for a server: name it by --socket")
 

@@ -24,15 +24,32 @@ class Scope:
     inner: List["Scope"]
 
 
-def runs_in(module: ModuleTree) -> List[Tuple[str, Dict[str, str], Tuple[str, ...]]]:
-    """The runs of a module: the name of what is run, the caller's names by its own, and the local
-    signals there.
-    """
+def numbered(names: List[str]) -> List[str]:
+    """Names of modules that are run, with a number where one stands several times."""
+    counts = collections.Counter(names)
+    numbers: Dict[str, int] = collections.Counter()
     found = []
+    for name in names:
+        numbers[name] += 1
+        found.append(f"{name}_{numbers[name]}" if counts[name] > 1 else name)
+    return found
+
+
+def names_of_runs(module: ModuleTree) -> Dict[int, str]:
+    """What the runs of a module are called, by the identity of their nodes."""
+    runs = [node for node in module.body.walk() if node.kind == "run"]
+    return dict(zip(map(id, runs), numbered([node.names[0].text for node in runs])))
+
+
+def runs_in(module: ModuleTree) -> List[Tuple[str, str, Dict[str, str], Tuple[str, ...]]]:
+    """The runs of a module: what each is called, the name of what is run, the caller's names by its
+    own, and the local signals there.
+    """
+    found, called = [], names_of_runs(module)
     for node, scope in scoped(module):
         if node.kind == "run":
             left = {renaming.right.text: renaming.left.text for renaming in node.renamings}
-            found.append((node.names[0].text, left, scope.signals))
+            found.append((called[id(node)], node.names[0].text, left, scope.signals))
     return found
 
 
@@ -43,17 +60,13 @@ def scopes_in(
     module.
     """
     runs = runs_in(module)[:left]
-    counts = collections.Counter(name for name, _, _ in runs)
-    numbers: Dict[str, int] = collections.Counter()
     found = []
-    for name, renamed, hidden in runs:
-        numbers[name] += 1
+    for called, name, renamed, hidden in runs:
         target = known.get(name)
         pairs = [(own, renamed.get(own, own)) for own in target.names()] if target else []
         signals = [
             (own, seen[outer]) for own, outer in pairs if outer in seen and outer not in hidden
         ]
-        called = f"{name}_{numbers[name]}" if counts[name] > 1 else name
         room = (left - 1) // max(1, len(runs))
         inner = scopes_in(target, dict(signals), known, room) if target else []
         found.append(Scope(called, signals, inner))

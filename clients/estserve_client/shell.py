@@ -4,11 +4,12 @@ from __future__ import annotations
 import argparse
 import cmd
 import contextlib
+import functools
 import glob
 import os
 import sys
 import time
-from typing import Any, Dict, Iterable, List, Set, Tuple
+from typing import Any, Callable, Dict, Iterable, List, Set, Tuple
 
 from .close_words import meant
 from .colours import Colours
@@ -18,16 +19,19 @@ from .drawing import waves_for, write_vcd
 from .history import keeping_history
 from .inputs import names_of_line
 from .instants import Instant
+from .lab.asking import Lab, lab_beside
 from .library_text import LibraryText
 from .load_faults import load_fault
 from .module_text import Module, main_of
-from .pictures import KINDS, Seen, Table, present_of, table_lines
+from .pictures import KINDS, RARE, Seen, Table, present_of, table_lines
 from .running import instants_told
 from .scopes import scopes_of
 from .seeing import module_for, see_slot
 from .sentences import Set as SeparationSet
 from .sentences import sentence
 from .session import roles_of, session_of
+from .shell_inside import InsideCommands
+from .stage import found_lab
 from .shell_words import (
     LEGEND,
     PLAIN,
@@ -39,7 +43,6 @@ from .shell_words import (
     without_comment,
 )
 from .slot_names import names_of, numbered
-from .stuck_chains import chain_lines
 from .texts import Failed, Placed, read_library
 
 # of what isn't there: the field of a refusal that names it, and what was told here of its kind
@@ -56,15 +59,24 @@ def nothing_of(seen: Seen) -> str:
     return f"{instants_told(len(seen.instants))}: nothing that you may observe"
 
 
-class Shell(cmd.Cmd):
+class Shell(InsideCommands, cmd.Cmd):
     """The dialogue over one client."""
 
-    def __init__(self, client: Client, user: str, is_typed: bool, stops: bool = False) -> None:
+    def __init__(
+        self,
+        client: Client,
+        user: str,
+        is_typed: bool,
+        stops: bool = False,
+        begin_lab: Callable[[], Lab] = found_lab,
+    ) -> None:
         """`is_typed` says that a person types; else the lines are a script, which a refusal ends
-        where it `stops`.
+        where it `stops`. `begin_lab` starts an estlab.
         """
         super().__init__()
         self.client, self.is_typed, self.stops = client, is_typed, stops
+        self.begin_lab, self.explorers = begin_lab, {}
+        self.pending: Dict[int, List[str]] = {}  # what was offered here since a slot's last step
         self.slot = 0  # that of `use`
         self.names: Dict[str, int] = {}  # of slots, for their numbers
         self.modules: Dict[
@@ -93,7 +105,7 @@ class Shell(cmd.Cmd):
         self.line += line != "EOF"
         written = without_comment(line)
         try:
-            if ";" in written:
+            if ";" in written and not self.is_try(written):
                 return self.make_instants(written)
             return bool(super().onecmd(numbered(written, self.help_of, self.names)))
         except Refusal as refusal:
@@ -102,6 +114,10 @@ class Shell(cmd.Cmd):
             return self.tell_wrong("the module text is refused", f"{fault}\n")
         except (Usage, Failed, CannotBeSent, TimedOut) as fault:
             return self.tell_wrong(str(fault))
+
+    def is_try(self, written: str) -> bool:
+        """Whether a line is a `try`, and no instant of a signal of that name."""
+        return written.split()[0] == "try" and "try" not in self.inputs_here()
 
     def tell_wrong(self, text: str, placed: str = "") -> bool:
         """Tells what went wrong, in a script with the line's number: after what begins with a place
@@ -120,11 +136,9 @@ class Shell(cmd.Cmd):
     def refusal_lines(self, refusal: Refusal) -> List[str]:
         """What is said of a refusal: by its module's text, as far as that is known here."""
         slot = refusal.command.get("slot", -1)
-        module, library = self.modules.get(slot), self.texts.get(slot)
-        undecided = refusal.fields.get("undecided", ())
-        chain = (
-            chain_lines(library, module.name, undecided) if library and module and undecided else []
-        )
+        module, chain = self.modules.get(slot), []
+        if refusal.fault == "Stuck" and module and slot in self.texts:
+            chain = self.stuck_lines(slot, self.pending.get(slot, ()))
         relations = module.relations if module else ()
         if refusal.fault == "UnknownSignal" and module:
             chain = [meant(str(refusal.command.get("signal")), module.inputs())]
@@ -166,6 +180,10 @@ class Shell(cmd.Cmd):
             raise Usage(self.no_command(name))
         keys = command_keys(name, words, self.slot)
         self.client.ask(name, **keys)
+        if name == "offer":
+            self.note_pending(keys["slot"], [keys["signal"]])
+        if name == "discard":
+            self.pending.pop(keys["slot"], None)
         for key, word in keys.items():
             self.told.get("role" if key in ROLES else key, set()).add(str(word))
         wrong = self.unknown_signal(keys["object"]) if name == "grant" else ""
@@ -179,11 +197,18 @@ class Shell(cmd.Cmd):
         ends the line.
         """
         for names in names_of_line(line):
+            self.note_pending(self.slot, names)
             try:
                 print(self.instant_line(self.slot, self.client.instant(self.slot, names)))
             except Refusal as refusal:
                 raise Failed(self.refused_instant(refusal, names)) from refusal
+            self.pending.pop(self.slot, None)
         return False
+
+    def note_pending(self, slot: int, names: Iterable[str]) -> None:
+        """Notes what was offered in a slot."""
+        listed = self.pending.setdefault(slot, [])
+        listed += [name for name in names if name not in listed]
 
     def refused_instant(self, refusal: Refusal, names: Tuple[str, ...]) -> str:
         """What is said of an instant that was refused: what was offered for it stays pending."""
@@ -362,6 +387,7 @@ class Shell(cmd.Cmd):
 
     def keep(self, slot: int, library: LibraryText, module: Module) -> None:
         self.modules[slot], self.texts[slot] = module, library
+        self.forget(slot)
 
     def do_load(self, line: str) -> None:
         """load [SLOT] FILE.. [MODULE]: loads a module of the files into the slot"""
@@ -379,7 +405,7 @@ class Shell(cmd.Cmd):
         """module [SLOT] FILE.. [MODULE]: tells the shell which text another client has loaded"""
         slot, library, module = self.module_of(line)
         self.keep(slot, library, module)
-        kinds = [kind for kind in KINDS if kind != "inout" or module.of_kind(kind)]
+        kinds = [kind for kind in KINDS if kind not in RARE or module.of_kind(kind)]
         told = [f"{kind}s {' '.join(module.of_kind(kind)) or 'none'}" for kind in kinds]
         print(f"{module.name}: {', '.join(told)}")
 
@@ -389,12 +415,15 @@ class Shell(cmd.Cmd):
         self.client.unload(slot)
         self.modules.pop(slot, None)
         self.texts.pop(slot, None)
+        self.pending.pop(slot, None)
+        self.forget(slot)
         print(f"slot {slot} is empty")
 
     def do_step(self, line: str) -> None:
         """step [SLOT]: makes the next instant of what is pending, and shows what came out"""
         slot = keys_of(("slot",), line, self.slot)["slot"]
         print(self.instant_line(slot, self.client.instant(slot)))
+        self.pending.pop(slot, None)
 
     def do_audit(self, line: str) -> None:
         """audit [SLOT]: tells how many entries its journal has, and how many instants there were"""
@@ -495,7 +524,11 @@ def shell(arguments: argparse.Namespace) -> int:
         roles = " ".join(roles_of(arguments)) or "no role"
         told = f"session {answer['session']} of {arguments.user}, with {roles}"
         print(f"{told}; help lists the commands")
-        dialogue = Shell(client, arguments.user, is_typed, arguments.stop)
+        begin = functools.partial(lab_beside, arguments)
+        dialogue = Shell(client, arguments.user, is_typed, arguments.stop, begin)
         dialogue.take_names(names)
-        talk(dialogue, client)
+        try:
+            talk(dialogue, client)
+        finally:
+            dialogue.forget_all()
     return int(bool(dialogue.refused and not is_typed))

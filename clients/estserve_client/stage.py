@@ -20,6 +20,7 @@ if TYPE_CHECKING:
 
     from .connection import Answer, Client
     from .inputs import Inputs
+    from .lab.asking import Lab
     from .library_text import LibraryText
     from .module_text import Module
     from .pictures import Instant
@@ -29,11 +30,27 @@ ENTRIES = 65_000  # about this many entries a slot's journal has
 LOGIN = {"cmd": "login", "user": "root", "roles": ["root"]}
 
 
-class Scenario:
-    """A module, the text that it stands in, and the text of a list of inputs with its path."""
+def found_lab() -> Lab:
+    """The program estlab that is found. Raises Disconnected."""
+    from .lab.asking import start_lab
 
-    def __init__(self, library: LibraryText, module: Module, listed: str, path: str = "-") -> None:
-        self.library, self.module, self.listed = library, module, listed
+    return start_lab(searches=False)
+
+
+class Scenario:
+    """A module, the text that it stands in, and the text of a list of inputs with its path. `lab`
+    starts an estlab, which is asked about an instant that is stuck.
+    """
+
+    def __init__(
+        self,
+        library: LibraryText,
+        module: Module,
+        listed: str,
+        path: str = "-",
+        lab: Callable[[], Lab] = found_lab,
+    ) -> None:
+        self.library, self.module, self.listed, self.lab = library, module, listed, lab
         self.path = "standard input" if path == "-" else path
 
     @functools.cached_property
@@ -67,6 +84,14 @@ class Scenario:
         before = written[: found.start()] if found else ""
         return len(before.encode(errors="replace")) + 1
 
+    def stuck_lines(self, number: int) -> List[str]:
+        """What waits for what in the instant of this number, which is stuck."""
+        from .lab.asking import Subject
+        from .lab.stuck import stuck_lines
+
+        subject = Subject(self.library, self.module)
+        return stuck_lines(self.lab, subject, self.inputs.names[:number])
+
     def entries(self) -> int:
         """How many entries of a journal it takes."""
         return 2 + len(self.inputs) + sum(map(len, self.inputs.names))
@@ -74,38 +99,52 @@ class Scenario:
 
 class Refused(Failed):
     """An instant was refused: its number, the fault, and what is said of it in one line. More lines
-    may follow.
+    may follow, which are found where they are asked for.
     """
 
-    def __init__(self, number: int, fault: str, sentence: str, more: List[str]) -> None:
-        self.number, self.fault, self.sentence, self.more = number, fault, sentence, more
+    def __init__(
+        self, number: int, fault: str, sentence: str, find: Callable[[], List[str]] = list
+    ) -> None:
+        self.number, self.fault, self.sentence, self.find = number, fault, sentence, find
         self.told = f"instant {number}: {sentence}"
-        super().__init__("\n".join([self.told, *more]))
+        super().__init__(self.told)
+
+    @functools.cached_property
+    def more(self) -> List[str]:
+        """The lines that follow."""
+        return self.find()
+
+    def __str__(self) -> str:
+        return "\n".join([self.told, *self.more])
 
 
 class RefusedInputs(Refused, Placed):
     """An instant was refused for its inputs, which stand at a place of the list."""
 
     def __init__(self, refused: Refused, place: str) -> None:
-        super().__init__(refused.number, refused.fault, refused.sentence, refused.more)
-        self.args = (f"{place}: {self.told}",)
-        self.more = [f"{place}: {self.sentence}"]
+        told = f"{place}: {refused.sentence}"
+        super().__init__(refused.number, refused.fault, refused.sentence, lambda: [told])
+        self.place = place
+
+    def __str__(self) -> str:
+        return f"{self.place}: {self.told}"
 
 
-def refused(refusal: Refusal, number: int, scenario: Scenario) -> Refused:
-    """What a run ends with at an instant that was refused."""
+def refused(refusal: Refusal, number: int, scenario: Scenario, from_start: bool = True) -> Refused:
+    """What a run ends with at an instant that was refused; `from_start` says that the module ran from
+    its start through the list's inputs alone.
+    """
     from .sentences import sentence
-    from .stuck_chains import chain_lines
 
-    module = scenario.module
+    told = sentence(refusal, scenario.module.relations)
     if refusal.fault in ("Excluded", "Implied"):
-        found = Refused(number, refusal.fault, sentence(refusal, module.relations), [])
+        found = Refused(number, refusal.fault, told)
         offered = refusal.command.get("signal")
         names = [offered] if offered else re.findall(r"\w+", found.sentence)
         return RefusedInputs(found, scenario.place_of(number, names))
-    undecided = refusal.fields.get("undecided", ())
-    more = chain_lines(scenario.library, module.name, undecided) if undecided else []
-    return Refused(number, refusal.fault, sentence(refusal, module.relations), more)
+    if refusal.fault != "Stuck" or not from_start:
+        return Refused(number, refusal.fault, told)
+    return Refused(number, refusal.fault, told, lambda: scenario.stuck_lines(number))
 
 
 def not_loaded(refusal: Refusal, scenario: Scenario) -> Failed:
@@ -307,7 +346,7 @@ class SharedSlot:
             try:
                 signals = self.client.instant(self.slot, names).signals
             except Refusal as refusal:
-                raise refused(refusal, number, scenario) from refusal
+                raise refused(refusal, number, scenario, self.loads) from refusal
             yield [signals]
 
 

@@ -14,7 +14,6 @@ from .library_text import join_texts
 from .module_text import Module, main_of
 from .sentences import sentence
 from .stage import LOGIN, grants_of
-from .stuck_chains import chain_lines
 
 if TYPE_CHECKING:
     from .connection import Path
@@ -85,20 +84,27 @@ class Trial:
     def run(self, inputs: Names) -> Told:
         """The rows of the instants, and what is said of the one that was refused."""
         names = [name for name, _ in self.module.signals]
-        ahead, rows, ended = Ahead(self.client, [tuple(names) for names in inputs]), [], None
+        word = [tuple(names) for names in inputs]
+        ahead, rows, ended = Ahead(self.client, word), [], None
         try:
             for instants in ahead.instants(self.is_over):
                 rows += ["".join(LETTERS[shown[name]] for name in names) for shown in instants]
         except Refusal as refusal:
-            ended = self.told_of(refusal)
+            ended = self.told_of(refusal, word[: ahead.number])
         return {"rows": rows, "ended": ended}
 
-    def told_of(self, refusal: Refusal) -> str:
-        """What is said of an instant that was refused."""
-        undecided = refusal.fields.get("undecided", ())
-        library = join_texts([(NAME, self.text)])
-        more = chain_lines(library, self.module.name, undecided) if undecided else []
+    def told_of(self, refusal: Refusal, word: Names) -> str:
+        """What is said of the last instant of a word, which was refused."""
+        more = self.stuck_lines(word) if refusal.fault == "Stuck" else []
         return "\n".join([sentence(refusal, self.module.relations), *more])
+
+    def stuck_lines(self, word: Names) -> List[str]:
+        """What waits for what in the last instant of a word, which is stuck."""
+        from .lab.asking import Subject, start_lab
+        from .lab.stuck import stuck_lines
+
+        subject = Subject(join_texts([(NAME, self.text)]), self.module)
+        return stuck_lines(lambda: start_lab(None, SECONDS, searches=False), subject, word)
 
 
 def unknown_inputs(module: Module, inputs: Names) -> List[str]:

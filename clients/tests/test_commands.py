@@ -29,9 +29,7 @@ from estserve_client.module_text import main_of
 # what is told besides of the runs that end at an instant which is refused
 REFUSED = {
     "paradox": f"""estserve.py: instant 2: Stuck: the instant has no constructive reaction; undecided: O
-possibly in a circle, each waiting for the next, and the last for the first:
-  {EXAMPLES}/paradox/paradox.strl:6:16: emit O
-  {EXAMPLES}/paradox/paradox.strl:6:1: present O""",
+  {EXAMPLES}/paradox/paradox.strl:4:8: O is undecided""",
     "no_second": f"{EXAMPLES}/crossing/no_second.inputs:3:1: instant 2: Implied: "
     "relation 1 (MINUTE => SECOND) asks for SECOND too",
     "both": f"{EXAMPLES}/team/both.inputs:3:3: instant 2: Excluded: "
@@ -48,8 +46,10 @@ class Controllers(unittest.TestCase):
         """
         words = run_words(path.parent.name, path.stem, *more)
         ran = play_dialogue(path.with_suffix(".dialogue"), words)
-        told = REFUSED.get(path.stem)
-        self.assertEqual((ran.status, ran.told), (1, f"{told}\n") if told else (0, ""))
+        told, came = REFUSED.get(path.stem), ran.told
+        if not os.environ.get("ESTLAB"):  # which says more of an instant that is stuck
+            told, came = (one and one.partition("\n")[0] for one in (told, came))
+        self.assertEqual((ran.status, came.strip()), (1, told) if told else (0, ""))
         return ran.printed
 
     def test_tables(self):

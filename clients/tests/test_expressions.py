@@ -26,7 +26,7 @@ from estserve_client.policy_file import read_file
 from estserve_client.scopes import scopes_of
 from estserve_client.shell import Shell
 from estserve_client.stage import Scenario, check_inputs, grants_of
-from estserve_client.stuck_chains import chain_lines, written
+from estserve_client.words_of_tests import written
 from estserve_client.syntax_tree import KEYWORDS, parse
 from estserve_client.texts import Placed
 
@@ -125,21 +125,17 @@ STOPS = [
     ("await case [A and B] do emit O end", "[", "cases"),
     ("do await A or B; emit O watching B", "do", "watching"),
 ]
-# Texts of which M is stuck at its first step, what is undecided, and the circle that is drawn.
+# Texts of which M is stuck at its first step, and what is undecided then.
 STUCK = [
-    ("module M: output O; present [O or not O] then emit O end end module", ["O"],
-     ["emit O", "present O or not O"]),
+    ("module M: output O; present [O or not O] then emit O end end module", ["O"]),
     ("module M: input A; output O, P; present [A or O] then emit P else emit O end end module",
-     ["O", "P"], ["emit O", "present A or O"]),
+     ["O", "P"]),
     ("module M: inputoutput B; output O;\n"
-     "present not (B or tick and not O) then emit O end end module",
-     ["O"], ["emit O", "present not (B or tick and not O)"]),
-    ("module M: inputoutput B; present B else emit B end end module", ["B"],
-     ["emit B", "present B"]),
+     "present not (B or tick and not O) then emit O end end module", ["O"]),
+    ("module M: inputoutput B; present B else emit B end end module", ["B"]),
     ("module N: inputoutput X; output Y; present not X or Y then emit Y end end module\n"
      "module M: inputoutput B; output O;\n"
-     "run N [signal B/X, O/Y] || present O then emit B end end module",
-     ["B", "O"], ["emit Y (O)", "present not X (B) or Y (O)"]),
+     "run N [signal B/X, O/Y] || present O then emit B end end module", ["B", "O"]),
 ]  # fmt: skip
 # Each statement that has a test: how many statements its kernel has besides the test, and how often
 # that stands there.
@@ -206,8 +202,8 @@ class Reading(unittest.TestCase):
     def test_how_tight_the_words_bind(self):
         for text, wanted in TESTS.items():
             with self.subTest(text):
-                self.assertEqual(written(test_of(module_of(f"await {text}")), {}), wanted)
-                self.assertEqual(written(test_of(module_of(f"await {wanted}")), {}), wanted)
+                self.assertEqual(written(test_of(module_of(f"await {text}"))), wanted)
+                self.assertEqual(written(test_of(module_of(f"await {wanted}"))), wanted)
 
     def test_a_test_stands_wherever_a_signal_was_asked_for(self):
         for kind, form in TESTED:
@@ -268,12 +264,6 @@ class Reading(unittest.TestCase):
             whole = f"module M: {text} nothing end module"
             told = left_out(whole, 1, whole.index(at, 10) + len(at))
             self.assertIn("a signal with a value", told)
-
-    def test_chains_of_stuck_instants(self):
-        for text, undecided, chain in STUCK:
-            with self.subTest(text):
-                lines = chain_lines(join_texts([("m.strl", text)]), "M", undecided)
-                self.assertEqual([line.partition(": ")[2] for line in lines[1:]], chain)
 
     def test_scopes_of_runs(self):
         (one, other) = scopes_of(BUS, "BUS")
@@ -446,7 +436,7 @@ class OnTheProgram(unittest.TestCase):
             self.assertEqual((fields.get("line"), fields.get("column")), (1, wanted), body)
 
     def test_stuck_instants(self):
-        for text, undecided, _ in STUCK:
+        for text, undecided in STUCK:
             with self.subTest(text):
                 self.client.load(0, "M", text)
                 with self.assertRaises(estserve.Refusal) as raised:

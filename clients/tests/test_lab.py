@@ -138,13 +138,13 @@ class Proving(InAFolder):
         ran = run_client(["run", path, "--inputs", word, "--wave"])
         self.assertEqual(ran.printed.splitlines()[1:], wave)
 
-    def test_a_module_that_gets_stuck_is_shown_with_what_waits(self):
+    def test_a_module_that_gets_stuck_is_shown_with_what_is_open(self):
         path = self.copied(EXAMPLES / "paradox" / "paradox.strl")
         printed, status = self.ran("prove", path)
         self.assertEqual(status, 1)
         self.assertIn("FAILED  it is never Stuck: fails in instant 2\n", printed)
         self.assertIn("instant 2: Stuck: the instant has no constructive reaction", printed)
-        self.assertIn(f"{path}:6:16: emit O\n", printed)
+        self.assertIn(f"{path}:4:8: O is undecided\n", printed)
         self.assertEqual(self.ran("prove", path, "--inputs", "")[1], 0)
 
     def test_inputs_say_what_may_be_offered(self):
@@ -370,6 +370,7 @@ class WhoCan(InAFolder):
 
 
 @needs_lab
+@needs_program
 class Documents(InAFolder):
     BLOCK = re.compile(
         r"<!-- lab -->\s*```console\n\$ python3 clients/estserve.py ([^\n]*)\n(.*?)```\n", re.DOTALL
@@ -378,14 +379,15 @@ class Documents(InAFolder):
     def test_each_command_prints_what_is_told(self):
         self.addCleanup(os.chdir, os.getcwd())
         os.chdir(ROOT)
-        for name, count in [("TUTORIAL", 1), ("PROVING", 4)]:
+        for name, count in [("TUTORIAL", 3), ("PROVING", 4)]:
             text = (ROOT / "docs" / f"{name}.md").read_text()
             blocks = self.BLOCK.findall(text)
             self.assertEqual((len(blocks), text.count("<!-- lab -->")), (count, count))
             for words, printed in blocks:
                 with self.subTest(words):
                     words = shlex.split(words.replace("/tmp/", f"{self.folder}/"))
-                    told = self.ran(*words)[0].replace(f"{self.folder}/", "/tmp/")
+                    ran = run_client(words)
+                    told = (ran.printed + ran.told).replace(f"{self.folder}/", "/tmp/")
                     self.assertEqual(told, printed)
 
 

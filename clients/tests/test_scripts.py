@@ -152,7 +152,7 @@ class Scripts(unittest.TestCase):
             "  step [SLOT]: makes the next instant of what is pending, and shows what came out",
         )
         self.assertEqual(lines[-1], "line 4: there is no command fly: help lists them")
-        listed = [line for line in lines[3:-1] if re.match(r"  [a-z]+( [A-Z\[\]. ]+)?: ", line)]
+        listed = [line for line in lines[3:-1] if re.match(r"  [a-z]+( [A-Z\[\].; ]+)?: ", line)]
         self.assertEqual(
             len(listed), len(PLAIN) + len([name for name in dir(Shell) if name.startswith("do_")])
         )

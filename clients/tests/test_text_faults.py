@@ -13,7 +13,6 @@ from estserve_client.library_text import join_texts
 from estserve_client.load_faults import load_fault
 from estserve_client.stage import grants_of
 from estserve_client.module_text import Module
-from estserve_client.stuck_chains import chain_lines
 from estserve_client.texts import Placed
 
 # Texts of which M is loaded, the fault that estserve answers, and the places that are drawn, the
@@ -141,42 +140,6 @@ DECLARED_LEFT_OUT = [
     ("module M: function F() : integer; nothing end module", "host"),
     ("module M: type T; nothing end module", "host"),
 ]
-STUCK = [
-    ("module M: output O; present O then emit O end end module", ["O"], ["emit O", "present O"]),
-    (
-        "module M: output O, P; present O then emit P end || present P else emit O end end module",
-        ["O", "P"],
-        ["emit O", "present P", "emit P", "present O"],
-    ),
-    (
-        "module M: output O; signal L in present L then emit O end || present O else emit L end end"
-        " end module",
-        ["O"],
-        ["emit O", "present L", "emit L", "present O"],
-    ),
-    (
-        "module M: output O; pause; await immediate O; emit O end module",
-        ["O"],
-        ["emit O", "await O"],
-    ),
-    (
-        "module M: output O; pause; trap T in present O then exit T end; emit O end end module",
-        ["O"],
-        ["emit O", "present O"],
-    ),
-    (
-        "module N: input A; output B; abort sustain B when A end module\n"
-        "module M: output O; pause; abort emit O when immediate O end module",
-        ["O"],
-        ["emit O", "abort when O"],
-    ),
-    (
-        "module N: input A; output B; present A then emit B end end module\n"
-        "module M: output O, P; pause; [run N [signal O/A, P/B] || run N [signal P/A, O/B]] end module",
-        ["O", "P"],
-        ["emit B (O)", "present A (P)", "emit B (P)", "present A (O)"],
-    ),
-]
 
 
 @needs_program
@@ -224,25 +187,6 @@ class OnTheProgram(unittest.TestCase):
                 last = str(self.told_of(text)[1]).split("\n")[-1]
                 self.assertIn(word, last)
                 self.assertIn(" is left out of this language: ", last)
-
-    def test_chains_of_stuck_instants(self):
-        for text, undecided, chain in STUCK:
-            with self.subTest(text):
-                self.client.load(0, "M", text)
-                refusal = self.refusal_of_steps()
-                self.client.unload(0)
-                self.assertEqual(refusal.fields["undecided"], undecided)
-                lines = chain_lines(join_texts([("m.strl", text)]), "M", undecided)
-                self.assertEqual([line.partition(": ")[2] for line in lines[1:]], chain)
-                self.assertTrue(lines[0].startswith("possibly"))
-
-    def refusal_of_steps(self):
-        """The refusal of the first or the second step."""
-        with self.assertRaises(estserve.Refusal) as raised:
-            for _ in range(2):
-                self.client.step(0)
-        self.assertEqual(raised.exception.fault, "Stuck")
-        return raised.exception
 
 
 def estserve_places(fault, text):

@@ -65,13 +65,43 @@ const tests = {
     assert.deepEqual([plain.marks, plain.path, plain.is_chain], [[], [], false]);
     assert.equal(faultWords(plain), sentence);
     assert.deepEqual(furtherPlaces(plain), []);
-    const circle = "possibly in a circle:\n  text:6:7: emit O\n  text:4:3: abort when O";
+    const circle = "O waits for itself: ..\n  text:6:7: emit O, once O is absent";
     for (const ended of [sentence, `${sentence}\n${circle}`]) {
       assert.equal(
         endedWords({ ended, rows: ["00"] }), `Your version was refused at instant 2: ${sentence}`
       );
     }
     assert.equal(endedWords({ ended: null, rows: ["00"] }), "");
+  },
+
+  async "what happened inside an instant is told in words, and asked once at a time"() {
+    const { InsideMarks, insideWords, mayLookInside, ranges } = await load("inside.js");
+    assert.equal(ranges([4, 5, 6, 9]), "4-6, 9");
+    const told = { instant: 2, load: 1, ran: [3, 4], rests: [4], locals: [["S", 1, 2], ["N.T", 0, 1]] };
+    assert.equal(
+      insideWords(told), "instant 2: ran 3-4 · control rests at 4 · present inside: S (1 of 2)"
+    );
+    const ended = { instant: 1, ran: [], rests: [], locals: [] };
+    assert.equal(insideWords(ended), "instant 1: ran nothing · nothing is left to run");
+    const [all, some] = [{ A: true, O: true }, { A: true, O: false }];
+    assert.deepEqual(
+      [{ load: true, observe: some }, { load: false, observe: all }, { load: false, observe: some },
+        { load: false, observe: {} }].map(mayLookInside), [true, true, false, false]
+    );
+    const [asked, marked] = [[], []];
+    const connection = {
+      read: async (name, { instant }) => {
+        asked.push(instant);
+        return { ...told, instant };
+      },
+    };
+    const marks = new InsideMarks(connection, 0, (found) => marked.push(found?.instant ?? null));
+    const seen = { load: 1, may: { load: true, observe: some } };
+    await Promise.all([1, 2, 3].map((instant) => marks.show(seen, instant)));
+    assert.deepEqual([asked, marked], [[1, 3], [3]], "of several that are wanted the last is shown");
+    await marks.show({ load: 2, may: seen.may }, 1);
+    await marks.show({ load: 1, may: { load: false, observe: some } }, 1);
+    assert.deepEqual([asked, marked], [[1, 3, 1], [3, null, null]], "of another load nothing is shown");
   },
 
   async "patterns are spread over the interface, and folded again"() {

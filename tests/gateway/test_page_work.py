@@ -105,6 +105,29 @@ class WorkTest(PageCase):
             finally:
                 sys.stdout = out
 
+    @unittest.skipUnless(os.environ.get("ESTLAB"), "the variable ESTLAB names no program")
+    def test_the_text_shows_what_ran_as_others_step_and_in_any_instant(self):
+        self.come_in(self.one, "root", "root")
+        self.one.wait_text("#facts", "0 instants")
+        with self.team.root() as root:
+            for offers in ("", "A", "B"):
+                for name in offers:
+                    root.offer(0, name)
+                root.step(0)
+            root.logout()
+        emission = "document.querySelectorAll('.source .ran').length"
+        self.one.wait_text("#inside", "instant 3: ran ")
+        newest = self.one.run(f"return {emission}")
+        self.one.type(".wave .instant", "1\n")
+        self.one.wait_text("#inside", "instant 1: ran ")
+        self.assertLess(
+            self.one.run(f"return {emission}"), newest, "O is emitted in instant 3 alone"
+        )
+        self.assertTrue(self.one.find(".source .rests"))
+        self.come_in(self.two, "bob", "watcher")
+        self.two.wait_text("#facts", "3 instants")
+        self.assertEqual(self.two.text("#inside"), "")
+
     def test_load_keeps_what_was_driven(self):
         self.drive()
         self.one.click("#edit")

@@ -13,6 +13,7 @@ a claim fails or the module gets Stuck; its inputs where the example's own lists
 from __future__ import annotations
 
 import dataclasses
+import itertools
 import pathlib
 import random
 import re
@@ -146,12 +147,17 @@ def table_of(lab: Lab, subject: Subject) -> Optional[Table]:
     return lab.table(subject.module.inputs(), MOST)
 
 
-def is_same(first: Table, second: Table) -> bool:
-    """Whether two modules of one interface do the same, by their tables."""
+def is_same(first: Table, second: Table, names: List[str]) -> bool:
+    """Whether two modules with these inputs do the same, by their tables."""
+    counts = range(len(names) + 1)
+    chosen = (itertools.combinations(names, count) for count in counts)
+    letters = [frozenset(some) for some in itertools.chain(*chosen)]
     pairs = {(0, 0): None}
     for here, there in (line := list(pairs)):
-        for row in first.rows_at(here):
-            other = second.row_for(there, row.inputs)
+        for letter in letters:
+            row, other = first.row_for(here, letter), second.row_for(there, letter)
+            if not (row and other):  # no lawful inputs
+                continue
             if (row.outputs, row.undecided) != (other.outputs, other.undecided):
                 return False
             after = row.next, other.next
@@ -187,7 +193,7 @@ def row_of(lab: Lab, example: Example) -> str:
     for text in texts_with_mistakes(example):
         changed = with_text(example, text)
         table = table_of(lab, changed) if count < MUTANTS else None
-        if table and not is_same(own, table):
+        if table and not is_same(own, table, example.subject.module.inputs()):
             count += 1
             by_claims += found_by_claims(lab, example, changed)
             by_inputs += found_by_inputs(example, [own, table])

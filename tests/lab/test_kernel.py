@@ -82,7 +82,7 @@ class Kernels(unittest.TestCase):
         subject = Subject(join_texts([("text", SCOPES)]), main_of(SCOPES, "M"))
         kernel = checked_kernel(self.lab, subject)
         emitted = [one.signal.called() for one in kernel if one.kind == "emit"]
-        self.assertEqual(emitted, ["O", "N.S", "O", "S", "B", "N.S", "B", "P", "N.S", "P"])
+        self.assertEqual(emitted, ["O", "N_1.S", "O", "S", "B", "N_2.S", "B", "P", "N_3.S", "P"])
         places = {one.signal.at for one in kernel if one.kind == "signal"}
         self.assertEqual(
             sorted((place.line, place.text) for place in places), [(3, "A"), (3, "S"), (11, "S")]

@@ -1,6 +1,7 @@
 """Random modules of at most four inputs: what `estlab` says of each, beside a search that asks
 `estserve script`.
 """
+import itertools
 import os
 import sys
 import unittest
@@ -104,7 +105,11 @@ class RandomModules(unittest.TestCase):
                     guessed = Guessed(table)
                     rows = {guessed.step(row.before, row.inputs)[0] for row in table.rows}
                     self.assertEqual(rows, answers)
-                    self.assertEqual(len(table.rows), len(table.states) * len(learner.letters))
+                    pairs = itertools.product(range(len(table.states)), learner.letters)
+                    self.assertTrue(all(table.row_for(*pair) for pair in pairs))
+                    self.assertLessEqual(
+                        len(table.rows), len(table.states) * len(learner.letters)
+                    )
                     self.check(learner, module, drawer.claims([name for name, _ in module.signals]))
                 kinds.add(len(learner.states))
         self.assertGreater(len(kinds), 3 * (MODULES > 99))  # modules of many sizes were drawn

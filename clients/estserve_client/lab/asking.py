@@ -3,6 +3,7 @@ from __future__ import annotations
 
 import dataclasses
 import io
+import os
 import signal
 import subprocess
 import sys
@@ -79,10 +80,14 @@ def end_command(number: int, _: Any) -> None:
     raise SystemExit(128 + number)
 
 
-def start_lab(named: Optional[Path] = None) -> Lab:
-    """The program that is named, or the one that is found, started. Raises Disconnected."""
+def start_lab(
+    named: Optional[Path] = None, timeout: Optional[float] = None, searches: bool = True
+) -> Lab:
+    """The program that is named, or the one that is found, started; with a `timeout` answers are waited
+    for so many seconds. One that `searches` is ended by a signal too. Raises Disconnected.
+    """
     program = find_program(named, "estlab")
-    if threading.current_thread() is threading.main_thread():
+    if searches and threading.current_thread() is threading.main_thread():
         for number in (signal.SIGTERM, signal.SIGHUP):  # before there is something to end
             signal.signal(number, end_command)
     try:
@@ -93,7 +98,7 @@ def start_lab(named: Optional[Path] = None) -> Lab:
         told = getattr(fault, "strerror", None) or fault
         raise Disconnected(f"{program} cannot be started: {told}") from fault
     assert isinstance(child.stdout, io.BufferedReader) and child.stdin
-    client = Client(child.stdout, child.stdin, lambda: end_search(child))
+    client = Client(child.stdout, child.stdin, lambda: end_search(child), timeout)
     client.program = program
     return Lab(client)
 
@@ -103,6 +108,15 @@ def lab_of(arguments: argparse.Namespace) -> Lab:
     Disconnected.
     """
     return start_lab(unproved_program("estlab") if arguments.unproved else arguments.estlab)
+
+
+def lab_beside(arguments: argparse.Namespace) -> Lab:
+    """The program beside a run or a shell: the one that is named, or one that is built without proof
+    where that is asked for, unless the variable ESTLAB names one. Raises Disconnected.
+    """
+    builds = arguments.unproved and not arguments.estlab and not os.environ.get("ESTLAB")
+    program = unproved_program("estlab") if builds else arguments.estlab
+    return start_lab(program, searches=False)
 
 
 def tell_search(states: int, reactions: int) -> None:

@@ -8,6 +8,7 @@ from __future__ import annotations
 import dataclasses
 from typing import Any, Callable, Dict, Iterator, List, Optional, Tuple
 
+from ..scopes import names_of_runs
 from ..syntax_tree import ModuleTree, Node, Test, Token, by_name, parse
 from ..texts import Failed
 from .asking import Lab, Subject
@@ -22,7 +23,8 @@ DIFFERS = "the client reads another kernel than the program: statement {} is {} 
 class Signal:
     """A signal: its name, where it is declared, and for a local one the runs around it.
 
-    Two of one declaration in two runs of its module are two.
+    Two of one declaration in two runs of its module are two: a run is called by its module, with a
+    number where that is run several times there.
     """
 
     name: str
@@ -55,11 +57,14 @@ class Trap:
 
 @dataclasses.dataclass
 class Statement:
-    """A statement of the kernel, which comes from this statement of the text in these runs."""
+    """A statement of the kernel, which comes from this statement of the text in these runs: what they
+    are called, and the statements `run`.
+    """
 
     kind: str
     node: Node
     path: Tuple[str, ...]
+    around: Tuple[Node, ...]
     parts: List["Statement"]
     signal: Optional[Signal] = None
     test: Optional[Asked] = None
@@ -79,21 +84,25 @@ class Statement:
         return found
 
 
+@dataclasses.dataclass(frozen=True)
 class Scope:
-    """What names mean where a statement stands: signals, traps, and the runs around it."""
+    """What names mean where a statement stands: signals, traps, the runs around it by what they are
+    called and as statements, and what those of its module are called, by the identity of their nodes.
+    """
 
-    def __init__(
-        self, signals: Dict[str, Signal], traps: Dict[str, Trap], path: Tuple[str, ...]
-    ) -> None:
-        self.signals, self.traps, self.path = signals, traps, path
+    signals: Dict[str, Signal]
+    traps: Dict[str, Trap]
+    path: Tuple[str, ...]
+    around: Tuple[Node, ...]
+    runs: Dict[int, str]
 
     def with_signal(self, name: str, signal: Signal) -> Scope:
         """This scope, and a local signal in it."""
-        return Scope({**self.signals, name: signal}, self.traps, self.path)
+        return dataclasses.replace(self, signals={**self.signals, name: signal})
 
     def with_trap(self, name: str, trap: Trap) -> Scope:
         """This scope, and a trap in it."""
-        return Scope(self.signals, {**self.traps, name: trap}, self.path)
+        return dataclasses.replace(self, traps={**self.traps, name: trap})
 
     def test(self, test: Test) -> Asked:
         """A test of the text."""
@@ -110,7 +119,8 @@ class Expansion:
 
     def make(self, kind: str, *parts: Statement, **more: Any) -> Statement:
         """A statement of the kernel in the place of this one."""
-        return Statement(kind, self.node, self.scope.path, list(parts), **more)
+        scope = self.scope
+        return Statement(kind, self.node, scope.path, scope.around, list(parts), **more)
 
     def inside(self, node: Optional[Node], scope: Optional[Scope] = None) -> Statement:
         """The kernel of a statement in this one; of one that is left out, `nothing`."""
@@ -257,7 +267,9 @@ def run(at: Expansion) -> Statement:
     module = at.known[at.node.names[0].text]
     left = {renaming.right.text: renaming.left.text for renaming in at.node.renamings}
     signals = {name: at.scope.signals[left.get(name, name)] for name in module.names()}
-    return at.inside(module.body, Scope(signals, {}, (*at.scope.path, module.name.text)))
+    path = (*at.scope.path, at.scope.runs[id(at.node)])
+    around = (*at.scope.around, at.node)
+    return at.inside(module.body, Scope(signals, {}, path, around, names_of_runs(module)))
 
 
 RULES: Dict[str, Callable[[Expansion], Statement]] = {
@@ -306,7 +318,8 @@ def kernel_of(subject: Subject) -> List[Statement]:
     module = known[subject.module.name]
     signals = {name: Signal(name) for name in (TICK, *module.names())}
     try:
-        found = list(in_order(expand(known, module.body, Scope(signals, {}, ()))))
+        scope = Scope(signals, {}, (), (), names_of_runs(module))
+        found = list(in_order(expand(known, module.body, scope)))
     except RecursionError as fault:
         raise Failed(f"{subject.library.paths[0]}: {DEEP}") from fault
     pauses = 0

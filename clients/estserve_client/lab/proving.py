@@ -15,7 +15,7 @@ from .asking import Lab, Subject, lab_of, read_subject
 from .claims import Claim, Claims, names_listed, read_claims
 from .judging import Finding, Found, Question, check_inputs, judge, sides_of
 from .observing import alarm_claims, observed
-from .words import inputs_line, seen_of, stuck_lines, wave_of
+from .words import inputs_line, lines_of_stuck, seen_of, wave_of
 
 if TYPE_CHECKING:
     from .asking import Word
@@ -59,28 +59,28 @@ def told_of(finding: Finding) -> str:
     return finding.claim
 
 
-def differing_lines(finding: Finding, subject: Subject) -> List[str]:
+def differing_lines(lab: Lab, finding: Finding, subject: Subject) -> List[str]:
     """The waves of a word by which two modules differ, the second one's below the first one's."""
     assert finding.other
     lines = []
     for side, of in zip(sides_of(finding.word), (subject, finding.other)):
-        lines += [f"{' '.join(of.library.paths)}:", *drawn(side, of)]
+        lines += [f"{' '.join(of.library.paths)}:", *drawn(lab, side, of)]
     return lines
 
 
-def drawn(word: Word, subject: Subject) -> List[str]:
+def drawn(lab: Lab, word: Word, subject: Subject) -> List[str]:
     """The wave of a word, and what stays undecided at its end."""
     lines = wave_of(seen_of(word, subject))
     if "undecided" in word[-1]:
-        lines += stuck_lines(word[-1]["undecided"], subject, len(word))
+        lines += lines_of_stuck(lab, word, subject)
     return lines
 
 
-def lines_of(finding: Finding, question: Question) -> List[str]:
+def lines_of(lab: Lab, finding: Finding, question: Question) -> List[str]:
     """The wave of a finding that fails."""
     if finding.other:
-        return differing_lines(finding, question.module)
-    return drawn(finding.word, question.subject)
+        return differing_lines(lab, finding, question.module)
+    return drawn(lab, finding.word, question.subject)
 
 
 def write_word(finding: Finding, path: pathlib.Path) -> str:
@@ -99,7 +99,7 @@ def paths_for(path: pathlib.Path) -> Iterator[pathlib.Path]:
         yield path.with_name(f"{path.stem}{number}{path.suffix}")
 
 
-def report(found: Found, question: Question, where: pathlib.Path) -> List[Outcome]:
+def report(lab: Lab, found: Found, question: Question, where: pathlib.Path) -> List[Outcome]:
     """Tells each finding, and writes the words of those that fail. Answers what came of each. Raises
     Failed.
     """
@@ -108,7 +108,7 @@ def report(found: Found, question: Question, where: pathlib.Path) -> List[Outcom
         word, lines = WORDS[finding.name], []
         print(colours.word(f"{word:<7}", word == "ok"), told_of(finding))
         if finding.name == "fails":
-            lines = [*lines_of(finding, question), write_word(finding, next(paths))]
+            lines = [*lines_of(lab, finding, question), write_word(finding, next(paths))]
             print("\n".join(lines))
         outcomes.append(outcome_of(finding, lines, question))
         outcomes[-1].seconds = found.seconds / len(found.findings)
@@ -193,7 +193,7 @@ def prove_file(
     question = question_of([str(text) for text in dict.fromkeys(texts)], wanted, arguments.most)
     found = judge(lab, question)
     print(f"{path.stem} ({question.module.module.name}):")
-    for outcome in report(found, question, where_of(arguments, str(path))):
+    for outcome in report(lab, found, question, where_of(arguments, str(path))):
         outcome.folder, outcome.path = path.stem, str(path)
         outcomes.append(outcome)
     return found.status
@@ -225,7 +225,7 @@ def prove_all(arguments: argparse.Namespace, outcomes: List[Outcome]) -> int:
         if question is None:
             return prove_files(lab, files, arguments, outcomes)
         found = judge(lab, question)
-    outcomes += report(found, question, where_of(arguments, arguments.file[0]))
+        outcomes += report(lab, found, question, where_of(arguments, arguments.file[0]))
     return found.status
 
 

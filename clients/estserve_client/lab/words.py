@@ -1,6 +1,7 @@
 """Words of inputs: as a list that `run` takes, in one line, and as a picture."""
 from __future__ import annotations
 
+import contextlib
 import sys
 from typing import TYPE_CHECKING, Any, Dict, Iterable, List, Sequence
 
@@ -9,11 +10,11 @@ from ..drawing import waves_for
 from ..module_text import OFFERED
 from ..pictures import Seen
 from ..sentences import sentence
-from ..stuck_chains import chain_lines
+from .stuck import stuck_lines
 
 if TYPE_CHECKING:
     from ..pictures import Instant, Signals
-    from .asking import Subject, Word
+    from .asking import Lab, Subject, Word
     from .table import Row
 
 
@@ -62,8 +63,11 @@ def wave_of(seen: Seen) -> List[str]:
     return waves_for(sys.stdout, seen)
 
 
-def stuck_lines(undecided: Sequence[str], subject: Subject, number: int) -> List[str]:
-    """What is said of an instant that is Stuck."""
-    refusal = Refusal({"code": 50, "fault": "Stuck", "undecided": list(undecided)})
-    told = f"instant {number}: {sentence(refusal)}"
-    return [told, *chain_lines(subject.library, subject.module.name, undecided)]
+def lines_of_stuck(lab: Lab, word: Word, subject: Subject) -> List[str]:
+    """What is said of a word whose last instant is Stuck. The program has another module loaded
+    then.
+    """
+    refusal = Refusal({"code": 50, "fault": "Stuck", "undecided": list(word[-1]["undecided"])})
+    told = f"instant {len(word)}: {sentence(refusal)}"
+    inputs = [instant["inputs"] for instant in word]
+    return [told, *stuck_lines(lambda: contextlib.nullcontext(lab), subject, inputs)]

@@ -2,6 +2,7 @@
 
 import { Controls } from "./controls.js";
 import { fill, make, say } from "./dom.js";
+import { InsideMarks } from "./inside.js";
 import { isMeantElsewhere } from "./keyboard.js";
 import { TextCard } from "./text_card.js";
 import { needs } from "./trying.js";
@@ -15,7 +16,9 @@ export class SlotView {
     this.number = number;
     this.controls = new Controls(connection);
     this.wave = new WaveView((first, last) => this.fetchRows(first, last));
+    this.wave.onHere = () => this.showInside();
     this.text = new TextCard(connection, number, () => this.takeDriven());
+    this.inside = new InsideMarks(connection, number, (told) => this.text.markInside(told));
     this.title = make("h1", { tabindex: "-1" }, `Slot ${number}`);
     this.facts = make("p", { class: "facts", id: "facts" });
     this.parts = make("div", { class: "parts" });
@@ -31,6 +34,11 @@ export class SlotView {
     const { load } = this;
     const told = await this.connection.read("looks", { slot: this.number, from: first, to: last });
     return told.load === load ? told.rows : [];
+  }
+
+  /** Marks in the text what happened inside the instant that the wave tells of. */
+  showInside() {
+    if (this.load !== null) this.inside.show(this.slot, this.wave.here());
   }
 
   /** What was driven since the load, as far as it may be observed. */
@@ -59,6 +67,7 @@ export class SlotView {
   renew(slot, before) {
     this.controls.update(slot);
     if (JSON.stringify(slot.may.observe) !== JSON.stringify(before.may.observe)) this.wave.forget();
+    if (JSON.stringify(slot.may) !== JSON.stringify(before.may)) this.showInside();
     this.wave.grow(slot.instants);
   }
 

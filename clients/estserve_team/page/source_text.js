@@ -35,3 +35,13 @@ export function sourceText(text) {
     ))
   );
 }
+
+/** Marks the lines of such an element that ran, and those in which control rests, and no others. */
+export function markLines(element, { ran, rests }) {
+  const wanted = [["ran", new Set(ran)], ["rests", new Set(rests)]];
+  [...element.children].forEach((line, at) => {
+    for (const [name, numbers] of wanted) {
+      if (line.classList.contains(name) !== numbers.has(at + 1)) line.classList.toggle(name);
+    }
+  });
+}

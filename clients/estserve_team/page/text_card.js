@@ -8,7 +8,8 @@ import { EXAMPLE } from "./example.js";
 import { drivenOf } from "./parting.js";
 import { ReplayView } from "./replay_view.js";
 import { Refused } from "./requests.js";
-import { sourceText } from "./source_text.js";
+import { insideWords } from "./inside.js";
+import { markLines, sourceText } from "./source_text.js";
 import { needs, refusalPlace, trying } from "./trying.js";
 
 /** One text of several, each of which begins on a line of its own. */
@@ -30,11 +31,13 @@ export class TextCard {
     this.body = make("div", {});
     this.told = refusalPlace();
     this.note = make("p", { class: "quiet", role: "status" });
+    this.inner = make("p", { class: "quiet", id: "inside" });
+    this.inside = null; // what happened inside the instant that is looked at
     this.missing = make("p", { class: "missing", id: "load-missing" });
     this.acts = make("div", { class: "inline" });
     this.element = make(
       "section", { class: "card text", "aria-label": "Text" },
-      this.title, this.missing, this.body, this.acts, this.told, this.note
+      this.title, this.missing, this.body, this.inner, this.acts, this.told, this.note
     );
     this.buildForm();
   }
@@ -67,7 +70,7 @@ export class TextCard {
   show(slot, isOther) {
     this.slot = slot;
     if (isOther) {
-      this.text = null;
+      this.text = this.inside = null;
       if (slot.loaded) this.fetchText(slot.load);
       if (slot.loaded && !this.editor.value.trim()) this.isEditing = false;
     }
@@ -98,7 +101,20 @@ export class TextCard {
     this.play.disabled = !this.hasDriven();
     this.back.hidden = !loaded;
     this.noteKept();
+    this.showMarks();
     if (!this.isAsking) fill(this.acts, ...this.actsNow());
+  }
+
+  /** Marks the lines that ran in an instant, and those in which control rests; none for null. */
+  markInside(told) {
+    this.inside = told;
+    this.showMarks();
+  }
+
+  showMarks() {
+    const isShown = !this.isEditing && this.slot?.loaded && this.inside !== null;
+    say(this.inner, isShown ? insideWords(this.inside) : "");
+    if (this.source?.children) markLines(this.source, isShown ? this.inside : { ran: [], rests: [] });
   }
 
   reading() {

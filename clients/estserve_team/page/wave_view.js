@@ -24,9 +24,8 @@ export class WaveView {
     this.layout = new WaveLayout();
     this.marks = new WaveMarks();
     this.all = [];
-    this.instants = 0;
+    this.instants = this.cursor = this.toldOf = 0;
     this.cell = 28;
-    this.cursor = 0;
     this.chosen = null; // the name of a signal
     this.follows = true;
     this.element = this.build(title);
@@ -69,7 +68,7 @@ export class WaveView {
     this.rows.reset(signals.length);
     this.layout.reset(this.all);
     this.marks.reset();
-    this.instants = this.cursor = 0;
+    this.instants = this.cursor = this.toldOf = 0;
     this.chosen = null;
     this.tools.refill();
     this.grow(instants);
@@ -275,6 +274,7 @@ export class WaveView {
     this.rows.want(first - margin, last + margin);
     drawWave(this.canvas.getContext("2d"), view, this.rows, this.colours);
     say(this.readout, this.instants ? this.words(this.here()) : "no instant yet");
+    if (this.here() !== this.toldOf) this.onHere?.(this.toldOf = this.here()); // where it is set
     this.table.showLater(this.layout.signals(), this.rows, last);
   }
 

@@ -39,13 +39,14 @@ class Visiting:
             tell=functools.partial(gateway.log, kind="page"),
         )
         self.changes = Changes()
+        self.restarts = 0  # of the server; a load is known by these and its place
         self.watchers: "set[Watcher]" = set()
         self.address: Optional[str] = None  # where browsers find the page, once one has told it
         self.has_page = asyncio.Event()
         self.pages: "set[Any]" = set()  # the connections of pages that serve
         self._watching: "Optional[asyncio.Future[None]]" = None
         gateway.listen(self._note)
-        gateway.on_restart(self.wake_all)
+        gateway.on_restart(self.note_restart)
 
     def begin(self) -> None:
         """Gives up seats whose tabs are gone, from now on."""
@@ -171,6 +172,11 @@ class Visiting:
         self.changes.count += sum(map(changes_permissions, entries))
         for watcher in self.watchers:
             watcher.note(entries)
+
+    def note_restart(self) -> None:
+        """The server was begun anew: all sessions are over."""
+        self.restarts += 1
+        self.wake_all()
 
     def wake_all(self) -> None:
         """Has each stream see whether its seat is over."""

@@ -7,6 +7,7 @@ from ..counts import health
 from ..reads.slot_model import SLOTS
 from ..refusals import Refused, not_a_word
 from . import Denied
+from .inside import inside_of
 from .looks import rows_of
 from .page_slots import text_of
 
@@ -153,6 +154,13 @@ async def looks(page: "PageClient", asked: Told) -> Told:
     return await rows_of(seat, slot_of(asked), max(1, first), last)
 
 
+async def inside(page: "PageClient", asked: Told) -> Told:
+    """What the inside of a slot's instants is worked out from. Raises Denied, Refused."""
+    seat = page.visiting.seat_of(asked)
+    load, known = key_of(asked, "load", str), key_of(asked, "known", int)
+    return await inside_of(seat, slot_of(asked), load, known)
+
+
 async def news(page: "PageClient", asked: Told) -> bytes:
     """What a stream is to be told next, as JSON. Raises Denied, Refused."""
     return await page.watcher_of(asked).next() or b'{"over":true}'
@@ -167,7 +175,8 @@ async def hush(page: "PageClient", asked: Told) -> Told:
 REQUESTS: Dict[str, Callable[["PageClient", Told], Awaitable[Any]]] = {
     one.__name__: one
     for one in (
-        *(hello, enter, visit, me, login, out, leave, here, ask, word, text, looks, news, hush),
+        *(hello, enter, visit, me, login, out, leave, here, ask, word, text, looks, inside, news),
+        hush,
     )
 }
 REQUESTS["health"] = tell_health

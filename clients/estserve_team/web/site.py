@@ -20,6 +20,7 @@ from . import asking
 from .core import Core, Denied
 from .gates import KEPT_SECONDS, Gates
 from .guard import HEADERS, TOKEN, Guard, told
+from .insides import Insides
 from .options import Options
 from .refusing import refusal_of
 from .stream import Stream
@@ -90,6 +91,11 @@ class Site:
         self._acts: Dict[str, Callable[[Any, Dict[str, Any]], Awaitable[Dict[str, Any]]]] = {
             **asking.ACTS,
             "try": Trials(program).try_out,
+        }
+        self._insides = Insides()
+        self._reads: Dict[str, Callable[[Any, Any], Awaitable[Dict[str, Any]]]] = {
+            **asking.READS,
+            "inside": self._insides.look,
         }
         self._streams: "set[Stream]" = set()
         self._files = files()
@@ -175,6 +181,7 @@ class Site:
             await self._runner.cleanup()
         for task in self._tasks:
             task.cancel()
+        self._insides.close()
         if self._options.socket:
             remove_socket(self._options.socket)
 
@@ -255,10 +262,10 @@ class Site:
         """What the page reads under a name. Raises HTTPException, Denied, Refused."""
         if name == "me":
             return await self._core.ask("me", **secrets)
-        if name not in asking.READS:
+        if name not in self._reads:
             raise web.HTTPNotFound(text="There is nothing of this name to read.")
         try:
-            return await asking.READS[name](seat, request.query)
+            return await self._reads[name](seat, request.query)
         except ValueError:
             raise web.HTTPBadRequest(text="A number is expected.") from None
 

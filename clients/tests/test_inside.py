@@ -1,0 +1,565 @@
+"""What is said of the inside of instants: local signals, the lines that ran, why a signal is present,
+and what waits for what where an instant is stuck.
+
+The circles of STUCK and ACROSS are worked out by hand from what must and what can be emitted, as is
+said beside each.
+"""
+import dataclasses
+import os
+import sys
+import unittest
+import unittest.mock
+
+from support import EXAMPLES, ROOT, needs_program, read_vcd, run_client, serve
+from test_lab import InAFolder, needs_lab
+
+from estserve_client.connection import Client
+from estserve_client.lab.asking import Subject, start_lab
+from estserve_client.lab.inside import Inside, Tie
+from estserve_client.lab.stuck import Stuck
+from estserve_client.lab.why import Why
+from estserve_client.library_text import join_texts
+from estserve_client.module_text import main_of
+
+sys.path.append(str(ROOT / "tests" / "lab"))
+import rules  # noqa: E402
+
+# Texts of which M is stuck in an instant without inputs, and what is said then.
+STUCK = [
+    # O is emitted only if O is present: it can be, and nothing says that it must.
+    (
+        "module M: output O;\npresent O then\n emit O end end module",
+        "O waits for itself: line 3 may emit it once O is present",
+        ["3:2: emit O, once O is present"],
+    ),
+    # O is emitted only if O is absent, by `present` and by `abort` and `suspend` after a pause.
+    (
+        "module M: output O;\npresent O else\n emit O end end module",
+        "O waits for itself: line 3 may emit it once O is absent",
+        ["3:2: emit O, once O is absent"],
+    ),
+    (
+        "module M: output O;\nabort\n pause; emit O\nwhen O end module",
+        "O waits for itself: line 3 may emit it once O is absent",
+        ["3:9: emit O, once O is absent"],
+    ),
+    (
+        "module M: output O;\nsuspend\n pause; emit O\nwhen O end module",
+        "O waits for itself: line 3 may emit it once O is absent",
+        ["3:9: emit O, once O is absent"],
+    ),
+    (
+        "module M: output O; pause;\nabort\n emit O\nwhen immediate O end module",
+        "O waits for itself: line 3 may emit it once O is absent",
+        ["3:2: emit O, once O is absent"],
+    ),
+    # O is emitted whether it is present or not, so that it would have to be. But only one of the
+    # ways is walked where the test is answered, and so none of them must be.
+    (
+        "module M: output O;\npresent O then\n emit O\nelse\n emit O end end module",
+        "O neither must nor can't be emitted: it waits for itself, and line 3 and line 5 may emit it"
+        " whether it is present or not",
+        ["3:2: emit O, once O is present", "5:2: emit O, once O is absent"],
+    ),
+    # The same by what comes after the test.
+    (
+        "module M: output O;\npresent O then nothing else nothing end;\nemit O end module",
+        "O neither must nor can't be emitted: it waits for itself, and line 3 may emit it whether it"
+        " is present or not",
+        ["3:1: emit O, once O is present", "3:1: emit O, once O is absent"],
+    ),
+    # `O or not O` always holds, but not before O is known.
+    (
+        "module M: output O;\npresent [O or not O] then\n emit O end end module",
+        "O waits for itself: line 3 may emit it once `O or not O` holds",
+        ["3:2: emit O, once `O or not O` holds"],
+    ),
+    # Two outputs, each of which the other's status decides.
+    (
+        "module M: output O, P;\npresent O then\n emit P end\n||\npresent P else\n emit O end end module",
+        "O (line 6) waits for P, which line 3 may emit once O is present",
+        ["6:2: emit O, once P is absent", "3:2: emit P, once O is present"],
+    ),
+    # An output and a local signal.
+    (
+        "module M: output O; signal L in\npresent L then\n emit O end\n||\npresent O else\n emit L end end"
+        " end module",
+        "O (line 3) waits for L, which line 6 may emit once O is absent",
+        ["3:2: emit O, once L is present", "6:2: emit L, once O is absent"],
+    ),
+    # What comes after an `await`, and after a trap that an exit may leave before.
+    (
+        "module M: output O; pause;\nawait immediate O;\nemit O end module",
+        "O waits for itself: line 3 may emit it once O is present",
+        ["3:1: emit O, once O is present"],
+    ),
+    (
+        "module M: output O; pause;\ntrap T in present O then exit T end;\nemit O end end module",
+        "O waits for itself: line 3 may emit it once O is absent",
+        ["3:1: emit O, once O is absent"],
+    ),
+    # One module that is run twice: B of one run is O, of the other P.
+    (
+        "module N: input A; output B;\npresent A then\n emit B end end module\n"
+        "module M: output O, P;\n[run N [signal O/A, P/B] || run N [signal P/A, O/B]] end module",
+        "O (line 3) waits for P, which line 3 may emit once O is present",
+        ["3:2: emit B (O), once P is present", "3:2: emit B (P), once O is present"],
+    ),
+    # Three signals. O, P and Q can all be emitted, and none must be.
+    (
+        "module M: output O, P, Q;\npresent O then\n emit P end\n||\npresent P then\n emit Q end\n||\n"
+        "present Q else\n emit O end end module",
+        "O (line 9) waits for Q, which line 6 may emit once P is present, which line 3 may emit once"
+        " O is present",
+        [
+            "9:2: emit O, once Q is absent",
+            "6:2: emit Q, once P is present",
+            "3:2: emit P, once O is present",
+        ],
+    ),
+]
+# A client asks, a master grants unless the line is busy, and a grant makes it busy. With ASK present
+# REQUEST must be emitted, so it is decided. GRANT can be emitted, by line 28 if BUSY is absent; BUSY
+# can be by line 38 if GRANT is present. Neither must be. READ is emitted only if GRANT is present: it
+# is open too, but nothing waits for it.
+ACROSS = """module ARBITER:
+input ASK;
+output READ;
+signal REQUEST, GRANT, BUSY in
+  run CLIENT
+||
+  run MASTER
+||
+  run LINE
+end
+end module
+module CLIENT:
+input ASK, GRANT; output REQUEST, READ;
+loop
+  nothing;
+  present ASK then
+    emit REQUEST;
+    present GRANT then emit READ end
+  end;
+  pause
+end
+end module
+module MASTER:
+input REQUEST, BUSY; output GRANT;
+loop
+  present REQUEST then
+    present BUSY else
+      emit GRANT
+    end
+  end;
+  pause
+end
+end module
+module LINE:
+input GRANT; output BUSY;
+loop
+  present GRANT then
+    emit BUSY
+  end;
+  pause
+end
+end module
+"""
+LATER = ACROSS.replace("nothing;", "pause;")
+CIRCLE = "GRANT (line 28) waits for BUSY, which line 38 may emit once GRANT is present"
+OPEN = ":4:17: the local signal GRANT is undecided"
+PLACES = ["28:7: emit GRANT, once BUSY is absent", "38:5: emit BUSY, once GRANT is present"]
+# Each motor hears its GO, emits its OVER, and then its OFF.
+RUNS = """module MAIN:
+input A; output O;
+signal S in
+  run MOTOR [signal A/GO, S/OFF] || run MOTOR [signal S/GO, O/OFF]
+end
+end module
+module MOTOR:
+input GO; output OFF;
+signal OVER in
+  loop
+    await GO;
+    emit OVER;
+    present OVER then emit OFF end
+  end
+end
+end module
+"""
+
+
+def inside_of(lab, text, main=None):
+    """A module in estlab."""
+    return Inside(lab, Subject(join_texts([("m.strl", text)]), main_of(text, main)))
+
+
+def with_ties(inside, look):
+    """An instant that is stuck with its ties: those of the rules, where estlab tells none."""
+    if look.ties is not None:
+        return look
+    program = rules.Program(inside.statements, inside.subject.module.outputs())
+    seen = program.react(look.inputs, look.before).seen
+    pairs = ((True, seen.waits), (False, seen.may_emit))
+    ties = [
+        Tie(at, waits, getattr(signal, "name", signal))
+        for waits, found in pairs
+        for at, signal in found
+    ]
+    return dataclasses.replace(look, ties=tuple(ties))
+
+
+def tells_ties():
+    """Whether the program estlab tells the ties of an instant that is stuck."""
+    with start_lab() as lab:
+        return inside_of(lab, STUCK[0][0]).look(()).ties is not None
+
+
+@needs_lab
+class Circles(unittest.TestCase):
+    def setUp(self):
+        self.lab = start_lab()
+        self.addCleanup(self.lab.client.close)
+
+    def stuck(self, text, word, main=None):
+        """A module, and its first instant of a word that is stuck."""
+        inside = inside_of(self.lab, text, main)
+        look = next(look for look in inside.looks(word) if look.is_stuck)
+        return inside, look
+
+    def lines(self, text, word, main=None):
+        """What is said of that instant: the first line, and the places."""
+        inside, look = self.stuck(text, word, main)
+        first, *places = Stuck(inside, with_ties(inside, look)).lines()
+        return first, [place.replace("  m.strl:", "", 1) for place in places]
+
+    def test_of_stuck_programs(self):
+        for text, sentence, places in STUCK:
+            with self.subTest(text):
+                self.assertEqual(self.lines(text, [(), ()], "M"), (sentence, places))
+
+    def test_across_modules(self):
+        for text in (ACROSS, LATER):
+            with self.subTest(text):
+                self.assertEqual(self.lines(text, [("ASK",), ("ASK",)]), (CIRCLE, PLACES))
+
+    def test_a_reader_in_a_third_module_is_in_no_circle(self):
+        inside, look = self.stuck(ACROSS, [("ASK",)])
+        self.assertEqual(look.undecided, ("READ",))
+        told = "\n".join(Stuck(inside, with_ties(inside, look)).lines())
+        self.assertNotIn("READ", told)
+        self.assertNotIn("REQUEST", told)
+
+    def test_without_ties_no_circle_is_drawn(self):
+        inside, look = self.stuck(ACROSS, [("ASK",)])
+        lines = Stuck(inside, dataclasses.replace(look, ties=None)).lines()
+        self.assertEqual(
+            lines,
+            [
+                "  m.strl:3:8: READ is undecided",
+                "  m.strl:4:17: the local signal GRANT is undecided",
+                "  m.strl:4:24: the local signal BUSY is undecided",
+            ],
+        )
+
+    def test_a_signal_that_is_begun_anew(self):
+        text = "module M:\nloop\n signal S in\n  pause;\n  present S else\n   emit S end\n end\nend"
+        text += " end module"
+        sentence = "S waits for itself: line 6 may emit it once S is absent"
+        self.assertEqual(self.lines(text, [(), ()])[0], sentence)
+        anew = text.replace("pause;", "nothing;").replace("emit S end", "emit S end; pause")
+        self.assertEqual(self.lines(anew, [()])[0], sentence)
+
+
+@needs_lab
+class Reincarnation(unittest.TestCase):
+    """In each instant but the first the loop ends its body and begins it anew: the old S is emitted
+    before it ends, the new one is not, so one of the two is present.
+    """
+
+    def setUp(self):
+        self.lab = start_lab()
+        self.addCleanup(self.lab.client.close)
+        path = EXAMPLES / "reincarnation" / "reincarnation.strl"
+        self.inside = inside_of(self.lab, path.read_text())
+
+    def test_two_incarnations_have_statuses_of_their_own(self):
+        first, second = self.inside.looks([(), ()])
+        self.assertEqual(first.locals, {(1, 0): False, (1, 1): False})
+        self.assertEqual(second.locals, {(1, 0): True, (1, 1): False})
+        self.assertTrue(second.ran((1, 0)) and second.ran((1, 1)))
+        self.assertFalse(first.ran((1, 1)))
+
+    def test_why_tells_both(self):
+        *_, second = self.inside.looks([(), ()])
+        lines = Why(self.inside, second).lines("S")
+        self.assertEqual(lines[0], "S is present")
+        self.assertIn("S (as it begins anew) is absent", lines)
+
+    def test_back_and_try_move_nothing_else(self):
+        first, second = self.inside.looks([(), ()])
+        self.assertEqual(self.inside.tried(()).locals, second.locals)
+        self.assertEqual(self.inside.at, 2)
+        self.inside.back(1)
+        again = self.inside.look(())
+        self.assertEqual((again.before, again.began), (first.after, second.began))
+
+
+@needs_lab
+@needs_program
+class Runs(InAFolder):
+    def ran_with(self, text, listed, *more):
+        """What `run` prints of a text and a list of inputs, and its status."""
+        path, inputs = self.file("m.strl", text), self.file("m.inputs", listed)
+        return run_client(["run", path, "--inputs", inputs, *more])
+
+    def test_local_signals_stand_in_the_table_with_their_modules(self):
+        # The first motor hears A, and its OFF is the second one's GO in the same instant.
+        ran = self.ran_with(RUNS, ";\nA\n;\n", "--locals")
+        self.assertEqual((ran.told, ran.status), ("", 0))
+        self.assertEqual(
+            ran.printed.splitlines(),
+            [
+                "instant  inputs  outputs  locals",
+                "      1",
+                "      2  A       O        S MOTOR_1.OVER MOTOR_2.OVER",
+                "      3",
+            ],
+        )
+
+    def test_several_incarnations_are_counted(self):
+        words = EXAMPLES / "reincarnation"
+        listed = ["--inputs", words / "reincarnation.inputs", "--locals", "--trace"]
+        ran = run_client(["run", words / "reincarnation.strl", *listed])
+        self.assertEqual(
+            ran.printed.splitlines()[:3],
+            [
+                "instant  inputs  outputs           locals  lines",
+                "      1          OLD_IS_GONE               5-8",
+                "      2          OLD_IS_GONE       S(1/2)  5-9",
+            ],
+        )
+
+    def test_waves_have_local_signals(self):
+        ran = self.ran_with(RUNS, ";\nA\n;\n", "--locals", "--wave", "--signals", "A,MOTOR_2.OVER")
+        self.assertEqual(
+            ran.printed.splitlines()[1:],
+            ["A             input  ____" + wave for wave in ("_/‾\\____",)]
+            + ["MOTOR_2.OVER  local  _____/‾\\____"],
+        )
+
+    def test_a_vcd_file_has_them_in_scopes_by_their_modules(self):
+        out = self.folder / "out.vcd"
+        ran = self.ran_with(RUNS, ";\nA\n;\n", "--locals", "--vcd", out)
+        self.assertEqual((ran.printed, ran.told, ran.status), ("", "", 0))
+        lines = out.read_text().splitlines()
+        outer, inner = read_vcd(lines), read_vcd(lines, 2)
+        self.assertEqual(sorted(outer), ["A", "O", "S", "tick"])
+        self.assertIn("MOTOR_1.OVER", inner)
+        self.assertEqual(inner["MOTOR_2.OVER"], {1: "0", 2: "1", 3: "0"})
+
+    def test_the_lines_that_ran_are_traced(self):
+        ran = self.ran_with(RUNS, ";\nA\n", "--trace")
+        self.assertEqual(
+            [line.split()[-1] for line in ran.printed.splitlines()],
+            ["lines", "3-4,9-11", "3-4,9-13"],
+        )
+
+    def test_lines_of_several_files_stand_with_them(self):
+        main, motor = RUNS.split("module MOTOR", 1)
+        paths = self.file("main.strl", main), self.file("motor.strl", "module MOTOR" + motor)
+        inputs = self.file("m.inputs", ";\n")
+        ran = run_client(["run", *paths, "--inputs", inputs, "--trace"])
+        told = f"{paths[0]}:3-4 {paths[1]}:3-5"
+        self.assertTrue(ran.printed.splitlines()[1].endswith(told), ran.printed)
+
+    def test_a_run_stops_where_a_test_holds(self):
+        ran = self.ran_with(RUNS, ";\n;\nA\n;\nA\n", "--until", "O and A")
+        self.assertEqual(ran.status, 0)
+        self.assertEqual(ran.told, "estserve.py: instant 3: O and A holds\n")
+        self.assertEqual(len(ran.printed.splitlines()), 4)
+        inner = self.ran_with(RUNS, ";\n;\nA\n", "--locals", "--until", "MOTOR_1.OVER and not S")
+        self.assertEqual(inner.status, 1)
+        self.assertTrue(inner.told.endswith("not S held in none of 3 instants\n"), inner.told)
+
+    def test_tests_that_are_none(self):
+        for test, told in (
+            ("O and", "this is no test"),
+            ("O X", "this is no test"),
+            ("MOTOR_1.OVER", "there is no signal MOTOR_1.OVER"),
+            ("Q", "there is no signal Q"),
+        ):
+            with self.subTest(test):
+                ran = self.ran_with(RUNS, ";\n", "--until", test)
+                self.assertEqual((ran.printed, ran.status), ("", 1))
+                self.assertIn(told, ran.told)
+
+    def test_words_that_do_not_go_together(self):
+        for words in (
+            ["--locals", "--expect", "x"],
+            ["--trace", "--wave"],
+            ["--trace", "--socket", "x", "--loaded"],
+        ):
+            with self.subTest(words):
+                ran = self.ran_with(RUNS, ";\n", *words)
+                self.assertEqual((ran.printed, ran.status), ("", 1))
+                self.assertIn("leave ", ran.told)
+
+    def test_nothing_is_drawn_where_the_kernels_differ(self):
+        ask = Client.ask
+
+        def another(client, cmd, **keys):
+            answer = ask(client, cmd, **keys)
+            if cmd == "kernel":
+                answer["statements"].pop()
+            return answer
+
+        with unittest.mock.patch.object(Client, "ask", another):
+            ran = self.ran_with(RUNS, ";\nA\n", "--locals")
+        self.assertEqual((ran.printed, ran.status), ("", 1))
+        self.assertIn("the client reads another kernel than the program", ran.told)
+
+    def test_a_stuck_instant_says_what_is_open(self):
+        ran = self.ran_with(ACROSS, "ASK\n")
+        self.assertIn("instant 1: Stuck: ", ran.told)
+        self.assertIn(CIRCLE if tells_ties() else OPEN, ran.told)
+
+    def test_without_estlab_it_is_said_that_nothing_can_be(self):
+        missing = os.path.join(self.folder, "none")
+        ran = self.ran_with(ACROSS, "ASK\n", "--estlab", missing)
+        told = f"which signals are open inside can't be said: {missing} cannot be started"
+        self.assertTrue(ran.told.splitlines()[1].startswith(told), ran.told)
+        inner = self.ran_with(ACROSS, "ASK\n", "--estlab", missing, "--locals")
+        self.assertEqual((inner.printed, inner.status), ("", 1))
+
+
+GRANTS = "".join(
+    f"grant root {op} {on}\n"
+    for op, on in [("load", "0"), ("step", "0")]
+    + [("offer", f"0.{name}") for name in "ABR"]
+    + [("observe", f"0.{name}") for name in "ABRO"]
+)
+
+
+@needs_lab
+@needs_program
+class Shells(InAFolder):
+    def lines(self, *typed):
+        """What a shell prints for these lines, after ABRO was loaded and `;` and `A;` were made."""
+        abro = EXAMPLES / "abro" / "abro.strl"
+        script = f"{GRANTS}load 0 {abro}\n;\nA;\n" + "".join(line + "\n" for line in typed)
+        ran = run_client(["shell"], script)
+        self.assertEqual(ran.told, "")
+        return [line.replace(str(abro), "abro.strl") for line in ran.printed.splitlines()[13:]]
+
+    def test_where_marks_what_ran_and_where_control_rests(self):
+        lines = self.lines("where", "B;", "where")
+        self.assertEqual(
+            lines[4:8],
+            [
+                ">* 5  loop",
+                ">* 6    [ await A || await B ];",
+                "   7    emit O",
+                "   8  each R",
+            ],
+        )
+        self.assertEqual(lines[-3:-1], [">  7    emit O", "   8  each R"])
+
+    def test_colours_stand_where_there_is_a_terminal(self):
+        from estserve_client.colours import Colours
+        from estserve_client.lab.exploring import Explorer
+
+        abro = EXAMPLES / "abro" / "abro.strl"
+        with start_lab() as lab:
+            explorer = Explorer(
+                lab, Subject(join_texts([("a", abro.read_text())]), main_of(abro.read_text()))
+            )
+            explorer.tried(())
+            with unittest.mock.patch("estserve_client.colours.has_colours", lambda _: True):
+                drawn = explorer.where_lines(Colours(sys.stdout))
+            self.assertIn("\033[32m", drawn[4])
+            plain = explorer.where_lines(Colours(sys.stdout))
+        self.assertNotIn("\033", "".join(plain))
+
+    def test_why_goes_back_to_the_inputs(self):
+        self.assertEqual(
+            self.lines("B;", "why O")[1:],
+            [
+                "O is present",
+                "  emitted at abro.strl:7:3: emit O",
+                "    since at abro.strl:5:1: loop each R: `R` didn't hold",
+                "    since at abro.strl:6:16: await B: control rested there and `B` held",
+                "R is not offered",
+                "B is offered",
+            ],
+        )
+        self.assertEqual(
+            self.lines("why O"),
+            [
+                "O is absent",
+                "  not emitted at abro.strl:7:3: emit O",
+                "    since at abro.strl:6:16: await B: `B` didn't hold",
+                "B is not offered",
+            ],
+        )
+
+    def test_try_and_back_leave_the_slot_where_it_is(self):
+        lines = self.lines("try B;", "back", "try A B;", "back 0", "back 2", "try R;", "show", "B;")
+        self.assertEqual(
+            lines[:6],
+            [
+                "instant 3 would be: O",
+                "instant 1: no output",
+                "instant 2 would be: O",
+                "before instant 1",
+                "instant 2: no output",
+                "instant 3 would be: no output",
+            ],
+        )
+        self.assertEqual(lines[-1], "instant 3: O")
+        self.assertEqual(len(lines), 10)  # the table has two instants
+
+    def test_a_signal_may_be_called_try(self):
+        text = "module M: input try, A; output O;\nloop present try then emit O end; pause end end module"
+        path = self.file("m.strl", text)
+        script = GRANTS + f"grant root offer 0.try\nload 0 {path}\ntry A;\n"
+        printed = run_client(["shell"], script).printed.splitlines()
+        self.assertEqual(printed[-1], "instant 1: O")
+
+    def test_what_is_refused_is_said(self):
+        lines = self.lines(
+            "try Q;", "try A; B;", "back 9", "why Q", "where 1", "revoke root observe 0.R"
+        )
+        self.assertIn("UnknownSignal", lines[0])
+        self.assertIn("one instant", lines[1])
+        self.assertIn("from 0 to 2", lines[2])
+        self.assertIn("ABRO has no signal Q", lines[3])
+        self.assertIn("nothing after the command", lines[4])
+
+    def test_an_input_that_may_not_be_observed_hides_the_inside(self):
+        lines = self.lines("revoke root observe 0.R", "B;", "where")
+        self.assertIn("you may not observe R", lines[-1])
+
+    def test_a_stuck_instant_says_what_is_open(self):
+        path = self.file("m.strl", ACROSS)
+        grants = "".join(f"grant root {one}\n" for one in ("load 0", "step 0", "offer 0.ASK"))
+        grants += "grant root observe 0.ASK\ngrant root observe 0.READ\n"
+        ran = run_client(["shell"], f"{grants}load 0 {path}\nASK;\ntry ASK;\ntry ;\n")
+        wanted = CIRCLE if tells_ties() else OPEN
+        self.assertEqual(ran.printed.count(wanted), 2, ran.printed)
+        self.assertIn("instant 1 would be: no output", ran.printed)
+
+    def test_without_a_text_it_is_asked_for(self):
+        ran = run_client(["shell"], "where\n")
+        self.assertIn("the text of slot 0 isn't known here", ran.printed)
+
+    def test_a_slot_of_a_server_that_others_load_anew(self):
+        with serve() as server:
+            abro = EXAMPLES / "abro" / "abro.strl"
+            script = f"{GRANTS}load 0 {abro}\n;\nA;\nwhere\nunload\nload 0 {abro}\n;\nback\nwhy O\n"
+            ran = run_client(["shell", "--socket", server.path], script)
+            self.assertIn("before instant 1", ran.printed)
+
+
+if __name__ == "__main__":
+    unittest.main()
