@@ -92,10 +92,10 @@ def scenarios_in(folder: pathlib.Path) -> List[pathlib.Path]:
         told = f"name its folder, and -k {folder.stem}" if folder.exists() else "it is not there"
         raise Failed(f"{folder} is no folder: {told}")
     listed = [path for path in folder.glob("*.inputs") if not COUNTEREXAMPLE.search(path.stem)]
-    found = {path.with_suffix(".expected") for path in listed}
+    found = {path.with_suffix(".expected") for path in listed} | set(folder.glob("*.expected"))
     if not found:
         raise Failed(f"there is no NAME.inputs in {folder}")
-    return sorted(found | set(folder.glob("*.expected")))
+    return sorted(found)
 
 
 def scenarios_of(folders: List[str], names: List[str]) -> List[pathlib.Path]:

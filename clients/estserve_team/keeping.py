@@ -36,6 +36,15 @@ def folder_of(arguments: argparse.Namespace) -> pathlib.Path:
     return pathlib.Path(arguments.state)
 
 
+def record_of(state: pathlib.Path) -> pathlib.Path:
+    """The record of a folder, which is there, and no link. Raises Failed, NotProven."""
+    path = state / "private" / "record.sqlite"
+    if not path.exists():
+        raise Failed(f"there is no record at {path}")
+    check_plain(path)
+    return path
+
+
 def known_of(
     state: pathlib.Path, path: pathlib.Path, database: sqlite3.Connection
 ) -> Tuple[Tip, List[Block]]:
@@ -79,10 +88,7 @@ def told(proven: Proven) -> str:
 def verify(arguments: argparse.Namespace) -> None:
     """Says whether the record is what was written. Raises Failed, NotProven."""
     state = folder_of(arguments)
-    path = state / "private" / "record.sqlite"
-    if not path.exists():
-        raise Failed(f"there is no record at {path}")
-    check_plain(path)
+    path = record_of(state)
     with open_reader(path) as database:
         tip, blocks = known_of(state, path, database)
         database.execute("BEGIN")  # where a gateway runs, all is read of one moment
@@ -97,8 +103,7 @@ def verify(arguments: argparse.Namespace) -> None:
 def backup(arguments: argparse.Namespace) -> None:
     """Copies the record into one file, also while the gateway runs. Raises Failed."""
     state, target = folder_of(arguments), arguments.file.absolute()
-    path = state / "private" / "record.sqlite"
-    check_plain(path)
+    path = record_of(state)
     if target.exists():
         raise Failed(f"{target} is there already")
     beside = target.with_name(target.name + ".part")

@@ -124,6 +124,9 @@ class Folders(InAFolder):
             ran = run_client(["test", self.folder, "-k", "old", *more])
             told = "FAILED  old: there is no old.inputs: old.expected is held against nothing\n"
             self.assertEqual((ran.status, ran.printed.splitlines(True)[0]), (1, told))
+        for path in pathlib.Path(self.folder).glob("*.inputs"):
+            path.unlink()
+        self.assertIn(told, run_client(["test", self.folder]).printed)
 
     def test_several_files_of_modules(self):
         main = self.file(

@@ -438,6 +438,13 @@ class Kept(Record):
         with Team(state=self.state) as team:
             self.assertEqual(team.entries()[:count], before)
 
+    def test_where_there_is_no_record_that_is_told(self):
+        with tempfile.TemporaryDirectory() as empty:
+            (pathlib.Path(empty) / "private").mkdir()
+            for words in (["verify"], ["backup", f"{empty}/backup.sqlite"]):
+                status, _, fault = word(empty, *words)
+                self.assertEqual((status, "there is no record at" in fault), (1, True), fault)
+
     def test_a_backup_that_was_changed_is_not_restored(self):
         target = self.state.parent / "backup.sqlite"
         self.assertEqual(word(self.state, "backup", str(target))[0], 0)
