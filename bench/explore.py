@@ -166,6 +166,11 @@ def main(words):
             engine, loop = alone(benches, text, inputs), floor(program, lab, text, inputs)
             print(f"| `{name}` | {states:,} | {rows:,} | {rows / max(seconds, 1e-6):,.0f} | {each * 1e6:.2f} | {engine * 1e6:.2f} "
                   f"| {engine / max(each, 1e-9):.2f} | {loop * 1e6:.4f} |", flush=True)
+    if "three3" in spent and "three20" in spent:
+        ratio = spent["three20"] / max(spent["three3"], 1e-3)
+        print(f"twenty inputs of which three matter take {ratio:.1f} times as long as three")
+        if ratio > 10:
+            sys.exit("explore.py: more than 10 times as long")
 
 
 if __name__ == "__main__":

@@ -40,9 +40,9 @@ _estserve_client() {
         esac
         ;;
     'shell')
-        words='--help --socket --user --role --reads --program --unproved --stop'
+        words='--help --socket --user --role --reads --program --unproved --stop --names'
         case "$before" in
-        --socket | --program) words='' files=1 ;;
+        --socket | --program | --names) words='' files=1 ;;
         --user | --role | --reads) return ;;
         esac
         ;;

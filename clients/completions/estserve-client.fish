@@ -61,6 +61,7 @@ complete -c estserve-client -n '__fish_seen_subcommand_from shell' -l reads -x -
 complete -c estserve-client -n '__fish_seen_subcommand_from shell' -l program -r -F -d 'the program to start (default: that of the variable ESTSERVE, or estserve on PATH)'
 complete -c estserve-client -n '__fish_seen_subcommand_from shell' -l unproved -d 'in the repository: build the program without proof, and keep it while no source changes'
 complete -c estserve-client -n '__fish_seen_subcommand_from shell' -l stop -d 'end a script at the first line that is refused'
+complete -c estserve-client -n '__fish_seen_subcommand_from shell' -l names -r -F -d 'a policy file whose names of slots may stand for their numbers'
 complete -c estserve-client -n '__fish_seen_subcommand_from apply' -F
 complete -c estserve-client -n '__fish_seen_subcommand_from apply' -s h -l help -d 'show this help message and exit'
 complete -c estserve-client -n '__fish_seen_subcommand_from apply' -l dry-run -d 'try it on a program of its own, list its commands, and send nothing'

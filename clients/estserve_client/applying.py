@@ -18,7 +18,7 @@ from .connection import Client, Refusal, start
 from .gateway_words import policy_at
 from .module_text import OFFERED, Module, main_of
 from .planning import changes_of, needed
-from .policy_file import BadPolicy, KindsOf, Policy, Wish, read_file
+from .policy_file import NOT_NAMED, BadPolicy, Interfaces, Policy, Wish, read_file
 from .pruning import candidates, check_terminal, exact, is_agreed, names_of, prune
 from .programs import program_of
 from .sentences import Set, sentence
@@ -92,16 +92,19 @@ def module_beside(path: Union[str, "os.PathLike[str]"], name: str) -> Module:
     return main_of(read_text(pathlib.Path(path).parent / name, "the module text"))
 
 
-def kinds_beside(path: Union[str, "os.PathLike[str]"]) -> KindsOf:
-    """What tells the signals of the texts that a policy file names."""
-    return lambda name: module_beside(path, name).kinds()
+def texts_beside(path: Union[str, "os.PathLike[str]"]) -> Interfaces:
+    """The interfaces of the texts that a policy file names."""
+    return Interfaces(
+        lambda _, name: module_beside(path, name).kinds() if name else None,
+        NOT_NAMED,
+    )
 
 
 def read_policy_file(path: Union[str, "os.PathLike[str]"]) -> Policy:
     """What a policy file asks for. Raises Failed where it is none, or can't be read."""
     text = read_text(pathlib.Path(path) if str(path) != "-" else "-", "the policy")
     try:
-        return read_file(text, kinds_beside(path))
+        return read_file(text, texts_beside(path))
     except BadPolicy as fault:
         raise Placed(f"{path}:{fault.line}: {fault.what}") from fault
 
@@ -110,7 +113,7 @@ def apply_file(client: Client, path: Union[str, "os.PathLike[str]"]) -> Applied:
     """Makes what a policy file asks for. Raises BadPolicy, OSError, and Failed where it has patterns
     over a text that can't be read.
     """
-    policy = read_file(pathlib.Path(path).read_text(encoding="utf-8"), kinds_beside(path))
+    policy = read_file(pathlib.Path(path).read_text(encoding="utf-8"), texts_beside(path))
     return apply_wishes(client, policy.wishes)
 
 
@@ -231,9 +234,9 @@ def known_policy(arguments: argparse.Namespace) -> Optional[Dict[str, Any]]:
 
 def tell_plan(policy: Policy, taken: List[Command], known: Optional[Dict[str, Any]]) -> None:
     """Tells what would be made and taken away, before a person is asked."""
-    commands = [wish.command for wish in policy.wishes]
-    for command in changes_of(commands, known)[0] if known else commands:
-        print(f"{'to make' if known else 'asked for'}: {text_of(command)}")
+    wishes = changes_of(policy.wishes, known)[0] if known else policy.wishes
+    for wish in wishes:
+        print(f"{'to make' if known else 'asked for'}: {text_of(wish.command)}")
     for command in taken if known else []:
         print(f"not asked for: {text_of(command)}")
 

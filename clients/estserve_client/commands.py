@@ -162,6 +162,8 @@ def add_shell(commands: Any) -> None:
     parser.add_argument(
         "--stop", action="store_true", help="end a script at the first line that is refused"
     )
+    help = "a policy file whose names of slots may stand for their numbers"
+    parser.add_argument("--names", metavar="POLICY", help=help)
     parser.set_defaults(act=doing("shell", "shell"))
 
 

@@ -9,20 +9,33 @@ from .command_table import OBJECT, OPERATIONS, SLOTS
 from .module_text import OFFERED
 from .toml_reader import BadPolicy, Table, tables_of
 
-KindsOf = Callable[[str], Dict[str, str]]  # the signals of a text, by its path, with their kinds
+Kinds = Dict[str, str]  # the signals of a text, with their kinds
+MOST_PERMISSIONS = 16_384  # permissions of a policy: 256 for each of 64 roles
+NOT_NAMED = "which the table modules doesn't name"
 TABLES = ("inherit", "assign", "permissions", "slots", "modules")
 __all__ = ["BadPolicy", "Policy", "Table", "Wish", "lists_of", "read_file", "tables_of"]
 
 
 @dataclasses.dataclass
+class Interfaces:
+    """What tells the signals that patterns mean: `kinds_of` those of a slot, whose text has this path
+    in the table modules, or None where it isn't named there; `lacking` says why it tells None.
+    """
+
+    kinds_of: Callable[[int, Optional[str]], Optional[Kinds]]
+    lacking: str
+
+
+@dataclasses.dataclass
 class Wish:
-    """One command that the file asks for, the line that it stands on, and the command that takes it
-    back, where it is not the usual one.
+    """One command that the file asks for, the line that it stands on, the command that takes it
+    back, where it is not the usual one, and the permission by a pattern that it is a part of.
     """
 
     line: int
     command: Dict[str, Any]
     back: Optional[Dict[str, Any]] = None
+    pattern: str = ""
 
 
 @dataclasses.dataclass
@@ -104,15 +117,15 @@ def fits(name: str, pattern: str) -> bool:
 
 
 class Patterns:
-    """What patterns as `door.*` are spread over: the texts that the file gives the slots."""
+    """What patterns as `door.*` are spread over: the interfaces of the slots."""
 
     def __init__(
         self,
         slots: Dict[str, int],
         modules: Dict[int, Tuple[int, str]],
-        kinds_of: Optional[KindsOf],
+        interfaces: Optional[Interfaces],
     ) -> None:
-        self.slots, self.modules, self.kinds_of = slots, modules, kinds_of
+        self.slots, self.modules, self.interfaces = slots, modules, interfaces
 
     def objects_of(self, operation: str, written: str, line: int) -> List[str]:
         """The objects of a permission: those that a pattern means, or the one that is written.
@@ -123,36 +136,48 @@ class Patterns:
         if "*" not in pattern or slot is None:
             check_object(operation, written, self.slots, line)
             return [object_of(written, self.slots)]
-        if slot not in self.modules:
-            told = f"{written} is spread over the text of {name}"
-            raise BadPolicy(line, f"{told}, which the table modules doesn't name")
-        if self.kinds_of is None:
-            raise BadPolicy(line, f"{written} is spread by `apply`, where the texts are")
-        kinds = self.kinds_of(self.modules[slot][1])
         found = [
             f"{slot}.{signal}"
-            for signal, kind in kinds.items()
+            for signal, kind in self.kinds(slot, written, line).items()
             if fits(signal, pattern) and (operation != "offer" or kind in OFFERED)
         ]
         if not found:
-            told = f"{self.modules[slot][1]} has no signal that {written} fits"
+            _, text = self.modules.get(slot, (0, f"slot {slot}"))
+            told = f"{text} has no signal that {written} fits"
             raise BadPolicy(line, told + (" and that can be offered" * (operation == "offer")))
         return found
+
+    def kinds(self, slot: int, written: str, line: int) -> Kinds:
+        """The signals of a slot. Raises BadPolicy where they are not known."""
+        path = self.modules[slot][1] if slot in self.modules else None
+        if self.interfaces is None and path is not None:
+            raise BadPolicy(line, f"{written} is spread by `apply`, where the texts are")
+        kinds = self.interfaces.kinds_of(slot, path) if self.interfaces else None
+        if kinds is None:
+            name = written.partition(".")[0]
+            lacking = self.interfaces.lacking if self.interfaces else NOT_NAMED
+            raise BadPolicy(line, f"{written} is spread over the text of {name}, {lacking}")
+        return kinds
 
 
 def permissions_of(table: Optional[Table], patterns: Patterns) -> Iterator[Wish]:
     """The grants of the permissions' table. Raises BadPolicy."""
-    spread = set()  # what patterns stand for, which is granted once
+    found = set()  # what stands for itself is granted as often as it stands there
     for role, written, line in lists_of(table):
         words = written.split()
         if len(words) != 2:
             told = f'"{written}" is no permission: an operation and an object, as "offer 0.A"'
             raise BadPolicy(line, told)
         operation, named = words
+        pattern = f"{operation} {named}" if "*" in named else ""
         for object in patterns.objects_of(operation, named, line):
-            if "*" not in named or (role, operation, object) not in spread:
-                yield Wish(line, {"cmd": "grant", "role": role, "op": operation, "object": object})
-            spread.add((role, operation, object))
+            if not pattern or (role, operation, object) not in found:
+                grant = {"cmd": "grant", "role": role, "op": operation, "object": object}
+                yield Wish(line, grant, pattern=pattern)
+            found.add((role, operation, object))
+        if len(found) > MOST_PERMISSIONS:
+            told = f"up to here there are over {MOST_PERMISSIONS:,} permissions"
+            raise BadPolicy(line, f"{told}: a policy has no room for so many")
 
 
 def modules_of(table: Optional[Table], slots: Dict[str, int]) -> Dict[int, Tuple[int, str]]:
@@ -195,9 +220,9 @@ def check_names(tables: Dict[str, Table]) -> None:
             raise BadPolicy(line, asking(told, meant(key, ("users", "roles"))))
 
 
-def read_file(text: str, kinds_of: Optional[KindsOf] = None) -> Policy:
-    """What a policy file asks for. Patterns are spread over the signals that `kinds_of` tells of a
-    slot's text. Raises BadPolicy, and what `kinds_of` raises.
+def read_file(text: str, interfaces: Optional[Interfaces] = None) -> Policy:
+    """What a policy file asks for. Patterns are spread over these interfaces. Raises BadPolicy, and
+    what `kinds_of` raises.
     """
     tables = tables_of(text)
     check_names(tables)
@@ -216,7 +241,7 @@ def read_file(text: str, kinds_of: Optional[KindsOf] = None) -> Policy:
     for user, role, line in lists_of(tables.get("assign")):
         wishes.append(Wish(line, {"cmd": "assign", "user": user, "role": role}))
     modules = modules_of(tables.get("modules"), slots)
-    patterns = Patterns(slots, modules, kinds_of)
+    patterns = Patterns(slots, modules, interfaces)
     wishes += permissions_of(tables.get("permissions"), patterns)
     return Policy(wishes, modules)
 

@@ -89,8 +89,8 @@ def exact(policy: Policy, known: Dict[str, Any]) -> List[Command]:
     there.
     """
     wanted = wanted_of(policy)
-    sets, users = names_of([policy], "name"), ["root", *names_of([policy], "user")]
-    roles = ["root", *names_of([policy], "role", "senior", "junior")]
+    sets, users = set(names_of([policy], "name")), {"root", *names_of([policy], "user")}
+    roles = {"root", *names_of([policy], "role", "senior", "junior")}
     there = {
         "revoke": [entry for entry in known["granted"] if tuple(entry) not in wanted],
         "deassign": [entry for entry in known["assigned"] if tuple(entry) not in wanted],

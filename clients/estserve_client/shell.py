@@ -38,6 +38,7 @@ from .shell_words import (
     number_of,
     without_comment,
 )
+from .slot_names import names_of, numbered
 from .stuck_chains import chain_lines
 from .texts import Failed, Placed, read_library
 
@@ -65,6 +66,7 @@ class Shell(cmd.Cmd):
         super().__init__()
         self.client, self.is_typed, self.stops = client, is_typed, stops
         self.slot = 0  # that of `use`
+        self.names: Dict[str, int] = {}  # of slots, for their numbers
         self.modules: Dict[
             int, Module
         ] = {}  # the module that runs in a slot, as far as it is known here
@@ -80,7 +82,8 @@ class Shell(cmd.Cmd):
 
     def set_prompt(self, user: str) -> None:
         self.user = user
-        slot = f" {self.slot}" if self.slot else ""
+        named = [name for name, slot in self.names.items() if slot == self.slot]
+        slot = f" {(named or [str(self.slot)])[0]}" if named or self.slot else ""
         self.prompt = f"{user}{slot}> " if self.is_typed else ""
 
     # One line.
@@ -92,7 +95,7 @@ class Shell(cmd.Cmd):
         try:
             if ";" in written:
                 return self.make_instants(written)
-            return bool(super().onecmd(written))
+            return bool(super().onecmd(numbered(written, self.help_of, self.names)))
         except Refusal as refusal:
             return self.tell_wrong("\n".join(self.refusal_lines(refusal)))
         except Placed as fault:
@@ -241,6 +244,7 @@ class Shell(cmd.Cmd):
         if not self.help_of(line.split()[0]):
             return sorted(name + " " for name in self.inputs_here() if name.startswith(text))
         name, *before = line[:begin].split()
+        before = [str(self.names.get(word, word)) for word in before]
         asked = self.help_of(name).partition(":")[0].split()[1:]
         if not asked:
             return []
@@ -257,7 +261,7 @@ class Shell(cmd.Cmd):
 
     def words_for(self, key: str, before: List[str], text: str) -> Iterable[str]:
         """The words that may stand for a key of a command, after the words before it."""
-        slots = [str(slot) for slot in self.modules or range(SLOTS)]
+        slots = [*self.names, *(str(slot) for slot in self.modules or range(SLOTS))]
         if key == "file":
             return glob.glob(glob.escape(text) + "*")
         if key == "op":
@@ -265,10 +269,12 @@ class Shell(cmd.Cmd):
         if key == "slot":
             return slots
         if key == "object":
-            pairs = [
-                (slot, name) for slot, module in self.modules.items() for name in module.kinds()
+            known = {str(slot): module for slot, module in self.modules.items()}
+            called = {slot: known.get(str(self.names.get(slot, slot))) for slot in slots}
+            of_signals = [
+                f"{slot}.{name}" for slot, one in called.items() if one for name in one.kinds()
             ]
-            return ["policy", *slots, *[f"{slot}.{name}" for slot, name in pairs]]
+            return ["policy", *slots, *of_signals]
         if key == "signal":
             known = {str(slot): module for slot, module in self.modules.items()}
             return known[before[0]].inputs() if before[:1] and before[0] in known else []
@@ -330,6 +336,18 @@ class Shell(cmd.Cmd):
         self.slot = slot
         self.set_prompt(self.user)
         print(f"slot {slot}")
+
+    def do_names(self, line: str) -> None:
+        """names [FILE]: takes the names of slots that a policy file gives; they stand for numbers"""
+        if line:
+            self.take_names(names_of(keys_of(("file",), line)["file"]))
+        told = [f"{name} is slot {slot}" for name, slot in self.names.items()]
+        print("\n".join(told) or "no slot has a name")
+
+    def take_names(self, names: Dict[str, int]) -> None:
+        """Has these names stand for slots."""
+        self.names = names
+        self.set_prompt(self.user)
 
     def module_of(self, line: str) -> Tuple[int, LibraryText, Module]:
         """The slot, the text and the module that a line names. Raises Usage, Failed."""
@@ -468,14 +486,16 @@ def talk(dialogue: Shell, client: Client) -> None:
 
 def shell(arguments: argparse.Namespace) -> int:
     """A dialogue as the user that the arguments name, until the end of standard input. Answers the
-    status: 1 where a line of a script was refused. Raises Refusal, Disconnected, NotText.
+    status: 1 where a line of a script was refused. Raises Failed, Refusal, Disconnected, NotText.
     """
     is_typed = sys.stdin.isatty()
+    names = names_of(arguments.names) if arguments.names else {}
     lines = keeping_history() if is_typed else contextlib.nullcontext()
     with lines, session_of(arguments) as (client, answer):
         roles = " ".join(roles_of(arguments)) or "no role"
         told = f"session {answer['session']} of {arguments.user}, with {roles}"
         print(f"{told}; help lists the commands")
         dialogue = Shell(client, arguments.user, is_typed, arguments.stop)
+        dialogue.take_names(names)
         talk(dialogue, client)
     return int(bool(dialogue.refused and not is_typed))

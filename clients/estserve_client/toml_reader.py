@@ -19,6 +19,7 @@ PAIR = re.compile(rf"({KEY})[ \t]*=[ \t]*")
 STRING = re.compile(rf'"([^"\\{CONTROL}]*)"')
 NUMBER = re.compile(r"0|[1-9][0-9]{0,18}(?![0-9])")
 LEADING = re.compile(r"0[0-9]")
+MOST_PARTS = 8  # of a table's name: what each stands in is kept
 OF_A_LIST = "a list has strings in double quotes, with commas between them"
 Path = Tuple[str, ...]
 
@@ -95,6 +96,8 @@ class Reader:
 
     def begin(self, path: Path, line: int) -> None:
         """Begins the table of this name."""
+        if len(path) > MOST_PARTS:
+            raise BadPolicy(line, f"the name of a table has at most {MOST_PARTS} parts here")
         name = ".".join(path)
         if name in self.tables:
             raise BadPolicy(line, f"the table {name} stands twice")

@@ -72,13 +72,15 @@ class Trial:
         return time.monotonic() > self.until
 
     def load(self) -> None:
-        """Loads the text. Raises Refusal, TooLong, NotText."""
-        client = self.client
+        """Loads the text, and then lets all of it be driven and seen: a text may name thousands of
+        signals, and one that is loaded has few. Raises Refusal, TooLong, NotText.
+        """
+        to_load, *others = grants_of(self.module)
         load = {"cmd": "load", "slot": 0, "main": self.module.name, "text": self.text}
-        commands = [LOGIN, *grants_of(self.module), load]
-        answers = client.ask_all(commands)
-        if "code" in answers[-1]:
-            raise Refusal(answers[-1], load)
+        *_, answer = self.client.ask_all([LOGIN, to_load, load])
+        if "code" in answer:
+            raise Refusal(answer, load)
+        self.client.ask_all(others)
 
     def run(self, inputs: Names) -> Told:
         """The rows of the instants, and what is said of the one that was refused."""

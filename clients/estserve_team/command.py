@@ -25,7 +25,7 @@ from .log import fill_standard_streams, forward_all, write_now
 from .loop import Policy
 from .page_process import PageProcess
 from .people import People, peer_uid, read_people
-from .places import Failed, Places, add_state, bind_socket
+from .places import Failed, Places, add_state, bind_socket, read_plain_file
 from .reads.client import add_words
 from .record import place_of
 from .sessions import MOST_SENDS
@@ -35,6 +35,8 @@ from .visiting.page_client import PageClient
 from .watchdog import Watchdog, raise_descriptors
 from .web import serving
 from .web.options import Bad, Options, add_options, read_options
+
+PEOPLE_BYTES = 1 << 20  # of the file of people
 
 
 def add_parser(subparsers: Any) -> None:
@@ -94,7 +96,7 @@ def people_of(path: pathlib.Path) -> People:
     from estserve_client.policy_file import BadPolicy
 
     try:
-        return People(read_people(path.read_text(encoding="utf-8")))
+        return People(read_people(read_plain_file(path, PEOPLE_BYTES)))
     except (OSError, UnicodeDecodeError, BadPolicy) as fault:
         raise Failed(f"{path}: {fault}") from fault
 

@@ -6,7 +6,7 @@ from .counts import health
 from .lines import Request, request_of
 from .order import Asked
 from .reads.rights import Rights
-from .reads.slot_model import SLOTS
+from .reads.slot_model import JOURNAL, SLOTS, Slot
 from .refusals import failed, interrupted, not_a_word, not_allowed
 from .sessions import set_result
 from .words import Context, Word
@@ -98,6 +98,7 @@ async def retract(context: Context, keys: Dict[str, Any]) -> Dict[str, Any]:
         if name not in pending:
             raise failed(f"{name} is not pending in slot {slot}")
         await need_offers(context, slot, name, others)
+        need_room(gateway.reads.slots[slot], others)
         return await carry_out(context, slot, others)
     except asyncio.TimeoutError:
         raise failed("others use the slot too much; ask again") from None
@@ -131,6 +132,13 @@ async def need_offers(context: Context, slot: int, name: str, others: List[str])
             is_seen = await rights.may("observe", f"{slot}.{other}")
             which = f"{slot}.{other}" if is_seen else "each of the others"
             raise not_allowed(f"retract needs offer on {which}")
+
+
+def need_room(slot: Slot, others: List[str]) -> None:
+    """Raises Refused, where the slot's journal has no room for all of the block: then others would
+    lose their offers."""
+    if slot.entries + 1 + len(others) > JOURNAL:
+        raise failed(f"the journal of slot {slot.number} has no room for making the others again")
 
 
 async def carry_out(context: Context, slot: int, others: List[str]) -> Dict[str, Any]:

@@ -33,6 +33,7 @@ from estserve_client.texts import Failed as Failed  # also for the other modules
 PATH_BYTES = 107  # the longest path of a Unix socket
 LIST_NAME = "children"
 PAGE_SOCKET = "page.sock"
+JSON_BYTES = 1 << 26  # of a file of the gateway's own
 END_SECONDS = 10  # in this time a process that was killed is gone
 LEAVE_SECONDS = 2  # after this time it is left to the system
 SET_PARENT_DEATH_SIGNAL = 1
@@ -195,19 +196,29 @@ def end_child(child: subprocess.Popen[Any]) -> None:
         child.wait(LEAVE_SECONDS)
 
 
-def read_json(path: pathlib.Path) -> Any:
-    """What a file of the gateway's own holds. Raises OSError, where there is no plain file, and
-    ValueError."""
-    descriptor = os.open(path, os.O_RDONLY | os.O_NOFOLLOW | os.O_NONBLOCK | os.O_CLOEXEC)
+def read_plain_file(path: pathlib.Path, most: int, more_flags: int = 0) -> str:
+    """The text of a plain file of at most so many bytes: a pipe or a device could hold up the
+    gateway. Raises OSError, where there is none, and ValueError."""
+    descriptor = os.open(path, os.O_RDONLY | os.O_NONBLOCK | os.O_CLOEXEC | more_flags)
     try:
         if not stat.S_ISREG(os.fstat(descriptor).st_mode):
             raise OSError("it is no plain file")
-        with open(descriptor, encoding="utf-8", closefd=False) as file:
-            return json.load(file)
-    except RecursionError:
-        raise ValueError("it is nested too deep") from None
+        with open(descriptor, "rb", closefd=False) as file:
+            data = file.read(most + 1)
     finally:
         os.close(descriptor)
+    if len(data) > most:
+        raise OSError(f"it has more than {most:,} bytes")
+    return data.decode()
+
+
+def read_json(path: pathlib.Path) -> Any:
+    """What a file of the gateway's own holds. Raises OSError, where there is no plain file, and
+    ValueError."""
+    try:
+        return json.loads(read_plain_file(path, JSON_BYTES, os.O_NOFOLLOW))
+    except RecursionError:
+        raise ValueError("it is nested too deep") from None
 
 
 def write_json(path: pathlib.Path, value: Any) -> None:

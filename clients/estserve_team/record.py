@@ -10,6 +10,7 @@ in one transaction, by `flush`.
 import contextlib
 import heapq
 import json
+import math
 import os
 import pathlib
 import secrets
@@ -28,6 +29,7 @@ FORMAT = "2"
 FORMAT_OF_BEFORE = "1"  # without hashes
 LOCKED_SECONDS = 1.0  # so long a write waits for another process to end its own
 KEPT_ANSWERS = 10_000  # that an archive takes over, to requests with an id
+UNDO = "undo of "  # begins the reason of what an undo has put aside, before a place
 FETCHED = 500  # rows of one part of the record at a time
 
 SCHEMA = """
@@ -143,6 +145,7 @@ INSERT_ENTRY = f"INSERT INTO entries VALUES ({','.join('?' * len(Entry._fields))
 INSERT_CONNECTION = "INSERT INTO connections VALUES (?,?,?,?,?)"
 INSERT_GIVENUP = "INSERT INTO givenup VALUES (?,?,?,?,?,NULL)"
 COLUMNS = ", ".join(Entry._fields)
+ANSWERS = "SELECT person, request_id, request, reply, time"
 REST = (
     "SELECT * FROM facts ORDER BY name",
     "SELECT * FROM programs ORDER BY number",
@@ -396,13 +399,14 @@ class RecordWriter:
         """Takes over the answers to requests with an id from the record before, the newest ones.
         Raises Failed."""
         with open_reader(old) as database:
-            tables = ["SELECT person, request_id, request, reply, time FROM entries"]
-            if has_table(database, "kept_answers"):
-                tables.append("SELECT person, request_id, request, reply, time FROM kept_answers")
             rows = database.execute(
-                f"SELECT * FROM ({' UNION ALL '.join(tables)}) WHERE request_id IS NOT NULL "
-                f"ORDER BY time DESC LIMIT {KEPT_ANSWERS}"
+                f"{ANSWERS} FROM entries WHERE request_id IS NOT NULL "
+                f"ORDER BY number DESC LIMIT {KEPT_ANSWERS}"
             ).fetchall()
+            if has_table(database, "kept_answers"):  # which has the newest first
+                rows += database.execute(
+                    f"{ANSWERS} FROM kept_answers ORDER BY rowid LIMIT {KEPT_ANSWERS - len(rows)}"
+                ).fetchall()
         with self.changing_rest() as database:
             database.executemany("INSERT OR IGNORE INTO kept_answers VALUES (?,?,?,?,?)", rows)
 
@@ -436,39 +440,29 @@ class RecordWriter:
         ).fetchone()
         if row is None:
             raise Failed(f"the record has no entry {place}")
-        cut = {"version": row[0], "slot": place.slot, "place": place.place}
-        later = (
-            "version > :version OR version = :version "
-            "AND (slot > :slot OR slot = :slot AND place >= :place)"
-        )
+        cut = Cut(row[0], *place)
         with self.changing_rest() as database:
-            now = time.time()
-            count = move_aside(database, later, cut, now, reason)
-            database.execute(
-                "UPDATE givenup SET aside_time = :time "
-                "WHERE aside_time IS NULL AND version >= :version",
-                {"version": row[0], "time": now},
-            )
-            return count
+            return put_later_aside(database, cut, stamp_after(database), reason)
 
     def bring_back(self) -> Tuple[int, int]:
         """Undoes the last `put_aside`: what was recorded since is put aside, and what was put aside
-        comes back. Answers how many of both. Raises Failed."""
+        comes back. Answers how many of both. Raises Failed.
+
+        What was recorded since stands where that stood, in the order of replay: no clock is asked.
+        """
         row = self._database.execute("SELECT max(aside_time) FROM aside").fetchone()
         if row[0] is None:
             raise Failed("nothing was put aside")
-        then, now = {"then": row[0]}, time.time()
+        then = {"then": row[0]}
         with self.changing_rest() as database:
-            aside = move_aside(database, "time > :then", then, now, "undo-until")
+            cut = cut_of(database, row[0])
+            stamp, reason = stamp_after(database), f"{UNDO}{Aside(cut.slot, cut.place)}"
+            aside = put_later_aside(database, cut, stamp, reason)
             columns = f"{COLUMNS}, hash"
             back = database.execute(
                 f"INSERT INTO entries SELECT {columns} FROM aside WHERE aside_time = :then", then
             ).rowcount
             database.execute("DELETE FROM aside WHERE aside_time = :then", then)
-            database.execute(
-                "UPDATE givenup SET aside_time = :now WHERE aside_time IS NULL AND time > :then",
-                {**then, "now": now},
-            )
             database.execute("UPDATE givenup SET aside_time = NULL WHERE aside_time = :then", then)
             check_places(database)
         return aside, back
@@ -594,17 +588,56 @@ def last_tip(database: sqlite3.Connection, record: str) -> Tip:
     return tip
 
 
-def move_aside(
-    database: sqlite3.Connection, which: str, values: Dict[str, Any], now: float, reason: str
-) -> int:
-    """Moves entries into the table `aside`. Answers how many."""
-    keys = {**values, "aside_time": now, "reason": reason}
+class Cut(NamedTuple):
+    """The first entry, in the order of replay, that is put aside."""
+
+    version: int
+    slot: int
+    place: int
+
+
+def stamp_after(database: sqlite3.Connection) -> float:
+    """What stands for the time at which something is put aside: it is later than that of all that
+    was put aside before, though the clock was set back."""
+    last = database.execute(
+        "SELECT max(aside_time) FROM (SELECT aside_time FROM aside "
+        "UNION ALL SELECT aside_time FROM givenup)"
+    ).fetchone()[0]
+    return time.time() if last is None else max(time.time(), math.nextafter(last, math.inf))
+
+
+def cut_of(database: sqlite3.Connection, stamp: float) -> Cut:
+    """Where that begins which was put aside under a stamp. What an undo has put aside begins where
+    that began which it brought back."""
+    *least, reason = database.execute(
+        "SELECT version, slot, place, aside_reason FROM aside WHERE aside_time = ? "
+        "ORDER BY version, slot, place LIMIT 1",
+        (stamp,),
+    ).fetchone()
+    begun = None
+    if reason.startswith(UNDO):
+        with contextlib.suppress(ValueError):
+            begun = database.execute(
+                "SELECT version, slot, place FROM entries WHERE slot = ? AND place = ?",
+                place_of(reason[len(UNDO) :]),
+            ).fetchone()
+    return min(Cut._make(least), Cut._make(begun or least))
+
+
+def put_later_aside(database: sqlite3.Connection, cut: Cut, stamp: float, reason: str) -> int:
+    """Moves the entries from a cut on into the table `aside`, and notes of the connections that were
+    given up since then that they are aside too. Answers how many entries."""
+    keys = {**cut._asdict(), "stamp": stamp, "reason": reason}
+    later = "(version, slot, place) >= (:version, :slot, :place)"
     database.execute(
-        f"INSERT INTO aside SELECT {COLUMNS}, hash, :aside_time, :reason "
-        f"FROM entries WHERE {which}",
+        f"INSERT INTO aside SELECT {COLUMNS}, hash, :stamp, :reason FROM entries WHERE {later}",
         keys,
     )
-    return database.execute(f"DELETE FROM entries WHERE {which}", values).rowcount
+    database.execute(
+        "UPDATE givenup SET aside_time = :stamp WHERE aside_time IS NULL AND version >= :version",
+        keys,
+    )
+    return database.execute(f"DELETE FROM entries WHERE {later}", keys).rowcount
 
 
 def check_places(database: sqlite3.Connection) -> None:

@@ -8,7 +8,7 @@ import unittest
 
 from support import EXAMPLES, ROOT
 
-from estserve_client.policy_file import TABLES, BadPolicy, fits, read_file
+from estserve_client.policy_file import TABLES, BadPolicy, Interfaces, fits, read_file
 from estserve_client.toml_reader import tables_of
 
 PAGE = ROOT / "docs" / "POLICY-FILE.md"
@@ -93,6 +93,7 @@ class Toml(unittest.TestCase):
             "a = 1\n[a]": 2,
             "[a.b]\n[a]\nb = 1": 3,
             "[[users]]": 1,
+            f"\n[{'a.' * 200_000}a]": 2,  # which took the memory of its square
         }
         for text, line in wrong.items():
             with self.subTest(text), self.assertRaises(BadPolicy) as raised:
@@ -118,6 +119,17 @@ class Toml(unittest.TestCase):
             with self.subTest(text), self.assertRaises(BadPolicy) as raised:
                 read_file(text)
             self.assertTrue(str(raised.exception).endswith(told), str(raised.exception))
+
+    def test_patterns_stand_for_no_more_than_a_policy_has_room_for(self):
+        kinds = {f"A{at}": "input" for at in range(128)}
+        of_any = Interfaces(lambda slot, _: kinds, "")
+        lines = [f'r{at} = ["offer {at % 16}.*", "observe {at % 16}.*"]' for at in range(64)]
+        wishes = read_file("[permissions]\n" + "\n".join(lines), of_any).wishes
+        self.assertEqual(len(wishes), 64 * 256)
+        with self.assertRaisesRegex(
+            BadPolicy, "line 66: .* over 16,384 permissions: a policy has no"
+        ):
+            read_file("[permissions]\n" + "\n".join([*lines, 's = ["offer 0.*"]']), of_any)
 
     def test_names_that_a_pattern_means(self):
         for pattern, name, is_meant in (

@@ -1,14 +1,18 @@
 """What is tried before it is done: texts on a program of their own, policy files beside a policy."""
 import os
 import unittest
+import unittest.mock
 
 from support import EXAMPLES, needs_program
 
+from estserve_client.connection import Client
 from estserve_client.planning import plan
 from estserve_client.trying_out import INSTANTS, try_text
 
+ASK_ALL = Client.ask_all
 TEXT = "module T:\ninput A, B;\noutput O;\nevery A do emit O end\nend module\n"
 TOML = (EXAMPLES / "team" / "team.toml").read_text()
+TEAM = {0: {"A": "input", "B": "input", "R": "input", "O": "output"}}  # what runs, by its slot
 KNOWN = {
     "users": ["root", "ann"],
     "roles": ["root", "driver", "old"],
@@ -38,6 +42,14 @@ class TextTest(unittest.TestCase):
         self.assertEqual([(one["line"], one["column"]) for one in found["marks"]], [(4, 9)])
         self.assertEqual(found["remedies"], ["did you mean `do`?"])
 
+    def test_a_text_with_too_many_signals_is_asked_about_once(self):
+        names = ",".join(f"I{at}" for at in range(300))
+        with unittest.mock.patch.object(Client, "ask_all", autospec=True) as asked:
+            asked.side_effect = ASK_ALL
+            told = trial(f"module M: input {names}; halt end module")
+        self.assertEqual(told["diagnosis"]["fault"], "TooLarge")
+        self.assertEqual([len(call.args[1]) for call in asked.call_args_list], [3])
+
     def test_an_instant_that_is_refused(self):
         told = trial(
             "module P: input A; output X; await A; present X else emit X end end module",
@@ -63,7 +75,7 @@ class TextTest(unittest.TestCase):
 
 class PlanTest(unittest.TestCase):
     def test_what_is_added_taken_and_there(self):
-        told = plan(TOML, KNOWN)
+        told = plan(TOML, KNOWN, TEAM)
         added = [tuple(command.values()) for command in told["add"]]
         self.assertNotIn(("adduser", "ann"), added)
         self.assertIn(("adduser", "bob"), added)
@@ -82,10 +94,30 @@ class PlanTest(unittest.TestCase):
         )
         self.assertEqual(told["there"], 3)
 
+    def test_patterns_are_spread_over_the_slots_that_one_may_see(self):
+        slots = {0: {"A": "input", "B": "input", "M": "inout", "O": "output"}}
+        text = (
+            '[slots]\ndoor = 0\n[permissions]\ndriver = ["offer door.*", "observe 0.*", "step 0"]\n'
+        )
+        told = plan(text, KNOWN, slots)
+        self.assertEqual(
+            [(one["op"], one["object"]) for one in told["add"]],
+            [("offer", "0.B"), ("offer", "0.M"), *[("observe", f"0.{name}") for name in "ABMO"]]
+            + [("step", "0")],
+        )
+        wanted = [*["offer door.*"] * 2, *["observe 0.*"] * 4, ""]
+        self.assertEqual((told["patterns"], told["there"]), (wanted, 1))
+        for wrong, why in (
+            ("observe 1.*", "1.* is spread over the text of 1, of which you may see nothing"),
+            ("offer door.O*", "slot 0 has no signal that door.O* fits and that can be offered"),
+        ):
+            told = plan(f'[slots]\ndoor = 0\n[permissions]\ndriver = ["{wrong}"]\n', KNOWN, slots)
+            self.assertEqual(told, {"fault": why, "line": 4})
+
     def test_a_file_that_is_none(self):
-        self.assertEqual(plan('users = ["a"\n', KNOWN)["line"], 1)
-        self.assertIn("there is no table", plan("[permisions]\n", KNOWN)["fault"])
-        self.assertIn("fault", plan(None, KNOWN))
+        self.assertEqual(plan('users = ["a"\n', KNOWN, {})["line"], 1)
+        self.assertIn("there is no table", plan("[permisions]\n", KNOWN, {})["fault"])
+        self.assertIn("fault", plan(None, KNOWN, {}))
 
 
 if __name__ == "__main__":

@@ -93,6 +93,22 @@ const tests = {
     assert.equal(fold(all.slice(1), slots).length, 3, "a part of it stays as it is");
   },
 
+  async "commands of one pattern are shown as one"() {
+    const { folded } = await load("patterns.js");
+    const grant = (role, object) => ({ cmd: "grant", role, op: "observe", object });
+    const commands = [
+      { cmd: "addrole", role: "r" }, grant("r", "0.A"), grant("r", "0.B"), grant("s", "0.A"),
+      grant("s", "0.B"), grant("s", "3.A"), grant("s", "7.A"),
+    ];
+    const [all, one] = ["observe door.*", "observe 3.*"];
+    const lines = folded(commands, ["", all, all, all, all, one, ""]);
+    assert.deepEqual(lines.map(({ words }) => words), [
+      "addrole r", "grant r observe door.*", "grant s observe door.*", "grant s observe 3.A",
+      "grant s observe 7.A",
+    ]);
+    assert.deepEqual(lines.flatMap((line) => line.commands), commands);
+  },
+
   async "a refusal goes when its cause does, and not before"() {
     const { isGone, watch } = await load("causes.js");
     const offer = { cmd: "offer", slot: 0, signal: "R" };

@@ -18,6 +18,10 @@ from teams import Team, line_of, login_line
 from test_places import AS_USER, NOBODY
 from visitors import Visitor, visitor_of
 from estserve_client.connection import Disconnected
+from estserve_team.command import PEOPLE_BYTES
+from estserve_team.overseeing import need_room
+from estserve_team.reads.slot_model import JOURNAL, Slot
+from estserve_team.refusals import Refused
 
 SAMPLE = re.compile(r'estserve_team_[a-z_]+(?:\{[a-z]+="[^"]*"\})? [0-9.e+-]+')
 TOLD = re.compile(r"# (?:HELP|TYPE) estserve_team_[a-z_]+ .+")
@@ -200,6 +204,23 @@ class Ended(unittest.TestCase):
             with team.talker() as talker:
                 self.assertIn(b"NotYou", talker.ask(login_line("ann", [])))
 
+    def test_a_file_of_people_that_is_none_stops_nobody(self):
+        with Team(people=f'[people]\nroot = ["{teams.ME}"]\n') as team:
+            path = pathlib.Path(team.command()[-1])
+            plants = (os.mkfifo, os.mkdir, lambda path: os.symlink("/dev/zero", path))
+            for seen, plant in enumerate(plants, 1):
+                path.rmdir() if path.is_dir() else path.unlink()
+                plant(path)
+                team.process.send_signal(signal.SIGHUP)
+                teams.wait_for(lambda: team.told().count("stay as they were") == seen)
+                with team.root() as client:
+                    self.assertFalse(client.check("step", "0")["allowed"])
+            path.unlink()
+            path.write_bytes(b"#" * (PEOPLE_BYTES + 1))
+            team.process.send_signal(signal.SIGHUP)
+            teams.wait_for(lambda: "it has more than 1,048,576 bytes" in team.told())
+            path.unlink()
+
 
 MODULE = "module M: input A, B, C; output O; loop present A then emit O end; pause end end module"
 
@@ -231,6 +252,14 @@ class Retracted(unittest.TestCase):
             self.assertEqual(team.end(), 0)
             with Team(state=team.state) as again:
                 self.assertEqual(again.end(), 0)
+
+    def test_where_the_journal_has_no_room_for_the_others_none_is_taken_back(self):
+        slot = Slot(3)
+        slot.entries = JOURNAL - 3
+        need_room(slot, ["A", "B"])  # the last places of the journal
+        slot.entries += 1
+        with self.assertRaisesRegex(Refused, "1013"):
+            need_room(slot, ["A", "B"])
 
     def test_who_may_not_see_what_is_pending_is_not_told_by_it(self):
         with self.offered() as (team, client, words):

@@ -271,7 +271,7 @@ class PageTest(PageCase):
             self.one.wait_text("#pending", "Nothing pending")
         self.one.press("1")
         self.two.wait(lambda: "3 instants" in self.two.text("#facts"))
-        for width in (380, 700, 1200):
+        for width in (380, 800, 1200, 1920):
             for dark in (False, True):
                 self.one.use_device(width, 900, dark)
                 sizes = self.one.run("return [document.documentElement.scrollWidth, innerWidth]")

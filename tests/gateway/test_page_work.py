@@ -339,6 +339,11 @@ class WorkTest(PageCase):
         self.one.wait_text("#policy-changes", "revoke watcher observe 0.O")
         self.one.click("#policy-apply")
         self.one.wait_text("#policy-done", "2 of 2 changes done")
+        changed = changed.replace('"observe 0.B"', '"observe 0.*"')
+        self.one.run(fill, changed)
+        self.one.click("#policy-preview")
+        self.one.wait_text("#policy-changes summary", "grant watcher observe 0.* (2)")
+        self.one.wait_text("#policy-done", "2 changes")
         with self.team.root() as root:
             root.grant("watcher", "observe", "0.O")
             root.revoke("watcher", "observe", "0.B")

@@ -12,15 +12,19 @@ import subprocess
 import sys
 import tempfile
 import threading
+import time
 import unittest
+import unittest.mock
 
 import teams
 from teams import Team, line_of, login_line
 from test_replay import failed_start, filled
 from estserve_team.chain import BLOCKS_AT, SLOT_BYTES, Head, NotProven, first_hash, hash_of
 from estserve_team.chain import new_tip, slot_of, tip_of
+from estserve_team.places import Places
 from estserve_team.proving import check_record, prove
-from estserve_team.record import COLUMNS, Entry, open_reader
+from estserve_team.record import COLUMNS, Entry, open_reader, place_of
+from estserve_team.starting import put_aside
 
 BEFORE = pathlib.Path(__file__).with_name("data") / "record-of-before.sql"
 FLIPS = 60  # bits of the file that are changed, one at a time
@@ -474,6 +478,48 @@ class Kept(Record):
             self.assertEqual(client.addrole("since")["ok"], "addrole")
             self.assertEqual(team.end(), 0)
         self.assertTrue(self.is_proven())
+
+    def put_aside_tomorrow(self, place):
+        """Puts aside by a clock that is set back by a day afterwards."""
+        tomorrow = time.time() + 86_400
+        with unittest.mock.patch("estserve_team.record.time.time", lambda: tomorrow):
+            with Places(self.state) as places:
+                return put_aside(places, place_of(place))
+
+    def test_a_clock_that_is_set_back_ends_undo_until_nowhere_else(self):
+        before = entries_at(self.record)
+        for place in ("policy:12", "0:2"):  # a slot's entry, and all of the policy's after it
+            with self.subTest(place):
+                self.put_aside_tomorrow(place)
+                kept = entries_at(self.record)
+                with Team(state=self.state) as team, team.root() as client:
+                    client.addrole(f"since-{place[0]}")
+                    self.assertEqual(team.end(), 0)
+                since = entries_at(self.record)
+                self.assertEqual(since[: len(kept)], kept)
+                for entries in (before, since, before):  # it is undone, and that, and that
+                    status, told, fault = word(self.state, "undo-until")
+                    self.assertEqual(status, 0, fault)
+                    self.assertEqual(entries_at(self.record), entries)
+                    self.assertTrue(self.is_proven())
+                with Team(state=self.state) as team:  # it is replayed
+                    self.assertEqual(team.end(), 0)
+                self.assertEqual(word(self.state, "undo-until")[0], 0)
+                self.assertEqual(word(self.state, "undo-until")[0], 0)
+                self.assertEqual(entries_at(self.record), before)
+
+    def test_what_is_put_aside_twice_comes_back_the_last_first(self):
+        before = entries_at(self.record)
+        self.put_aside_tomorrow("policy:14")
+        between = entries_at(self.record)
+        with Places(self.state) as places:  # by a clock that was set back
+            put_aside(places, place_of("policy:12"))
+        for entries in (between, before):
+            self.assertEqual(word(self.state, "undo-until")[0], 0)
+            self.assertEqual(entries_at(self.record), entries)
+            self.assertTrue(self.is_proven())
+        status, _, fault = word(self.state, "undo-until")
+        self.assertEqual((status, "nothing was put aside" in fault), (1, True))
 
 
 class OfBefore(unittest.TestCase):

@@ -6,11 +6,12 @@ import os
 import pathlib
 import sys
 import tempfile
-import time
+import threading
 import unittest
 import unittest.mock
 
 sys.path.insert(0, str(pathlib.Path(__file__).resolve().parents[2] / "clients"))
+from estserve_client.trying_out import try_text  # noqa: E402
 from estserve_team.people import Person  # noqa: E402
 from estserve_team.reads import who  # noqa: E402
 from estserve_team.reads.printing import slots_lines  # noqa: E402
@@ -30,6 +31,9 @@ from estserve_team.web.options import Bad, Options, add_options, read_options  #
 from estserve_team.web.refusing import refusal_of, sentence_of  # noqa: E402
 from estserve_team.web.trials import Trials  # noqa: E402
 from estserve_team.words import Context  # noqa: E402
+
+
+WAIT_SECONDS = 60  # more than what is waited for takes on any machine
 
 
 class Clock:
@@ -284,22 +288,27 @@ class TriedSeat:
 
 class TrialsTest(unittest.TestCase):
     def test_one_who_tries_much_leaves_others_their_turns(self):
-        begun = []
+        """Ann's first trial lasts until Bob's has begun: if her others took his turn, it would not
+        begin."""
+        begun, bobs = [], threading.Event()
 
-        def try_text(program, text, main, inputs):
+        def try_it(program, text, *_):
             begun.append(text)
-            time.sleep(0.02)
-            return {}
+            if text == "bob":
+                bobs.set()
+            return {"came": bobs.wait(WAIT_SECONDS)}
 
         async def work():
             tried = Trials(None)
             asked = [tried.try_out(TriedSeat("ann"), {"text": "ann"}) for _ in range(8)]
-            await asyncio.gather(*asked, tried.try_out(TriedSeat("bob"), {"text": "bob"}))
+            return await asyncio.gather(*asked, tried.try_out(TriedSeat("bob"), {"text": "bob"}))
 
-        with unittest.mock.patch("estserve_team.web.trials.try_text", try_text):
-            asyncio.run(work())
-        self.assertEqual(len(begun), 9)
-        self.assertLess(begun.index("bob"), 3)
+        stand_in = unittest.mock.create_autospec(try_text, side_effect=try_it)
+        with unittest.mock.patch("estserve_team.web.trials.try_text", stand_in):
+            told = asyncio.run(work())
+        self.assertTrue(all(one["came"] for one in told))
+        self.assertEqual(sorted(begun), ["ann"] * 8 + ["bob"])
+        self.assertLess(begun.index("bob"), 2)
 
 
 class SentencesTest(unittest.TestCase):

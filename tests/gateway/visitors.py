@@ -197,11 +197,11 @@ def visitor_of(team: teams.Team, user: Optional[str] = None, *roles: str) -> Vis
 
 def set_up(team: teams.Team) -> None:
     """The policy and the controller of examples/team, in slot 0."""
-    from estserve_client.policy_file import read_policy
+    from estserve_client.applying import read_policy_file
 
     folder = teams.ROOT / "examples" / "team"
     with team.root() as client:
-        for wish in read_policy((folder / "team.toml").read_text()):
+        for wish in read_policy_file(folder / "team.toml").wishes:
             client.ask(**wish.command)
         client.load(0, "TEAM", (folder / "team.strl").read_text())
         client.logout()

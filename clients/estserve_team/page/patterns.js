@@ -1,5 +1,7 @@
 /** Permissions by patterns, as `observe washer.*`: spread over interfaces, and folded again. */
 
+import { commandWords } from "./outbox.js";
+
 /** The slots that a word names: a number, or the name of a main module that is loaded. */
 function slotsNamed(word, slots) {
   return slots.filter(({ slot, main }) => word === String(slot) || (main && word === main));
@@ -55,4 +57,24 @@ export function fold(permissions, slots) {
     folded.push({ operation, object: isWhole ? `${slot.slot}.*` : object, objects });
   }
   return folded;
+}
+
+/** Commands in words, those of one pattern as one: `patterns` has for each command the pattern that
+ * it is a part of, or an empty text. Each has its commands: `{ words, commands }`. */
+export function folded(commands, patterns) {
+  const lines = [];
+  let [last, before] = [null, ""];
+  commands.forEach((command, at) => {
+    const key = patterns[at] && `grant ${command.role} ${patterns[at]}`;
+    if (key && key === before) last.commands.push(command);
+    else {
+      last = { words: key || commandWords(command), commands: [command] };
+      lines.push(last);
+    }
+    before = key;
+  });
+  for (const line of lines) {
+    if (line.commands.length === 1) line.words = commandWords(line.commands[0]);
+  }
+  return lines;
 }

@@ -3,11 +3,22 @@
 import { askAll } from "./change_form.js";
 import { button, field, fill, make, say } from "./dom.js";
 import { commandWords } from "./outbox.js";
+import { folded } from "./patterns.js";
 import { policyText } from "./policy_text.js";
 import { saveText } from "./saving.js";
 import { refusalPlace, trying } from "./trying.js";
 
 const NOT_WHOLE = "You see a part of the policy alone (the rest needs administer or audit on policy).";
+
+/** A change in words; that of a pattern with the objects that it stands for. */
+function changeLine(kind, { words, commands }) {
+  if (commands.length === 1) return make("li", { class: kind }, words);
+  const objects = commands.map(({ object }) => object).join(" ");
+  return make(
+    "li", { class: kind },
+    make("details", {}, make("summary", {}, `${words} (${commands.length})`), make("small", {}, objects))
+  );
+}
 
 export class PolicyFileForm {
   constructor(connection) {
@@ -83,20 +94,20 @@ export class PolicyFileForm {
     const plan = await trying(this.told, () => this.connection.post("plan", words));
     if (plan?.fault) say(this.told, `line ${plan.line}: ${plan.fault}`);
     if (!plan || plan.fault) return;
-    this.plan = [
-      ...plan.add.map((command) => ["added", command]),
-      ...(this.prunes.checked ? plan.take.map((command) => ["taken", command]) : []),
-    ];
-    fill(this.changes, ...this.plan.map(
-      ([kind, command]) => make("li", { class: kind }, commandWords(command))
-    ));
+    this.plan = [...plan.add, ...(this.prunes.checked ? plan.take : [])];
+    fill(
+      this.changes, ...folded(plan.add, plan.patterns).map((one) => changeLine("added", one)),
+      ...(this.prunes.checked ? plan.take : []).map(
+        (command) => changeLine("taken", { words: commandWords(command), commands: [command] })
+      )
+    );
     const left = this.prunes.checked ? "" : `, ${plan.take.length} more than the file asks for`;
     say(this.done, `${this.plan.length} changes; ${plan.there} there already${left}`);
     this.apply.disabled = !this.plan.length || !this.policy.may_administer;
   }
 
   async carryOut() {
-    const commands = this.plan.map(([, command]) => command);
+    const commands = this.plan;
     this.apply.disabled = true;
     const { done, fault } = await askAll(this.connection, commands);
     this.forget();

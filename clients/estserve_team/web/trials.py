@@ -1,15 +1,18 @@
 """What the page tries before it is done: a text on a program of its own, a policy file beside the
 policy. Nothing of the team changes."""
 import asyncio
+import contextlib
 import functools
 import weakref
-from typing import Any, Awaitable, Callable, Dict, Optional
+from typing import Any, Awaitable, Callable, Dict, List, Optional
 
+from estserve_client.command_table import SLOTS
 from estserve_client.connection import Disconnected, Refusal, TimedOut
+from estserve_client.module_text import main_of
 from estserve_client.planning import plan as plan_of
 from estserve_client.trying_out import diagnosis_of, try_text
 
-from ..refusals import failed
+from ..refusals import Refused, failed
 
 AT_ONCE = 2  # programs that try texts, each for another person
 Told = Dict[str, Any]
@@ -25,9 +28,28 @@ async def diagnosis(answer: Told, command: Told) -> Told:
     return await apart(diagnosis_of, Refusal(answer, command))
 
 
+async def texts_of(seat: Any) -> List[Told]:
+    """The texts of the slots that one may see, and in which something runs. Raises Denied."""
+    found = []
+    for slot in range(SLOTS):
+        with contextlib.suppress(Refused):
+            told = await seat.ask("text", slot=slot)
+            found += [{"slot": slot, **told}] if told["main"] else []
+    return found
+
+
+def plan_over(toml: Any, known: Told, texts: List[Told]) -> Told:
+    """What a policy file would change, with its patterns spread over the interfaces of texts."""
+    interfaces = {one["slot"]: main_of(one["text"], one["main"]).kinds() for one in texts}
+    return plan_of(toml, known, interfaces)
+
+
 async def plan(seat: Any, body: Told) -> Told:
     """What a policy file would change. Raises Denied, Refused."""
-    return await apart(plan_of, body.get("toml"), await seat.word("policy"))
+    toml = body.get("toml")
+    has_pattern = isinstance(toml, str) and "*" in toml
+    texts = await texts_of(seat) if has_pattern else []
+    return await apart(plan_over, toml, await seat.word("policy"), texts)
 
 
 class Trials:

@@ -1,11 +1,9 @@
--- What the second engine answers is an outcome of the journal, and an accepted step keeps one.
-use Rattle.std.proofs.Common.{◌≡◌, ◌∙◌, ◌<◌, ℕ, false, List, sym, ap, subst, ⊎_elim, arith}
-use Rattle.std.specs.Prelude.{Some, is_some}
-use Rattle.std.proofs.lemmas.Bool.{false≢true}
+-- What the second engine answers is an outcome of the journal, and an accepted step keeps it and leaves its term.
+use Rattle.std.proofs.Common.{◌≡◌, ◌∙◌, ℕ, false, List, refl, sym, ap, subst, ⊎_elim, inl}
+use Rattle.std.specs.Prelude.{Some, None}
 use Rattle.std.proofs.lemmas.Option.{same_Some}
 use Rattle.refusal_rules.proofs.RuleLemmas.{first_or_none}
 use Rattle.est_kernel.specs.Bits.{bits}
-use Rattle.est_kernel.specs.Limits.{local_depth}
 use Rattle.est_kernel.specs.View.{term_of}
 use Rattle.est_kernel.specs.Interfaces.{offerable}
 use Rattle.est_kernel.specs.Term.{Term}
@@ -17,6 +15,7 @@ use Rattle.est_kernel.specs.declared.state.State.{State}
 use Rattle.est_kernel.specs.declared.state.Stuck.{Stuck}
 use Rattle.est_meaning.specs.Knowledge.{IsIn}
 use Rattle.est_meaning.specs.States.{state_term}
+use Rattle.est_left.proofs.Alike.{one_state}
 use Rattle.est_rounds.specs.Contract.{IsReaction, HasNoReaction}
 use Rattle.rbac_policy.specs.declared.commands.Entry.{Entry}
 use Rattle.reactor_core.specs.declared.entry.Action.{Action}
@@ -25,11 +24,13 @@ use Rattle.reactor_core.specs.declared.entry.Load.{Load as LoadEntry}
 use Rattle.reactor_core.specs.declared.entry.PastInstant.{PastInstant}
 use Rattle.reactor_core.specs.declared.entry.SlotEntry.{SlotEntry}
 use Rattle.reactor_core.specs.Loading.{GivenModule}
-use Rattle.reactor_core.specs.Meaning.{instant, entry, is_loaded, ModuleOf, Running, RunsAfter}
+use Rattle.reactor_core.specs.Meaning.{instant, entry, is_loaded, last_load, load_after, ModuleOf, Running}
+use Rattle.reactor_core.specs.Meaning.{RunsAfter, Leaves}
 use Rattle.reactor_core.specs.Left.{IsKernelOf, IsLeftOf}
 use Rattle.reactor_core.specs.Reacting.{ReactsWith, IsStuck}
 use Rattle.reactor_core.specs.Instants.{IsOutcome, HasNoOutcome}
-use Rattle.reactor_core.proofs.OneMeaning.{OneModule, same_outcome, not_both}
+use Rattle.reactor_core.proofs.OneMeaning.{OneModule, same_outcome, not_both, one_term}
+use Rattle.reactor_core.proofs.Steps.{after_snoc}
 use Rattle.access_core.specs.declared.refusal.Refusal.{Refusal}
 use Rattle.access_core.specs.declared.reply.Reply.{Reply}
 use Rattle.access_core.specs.declared.reply.Reply.TheVariants.{Refused}
@@ -37,9 +38,10 @@ use Rattle.access_core.specs.Answering.{IsRefused}
 use Rattle.access_core.specs.SlotStep.{SlotStep, slot_rules, Does, stamp_of}
 use Rattle.access_core.specs.Journals.{command_of}
 use Rattle.access_core.proofs.OneNaming.{same_mask}
-use Rattle.audit_report.specs.Inner.Asking.{GivesOutputs, KeepsOutputs, KeepsOthers}
+use Rattle.audit_report.specs.Inner.Asking.{Predicts, LeavesOther, Thinks, ThinksOfStep, Fails}
 use Rattle.audit_report.specs.Inner.Faults.{last_instant, KeepsInstant}
-use Rattle.audit_report.specs.declared.asked_again.TheConstants.{ASKED_LOCALS}
+use Rattle.audit_report.specs.declared.asked_again.Opinion.{Opinion}
+use Rattle.audit_report.specs.declared.asked_again.Opinion.TheVariants.{NotAsked, Other, SameOutputs, Same}
 use Rattle.audit_report.proofs.Replayed.{last_pushed}
 
 module _ (modules : OneModule) (journal : List SlotEntry) (k : Kernel) (x : State) (left : IsLeftOf journal k x)
@@ -89,30 +91,14 @@ module _ (modules : OneModule) (journal : List SlotEntry) (k : Kernel) (x : Stat
             (subst (λ (n : ℕ). IsStuck k.interface (state_term k.root x) n s.undecided) pending here);
       }
 
--- kernels of one journal nest local signals equally deep
-pub same_depth : OneModule → (journal : List SlotEntry) (k other : Kernel) → IsKernelOf journal k
-    → IsKernelOf journal other
-    → local_depth (term_of k.root) ≡ local_depth (term_of other.root)
-same_depth modules journal k other one two =
-    let load : one.load ≡ two.load = same_Some one.load two.load (sym one.last ∙ two.last) in
+-- kernels of one load begin as one term
+same_begin : OneModule → (before after : List SlotEntry) (k other : Kernel) → last_load before ≡ last_load after
+    → IsKernelOf before k → IsKernelOf after other → term_of k.root ≡ term_of other.root
+same_begin modules before after k other loads one two =
+    let load : one.load ≡ two.load = same_Some one.load two.load (sym one.last ∙ (loads ∙ two.last)) in
     let is : ModuleOf two.load one.given = subst (λ (l : LoadEntry). ModuleOf l one.given) load one.is in
     let same : one.given ≡ two.given = modules two.load one.given two.given is two.is in
-    ap local_depth (one.begins ∙ ap (λ (g : GivenModule). g.term) same ∙ sym two.begins)
-
--- where the second engine is not asked, nothing is said
-pub too_deep : OneModule → (journal : List SlotEntry) (k : Kernel) (outputs : ℕ) → IsKernelOf journal k
-    → ASKED_LOCALS < local_depth (term_of k.root) → GivesOutputs journal outputs
-too_deep modules journal k outputs here deep other is shallow =
-    absurd (omega (arith, deep, shallow, same_depth modules journal other k is here))
-
--- nor where no module runs
-pub nothing_runs : (journal : List SlotEntry) (a : Action) → is_loaded journal ≡ false → KeepsOutputs journal a
-nothing_runs journal (action.Load l) none = tt
-nothing_runs journal (action.Offer signal) none = tt
-nothing_runs journal action.Discard none = tt
-nothing_runs journal (action.Step i) none = λ k is shallow.
-    absurd (false≢true (sym none ∙ ap is_some is.last))
-nothing_runs journal action.Unload none = tt
+    one.begins ∙ ap (λ (g : GivenModule). g.term) same ∙ sym two.begins
 
 -- one outcome at most has these outputs
 pub other_outputs : OneModule → (journal : List SlotEntry) (a b : ℕ) (t : Term) → IsOutcome journal a t → ¬ (a ≡ b)
@@ -125,31 +111,76 @@ pub none_at_all : OneModule → (journal : List SlotEntry) (undecided b : ℕ) �
     → (next : Term) → IsOutcome journal b next → ⊥
 none_at_all modules journal undecided b none next other = not_both modules journal b next undecided other none
 
-module _ (judged : List Entry) (slot session : ℕ) (before : List SlotEntry) (reply : Reply)
+-- nothing is asked where no module runs
+pub nothing_runs : (journal : List SlotEntry) (a : Action) → is_loaded journal ≡ false → Thinks journal a NotAsked
+nothing_runs journal (action.Load l) none = refl
+nothing_runs journal (action.Offer signal) none = refl
+nothing_runs journal action.Discard none = refl
+nothing_runs journal (action.Step i) none = inl (none, refl)
+nothing_runs journal action.Unload none = refl
+
+-- an accepted step keeps this instant: it has an outcome with its outputs, whose term is left
+record KeepsOutcome (before : List SlotEntry) (i : PastInstant) (after : List SlotEntry) : Type 0 where
+  next : Term
+  outcome : IsOutcome before i.outputs next
+  leaves : Leaves after next
+  loads : last_load before ≡ last_load after
+
+module _ (modules : OneModule) (judged : List Entry) (slot session : ℕ) (before : List SlotEntry) (reply : Reply)
     (after : List SlotEntry) (not : (given : Refusal) → reply ≡ Refused given → ⊥) where
-  -- an accepted step keeps an outcome
   step_keeps : (i : PastInstant) → SlotStep judged slot session (command_of (action.Step i)) before reply after
-      → last_instant after ≡ Some i → (next : Term) × IsOutcome before i.outputs next
+      → last_instant after ≡ Some i → KeepsOutcome before i after
   step_keeps i h keeps =
       ⊎_elim
       (λ first. absurd (not first.0 first.2.replied))
       (λ passed.
       let adds = passed.1.adds in
       let done = instant adds.outcome.running.pending passed.1.outputs in
+      let added = entry (stamp_of judged session) (action.Step done) in
       let last : Some done ≡ Some i =
-      sym (last_pushed before (entry (stamp_of judged session) (action.Step done)))
-      ∙ ap last_instant (sym adds.appended) ∙ keeps in
+      sym (last_pushed before added) ∙ ap last_instant (sym adds.appended) ∙ keeps in
       let same : passed.1.outputs ≡ i.outputs = ap (λ (p : PastInstant). p.outputs) (same_Some done i last) in
-      (passed.1.next, subst (λ (n : ℕ). IsOutcome before n passed.1.next) same adds.outcome))
+      record {
+        next = passed.1.next;
+        outcome = subst (λ (n : ℕ). IsOutcome before n passed.1.next) same adds.outcome;
+        leaves = adds.leaves;
+        loads = sym (ap last_load adds.appended ∙ after_snoc load_after None before added);
+      })
       (first_or_none (slot_rules judged slot session (command_of (action.Step i)) before)
       (λ refusal. IsRefused refusal before reply after)
       (Does judged slot session (command_of (action.Step i)) before reply after) h)
 
-  -- so what keeps none is not kept
-  pub not_kept_here : (a : Action) → SlotStep judged slot session (command_of a) before reply after
-      → KeepsOthers before a → KeepsInstant after a → ⊥
-  not_kept_here (action.Load l) h none keeps = none
-  not_kept_here (action.Offer signal) h none keeps = none
-  not_kept_here action.Discard h none keeps = none
-  not_kept_here (action.Step i) h none keeps = let found = step_keeps i h keeps in none found.0 found.1
-  not_kept_here action.Unload h none keeps = none
+  -- the term that was told is left
+  left_as_told : (i : PastInstant) (next : State) → KeepsOutcome before i after → Predicts before i.outputs next
+      → LeavesOther after next → ⊥
+  left_as_told i next kept told other =
+      let term = state_term told.kernel.root next in
+      let a : term ≡ kept.next =
+      (same_outcome modules before i.outputs i.outputs term kept.next told.outcome kept.outcome).1 in
+      let b : state_term other.kernel.root other.state ≡ kept.next =
+      one_term modules after (state_term other.kernel.root other.state) kept.next other.left.leaves kept.leaves in
+      let begins : term_of told.kernel.root ≡ term_of other.kernel.root =
+      same_begin modules before after told.kernel other.kernel kept.loads told.is other.left.kernel in
+      let c : term ≡ state_term other.kernel.root next =
+      one_state told.kernel.root other.kernel.root next begins told.ordered other.ordered in
+      other.other (sym c ∙ (a ∙ sym b))
+
+  step_holds : (i : PastInstant) (o : Opinion) → KeepsOutcome before i after → ThinksOfStep before i.outputs o
+      → Fails after o → ⊥
+  step_holds i NotAsked kept thinks fails = fails
+  step_holds i Other kept thinks fails = thinks kept.next kept.outcome
+  step_holds i SameOutputs kept thinks fails = fails
+  step_holds i (Same next) kept thinks fails = left_as_told i next kept thinks fails
+
+  unasked : (o : Opinion) → o ≡ NotAsked → Fails after o → ⊥
+  unasked o none fails = subst (λ (p : Opinion). Fails after p) none fails
+
+  -- where an entry is kept, it is as the second engine has it
+  pub opinion_holds : (a : Action) (o : Opinion) → SlotStep judged slot session (command_of a) before reply after
+      → Thinks before a o → KeepsInstant after a → Fails after o → ⊥
+  opinion_holds (action.Load l) o h thinks keeps fails = unasked o thinks fails
+  opinion_holds (action.Offer signal) o h thinks keeps fails = unasked o thinks fails
+  opinion_holds action.Discard o h thinks keeps fails = unasked o thinks fails
+  opinion_holds (action.Step i) o h thinks keeps fails =
+      ⊎_elim (λ none. unasked o none.1 fails) (λ told. step_holds i o (step_keeps i h keeps) told fails) thinks
+  opinion_holds action.Unload o h thinks keeps fails = unasked o thinks fails

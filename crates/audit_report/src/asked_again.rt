@@ -1,17 +1,21 @@
-//! A second engine, asked for a step that was replayed.
+//! A second engine, asked for a step that is replayed.
 //!
 //! A step is replayed on the engine of its module, which may be the microstep engine. All engines
 //! keep one promise, so they cannot differ; `check` asks the plain engine beside it, which is far
-//! smaller.
+//! smaller. The outputs are compared, and the terms that the two next states leave.
 ghost use Rattle.std.specs.Prelude.{◌≡◌, IfOk, IfErr, true, false};
-ghost use Rattle.est_kernel.specs.Term.{Term};
 ghost use Rattle.est_kernel.specs.declared.kernel.Kernel.{Kernel as KernelValue};
+ghost use Rattle.est_meaning.specs.States.{state_term};
 ghost use Rattle.reactor_core.specs.Instants.{HasNoOutcome, IsOutcome};
-ghost use Rattle.audit_report.specs.Inner.Asking.{GivesOutputs, GivesOtherwise, KeepsOutputs};
-ghost use Rattle.audit_report.specs.Inner.Asking.{KeepsOthers};
+ghost use Rattle.reactor_core.specs.Left.{IsLeftOf};
+ghost use Rattle.audit_report.specs.Inner.Asking.{ThinksOfStep, Thinks, LeavesSame};
+ghost use Rattle.audit_report.specs.Inner.Asking.{LeavesOther, Holds, Fails};
 
 use access_core::slot::Slot;
-use est_kernel::state::Inputs;
+use est_kernel::kernel::Kernel;
+use est_kernel::state::{Inputs, Outcome, State};
+use est_left::order::is_in_order;
+use est_left::states::is_same_state;
 use est_rounds::engine::Engine;
 use reactor_core::entry::Action;
 use reactor_core::laws::one_module;
@@ -22,53 +26,108 @@ use reactor_core::reactor::Reactor;
 /// plain engine takes twice as long.
 const ASKED_LOCALS: u16 = 6;
 
-/// What this engine answers for the next instant of what runs: its outputs, or those that stay
-/// undecided.
-fn ask<E: Engine>(engine: &mut E, reactor: &Reactor) -> Result<u64, u64>
-    requires { (e : E) (kernel : KernelValue) → E.is_for e kernel }
-    ensures ok { IfOk result (λ outputs. (next : Term) × IsOutcome reactor.now outputs next) }
+/// What the second engine says of an action before it is replayed.
+#[derive(Clone, Copy)]
+pub(crate) enum Opinion {
+    /// It is not asked.
+    NotAsked,
+    /// It has no reaction, or one with other outputs than the action keeps.
+    Other,
+    /// It has one with these outputs. Its next state says nothing of the slot's.
+    SameOutputs,
+    /// It has one with these outputs, and then this state.
+    Same(State),
+}
+
+/// What this engine answers for the next instant of what is left to run: its outputs and its next
+/// state, or the outputs that stay undecided.
+fn ask<E: Engine>(
+    engine: &mut E,
+    reactor: &Reactor,
+    kernel: &Kernel,
+    state: &State,
+) -> Result<Outcome, u64>
+    requires engine { (e : E) (kernel : KernelValue) → E.is_for e kernel }
+    requires left { IsLeftOf reactor.now kernel.now state.now }
+    ensures ok { IfOk result (λ outcome. IsOutcome reactor.now outcome.outputs
+        (state_term kernel.now.root outcome.next)) }
     ensures err { IfErr result (HasNoOutcome reactor.now) }
 {
     one_module();
-    let (kernel, state) = reactor.state();
     let inputs = Inputs {
         signals: reactor.pending(),
     };
     match engine.react(kernel, state, &inputs) {
-        Ok(outcome) => Ok(outcome.outputs),
+        Ok(outcome) => Ok(outcome),
         Err(stuck) => Err(stuck.undecided),
     }
 }
 
-/// Whether this engine gives these outputs in the next instant of what runs. It is not asked where
-/// local signals nest too deep.
-fn gives_outputs<E: Engine>(engine: &mut E, reactor: &Reactor, outputs: u64) -> bool
+/// What this engine says of a step of what runs that keeps these outputs. It is not asked where
+/// local signals nest too deep. Where pauses are not numbered in text order, as in no module that
+/// is loaded, its next state says nothing.
+fn opinion_of_step<E: Engine>(engine: &mut E, reactor: &Reactor, outputs: u64) -> Opinion
     requires { (e : E) (kernel : KernelValue) → E.is_for e kernel }
-    ensures same { result ≡ true → GivesOutputs reactor.now outputs }
-    ensures other { result ≡ false → GivesOtherwise reactor.now outputs }
+    ensures { ThinksOfStep reactor.now outputs result }
 {
     one_module();
-    if nests_locals(reactor.kernel().root(), ASKED_LOCALS) {
-        return true;
+    let (kernel, state) = reactor.state();
+    if nests_locals(kernel.root(), ASKED_LOCALS) {
+        return Opinion::NotAsked;
     }
-    match ask(engine, reactor) {
-        Ok(given) => given == outputs,
-        Err(_) => false,
+    match ask(engine, reactor, kernel, state) {
+        Ok(outcome) => {
+            if outcome.outputs != outputs {
+                return Opinion::Other;
+            }
+            if is_in_order(kernel.root()) {
+                Opinion::Same(outcome.next)
+            } else {
+                Opinion::SameOutputs
+            }
+        }
+        Err(_) => Opinion::Other,
     }
 }
 
-/// Whether this engine gives the outputs that this action keeps, if it is a step of what runs in
-/// the slot.
-pub(crate) fn agrees<E: Engine>(engine: &mut E, slot: &Slot, action: &Action) -> bool
+/// What this engine says of an action, if it is a step of what runs in the slot.
+pub(crate) fn opinion_of<E: Engine>(engine: &mut E, slot: &Slot, action: &Action) -> Opinion
     requires { (e : E) (kernel : KernelValue) → E.is_for e kernel }
-    ensures same { result ≡ true → KeepsOutputs slot.now.journal action.now }
-    ensures other { result ≡ false → KeepsOthers slot.now.journal action.now }
+    ensures { Thinks slot.now.journal action.now result }
+{
+    let Some(reactor) = slot.reactor() else {
+        return Opinion::NotAsked;
+    };
+    match action {
+        Action::Step(stored) => opinion_of_step(engine, reactor, stored.outputs),
+        Action::Load(_) | Action::Offer(_) | Action::Discard | Action::Unload => {
+            Opinion::NotAsked
+        }
+    }
+}
+
+/// Whether what runs in the slot leaves the term that this state stands for.
+fn leaves(slot: &Slot, next: &State) -> bool
+    ensures same { result ≡ true → LeavesSame slot.now.journal next.now }
+    ensures other { result ≡ false → LeavesOther slot.now.journal next.now }
 {
     let Some(reactor) = slot.reactor() else {
         return true;
     };
-    match action {
-        Action::Step(stored) => gives_outputs(engine, reactor, stored.outputs),
-        Action::Load(_) | Action::Offer(_) | Action::Discard | Action::Unload => true,
+    let (kernel, state) = reactor.state();
+    !is_in_order(kernel.root()) || is_same_state(kernel.root(), next, state)
+}
+
+impl Opinion {
+    /// Whether the slot is, after the action, as the opinion has it.
+    pub(crate) fn holds_after(&self, slot: &Slot) -> bool
+        ensures same { result ≡ true → Holds slot.now.journal self.now }
+        ensures other { result ≡ false → Fails slot.now.journal self.now }
+    {
+        match self {
+            Opinion::NotAsked | Opinion::SameOutputs => true,
+            Opinion::Other => false,
+            Opinion::Same(next) => leaves(slot, next),
+        }
     }
 }

@@ -10,7 +10,7 @@ ghost use Rattle.audit_report.specs.Findings.{IsFirstOfSlot};
 ghost use Rattle.audit_report.specs.Inner.Faults.{last_instant, KeepsInstant, fault_of, Replays};
 ghost use Rattle.audit_report.specs.Inner.Faults.{finding_of};
 
-use crate::asked_again::agrees;
+use crate::asked_again::opinion_of;
 use crate::finding::Finding;
 use access_core::command::SlotCommand;
 use access_core::refusal::Refusal;
@@ -21,6 +21,7 @@ use rbac_policy::commands::{Entry, SessionId};
 use rbac_policy::objects::SlotNumber;
 use rbac_policy::policy::Policy;
 use reactor_core::entry::{Action, PastInstant, SlotEntry};
+use reactor_core::laws::one_module;
 use reactor_core::text::Text;
 use std::alloc::{AllocError, Global};
 
@@ -117,11 +118,13 @@ fn replay_entry<E: Engine>(
         return Err(Fault::Memory);
     };
     let session = SessionId::new(entry.stamp.session);
-    let agrees = agrees(engine, slot, &entry.action);
+    one_module();
+    let opinion = opinion_of(engine, slot, &entry.action);
     match decide_slot(policy, slot, session, command) {
         Reply::Refused(refusal) => Err(fault_of(&refusal)),
         _ => {
-            if agrees && keeps_instant(slot.journal().entries(), &entry.action) {
+            let holds = opinion.holds_after(slot);
+            if holds && keeps_instant(slot.journal().entries(), &entry.action) {
                 Ok(())
             } else {
                 Err(Fault::Reaction)

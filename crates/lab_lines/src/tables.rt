@@ -72,11 +72,7 @@ fn place(place: Option<usize>) -> Value
 }
 
 /// A row.
-fn row(
-    alloc: Global,
-    interface: &Interface,
-    row: &Row<Asked<Answer>>,
-) -> Result<Value, AllocError>
+fn row(alloc: Global, interface: &Interface, row: &Row<Asked<Answer>>) -> Result<Value, AllocError>
     ensures { IfOk result (λ v. view v ≡ row_json interface.now row.now) }
 {
     let asked = names(alloc, interface, row.label.asked)?;

@@ -104,7 +104,16 @@ pub fn answer_told(
     let mut plain = Rounds::new();
     let wanted = answer_by(rt, alloc, &mut plain, kernel, relations, among, claim, most);
     let mut engine = engine_of(rt, alloc, kernel);
-    let told = answer_by(rt, alloc, &mut engine, kernel, relations, among, claim, most);
+    let told = answer_by(
+        rt,
+        alloc,
+        &mut engine,
+        kernel,
+        relations,
+        among,
+        claim,
+        most,
+    );
     assert_eq!(rt; told.as_str(), wanted.as_str());
     told
 }

@@ -1,3 +1,4 @@
 pub mod Back
+pub mod Numbers
 pub mod Places
 pub mod Searching

@@ -1,15 +1,14 @@
 //! The search.
 ghost use Rattle.std.specs.Prelude.{◌≡◌, ◌<◌, ◌+◌, IfOk, OnOk, length};
 ghost use Rattle.std.specs.Bool.{MatchBool};
-ghost use Rattle.state_search.specs.Inner.Places.{Places};
+ghost use Rattle.state_search.specs.Inner.Places.{IsPlaced};
 ghost use Rattle.state_search.specs.Inner.Searching.{Adds, IsSearching};
 ghost use Rattle.state_search.specs.Table.{At, IsFound, HasEnded};
 
 use crate::found::{Found, Node, Row};
 use crate::machine::{Machine, Standing, Step};
-use crate::places::place_of;
+use crate::places::{Places, place_of};
 use std::alloc::{AllocError, Global};
-use std::collections::HashMap;
 
 /// How far a search goes: it stops once it has found more than this.
 #[derive(Clone, Copy)]
@@ -22,16 +21,16 @@ pub struct Limits {
 
 /// Adds a step of the state at a place as a row, and the state after it as a node if it is new.
 fn add_row<S: Standing, L: Copy + Drop>(
-    places: &mut HashMap<S, usize>,
+    places: &mut Places,
     nodes: &mut Vec<Node<S>>,
     rows: &mut Vec<Row<L>>,
     from: usize,
     depth: usize,
     step: Step<S, L>,
 ) -> Result<(), AllocError>
-    requires places { Places S.eq places.old nodes.old.items }
+    requires places { IsPlaced S.hash_input places.old nodes.old.items }
     requires depth { depth < length nodes.old.items }
-    ensures places { OnOk result (Places S.eq places.new nodes.new.items) }
+    ensures places { OnOk result (IsPlaced S.hash_input places.new nodes.new.items) }
     ensures adds { IfOk result (λ _.
         Adds nodes.old.items rows.old.items from depth step nodes.new.items rows.new.items) }
 {
@@ -60,18 +59,18 @@ fn expand<M: Machine>(
     machine: &M,
     scratch: &mut M::Scratch,
     most: usize,
-    places: &mut HashMap<M::State, usize>,
+    places: &mut Places,
     found: &mut Found<M::State, M::Label>,
     steps: &mut Vec<Step<M::State, M::Label>>,
 ) -> Result<bool, AllocError>
     requires fits { M.fits machine.now scratch.old }
-    requires places { Places M.State.eq places.old found.old.nodes.items }
+    requires places { IsPlaced M.State.hash_input places.old found.old.nodes.items }
     requires within { found.old.done < length found.old.nodes.items }
     requires search { IsSearching (M.is_state machine.now) (M.does machine.now)
         (M.covers machine.now)
         (M.apart machine.now) found.old.nodes.items found.old.rows.items found.old.done }
     ensures fits { M.fits machine.now scratch.new }
-    ensures places { OnOk result (Places M.State.eq places.new found.new.nodes.items) }
+    ensures places { OnOk result (IsPlaced M.State.hash_input places.new found.new.nodes.items) }
     ensures first { OnOk result ((x : M.State) → At found.old.nodes.items 0 x → At
         found.new.nodes.items 0 x) }
     ensures search { IfOk result (λ whole. MatchBool whole
@@ -128,7 +127,7 @@ pub fn search<M: Machine>(
         rows: Vec::new(alloc),
         done: 0,
     };
-    let mut places = HashMap::new(alloc);
+    let mut places = Places::new(alloc);
     let mut steps = Vec::new(alloc);
     let first = Node {
         state: start,

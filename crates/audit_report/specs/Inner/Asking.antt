@@ -1,38 +1,84 @@
--- What the second engine is asked of a step: private to the audit of a slot.
-use Rattle.std.specs.Prelude.{ℕ, ◌≤◌, List}
+-- What the second engine is asked of a step, and what is asked of the slot after it: private to the audit of a slot.
+use Rattle.std.specs.Prelude.{◌≡◌, ◌⊎◌, ◌<◌, ℕ, true, false, List}
 use Rattle.est_kernel.specs.Limits.{local_depth}
 use Rattle.est_kernel.specs.Term.{Term}
 use Rattle.est_kernel.specs.View.{term_of}
 use Rattle.est_kernel.specs.declared.kernel.Kernel.{Kernel}
+use Rattle.est_kernel.specs.declared.state.State.{State}
+use Rattle.est_left.specs.Orders.{are_in_order}
+use Rattle.est_meaning.specs.States.{state_term}
 use Rattle.reactor_core.specs.declared.entry.Action.{Action}
 use Rattle.reactor_core.specs.declared.entry.Action.TheVariants.{Load, Offer, Discard, Step, Unload}
 use Rattle.reactor_core.specs.declared.entry.SlotEntry.{SlotEntry}
 use Rattle.reactor_core.specs.Instants.{IsOutcome}
-use Rattle.reactor_core.specs.Left.{IsKernelOf}
+use Rattle.reactor_core.specs.Left.{IsKernelOf, IsLeftOf}
+use Rattle.reactor_core.specs.Meaning.{is_loaded}
+use Rattle.audit_report.specs.declared.asked_again.Opinion.{Opinion}
+use Rattle.audit_report.specs.declared.asked_again.Opinion.TheVariants.{NotAsked, Other, SameOutputs, Same}
 use Rattle.audit_report.specs.declared.asked_again.TheConstants.{ASKED_LOCALS}
 
--- if local signals of the running module nest at most `ASKED_LOCALS` deep: the next instant after these entries has an
--- outcome with these outputs
-abbrev pub GivesOutputs : List SlotEntry → (outputs : ℕ) → Type 0
-GivesOutputs journal outputs = (k : Kernel) → IsKernelOf journal k → local_depth (term_of k.root) ≤ ASKED_LOCALS
-    → (next : Term) × IsOutcome journal outputs next
+-- local signals of the running module nest more than `ASKED_LOCALS` deep
+pub record IsPassedOver (journal : List SlotEntry) : Type 0 where
+  pub kernel : Kernel
+  pub is : IsKernelOf journal kernel
+  pub passed : ASKED_LOCALS < local_depth (term_of kernel.root)
+
+-- the next instant after these entries has an outcome with these outputs, and leaves the term of this state of the
+-- running module's kernel
+pub record Predicts (journal : List SlotEntry) (outputs : ℕ) (next : State) : Type 0 where
+  pub kernel : Kernel
+  pub is : IsKernelOf journal kernel
+  pub ordered : are_in_order kernel.root 0 ≡ true
+  pub outcome : IsOutcome journal outputs (state_term kernel.root next)
 
 -- the next instant after these entries has no outcome with these outputs
 abbrev pub GivesOtherwise : List SlotEntry → (outputs : ℕ) → Type 0
 GivesOtherwise journal outputs = (next : Term) → IsOutcome journal outputs next → ⊥
 
--- where the action is a step, the next instant gives the outputs that it keeps, if the second engine is asked
-abbrev pub KeepsOutputs : List SlotEntry → Action → Type 0
-KeepsOutputs journal (Load l) = Unit {0}
-KeepsOutputs journal (Offer signal) = Unit {0}
-KeepsOutputs journal Discard = Unit {0}
-KeepsOutputs journal (Step i) = GivesOutputs journal i.outputs
-KeepsOutputs journal Unload = Unit {0}
+-- what the opinion of a step says that keeps these outputs
+abbrev pub ThinksOfStep : List SlotEntry → (outputs : ℕ) → Opinion → Type 0
+ThinksOfStep journal outputs NotAsked = IsPassedOver journal
+ThinksOfStep journal outputs Other = GivesOtherwise journal outputs
+ThinksOfStep journal outputs SameOutputs = (next : Term) × IsOutcome journal outputs next
+ThinksOfStep journal outputs (Same next) = Predicts journal outputs next
 
--- the action is a step, and the next instant doesn't give the outputs that it keeps
-abbrev pub KeepsOthers : List SlotEntry → Action → Type 0
-KeepsOthers journal (Load l) = ⊥
-KeepsOthers journal (Offer signal) = ⊥
-KeepsOthers journal Discard = ⊥
-KeepsOthers journal (Step i) = GivesOtherwise journal i.outputs
-KeepsOthers journal Unload = ⊥
+-- what the opinion of an action says: of each but a step nothing is asked, nor where nothing runs
+abbrev pub Thinks : List SlotEntry → Action → Opinion → Type 0
+Thinks journal (Load l) opinion = opinion ≡ NotAsked
+Thinks journal (Offer signal) opinion = opinion ≡ NotAsked
+Thinks journal Discard opinion = opinion ≡ NotAsked
+Thinks journal (Step i) opinion =
+    ((is_loaded journal ≡ false) × (opinion ≡ NotAsked)) ⊎ ThinksOfStep journal i.outputs opinion
+Thinks journal Unload opinion = opinion ≡ NotAsked
+
+-- the term of this state of the running module's kernel is left, if one runs and its pauses are numbered in text order
+pub record StandsFor (journal : List SlotEntry) (next : State) : Type 0 where
+  pub kernel : Kernel
+  pub state : State
+  pub left : IsLeftOf journal kernel state
+  pub same : are_in_order kernel.root 0 ≡ true → state_term kernel.root next ≡ state_term kernel.root state
+
+abbrev pub LeavesSame : List SlotEntry → (next : State) → Type 0
+LeavesSame journal next = (is_loaded journal ≡ false) ⊎ StandsFor journal next
+
+-- another term is left than that of this state of the running module's kernel
+pub record LeavesOther (journal : List SlotEntry) (next : State) : Type 0 where
+  pub kernel : Kernel
+  pub state : State
+  pub left : IsLeftOf journal kernel state
+  pub ordered : are_in_order kernel.root 0 ≡ true
+  pub other : ¬ (state_term kernel.root next ≡ state_term kernel.root state)
+
+-- after these entries it is as the opinion has it
+abbrev pub Holds : List SlotEntry → Opinion → Type 0
+Holds journal NotAsked = Unit {0}
+Holds journal Other = ⊥
+Holds journal SameOutputs = Unit {0}
+Holds journal (Same next) = LeavesSame journal next
+
+-- after these entries it is not as the opinion has it
+abbrev pub Fails : List SlotEntry → Opinion → Type 0
+Fails journal NotAsked = ⊥
+Fails journal Other = Unit {0}
+Fails journal SameOutputs = ⊥
+Fails journal (Same next) = LeavesOther journal next

@@ -1,14 +1,16 @@
 -- Which place a state has among the nodes of a search; for private clauses (this project's own form).
-use Rattle.std.specs.Prelude.{◌≡◌, ◌≢◌, ℕ, Bool, None, Some, List, [], ◌∷◌, ◌++◌, length}
+use Rattle.std.specs.Prelude.{◌≡◌, ◌≢◌, ℕ, nat_eq, List, [], ◌∷◌, ◌++◌, length}
 use Rattle.std.specs.List.{All}
-use Rattle.std.specs.HashMap.{HashMap, get}
+use Rattle.std.specs.HashMap.{get}
+use Rattle.state_search.specs.Inner.Numbers.{AreBefore, IsLastOf, number_of}
 use Rattle.state_search.specs.Table.{At}
 use Rattle.state_search.specs.declared.found.Node.{Node}
+use Rattle.state_search.specs.declared.places.Places.{Places}
 
--- the map has the place of each node's state, and no others
-pub record Places {S H : Type 0} (eq : S → S → Bool) (places : HashMap S ℕ H) (nodes : List (Node S)) : Type 0 where
-  pub known : (x : S) (p : ℕ) → get eq places x ≡ Some p → At nodes p x
-  pub unknown : (x : S) → get eq places x ≡ None → All (λ n. n.state ≢ x) nodes
+-- by these places the node of each state is found
+pub record IsPlaced {S : Type 0} (feed : S → List (List ℕ)) (places : Places) (nodes : List (Node S)) : Type 0 where
+  pub last : (k : ℕ) → IsLastOf (number_of feed) nodes (length nodes) k (get nat_eq places.last k)
+  pub before : AreBefore (number_of feed) places.before.items nodes
 
 -- the state of the node has this place: it had it, and nothing changes; or no node had its state, and this one comes at
 -- the end

@@ -1,11 +1,11 @@
 use Rattle.std.proofs.Common.{◌∙◌, List, rules, subst, sym}
 use Rattle.reactor_core.specs.declared.entry.SlotEntry.{SlotEntry}
 use Rattle.audit_report.specs.Inner.Faults.{IsFaultOf, KeepsInstant}
-use Rattle.audit_report.proofs.AskedAgain.{not_kept_here}
+use Rattle.audit_report.proofs.AskedAgain.{opinion_holds}
 use Rattle.audit_report.proofs.Replayed.{judges, fault_is, adds, otherwise}
 use Rattle.audit_report.proofs.slot_audit.replay_entry.Goals as goal
-use Rattle.audit_report.proofs.slot_audit.replay_entry.Goals.{else-agrees-via-then-agrees+else-keeps_instant}
-use Rattle.audit_report.proofs.slot_audit.replay_entry.Goals.{else-agrees-via-else-agrees}
+use Rattle.audit_report.proofs.slot_audit.replay_entry.Goals.{else-holds-via-then-holds+else-keeps_instant}
+use Rattle.audit_report.proofs.slot_audit.replay_entry.Goals.{else-holds-via-else-holds}
 
 pub returns-in-Refused-clause-step : goal.returns-in-Refused-clause-step
 returns-in-Refused-clause-step g c = λ judged stands version.
@@ -43,17 +43,18 @@ returns g c =
       step = λ judged stands version.
           let step = judges judged slot.number c.new-session.result c.in-Ok.command slot.journal e c.decide_slot.result
           after c.new-session.ensures c.in-Ok.ensures (c.decide_slot.ensures.step judged stands) in
-          let loses : KeepsInstant after e.action → ⊥ = λ keeps. elim c.else-agrees.branch [
-            | else-agrees-via-then-agrees+else-keeps_instant w ↦
+          let loses : KeepsInstant after e.action → ⊥ = λ keeps. elim c.else-holds.branch [
+            | else-holds-via-then-holds+else-keeps_instant w ↦
                 absurd (search (
                   rules,
                   w.if-keeps_instant.ensures.1 (subst (λ (j : List SlotEntry). KeepsInstant j e.action)
                       (sym (w.entries.ensures ∙ w.journal.ensures)) keeps),
                 ))
-            | else-agrees-via-else-agrees w ↦
-                not_kept_here judged slot.number e.stamp.session slot.journal c.decide_slot.result after
-                c.in_default-decide_slot.not-Refused e.action step
-                (c.agrees-agrees.ensures.other w.if-agrees.false) keeps
+            | else-holds-via-else-holds w ↦
+                opinion_holds c.one_module.ensures judged slot.number e.stamp.session slot.journal
+                c.decide_slot.result after c.in_default-decide_slot.not-Refused e.action
+                c.opinion_of-opinion.result step c.opinion_of-opinion.ensures keeps
+                (c.holds_after-holds.ensures.other w.if-holds.false)
           ] in
           otherwise judged slot.number slot.journal e c.decide_slot.result after version step
           c.in_default-decide_slot.not-Refused loses;

@@ -53,9 +53,13 @@ use Rattle.est_embed.proofs.exports.est_load_module.Code as code
 abbrev stayed : Stays f.ended.signature.params f.ended.kept
 stayed = (
   stay_dropped _ yes,
-  (stay_dropped _ yes,
-      (stay_dropped _ yes,
-      (gave_ref (2 ∷ []) tt (plain (λ _. RawPtr)), (gave_ref (3 ∷ []) tt (plain (λ _. fault.the_row)), tt)))),
+  (
+    stay_dropped _ yes,
+    (
+      stay_dropped _ yes,
+      (gave_ref (2 ∷ []) tt (plain (λ _. RawPtr)), (gave_ref (3 ∷ []) tt (plain (λ _. fault.the_row)), tt)),
+    ),
+  ),
 )
 
 pub est_load_module_spec : {M : Type 1} → statement M
@@ -63,26 +67,37 @@ est_load_module_spec 𝓤 𝓛 𝓜 𝓡 wired =
     let c = f.clauses 𝓛 𝓜.mem 𝓡.returns in let W = walk_of 𝓛 f.ended stayed c in let 𝓣 = tables 𝓤 𝓛.H 𝓜 𝓡 𝓡.env in
     proved 𝓛 f.ended stayed c 𝓜 𝓡 (
       Goes-dropped 𝓛 4 (plain (λ _. heap.the_row)) yes (λ κs x w. refl),
-      (Goes-dropped 𝓛 4 (SliceRefOf (0 ∷ []) tt (plain (λ _. u8)) (λ _. tt)) yes (λ κs x w. refl),
-          (Goes-dropped 𝓛 4 (SliceRefOf (1 ∷ []) tt (plain (λ _. u8)) (λ _. tt)) yes (λ κs x w. refl),
-          (Goes-gave_ref 𝓛 4 2 tt (plain (λ _. RawPtr)), (Goes-gave_ref 𝓛 4 3 tt (plain (λ _. fault.the_row)), tt)))),
+      (
+        Goes-dropped 𝓛 4 (SliceRefOf (0 ∷ []) tt (plain (λ _. u8)) (λ _. tt)) yes (λ κs x w. refl),
+        (
+          Goes-dropped 𝓛 4 (SliceRefOf (1 ∷ []) tt (plain (λ _. u8)) (λ _. tt)) yes (λ κs x w. refl),
+          (Goes-gave_ref 𝓛 4 2 tt (plain (λ _. RawPtr)), (Goes-gave_ref 𝓛 4 3 tt (plain (λ _. fault.the_row)), tt)),
+        ),
+      ),
     )
     f.Key.name code.function (code.unfolded 𝓤 𝓛.H 𝓜 𝓡 wired)
     (λ κs. ((λ _. heap_val ∷ []), (shr_slice_vals, (shr_slice_vals, (mut_vals, (mut_vals, tt))))))
-    (λ κs. (heap_Tells,
-        (shr_slice_Tells (named 0) κs.0 u8,
-        (shr_slice_Tells (named 1) κs.1.0 u8,
-        (mut_Tells (named 2) κs.1.1.0 RawPtr, (mut_Tells (named 3) κs.1.1.1.0 fault.the_row, tt))))))
+    (λ κs. (
+      heap_Tells,
+      (
+        shr_slice_Tells (named 0) κs.0 u8,
+        (
+          shr_slice_Tells (named 1) κs.1.0 u8,
+          (mut_Tells (named 2) κs.1.1.0 RawPtr, (mut_Tells (named 3) κs.1.1.1.0 fault.the_row, tt)),
+        ),
+      ),
+    ))
     (λ κs qs bounds a _ are.
     let main = a.1.0.now in let text = a.1.1.0.now in let R = running.the_row in let S = handed.the_row R in
-    let vss : Valss (types_at f.signature.params κs) =
-    (heap_val ∷ [],
-        (shr_slice_vals a.1.0, (shr_slice_vals a.1.1.0, (mut_vals a.1.1.1.0, (mut_vals a.1.1.1.1.0, tt))))) in
+    let vss : Valss (types_at f.signature.params κs) = (
+      heap_val ∷ [],
+      (shr_slice_vals a.1.0, (shr_slice_vals a.1.1.0, (mut_vals a.1.1.1.0, (mut_vals a.1.1.1.1.0, tt)))),
+    ) in
     let y : W.Ghost = ((κs, qs, bounds, a, vss), tt) in
     let G = triple_of 𝓛 h.signature (h.spec 𝓛 𝓜.mem 𝓡.returns) in let z : G.Ghost = ((κs, qs, bounds, a, vss), tt) in
     let Out = at_exit h.ended κs a in
     let Tells = λ (n : ℕ) (ws : Lasts h.ended κs a). n ≢ 0
-        → (n ≡ (Out ws).1.1.1.1.0.now.code) × IsTold main text (Out ws).1.1.1.1.0.now in
+    → (n ≡ (Out ws).1.1.1.1.0.now.code) × IsTold main text (Out ws).1.1.1.1.0.now in
     let Stands = λ (n : ℕ) (ws : Lasts h.ended κs a). n ≢ 0 → (Out ws).1.1.1.0.now ≡ a.1.1.1.0.now in
     qed 𝓛 (raw (G.pre z) ∷ []) ∵ enter ! _ _ _ _ _ $
     alloc_all ! (λ l. pass_all ! refl (
@@ -95,7 +110,7 @@ est_load_module_spec 𝓤 𝓛 𝓜 𝓡 wired =
     sets ! (addr ! (through ! refl (stop !))) refl (tt, tt) $ sets ! (addr ! (through ! refl (stop !))) refl (tt, tt) $
     calls_at ! (framed 𝓤 𝓛.H 𝓜 𝓣) G (met 𝓤 𝓛 𝓜 𝓡 (code.calls-est_embed::exports::hand_out 𝓡.env wired)) z
     (and_then ! (get ! refl)
-        (and_then ! (get ! refl) (and_then ! (get ! refl) (and_then ! (get ! refl) (and_then ! (get ! refl)
+    (and_then ! (get ! refl) (and_then ! (get ! refl) (and_then ! (get ! refl) (and_then ! (get ! refl)
     (no_more !)))))) (λ v.
     use1 𝓛 (later (some (λ (r : S.Denot). (raw (alive 𝓛 f.signature κs qs) ⊛ ‵ (S.own_val r (v ∷ []))) ⊛
     some (λ (ws : Lasts h.ended κs a). ‵ (lasts h.ended κs a ws) ⊛ (raw (fact 𝓤 (IsHanded main text r.status r.value)) ⊛

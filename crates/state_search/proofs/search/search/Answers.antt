@@ -5,7 +5,7 @@ use Rattle.state_search.proofs.TreeLemmas.{begins}
 use Rattle.state_search.proofs.search.search.Goals as goal
 
 pub place_of-requires : goal.place_of-requires
-place_of-requires g c = rw c.new.ensures.items (no_places _ _ c.new-places.ensures.empty)
+place_of-requires g c = rw c.new.ensures.items (no_places _ _ c.new-places.ensures.last c.new-places.ensures.before)
 
 pub loop-found-init : goal.loop-found-init
 loop-found-init g c =

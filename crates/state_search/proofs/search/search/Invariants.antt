@@ -1,5 +1,5 @@
 use Rattle.std.proofs.Common.{◌-◌, ◌+◌}
-use Rattle.state_search.specs.Inner.Places.{Places}
+use Rattle.state_search.specs.Inner.Places.{IsPlaced}
 use Rattle.state_search.specs.Inner.Searching.{IsSearching}
 use Rattle.state_search.specs.Table.{At}
 use Rattle.state_search.proofs.search.search.Given as goal
@@ -7,7 +7,7 @@ use Rattle.state_search.proofs.search.search.Given as goal
 abbrev pub invariant-loop-found : goal.invariant-loop-found
 invariant-loop-found g l = record {
   fits : g.M.Machine.fits l.machine l.scratch;
-  places : Places g.M.State.PartialEq.eq l.places l.found.nodes.items;
+  places : IsPlaced g.M.State.Hash.hash_input l.places l.found.nodes.items;
   first : At l.found.nodes.items 0 l.fn.start;
   searching : IsSearching (g.M.Machine.is_state l.machine) (g.M.Machine.does l.machine) (g.M.Machine.covers l.machine)
       (g.M.Machine.apart l.machine) l.found.nodes.items l.found.rows.items l.found.done;

@@ -1,5 +1,6 @@
 -- `refused` makes a value that owns nothing.
-use Rattle.est_embed.proofs.Steps.{◌≡◌, ℕ, ◌<◌, ◌^◌, List, [], ◌∷◌, refl, w64, proved, tables, ‵, raw, ◌⊛◌, ◌$◌, ◌∵◌, !}
+use Rattle.est_embed.proofs.Steps.{◌≡◌, ℕ, ◌<◌, ◌^◌, List, [], ◌∷◌, refl, w64, proved, tables, ‵, raw, ◌⊛◌}
+use Rattle.est_embed.proofs.Steps.{◌$◌, ◌∵◌, ! }
 use Rattle.est_embed.proofs.Steps.{qed, drop, enter, of_opd, no_more, and_then, returns, alloc_all, pass_all, free_all}
 use Rattle.est_embed.proofs.Steps.{look_at, get, sets, u64, uint_vals, uint_Tells, Ptr, RawPtr, rawptr_vals}
 use Rattle.est_embed.proofs.Steps.{rawptr_Tells, rawptr_Lawful, plain, nothing, on_entry, Stays, walk_of, stay_dropped}
@@ -30,18 +31,20 @@ refused_spec 𝓤 𝓛 𝓜 𝓡 wired T L dx glued =
     let stayed : Stays En.signature.params En.kept = (stay_dropped _ yes, (stay_dropped _ yes, tt)) in
     let W = walk_of 𝓛 En stayed c in let 𝓣 = tables 𝓤 𝓛.H 𝓜 𝓡 𝓡.env in
     let inst = bounded (a_type ∷ []) (T, tt) (dcons dx dnil) in let fn = inst_fn inst code.function in
-    proved 𝓛 En stayed c 𝓜 𝓡 (Goes-dropped 𝓛 1 (plain (λ _. u64)) yes (λ κs x w. refl),
-        (Goes-dropped 𝓛 1 (plain (λ _. RawPtr)) yes (λ κs x w. refl), tt))
+    proved 𝓛 En stayed c 𝓜 𝓡 (
+      Goes-dropped 𝓛 1 (plain (λ _. u64)) yes (λ κs x w. refl),
+      (Goes-dropped 𝓛 1 (plain (λ _. RawPtr)) yes (λ κs x w. refl), tt),
+    )
     (f.Key.name inst) fn (code.unfolded 𝓤 𝓛.H 𝓜 𝓡 wired (T, tt) dx)
     (λ κs. (uint_vals w64, (rawptr_vals, tt))) (λ κs. (uint_Tells w64, (rawptr_Tells, tt))) (λ κs qs bounds a g are.
     let n = a.0 in let p = a.1.0 in let fits : n < 2 ^ 64 = are.0.1 in let ok = (rawptr_Lawful 𝓛).typed p _ refl in
     let vss : Valss (u64 ∷ RawPtr ∷ []) = (vint w64 n ∷ [], (ptr_val p ∷ [], tt)) in let y : W.Ghost =
-        ((κs, qs, bounds, a, vss), g) in
+    ((κs, qs, bounds, a, vss), g) in
     qed 𝓛 (((‵ (flft κs.0 qs.0) ⊛ ‵ ftrue) ⊛ ‵ (owns (u64 ∷ RawPtr ∷ []) a vss)) ∷ raw ((c κs a).requires g) ∷ []) ∵
     move ! (1 ∷ []) $ drop ! $ split ! $ move ! (1 ∷ []) $ drop ! $
     enter ! _ _ _ _ _ $ alloc_all ! (λ l. pass_all ! refl ((tt, record { fits = fits }), ok) $
     sets ! (agg ! (and_then ! (get ! refl) (and_then ! (get ! refl) (no_more !)))) refl
-        (and_tt _ ok.0.0, (record { fits = fits }, (ok.0.1, tt))) $
+    (and_tt _ ok.0.0, (record { fits = fits }, (ok.0.1, tt))) $
     returns ! (look_at ! 0 refl) $ free_all ! refl $
     let made : (handed.the_row (param 0 T)).Denot = record { status = n; at = p; value = None } in
     let Told : Type 0 = (made.status ≡ n) × (made.at ≡ p) × (made.value ≡ None) in
