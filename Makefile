@@ -73,6 +73,9 @@ install:
 setup:
 	tests/setup/run
 
+# rt ci leaves the programs that it built, and no library
+package container package-check: $(if $(LOG),library)
+
 package:
 	@python3 scripts/package.py $(if $(LOG),--log '$(LOG)')
 
@@ -142,7 +145,7 @@ bench: build library
 	python3 bench/loads.py $(BENCHES)
 	python3 bench/loads.py $(BENCHES) --search 300
 	python3 bench/policies.py $(BENCHES)
-	ESTLAB=$(LAB) python3 bench/targets.py $(LIBRARY)
+	ESTLAB=$(LAB) ESTSERVE=$(PROGRAM) python3 bench/targets.py $(LIBRARY)
 	python3 bench/socket.py $(PROGRAM) $(BENCHES)
 	python3 bench/closing.py $(PROGRAM)
 	python3 bench/waits.py $(PROGRAM)

@@ -1,20 +1,29 @@
 #!/usr/bin/env python3
-"""What a reaction costs in a C program: by the library, by a table in C, and by a module's gates in C.
+"""What a reaction costs in a C program, by the library, by a table in C, and by a module's gates in C; in `estserve script`; and in Icarus.
 
 usage: targets.py LIBRARY [INSTANTS]
 
-LIBRARY is crates/est_embed/out/libestserve_react.a, which `make library` proves and builds; the variable ESTLAB names estlab. Each module below
-gets the same inputs, one signal or none at a time, in INSTANTS instants (300,000 if left out) of each form; their outputs have to be the same.
-A time is processor time. Bytes are those of code and tables, by `size`, and of the library all that a program links.
+LIBRARY is crates/est_embed/out/libestserve_react.a, which `make library` proves and builds; the variables ESTLAB and ESTSERVE name estlab and
+estserve. Each module below gets the same inputs, one signal or none at a time, in INSTANTS instants (300,000 if left out) of each form in C, and
+in SCRIPTED of the script and SIMULATED of Icarus; the outputs have to be the same. Icarus is Debian's package iverilog, and simulates the gates
+as bench/verilog.py prints them; without it its column is empty. A time is processor time; of script and Icarus it is that of a run, less that of
+a run of one instant. The script offers and steps. Bytes are those of code and tables, by `size`, and of the library all that a program links.
 """
+import json
 import os
 import pathlib
+import resource
+import shlex
+import shutil
 import subprocess
 import sys
 import tempfile
 
+import verilog
+
 ROOT = pathlib.Path(__file__).resolve().parent.parent
 MODULES = ("abro", "stopwatch", "mouse", "arbiter", "shared_bus")
+SCRIPTED, SIMULATED, LOOKED = 20_000, 50_000, 400  # instants; LOOKED are those after which the script looks too
 STRICT = ["gcc", "-O2", "-Wall", "-Wextra", "-Werror"]
 LOOP = """
 int main(int words, char **word) {
@@ -82,6 +91,80 @@ def size(path, folder):
     return sum(map(int, told.splitlines()[1].split()[:2]))
 
 
+def draws():
+    """The numbers that inputs are drawn by, as LOOP makes them."""
+    dice = 88172645463325252
+    while True:
+        dice ^= dice << 13 & (1 << 64) - 1
+        dice ^= dice >> 7
+        dice ^= dice << 17 & (1 << 64) - 1
+        yield dice
+
+
+def commands(module, text, instants, looks):
+    """The commands of a script. It looks after the first instants."""
+    yield {"cmd": "login", "roles": ["root"], "user": "root"}
+    offered = [(signal, "offer") for signal in module.inputs()]
+    for name, operation in [("", "load"), ("", "step"), *offered, *[(signal, "observe") for signal in module.outputs()]]:
+        yield {"cmd": "grant", "object": f"0.{name}".rstrip("."), "op": operation, "role": "root"}
+    yield {"cmd": "load", "main": module.name, "slot": 0, "text": text}
+    names = [signal for signal, _ in module.signals]
+    for instant, dice in zip(range(1, instants + 1), draws()):
+        place = (dice >> 8) % 64
+        if dice % 4 and place < len(names) and names[place] in module.inputs():
+            yield {"cmd": "offer", "signal": names[place], "slot": 0}
+        yield {"cmd": "step", "slot": 0}
+        if instant <= looks:
+            yield {"cmd": "look", "instant": instant, "slot": 0}
+
+
+def seconds_of(words, given=""):
+    """The processor seconds of a command, and what it writes."""
+    before = resource.getrusage(resource.RUSAGE_CHILDREN)
+    told = subprocess.run(words, input=given, check=True, stdout=subprocess.PIPE, text=True).stdout
+    after = resource.getrusage(resource.RUSAGE_CHILDREN)
+    return after.ru_utime + after.ru_stime - before.ru_utime - before.ru_stime, told
+
+
+def by_script(subject, text, wanted):
+    """Microseconds an instant of estserve script. Its first outputs have to have this sum."""
+    module = subject.module
+    places = {signal: 1 << place for place, (signal, _) in enumerate(module.signals)}
+
+    def run(instants, looks):
+        lines = [json.dumps(each, separators=(",", ":"), sort_keys=True) for each in commands(module, text, instants, looks)]
+        return seconds_of([*shlex.split(os.environ["ESTSERVE"]), "script"], "\n".join(lines) + "\n")
+
+    total = 0
+    for line in run(LOOKED, LOOKED)[1].splitlines():
+        shown = json.loads(line)
+        if "fault" in shown:
+            sys.exit(f"{module.name}: refused: {line}")
+        if shown["ok"] == "look":
+            total = (total * 31 + sum(places[name] for name, is_present in shown["signals"] if is_present)) % (1 << 64)
+    if total != wanted:
+        sys.exit(f"{module.name}: the outputs of estserve script differ")
+    return (run(SCRIPTED, 0)[0] - run(1, 0)[0]) / (SCRIPTED - 1) * 1e6
+
+
+def by_icarus(path, folder, main):
+    """Microseconds an instant of Icarus, whose outputs have to have the sum of the C program's; or nothing."""
+    if not shutil.which("iverilog"):
+        return None
+    (folder / "m.v").write_text(verilog.verilog(path))
+    subprocess.run(["iverilog", "-g2005", "-o", folder / "m.vvp", folder / "m.v"], check=True)
+    first, _ = seconds_of(["vvp", "-n", folder / "m.vvp", "+instants=1"])
+    whole, told = seconds_of(["vvp", "-n", folder / "m.vvp", f"+instants={SIMULATED}"])
+    if int(told.split()[0], 16) != sum_of(main, SIMULATED):
+        sys.exit(f"{path}: the outputs of Icarus differ")
+    return (whole - first) / (SIMULATED - 1) * 1e6
+
+
+def sum_of(main, instants):
+    """The sum of what the C program is given in so many instants."""
+    return int(seconds_of([main, str(instants)])[1].split()[1], 16)
+
+
 def row(name, library, instants, folder):
     """Prints the row of a module."""
     cells = []
@@ -94,15 +177,20 @@ def row(name, library, instants, folder):
     cells.insert(0, (*run(source, folder, instants, library), size(folder / "main", folder)))
     if len({total for _, total, _ in cells}) != 1:
         sys.exit(f"{name}: the outputs differ")
-    print(f"| {name} | " + " | ".join(f"{time:.3f} | {count:,}" for time, _, count in cells) + " |", flush=True)
+    path = ROOT / "examples" / name / f"{name}.strl"
+    script = by_script(verilog.read_subject([str(path)], None), path.read_text(), sum_of(folder / "main", LOOKED))
+    icarus = by_icarus(path, folder, folder / "main")
+    others = f"{script:.2f} | " + (f"{icarus:.2f}" if icarus is not None else "")
+    print(f"| {name} | " + " | ".join(f"{time:.3f} | {count:,}" for time, _, count in cells) + f" | {others} |", flush=True)
 
 
 def main(words):
-    if not words or len(words) > 2 or not os.environ.get("ESTLAB"):
+    if not words or len(words) > 2 or not os.environ.get("ESTLAB") or not os.environ.get("ESTSERVE"):
         sys.exit(__doc__.strip())
     instants = int(words[1]) if len(words) > 1 else 300_000
-    print("| Module | Library, microseconds | Bytes | Table in C, microseconds | Bytes | Gates in C, microseconds | Bytes |")
-    print("|---|---|---|---|---|---|---|")
+    print("| Module | Library, microseconds | Bytes | Table in C, microseconds | Bytes | Gates in C, microseconds | Bytes | Script, microseconds "
+          "| Icarus, microseconds |")
+    print("|---|---|---|---|---|---|---|---|---|")
     with tempfile.TemporaryDirectory() as made:
         for name in MODULES:
             row(name, pathlib.Path(words[0]).resolve(), instants, pathlib.Path(made))

@@ -3,7 +3,7 @@
 
 usage: check.py CRATE [--plan]
 
-First it says what will be judged, and how many processor minutes each part took in the table of docs/GATE.md. --plan stops there.
+First it says what will be judged, and how many processor minutes each part took in the table of docs/generated/MINUTES.md. --plan stops there.
 Crates below are proved where they have changed. The text of the proofs goes to out/check.log of the crate. It stops at the first
 crate that is not proved. Nothing here counts for `make test`: only what `rt ci` passes does.
 """

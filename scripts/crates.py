@@ -25,7 +25,7 @@ def add_lowest_first(name, below, found):
 
 def minutes_by_crate():
     """Processor minutes of each crate's proof, tests and wrong bodies, by the last table."""
-    found = ROW.finditer((ROOT / "docs" / "GATE.md").read_text())
+    found = ROW.finditer((ROOT / "docs" / "generated" / "MINUTES.md").read_text())
     return {row[1]: [float(number) for number in row.groups()[1:]] for row in found}
 
 

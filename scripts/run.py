@@ -7,8 +7,9 @@ usage: run.py PROGRAM [ARGUMENT ..] < INPUT
 The second form proves and builds a static library, and runs nothing.
 
 Of the crates that PROGRAM stands on, those whose own libraries are proved are proved side by side, each in a clone of its own, as many as
-there are processors and memory for: first the one under the longest chain of others, by the minutes of docs/GATE.md. What was proved
-before, and has not changed, is taken as it is. The lines go to standard error, the long texts of the proofs to crates/PROGRAM/out/proofs, which each run begins anew.
+there are processors and memory for: first the one under the longest chain of others, by the minutes of docs/generated/MINUTES.md. What was
+proved before, and has not changed, is taken as it is. The lines go to standard error, the long texts of the proofs to
+crates/PROGRAM/out/proofs, which each run begins anew.
 Standard output has what the program wrote, and nothing else. The variable LANES says how many crates are proved at a time.
 """
 import contextlib

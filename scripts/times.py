@@ -1,5 +1,5 @@
 #!/usr/bin/env python3
-"""Runs the gate, and then prints the processor minutes that each crate took of it, as docs/GATE.md has them.
+"""Runs the gate, and then prints the processor minutes that each crate took of it, as docs/generated/MINUTES.md has them.
 
 usage: times.py [COMMAND ..]
 

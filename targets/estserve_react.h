@@ -6,10 +6,10 @@
  * Who owns what: est_load makes a machine, which is the caller's until est_free. It keeps nothing
  * of the text, of the name or of a buffer after the call. Only est_load takes memory.
  *
- * Proved: what est_ask and est_load_module answer, and that a machine lies at the pointer after
- * est_ask. Trusted: that the pointer comes from est_load and was not freed, that two calls never use
- * one machine at a time, that lengths are true, that malloc and free are of one allocator, this
- * header, and the C compiler.
+ * Proved: what est_ask and est_load_module answer, and that a machine lies at the pointer after a
+ * load with status 0, and after each est_ask. Trusted: that the pointer comes from est_load and was
+ * not freed, that two calls never use one machine at a time, that lengths are true, that malloc and
+ * free are of one allocator, this header, and the C compiler.
  *
  * Stack: loading and reacting go as deep as the kernel's statements are nested. Measured: up to 3.7
  * KB for each level to load, and 0.3 KB to react; docs/TARGET.md has more.

@@ -46,7 +46,7 @@ class Runs(unittest.TestCase):
         self.calls = self.folder / "calls"
         for name in SCRIPTS:
             self.write(f"scripts/{name}", (ROOT / "scripts" / name).read_text())
-        self.write("docs/GATE.md", TABLE)
+        self.write("docs/generated/MINUTES.md", TABLE)
         self.write("bin/rt", KIT).chmod(0o755)
         self.list(CRATES)
 
