@@ -24,7 +24,8 @@ status_read Present = refl
 status_read Absent = refl
 status_read Unknown = refl
 
-pub ends_read : (f : ℕ → Status) (main : Bool) (p : Statement) (d t : ℕ) → f (d + 1) ≡ ends (sheet_in f main p d t).cells
+pub ends_read : (f : ℕ → Status) (main : Bool) (p : Statement) (d t : ℕ)
+    → f (d + 1) ≡ ends (sheet_in f main p d t).cells
 unfolding sure_codes possible_codes
 ends_read f main p d t =
     let zero : d + 1 ≡ d + 1 + 0 = omega arith in

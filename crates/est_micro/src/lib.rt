@@ -9,9 +9,10 @@
 //! follows from the others. Of a statement that goes on and whose cells are all decided, a later
 //! sweep only reads them (`decided`). A sweep goes in program order, or visits the second side of
 //! each `||` first. After each sweep the run tells the cells of the signals what is emitted
-//! (`outputs`). It ends as soon as every cell is decided, or after a sweep that decides nothing.
-//! That is enough: what a sweep decides is so, and where a sweep changes nothing, nothing more
-//! follows. The law of `laws` says that then nothing is missed.
+//! (`outputs`). After a sweep that decided little, passes look again at what reads the signals
+//! that were just decided (`passes`). A run ends as soon as every cell is decided, or after a
+//! sweep that decides nothing. That is enough: what a sweep or a pass decides is so, and where a
+//! sweep changes nothing, nothing more follows. The law of `laws` says that then nothing is missed.
 #![tactic(auto)]
 
 mod begin;

@@ -95,7 +95,8 @@ fn pass_on_par(
         ≤ length net.old.cells.items }
     requires first_traps { at.now.traps + trap_depth (term_of p.now) ≤ 62 }
     requires second_traps { at.now.traps + trap_depth (term_of q.now) ≤ 62 }
-    ensures passes { (a b : _) → PassesOn (Par' a p.now b q.now) (pauses_of pauses.now) at.now.cell at.now.traps run
+    ensures passes { (a b : _) → PassesOn (Par' a p.now b q.now)
+        (pauses_of pauses.now) at.now.cell at.now.traps run
         (env_of env.now) net.old.cells.items net.new.cells.items }
     ensures kept { kept net.new ≡ kept net.old }
 {
@@ -141,7 +142,8 @@ fn pass_on_first(
     requires first_traps { at.now.traps + trap_depth (term_of p.now) ≤ 62 }
     requires second_traps { at.now.traps + trap_depth (term_of q.now) ≤ 62 }
     requires live { is_live p.now (pauses_of pauses.now) ≡ true }
-    ensures passes { (a b : _) → PassesOn (Seq' a p.now b q.now) (pauses_of pauses.now) at.now.cell at.now.traps run
+    ensures passes { (a b : _) → PassesOn (Seq' a p.now b q.now)
+        (pauses_of pauses.now) at.now.cell at.now.traps run
         (env_of env.now) net.old.cells.items net.new.cells.items }
     ensures kept { kept net.new ≡ kept net.old }
 {
@@ -190,7 +192,8 @@ fn pass_on_seq(
     requires second_traps { at.now.traps + trap_depth (term_of q.now) ≤ 62 }
     requires live { (is_live p.now (pauses_of pauses.now) || is_live q.now (pauses_of pauses.now))
         ≡ true }
-    ensures passes { (a b : _) → PassesOn (Seq' a p.now b q.now) (pauses_of pauses.now) at.now.cell at.now.traps run
+    ensures passes { (a b : _) → PassesOn (Seq' a p.now b q.now)
+        (pauses_of pauses.now) at.now.cell at.now.traps run
         (env_of env.now) net.old.cells.items net.new.cells.items }
     ensures kept { kept net.new ≡ kept net.old }
 {
@@ -235,7 +238,8 @@ fn pass_on_loop(
         + sheet_size false p.now at.now.traps
         ≤ length net.old.cells.items }
     requires traps { at.now.traps + trap_depth (term_of p.now) ≤ 62 }
-    ensures passes { (a : _) → PassesOn (Loop' a p.now) (pauses_of pauses.now) at.now.cell at.now.traps run
+    ensures passes { (a : _) → PassesOn (Loop' a p.now)
+        (pauses_of pauses.now) at.now.cell at.now.traps run
         (env_of env.now) net.old.cells.items net.new.cells.items }
     ensures kept { kept net.new ≡ kept net.old }
 {

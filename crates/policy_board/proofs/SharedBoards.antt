@@ -1,5 +1,5 @@
--- Threads may share a board, if its policy's writer may go from one to the other. A search of its own would walk through
--- all that lies under the lock, and end at its limit of steps.
+-- Threads may share a board, if its policy's writer may go from one to the other. A search of its own would walk
+-- through all that lies under the lock, and end at its limit of steps.
 use denote.RattleType.{RattleType}
 use denote.Param.Send.{IsSend, IsSync, view_send, sendable}
 use denote.Param.SendFields.{declared_send, declared_sync, as_row_send}
