@@ -146,6 +146,8 @@ bench: build library
 	python3 bench/loads.py $(BENCHES) --search 300
 	python3 bench/policies.py $(BENCHES)
 	ESTLAB=$(LAB) ESTSERVE=$(PROGRAM) python3 bench/targets.py $(LIBRARY)
+	python3 bench/explore.py $(LAB) $(BENCHES)
+	python3 bench/explore.py --million $(LAB)
 	python3 bench/socket.py $(PROGRAM) $(BENCHES)
 	python3 bench/closing.py $(PROGRAM)
 	python3 bench/waits.py $(PROGRAM)

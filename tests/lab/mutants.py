@@ -13,14 +13,15 @@ a claim fails or the module gets Stuck; its inputs where the example's own lists
 from __future__ import annotations
 
 import dataclasses
-import itertools
 import pathlib
 import random
 import re
 import sys
-from typing import Dict, Iterator, List, Optional, Tuple
+from typing import Dict, FrozenSet, Iterator, List, Optional, Tuple
 
 from support import ROOT
+
+from behaviour import letters_of
 
 from estserve_client.command_table import OF_TEXTS
 from estserve_client.connection import Refusal
@@ -144,20 +145,19 @@ def table_of(lab: Lab, subject: Subject) -> Optional[Table]:
     except Refusal as refusal:
         assert refusal.code in OF_TEXTS, refusal
         return None
+    lab.relations = subject.module.relations
     return lab.table(subject.module.inputs(), MOST)
 
 
-def is_same(first: Table, second: Table, names: List[str]) -> bool:
-    """Whether two modules with these inputs do the same, by their tables."""
-    counts = range(len(names) + 1)
-    chosen = (itertools.combinations(names, count) for count in counts)
-    letters = [frozenset(some) for some in itertools.chain(*chosen)]
+def is_same(first: Table, second: Table, letters: List[FrozenSet[str]]) -> bool:
+    """Whether two modules of one interface do the same, by their tables and the lawful sets of
+    inputs. A row stands for many sets, and not for the same ones in both.
+    """
     pairs = {(0, 0): None}
     for here, there in (line := list(pairs)):
         for letter in letters:
             row, other = first.row_for(here, letter), second.row_for(there, letter)
-            if not (row and other):  # no lawful inputs
-                continue
+            assert row and other
             if (row.outputs, row.undecided) != (other.outputs, other.undecided):
                 return False
             after = row.next, other.next
@@ -190,10 +190,11 @@ def row_of(lab: Lab, example: Example) -> str:
     """The example's row of the table."""
     own, count, by_claims, by_inputs = table_of(lab, example.subject), 0, 0, 0
     assert own
+    letters = letters_of(example.subject.module)
     for text in texts_with_mistakes(example):
         changed = with_text(example, text)
         table = table_of(lab, changed) if count < MUTANTS else None
-        if table and not is_same(own, table, example.subject.module.inputs()):
+        if table and not is_same(own, table, letters):
             count += 1
             by_claims += found_by_claims(lab, example, changed)
             by_inputs += found_by_inputs(example, [own, table])

@@ -1,7 +1,6 @@
 """Random modules of at most four inputs: what `estlab` says of each, beside a search that asks
 `estserve script`.
 """
-import itertools
 import os
 import sys
 import unittest
@@ -19,7 +18,7 @@ from estserve_client.texts import Failed  # noqa: E402
 
 MODULES = int(os.environ.get("LAB_MODULES", 300))
 SEED = int(os.environ.get("LAB_SEED", 53))
-MOST = 120  # rows of a module's table: larger ones are passed over
+MOST = 120  # states times lawful sets of inputs: larger modules are passed over
 
 
 class Guessed:
@@ -61,6 +60,7 @@ class RandomModules(unittest.TestCase):
 
     def table_of(self, text, module):
         """The table of a module; None where its text is refused, or it does nothing or too much."""
+        letters = len(letters_of(module))
         try:
             self.lab.client.ask("load", main="M", text=text)
         except Refusal as refusal:
@@ -70,7 +70,16 @@ class RandomModules(unittest.TestCase):
             table = self.lab.table(module.inputs(), MOST)
         except Failed:
             return None
-        return table if len(table.states) > 2 else None
+        return table if 2 < len(table.states) <= MOST // letters else None
+
+    def check_rows(self, table, letters):
+        """Each lawful set of inputs agrees with one row of each state, and each row is one."""
+        for state in range(len(table.states)):
+            rows = list(table.rows_at(state))
+            self.assertLessEqual({row.inputs for row in rows}, set(letters))
+            for letter in letters:
+                agree = [row for row in rows if letter & row.asked == row.inputs]
+                self.assertEqual(agree, [table.row_for(state, letter)])
 
     def check(self, learner, module, claims):
         """Holds the verdicts of estlab against the search's: what they are, how short a word is,
@@ -105,11 +114,7 @@ class RandomModules(unittest.TestCase):
                     guessed = Guessed(table)
                     rows = {guessed.step(row.before, row.inputs)[0] for row in table.rows}
                     self.assertEqual(rows, answers)
-                    pairs = itertools.product(range(len(table.states)), learner.letters)
-                    self.assertTrue(all(table.row_for(*pair) for pair in pairs))
-                    self.assertLessEqual(
-                        len(table.rows), len(table.states) * len(learner.letters)
-                    )
+                    self.check_rows(table, learner.letters)
                     self.check(learner, module, drawer.claims([name for name, _ in module.signals]))
                 kinds.add(len(learner.states))
         self.assertGreater(len(kinds), 3 * (MODULES > 99))  # modules of many sizes were drawn
