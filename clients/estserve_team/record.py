@@ -146,6 +146,7 @@ INSERT_CONNECTION = "INSERT INTO connections VALUES (?,?,?,?,?)"
 INSERT_GIVENUP = "INSERT INTO givenup VALUES (?,?,?,?,?,NULL)"
 COLUMNS = ", ".join(Entry._fields)
 ANSWERS = "SELECT person, request_id, request, reply, time"
+KEEP_ANSWER = "INSERT OR IGNORE INTO kept_answers VALUES (?,?,?,?,?)"
 REST = (
     "SELECT * FROM facts ORDER BY name",
     "SELECT * FROM programs ORDER BY number",
@@ -398,17 +399,18 @@ class RecordWriter:
     def keep_answers(self, old: pathlib.Path) -> None:
         """Takes over the answers to requests with an id from the record before, the newest ones.
         Raises Failed."""
-        with open_reader(old) as database:
-            rows = database.execute(
-                f"{ANSWERS} FROM entries WHERE request_id IS NOT NULL "
-                f"ORDER BY number DESC LIMIT {KEPT_ANSWERS}"
-            ).fetchall()
-            if has_table(database, "kept_answers"):  # which has the newest first
-                rows += database.execute(
-                    f"{ANSWERS} FROM kept_answers ORDER BY rowid LIMIT {KEPT_ANSWERS - len(rows)}"
-                ).fetchall()
-        with self.changing_rest() as database:
-            database.executemany("INSERT OR IGNORE INTO kept_answers VALUES (?,?,?,?,?)", rows)
+        with open_reader(old) as source, self.changing_rest() as database:
+            kept = database.executemany(
+                KEEP_ANSWER,
+                source.execute(
+                    f"{ANSWERS} FROM entries WHERE request_id IS NOT NULL "
+                    f"ORDER BY number DESC LIMIT {KEPT_ANSWERS}"
+                ),
+            ).rowcount
+            if has_table(source, "kept_answers"):  # which has the newest first
+                left = KEPT_ANSWERS - max(kept, 0)
+                older = f"{ANSWERS} FROM kept_answers ORDER BY rowid LIMIT {left}"
+                database.executemany(KEEP_ANSWER, source.execute(older))
 
     def note_kept(self, name: str) -> None:
         """Notes the name under which the record before this one is kept. Raises Failed."""

@@ -23,7 +23,7 @@ from estserve_team.chain import BLOCKS_AT, SLOT_BYTES, Head, NotProven, first_ha
 from estserve_team.chain import new_tip, slot_of, tip_of
 from estserve_team.places import Places
 from estserve_team.proving import check_record, prove
-from estserve_team.record import COLUMNS, Entry, open_reader, place_of
+from estserve_team.record import COLUMNS, Entry, RecordWriter, open_reader, place_of
 from estserve_team.starting import put_aside
 
 BEFORE = pathlib.Path(__file__).with_name("data") / "record-of-before.sql"
@@ -403,6 +403,38 @@ class Hashes(unittest.TestCase):
         self.assertEqual((len(slot), tip_of(slot)), (SLOT_BYTES, new_tip("ab", ("c",))))
         for at in range(0, 300, 7):
             self.assertIsNone(tip_of(slot[:at] + bytes([slot[at] ^ 1]) + slot[at + 1 :]))
+
+
+class KeptAnswers(unittest.TestCase):
+    """Answers to requests with an id, of which an archive takes over the newest."""
+
+    def make(self, name, ids, begin):
+        """A record with an entry of each id, whose times go backwards."""
+        path = self.folder / f"{name}.sqlite"
+        with RecordWriter.make(path, sys.executable) as writer:
+            rows = [
+                Entry(number, 0, number, 4, 1, 1, "root", "ann", begin - number, None, "step",
+                      b"{}", name.encode(), request_id, 1)
+                for number, request_id in enumerate(ids, 1)
+            ]  # fmt: skip
+            writer.append(rows)
+        return path
+
+    def test_the_newest_are_those_with_the_last_numbers(self):
+        held = tempfile.TemporaryDirectory(prefix="gateway-")
+        self.addCleanup(held.cleanup)
+        self.folder = pathlib.Path(held.name)
+        one, two, three = (
+            self.make(name, ids, begin)
+            for name, ids, begin in (("one", "abcde", 9e9), ("two", "eg", 5e9), ("three", "", 1))
+        )
+        for new, old in ((two, one), (three, two)):
+            with unittest.mock.patch("estserve_team.record.KEPT_ANSWERS", 3):
+                with RecordWriter(new) as writer:
+                    writer.keep_answers(old)
+        with RecordWriter(three) as writer:
+            told = [(writer.answer_to("ann", one) or (b"", b""))[1] for one in "abcdeg"]
+        self.assertEqual(told, [b"", b"", b"", b"", b"two", b"two"])
 
 
 class Kept(Record):
