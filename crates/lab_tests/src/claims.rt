@@ -1,5 +1,6 @@
 //! Claims of modules, and what is answered.
 
+ghost use Rattle.std.specs.Prelude.{◌≡◌};
 ghost use Rattle.est_micro.specs.Engine.{IsNetOf};
 
 use crate::modules::{A, B, O, both, is_absent, late, paradox};

@@ -41,14 +41,6 @@ fn machine(kernel: &Kernel) -> OneModule<'_, Rounds> {
     }
 }
 
-/// A kernel with an engine that reacts by parts of the inputs.
-fn by_parts(kernel: &Kernel) -> OneModule<'_, Micro> {
-    OneModule {
-        kernel,
-        engine: PhantomData,
-    }
-}
-
 /// What a request asks for.
 fn word_told(request: &Option<Request<'_>>) -> &'static str {
     match request {
@@ -84,8 +76,12 @@ fn expect_text(rt: &impl Abort, alloc: Global, value: &Value, wanted: &str) {
 /// The table of a kernel in which A and B may be offered.
 fn table_of(rt: &impl Abort, alloc: Global, kernel: &Kernel) -> Value {
     let free = Relations::new(alloc);
+    let by_parts: OneModule<'_, Micro> = OneModule {
+        kernel,
+        engine: PhantomData,
+    };
     let subject = Every {
-        reactive: &by_parts(kernel),
+        reactive: &by_parts,
         relations: &free,
         among: 3,
         watched: 0,
