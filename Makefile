@@ -15,7 +15,7 @@ help:
 	@echo 'make try       run the opening script on the program as it stands, built WITHOUT proof: about a minute'
 	@echo 'make run       prove what is needed, a line for each crate, and run the opening script on the proved program'
 	@echo 'make test      the gate: documents, how code is written, the client, the server, the gateway, hostile use, refused memory, examples, what must not compile, and then all proofs,'
-	@echo '               wrong bodies, tests and stored runs; the last line is "N passed, M failed"'
+	@echo '               wrong bodies, tests and stored runs, and the examples for C over what was proved; the last line is "N passed, M failed"'
 	@echo 'make check CRATE=NAME  after a change of one crate: its proof and its wrong bodies, and the proofs and tests of all above it;'
 	@echo '               says first how long that takes'
 	@echo 'make build     as make run, without the script'
@@ -30,8 +30,8 @@ help:
 	@echo '               random modules beside the rules; make build, and then'
 	@echo '               make soak ESTSERVE=$$PWD/$(PROGRAM) takes the proved program; no part of make test'
 	@echo 'make abro      the waves of ABRO, by the client, on the program built WITHOUT proof: about a minute, and at once from then on'
-	@echo 'make library   prove and build the library for C programs, $(LIBRARY)'
-	@echo 'make targets   make library, and then run the examples of targets in C, C++, Python and Rust; no part of make test'
+	@echo 'make library   prove and build the library for C programs, $(LIBRARY); after rt ci over what that has proved'
+	@echo 'make targets   make library, and then run the examples of targets in C, C++, Python and Rust'
 	@echo 'make install   put the proved program, the client, its page of the manual and completions under PREFIX (/usr/local), and the library for C'
 	@echo '               where it was built'
 	@echo 'make setup     the tests of make doctor, make run and the package, which is installed on a bare Debian, on the program built WITHOUT proof'
@@ -61,7 +61,6 @@ abro:
 	@python3 clients/estserve.py run examples/abro/abro.strl --inputs examples/abro/abro.inputs --wave --unproved
 
 library:
-	@python3 scripts/run.py --library est_embed
 	@python3 scripts/library.py
 
 targets: library
@@ -73,7 +72,7 @@ install:
 setup:
 	tests/setup/run
 
-# rt ci leaves the programs that it built, and no library
+# rt ci leaves the programs that it built, and not the library for C
 package container package-check: $(if $(LOG),library)
 
 package:
@@ -127,7 +126,7 @@ test:
 	python3 tests/journals/run
 	python3 tests/must-not-compile/run
 	tests/targets/run --compile
-	RT_JOBS=$(CORES) rt ci
+	RT_JOBS=$(CORES) python3 scripts/gate.py
 
 check:
 	@python3 scripts/check.py $(CRATE)
@@ -153,6 +152,7 @@ bench: build library
 	python3 bench/waits.py $(PROGRAM)
 	python3 bench/gateway.py $(PROGRAM)
 	python3 bench/client.py $(PROGRAM)
+	python3 bench/inside.py $(LAB) $(BENCHES) $(PROGRAM)
 
 faults:
 	tests/faults/run

@@ -5,14 +5,17 @@ usage: explore.py ESTLAB BENCHES [NAME ..]
        explore.py --million ESTLAB
 
 ESTLAB and BENCHES are the built `crates/estlab/out/estlab` and `crates/benches/out/benches`. A time is the processor time of a run, user and
-system, less that of a run that does nothing else than load the module. Each is the least of RUNS.
+system, less that of a run that does nothing else than load the module. Each is the least of RUNS. A module that is searched in less than SECONDS
+is searched several times in a run.
 
-- `rows`: what `estlab` finds of a module, its rows a second, and microseconds a row;
-- `engine`: microseconds a reaction of BENCHES alone, over the same inputs in turn;
-- `floor`: `bench/explore.c` finds the same states again from the table that `estlab` writes, breadth first.
+- Sets are all reactions there are: of each state with each lawful set of inputs.
+- Rows are what `estlab` finds. A row is a reaction, and stands for all sets that are the same where it was asked.
+- Calls are how often the engine was asked for that: for each row, and where a part of the inputs was split, since it told nothing.
+- The engine alone is BENCHES: a reaction of the microstep engine, with sets of these inputs in turn.
+- In C, `bench/explore.c` finds the same states again from the table that `estlab` writes, breadth first: a row of it.
 
-The last line compares twenty inputs, of which a state looks at three, with those three alone. --million finds a million states, and tells the
-most memory that ESTLAB took.
+After the table it tells how much of the rate of the engine alone is reached at least, by rows and by calls, and compares twenty inputs, of which
+a state looks at three, with those three alone. --million finds a million states, and tells the most memory that ESTLAB took.
 """
 import json
 import os
@@ -23,15 +26,19 @@ import tempfile
 
 HERE = pathlib.Path(__file__).resolve().parent
 RUNS = 3
-SECONDS = 0.5  # how long the engine alone runs, about
+SECONDS = 0.5  # how long a run is to take, about
 MOST = 40_000_000  # states, and rows
+
+
+def toggle_chain(names):
+    """Toggles side by side: each of the names but the last turns one over, which emits the next name once it is turned back."""
+    return " || ".join(f"loop await {one}; await {one}; emit {after} end" for one, after in zip(names, names[1:]))
 
 
 def counter(bits):
     """A counter of this many bits, each a toggle that is turned over by the one before."""
     names = ["T", *(f"C{n}" for n in range(1, bits)), "FULL"]
-    toggles = " || ".join(f"loop await {one}; await {one}; emit {after} end" for one, after in zip(names, names[1:]))
-    return f"module M: input T; output FULL; signal {', '.join(names[1:-1])} in {toggles} end end module", ["T"]
+    return f"module M: input T; output FULL; signal {', '.join(names[1:-1])} in {toggle_chain(names)} end end module", ["T"]
 
 
 def toggles(count):
@@ -58,11 +65,19 @@ def arbiter(cells):
 
 
 def looks_at_three(inputs):
-    """Three of so many inputs are looked at in each instant."""
+    """Three of so many inputs are looked at in each instant. The last one turns a counter over, so that there are 513 states."""
     names = [f"I{n}" for n in range(inputs)]
     a, b, c = names[0], names[inputs // 2], names[-1]
-    body = f"loop present {a} then emit X end; present {b} then emit Y end; present {c} then pause end; pause end"
-    return f"module M: input {', '.join(names)}; output X, Y; {body} end module", names
+    bits = [c, *(f"C{n}" for n in range(1, 9)), "FULL"]
+    body = f"loop present {a} then emit X end; present {b} then emit Y end; pause end || {toggle_chain(bits)}"
+    text = f"module M: input {', '.join(names)}; output X, Y, FULL; signal {', '.join(bits[1:-1])} in {body} end end module"
+    return text, names
+
+
+def wheels(lengths):
+    """Loops of pauses side by side: as many states as the least number that all these divide, and one for the start."""
+    loops = " || ".join(f"loop {'; '.join(['pause'] * length)} end" for length in lengths)
+    return f"module M: output O; {loops} end module", []
 
 
 PROGRAMS = {
@@ -90,11 +105,11 @@ class Ran:
         self.seconds, self.kibibytes = usage.ru_utime + usage.ru_stime, usage.ru_maxrss
 
 
-def asked(text, inputs, command):
-    """The lines that load a module and ask for something."""
+def asked(text, inputs, command, times=1, most=MOST):
+    """The lines that load a module and ask for something so many times."""
     load = {"cmd": "load", "main": "M", "text": text}
-    more = [{"cmd": command, "inputs": inputs, "most": MOST, **({"claims": []} if command == "explore" else {})}]
-    return "".join(json.dumps(line) + "\n" for line in [load, *(more if command else [])])
+    more = {"cmd": command, "inputs": inputs, "most": most, **({"claims": []} if command == "explore" else {})}
+    return "".join(json.dumps(line) + "\n" for line in [load, *[more] * times])
 
 
 def least(words, given):
@@ -105,12 +120,19 @@ def least(words, given):
 
 def explored(lab, text, inputs):
     """The seconds, states and rows of an exploration."""
-    start, _ = least([lab], asked(text, inputs, None))
-    seconds, run = least([lab], asked(text, inputs, "explore"))
+    start, _ = least([lab], asked(text, inputs, "explore", times=0))
+    once = Ran([lab], asked(text, inputs, "explore")).seconds - start
+    times = 1 + int(SECONDS / max(once, 1e-3))
+    seconds, run = least([lab], asked(text, inputs, "explore", times=times))
     told = json.loads(run.lines[-1])
     if told.get("ok") != "explore":
         sys.exit(f"explore.py: {run.lines[-1]}")
-    return seconds - start, told["states"], told["reactions"]
+    return (seconds - start) / times, told["states"], told["reactions"]
+
+
+def lawful_sets(text, inputs):
+    """How many sets of these inputs are lawful: with a relation at most one is offered."""
+    return 1 + len(inputs) if "relation" in text else 1 << len(inputs)
 
 
 def alone(benches, text, inputs):
@@ -140,11 +162,14 @@ def floor(program, lab, text, inputs):
 
 def million(lab):
     """A million states, and the memory that they take."""
-    text, inputs = counter(20)
-    given = asked(text, inputs, "explore").replace(str(MOST), "1000000")
-    run = Ran([lab], given)
+    text, inputs = wheels((5, 7, 9, 13, 16, 17))
+    run = Ran([lab], asked(text, inputs, "explore", most=1_000_000))
     told = json.loads(run.lines[-1])
+    if told.get("states", 0) <= 1_000_000:
+        sys.exit(f"explore.py: {run.lines[-1]}")
     print(f"{told['states']:,} states, {told['reactions']:,} rows: {run.seconds:.1f} s, {run.kibibytes / 1024:,.0f} MiB")
+    if run.kibibytes > 1 << 20:
+        sys.exit("explore.py: more than 1 GiB")
 
 
 def main(words):
@@ -153,21 +178,25 @@ def main(words):
     if len(words) < 2:
         sys.exit(__doc__.strip())
     lab, benches = (str(pathlib.Path(word).resolve()) for word in words[:2])
-    spent = {}
+    spent, by_rows, by_calls = {}, {}, {}
     with tempfile.TemporaryDirectory() as folder:
         program = pathlib.Path(folder) / "explore"
         subprocess.run(["cc", "-O2", "-o", program, HERE / "explore.c"], check=True)
-        print("| Module | States | Rows | Rows a second | us a row | Engine alone, us | Engine over row | Loop in C, us |")
-        print("|---|---|---|---|---|---|---|---|")
+        print("| Module | States | Sets | Rows | Calls | Rows a second | us a row | Engine alone, us | Engine over row | Engine over call | In C, us |")
+        print("|---|---|---|---|---|---|---|---|---|---|---|")
         for name in words[2:] or PROGRAMS:
             text, inputs = PROGRAMS[name]
             seconds, states, rows = explored(lab, text, inputs)
-            spent[name], each = seconds, seconds / rows
+            calls = 2 * rows - states  # of a state with so many rows one less is split
             engine, loop = alone(benches, text, inputs), floor(program, lab, text, inputs)
-            print(f"| `{name}` | {states:,} | {rows:,} | {rows / max(seconds, 1e-6):,.0f} | {each * 1e6:.2f} | {engine * 1e6:.2f} "
-                  f"| {engine / max(each, 1e-9):.2f} | {loop * 1e6:.4f} |", flush=True)
+            spent[name], by_rows[name], by_calls[name] = seconds, engine * rows / seconds, engine * calls / seconds
+            print(f"| `{name}` | {states:,} | {states * lawful_sets(text, inputs):,} | {rows:,} | {calls:,} | {rows / seconds:,.0f} "
+                  f"| {seconds / rows * 1e6:.2f} | {engine * 1e6:.2f} | {by_rows[name]:.2f} | {by_calls[name]:.2f} | {loop * 1e6:.4f} |", flush=True)
+    for what, parts in (("rows", by_rows), ("calls", by_calls)):
+        name = min(parts, key=lambda each: parts[each])
+        print(f"by {what} at least {parts[name]:.2f} of the rate of the engine alone ({name})")
     if "three3" in spent and "three20" in spent:
-        ratio = spent["three20"] / max(spent["three3"], 1e-3)
+        ratio = spent["three20"] / spent["three3"]
         print(f"twenty inputs of which three matter take {ratio:.1f} times as long as three")
         if ratio > 10:
             sys.exit("explore.py: more than 10 times as long")

@@ -3,6 +3,7 @@
 
 usage: port.py [NAME ..]
        port.py --exponents [FAMILY ..]
+       port.py --plain [NAME ..]
 
 The files of `est_micro` and what it calls are nearly Rust. This script takes out of them what Rust doesn't know (clauses, ghost lines and a
 few attributes), and builds them by `rustc -O` with bench/port.rs, which holds what else is needed. The programs are those of
@@ -10,7 +11,10 @@ bench/worklist.py, all but the largest one, or those that are named. Each runs o
 `valgrind --tool=callgrind`. Both have to decide as many cells and to give one sum of outputs; else the script ends with 1. A line for each
 program: its cells, the instructions a cell of both, and their ratio. The counts of the proved program are within some 20 of a hundred.
 --exponents prints the exponents of its families, as bench/worklist.py does, by the port.
+--plain runs each program on a port of the plain engine in place of the worklist, and counts by the instant. The sums of outputs have to be one.
+Both are then built as the kit builds them: with no check of an index, no `noalias`, and for x86-64-v2.
 """
+import os
 import pathlib
 import re
 import statistics
@@ -24,13 +28,15 @@ HERE = pathlib.Path(__file__).resolve().parent
 CRATES = {
     "est_kernel": ("code_set", "completion", "mask", "pause_set", "statement"),
     "est_meaning": ("status",),
-    "est_rounds": ("acts", "answer", "signal_set", "resume"),
+    "est_rounds": ("acts", "answer", "engine", "judged", "resume", "resume_step", "rounds", "signal_set", "start", "step"),
     "est_net": ("emissions", "extents", "lay", "net", "pause_run", "reach", "reading", "table"),
     "est_micro": ("begin", "cells", "decided", "direction", "extents", "idle", "learning", "next", "outputs", "pass", "pass_on", "passes", "resume", "run", "micro"),
 }
 BY_HAND = {"est_kernel": ("interface", "kernel", "state")}  # modules of bench/port.rs
 INSTANTS = 20
 LARGEST = "deep60x12"
+LONG = {"chain240": 480}  # instants, where a round takes many
+NOT_PLAIN = ("local20",)  # 2^20 times each statement
 
 
 def after_braces(text, at):
@@ -45,17 +51,11 @@ def after_braces(text, at):
 def without_clauses(text):
     """A file's text without what a proof alone needs."""
     for line in (r"(?:[ \t]*///[^\n]*\n)?[ \t]*ghost [^\n]*\n", r"//![^\n]*\n", r"#\[(?:derive\(Drop\)|cycle\(\w+\))\]\n",
-                 r"#!?\[tactic\(auto[^\n]*\n", r"use std::alloc::[^\n]*\n"):
+                 r"[ \t]*#!?\[tactic\([^\n]*\n", r"use std::alloc::[^\n]*\n"):
         text = re.sub(f"^{line}", "", text, flags=re.M)
     while clause := re.search(r"^[ \t]*(?:requires|ensures)\b[^\n{]*\{", text, flags=re.M):
         text = text[:clause.start()] + text[after_braces(text, clause.end()):].lstrip(" \t").removeprefix("\n")
     return text
-
-
-def function(text, name):
-    """The public function of this name."""
-    start = text.index(f"pub fn {name}(")
-    return text[start:after_braces(text, text.index("{\n", start) + 1)]
 
 
 def ported(crate, module):
@@ -63,8 +63,6 @@ def ported(crate, module):
     text = without_clauses((HERE.parent / "crates" / crate / "src" / f"{module}.rt").read_text(encoding="utf-8"))
     if module == "statement":  # its makers take an allocator
         text = re.sub(r"\nimpl (?:Test|Statement) \{.*?\n\}\n", "\n", text, flags=re.S)
-    if (crate, module) == ("est_rounds", "resume"):  # the rest is the plain engine's
-        text = f"use est_kernel::pause_set::PauseSet;\nuse est_kernel::statement::Statement;\n{function(text, 'has_live')}\n"
     if crate == "est_net":  # memory is never refused here
         text = re.sub(r"alloc: Global,\s+", "", text)
         for ours, theirs in (("(alloc, ", "("), ("(alloc)", "()"), ("AllocError", "()")):
@@ -76,16 +74,30 @@ def ported(crate, module):
     return re.sub(rf"\buse ({'|'.join(CRATES)})::", r"use crate::\1::", text)
 
 
-def built(folder):
-    """The port, built."""
+def unchecked(text):
+    """The text without checks of indices, which a proof makes needless."""
+    for ours, theirs in ((r"(?<![.\w])cells\[cell\] = ", "*unsafe { cells.get_unchecked_mut(cell) } = "),
+                         (r"((?<![.\w])cells|self\.cells)\[cell\]", r"(unsafe { *\1.get_unchecked(cell) })"),
+                         (r"&self\.extents\[number\]", "(unsafe { self.extents.get_unchecked(number) })"),
+                         (r"self\.words\[([^\[\]]*)\] =", r"*unsafe { self.words.get_unchecked_mut(\1) } ="),
+                         (r"self\.words\[([^\[\]]*)\]", r"(unsafe { *self.words.get_unchecked(\1) })")):
+        text = re.sub(ours, theirs, text)
+    return text
+
+
+def built(folder, as_kit=False):
+    """The port, built; `as_kit`: as the kit builds it."""
     parts = [(HERE / "port.rs").read_text(encoding="utf-8")]
     for crate, modules in CRATES.items():
-        inside = [f"pub mod {module} {{\n{ported(crate, module)}}}" for module in modules]
+        texts = {module: ported(crate, module) for module in modules}
+        inside = [f"pub mod {module} {{\n{unchecked(text) if as_kit else text}}}" for module, text in texts.items()]
         inside += [f"pub use crate::by_hand::{module};" for module in BY_HAND.get(crate, ())]
         parts.append(f"pub mod {crate} {{\n" + "\n".join(inside) + "\n}")
     (folder / "port.rs").write_text("\n".join(parts), encoding="utf-8")
     words = ["rustc", "--edition", "2021", "-A", "warnings", "-O", "-C", "codegen-units=1", "-o", folder / "port", folder / "port.rs"]
-    subprocess.run(words, check=True)
+    if as_kit:  # the flag -Z is of compilers that try things out
+        words += ["-Z", "mutable-noalias=no", "-C", "target-cpu=x86-64-v2"]
+    subprocess.run(words, check=True, env={**os.environ, "RUSTC_BOOTSTRAP": "1"} if as_kit else None)
     return folder / "port"
 
 
@@ -103,10 +115,10 @@ def case(name, folder, made=None):
     return path
 
 
-def counted(words_of):
+def counted(words_of, instants=INSTANTS):
     """The instructions of an instant, and the line of a run."""
-    spent = [worklist.instructions(words_of(count), "") for count in (1, 1 + INSTANTS)]
-    return (spent[1] - spent[0]) / INSTANTS, worklist.run(words_of(1 + INSTANTS), "")[1]
+    spent = [worklist.instructions(words_of(count), "") for count in (1, 1 + instants)]
+    return (spent[1] - spent[0]) / instants, worklist.run(words_of(1 + instants), "")[1]
 
 
 def exponents(names):
@@ -122,8 +134,29 @@ def exponents(names):
         worklist.print_exponents(names, spent_by)
 
 
+def beside_plain(names):
+    """Prints the instructions an instant of the microstep engine and of the plain one, both by the port."""
+    ratios = []
+    with tempfile.TemporaryDirectory() as made:
+        folder = pathlib.Path(made)
+        port = built(folder, as_kit=True)
+        for name in names or [each for each in worklist.programs() if each not in NOT_PLAIN]:
+            given = case(name, folder)
+            instants = LONG.get(name, INSTANTS)
+            engine, told = counted(lambda count, given=given: [port, given, str(count)], instants)
+            plain, wanted = counted(lambda count, given=given: [port, given, str(count), "plain"], instants)
+            cells, _, outputs = told.split()
+            if outputs != wanted:
+                sys.exit(f"port.py: {name}: {told}, and {wanted}")
+            ratios.append(engine / plain)
+            print(f"{name}: {cells} cells, {engine:,.0f} and {plain:,.0f}, {ratios[-1]:.2f} times", flush=True)
+    print(f"geometric mean: {statistics.geometric_mean(ratios):.2f}")
+
+
 def main(names):
     sys.setrecursionlimit(20000)
+    if names[:1] == ["--plain"]:
+        return beside_plain(names[1:])
     if names[:1] == ["--exponents"]:
         return exponents(names[1:])
     ratios = []

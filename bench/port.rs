@@ -44,7 +44,7 @@ mod by_hand {
     pub mod state {
         use crate::est_kernel::pause_set::PauseSet;
 
-        #[derive(Clone, Copy)]
+        #[derive(Clone, Copy, PartialEq, Eq)]
         pub enum State {
             Fresh,
             Done,
@@ -55,11 +55,13 @@ mod by_hand {
             pub signals: u64,
         }
 
+        #[derive(Clone, Copy)]
         pub struct Outcome {
             pub outputs: u64,
             pub next: State,
         }
 
+        #[derive(Clone, Copy)]
         pub struct Stuck {
             pub undecided: u64,
         }
@@ -73,6 +75,8 @@ use est_kernel::statement::{Connective, InterfaceSignal, LocalSignal, Operands, 
 use est_meaning::status::Status;
 use est_micro::micro::Micro;
 use est_net::net::Net;
+use est_rounds::engine::Engine;
+use est_rounds::rounds::Rounds;
 
 /// The words of a statement, and the names that are in scope.
 struct Reader<'a> {
@@ -200,6 +204,24 @@ fn run(case: &mut Case, instants: usize) {
     println!("{} {} {sum:016x}", case.engine.net().cells(), case.engine.steps());
 }
 
+/// The same on the plain engine, which has no cells: prints the sum of the outputs.
+fn run_plain(case: &Case, instants: usize) {
+    let mut engine = Rounds::new();
+    let (mut state, mut sum) = (State::Fresh, 0u64);
+    for n in 0..instants {
+        let signals = case.masks[n % case.masks.len()];
+        let Ok(outcome) = engine.react(&case.kernel, &state, &Inputs { signals }) else {
+            panic!("instant {n} is stuck");
+        };
+        sum = sum.wrapping_mul(31).wrapping_add(outcome.outputs);
+        state = match outcome.next {
+            State::Paused(pauses) => State::Paused(pauses),
+            State::Fresh | State::Done => State::Fresh,
+        };
+    }
+    println!("{sum:016x}");
+}
+
 /// Runs an instant for each mask, and prints what each cell was decided to be in it. Where it is stuck, the state stays.
 fn print_tables(case: &mut Case) {
     let mut state = State::Fresh;
@@ -223,8 +245,10 @@ fn main() {
     let words: Vec<String> = std::env::args().collect();
     let text = std::fs::read_to_string(&words[1]).expect("no case");
     let lines: Vec<&str> = text.lines().collect();
-    match words.get(2) {
-        Some(word) => run(&mut case_of(&lines), word.parse().expect("no number of instants")),
-        None => lines.chunks(4).for_each(|each| print_tables(&mut case_of(each))),
+    let instants = || words[2].parse().expect("no number of instants");
+    match words.len() {
+        4 => run_plain(&case_of(&lines), instants()),
+        3 => run(&mut case_of(&lines), instants()),
+        _ => lines.chunks(4).for_each(|each| print_tables(&mut case_of(each))),
     }
 }

@@ -3,8 +3,8 @@
 
 usage: targets.py LIBRARY [INSTANTS]
 
-LIBRARY is crates/est_embed/out/libestserve_react.a, which `make library` proves and builds; the variables ESTLAB and ESTSERVE name estlab and
-estserve. Each module below gets the same inputs, one signal or none at a time, in INSTANTS instants (300,000 if left out) of each form in C, and
+LIBRARY is crates/est_embed/out/libestserve_react.a, which `make library` proves and builds, or - to leave its columns empty; the variables
+ESTLAB and ESTSERVE name estlab and estserve. Each module below gets the same inputs, one signal or none at a time, in INSTANTS instants (300,000 if left out) of each form in C, and
 in SCRIPTED of the script and SIMULATED of Icarus; the outputs have to be the same. Icarus is Debian's package iverilog, and simulates the gates
 as bench/verilog.py prints them; without it its column is empty. A time is processor time; of script and Icarus it is that of a run, less that of
 a run of one instant. The script offers and steps. Bytes are those of code and tables, by `size`, and of the library all that a program links.
@@ -27,22 +27,26 @@ SCRIPTED, SIMULATED, LOOKED = 20_000, 50_000, 400  # instants; LOOKED are those 
 STRICT = ["gcc", "-O2", "-Wall", "-Wextra", "-Werror"]
 LOOP = """
 int main(int words, char **word) {
-  uint64_t given, sum = 0, dice = 88172645463325252u;
+  uint64_t given, sum = 0, shown = 0, dice = 88172645463325252u;
   long count = atol(word[1]);
   if (words != 2 || begin()) return 1;
   clock_t start = clock();
   for (long at = 0; at < count; at++) {
     dice ^= dice << 13, dice ^= dice >> 7, dice ^= dice << 17;
     uint64_t inputs = dice % 4 ? (UINT64_C(1) << (dice >> 8) % 64) & OFFERED : 0;
-    sum = sum * 31 + (uint64_t)react(inputs, &given) + given;
+    uint64_t status = (uint64_t)react(inputs, &given);
+    sum = sum * 31 + status + given;
+    shown = shown * 31 + status + (given | (inputs & EMITTED));
   }
-  printf("%f %llx\\n", (double)(clock() - start) / CLOCKS_PER_SEC * 1e6 / (double)count, (unsigned long long)sum);
+  double time = (double)(clock() - start) / CLOCKS_PER_SEC * 1e6 / (double)count;
+  printf("%f %llx %llx\\n", time, (unsigned long long)sum, (unsigned long long)shown);
   return 0;
 }
 """
 HEAD = "#include <stdio.h>\n#include <stdlib.h>\n#include <string.h>\n#include <time.h>\n"
 OWN = """#include "{name}.h"
 #define OFFERED {prefix}_INPUTS
+#define EMITTED {prefix}_OUTPUTS
 static struct {name} machine;
 static int begin(void) {{ {name}_reset(&machine); return 0; }}
 static int react(uint64_t inputs, uint64_t *given) {{
@@ -53,13 +57,14 @@ static int react(uint64_t inputs, uint64_t *given) {{
 """
 LINKED = """#include "estserve_react.h"
 static est_machine *machine;
-static uint64_t offered;
+static uint64_t offered, emitted;
 #define OFFERED offered
+#define EMITTED emitted
 static const char text[] = {{ {text} }};
 static int begin(void) {{
   struct est_fault fault;
   if (est_load(text, sizeof text, "{main}", {length}, &machine, &fault)) return 1;
-  offered = est_inputs(machine);
+  offered = est_inputs(machine), emitted = est_outputs(machine);
   return 0;
 }}
 static int react(uint64_t inputs, uint64_t *given) {{ return est_react(machine, inputs, given); }}
@@ -78,7 +83,7 @@ def run(source, folder, instants, *files):
     (folder / "main.c").write_text(HEAD + source + LOOP)
     subprocess.run([*STRICT, f"-I{folder}", f"-I{ROOT / 'targets'}", "-o", folder / "main", folder / "main.c", *files], check=True)
     told = subprocess.run([folder / "main", str(instants)], check=True, stdout=subprocess.PIPE, text=True).stdout
-    time, total = told.split()
+    time, total, _ = told.split()
     return float(time), total
 
 
@@ -160,28 +165,34 @@ def by_icarus(path, folder, main):
     return (whole - first) / (SIMULATED - 1) * 1e6
 
 
-def sum_of(main, instants):
-    """The sum of what the C program is given in so many instants."""
-    return int(seconds_of([main, str(instants)])[1].split()[1], 16)
+def sum_of(main, instants, is_shown=False):
+    """The sum of what the C program is given in so many instants; or of what a look shows, where an inputoutput that is offered is present."""
+    return int(seconds_of([main, str(instants)])[1].split()[2 if is_shown else 1], 16)
+
+
+def by_library(path, main, library, instants, folder):
+    """What a module takes over the library: microseconds, the sum of what it was given, and bytes."""
+    text = ", ".join(str(byte) for byte in path.read_bytes())
+    source = LINKED.format(text=text, main=main, length=len(main))
+    return *run(source, folder, instants, library), size(folder / "main", folder)
 
 
 def row(name, library, instants, folder):
     """Prints the row of a module."""
-    cells = []
+    path, cells = ROOT / "examples" / name / f"{name}.strl", []
     for words in ((), ("--cells",)):
         main = compiled(name, folder, *words)
         own = OWN.format(name="m", prefix="M")
         cells.append((*run(own, folder, instants, folder / "m.c"), size(folder / "m.c", folder)))
-    text = ", ".join(str(byte) for byte in (ROOT / "examples" / name / f"{name}.strl").read_bytes())
-    source = LINKED.format(text=text, main=main, length=len(main))
-    cells.insert(0, (*run(source, folder, instants, library), size(folder / "main", folder)))
+    if library:
+        cells.insert(0, by_library(path, main, library, instants, folder))
     if len({total for _, total, _ in cells}) != 1:
         sys.exit(f"{name}: the outputs differ")
-    path = ROOT / "examples" / name / f"{name}.strl"
-    script = by_script(verilog.read_subject([str(path)], None), path.read_text(), sum_of(folder / "main", LOOKED))
+    script = by_script(verilog.read_subject([str(path)], None), path.read_text(), sum_of(folder / "main", LOOKED, True))
     icarus = by_icarus(path, folder, folder / "main")
     others = f"{script:.2f} | " + (f"{icarus:.2f}" if icarus is not None else "")
-    print(f"| {name} | " + " | ".join(f"{time:.3f} | {count:,}" for time, _, count in cells) + f" | {others} |", flush=True)
+    columns = ([] if library else [" | "]) + [f"{time:.3f} | {count:,}" for time, _, count in cells]
+    print(f"| {name} | " + " | ".join(columns) + f" | {others} |", flush=True)
 
 
 def main(words):
@@ -191,9 +202,10 @@ def main(words):
     print("| Module | Library, microseconds | Bytes | Table in C, microseconds | Bytes | Gates in C, microseconds | Bytes | Script, microseconds "
           "| Icarus, microseconds |")
     print("|---|---|---|---|---|---|---|---|---|")
+    library = None if words[0] == "-" else pathlib.Path(words[0]).resolve()
     with tempfile.TemporaryDirectory() as made:
         for name in MODULES:
-            row(name, pathlib.Path(words[0]).resolve(), instants, pathlib.Path(made))
+            row(name, library, instants, pathlib.Path(made))
 
 
 if __name__ == "__main__":

@@ -8,6 +8,8 @@ from crates import ROOT, libraries
 
 PROVED = re.compile(r"^rt: (\w+) proved$", re.MULTILINE)
 REFUSED = re.compile(r"^rt: must-fail (\w+/\w+\.edit): refused, as it must be", re.MULTILINE)
+# a kit that keeps what it tried tells a kept edit as one that was tried, and its sum says how many were
+TRIED = re.compile(r"^rt: ok; .*; done in this run: \d+ of the \d+ proofs \(of crates and of their tests\)( and (\d+) of the \d+ must-fail edits)?;", re.MULTILINE)
 LAST = re.compile(r"^(\d+) passed, 0 failed$")
 KIT = re.compile(r"(\S+) logic ([0-9a-f]{16})")
 INPUTS = (".rt", ".antt", ".edit")
@@ -56,12 +58,14 @@ def read_log(path, logic):
     strange = sorted((proved - crates) | (refused - wrong) | (set(re.findall(r"\bsum=([0-9a-f]{16})\b", text)) - {logic}))
     if strange:
         raise NoEvidence(f"{path} is of another tree or another kit: it names {strange[0]}")
+    told = TRIED.search(text)
+    tried = int(told[2] or 0) if told else len(refused)
     return {
         "last_line": last,
         "proofs_done": len(proved),
         "proofs_kept": len(crates) - len(proved),
-        "edits_done": len(refused),
-        "edits_kept": len(wrong) - len(refused),
+        "edits_done": tried,
+        "edits_kept": len(wrong) - tried,
         "log_sha256": digest_of(path),
     }
 

@@ -1,11 +1,12 @@
 #!/usr/bin/env bash
 # Installs the Debian packages that some tests need: aiohttp, hypothesis, a browser and its driver for the
-# gateway's page, black, mypy and node for how code is written, mmdebstrap and lintian for the package. It
-# waits while another process installs packages. Where they can't be installed (no network, no root, no Debian) it says so and ends with
-# status 0: the tests that need them say that they were skipped.
+# gateway's page, black, mypy and node for how code is written, mmdebstrap and lintian for the package, and
+# compilers and valgrind for the library for C. It waits while another process installs packages. Where they can't
+# be installed (no network, no root, no Debian) it says so and ends with status 0: the tests that need them say that
+# they were skipped.
 set -u
 PACKAGES="python3-aiohttp python3-hypothesis python3-selenium chromium chromium-driver"
-PACKAGES="$PACKAGES black mypy nodejs mmdebstrap lintian"
+PACKAGES="$PACKAGES black mypy nodejs mmdebstrap lintian gcc g++ valgrind rustc"
 WAIT=300 # seconds for the lock of the package manager
 
 missing() {

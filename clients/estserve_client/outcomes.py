@@ -3,13 +3,15 @@ the XML of JUnit that CI servers read.
 """
 from __future__ import annotations
 
+import contextlib
 import dataclasses
 import json
-from typing import Any, Dict, List
+from typing import Any, Dict, Iterator, List, Optional
 
 from .colours import Colours
+from .connection import Disconnected
 from .expecting import ANEW, WRITTEN
-from .texts import write_lines
+from .texts import Failed, write_lines
 
 PASSED, FAILED = "ok", "FAILED"
 ERROR = "ERROR"  # of what could not be tried, since the run of all ended before
@@ -123,6 +125,22 @@ def escaped(text: str) -> str:
     for letter, name in (("&", "amp"), ("<", "lt"), (">", "gt"), ('"', "quot")):
         text = text.replace(letter, f"&{name};")
     return text.translate(NOT_IN_XML).encode("utf-8", "replace").decode()
+
+
+@contextlib.contextmanager
+def told_in_xml(path: Optional[str], suite: str, name: str) -> Iterator[List[Outcome]]:
+    """A list of outcomes, which ends as a file of JUnit where one is named, in any case: where all of it
+    ends early, that is an outcome of this name.
+    """
+    outcomes: List[Outcome] = []
+    try:
+        yield outcomes
+    except (Failed, Disconnected) as fault:
+        outcomes.append(Outcome(name, ERROR, str(fault), [], suite))
+        raise
+    finally:
+        if path:
+            write_junit(path, suite, outcomes)
 
 
 def write_junit(path: str, suite: str, outcomes: List[Outcome]) -> None:

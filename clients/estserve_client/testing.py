@@ -12,10 +12,10 @@ import time
 from typing import List, Union
 
 from .colours import Colours
-from .connection import Disconnected, start
+from .connection import start
 from .drawing import Progress
 from .expecting import AS_IT_WAS, first_difference, outcome_lines, read_expected, update
-from .outcomes import ERROR, FAILED, PASSED, Json, Outcome, Plain, Tap, write_junit
+from .outcomes import FAILED, PASSED, Json, Outcome, Plain, Tap, told_in_xml
 from .pictures import Seen
 from .programs import program_of
 from .running import blessed, counted, play
@@ -155,14 +155,7 @@ def test(arguments: argparse.Namespace) -> int:
     Failed, Disconnected.
     """
     folders = " ".join(folder.rstrip("/") or "/" for folder in arguments.folder)
-    outcomes: List[Outcome] = []
-    try:
+    with told_in_xml(arguments.junit, folders, "the run") as outcomes:
         run_scenarios(arguments, report_of(arguments), outcomes)
-    except (Failed, Disconnected) as fault:
-        outcomes.append(Outcome("the run", ERROR, str(fault), [], folders))
-        raise
-    finally:
-        if arguments.junit:
-            write_junit(arguments.junit, folders, outcomes)
     sys.stdout.flush()
     return int(any(outcome.word == FAILED for outcome in outcomes))

@@ -19,7 +19,7 @@ from estserve_client.telling import TELLER
 from . import HELP, keeping, page_process
 from .counts import CountsClient
 from .gateway import Gateway
-from .limits import fit_to, read_limits
+from .limits import Limits, add_limits, fit_to, read_limits
 from .listening import Listener
 from .log import fill_standard_streams, forward_all, write_now
 from .loop import Policy
@@ -80,13 +80,7 @@ def add_record_options(parser: argparse.ArgumentParser) -> None:
         action="store_true",
         help="take the record as it stands, where a start was refused since it was changed",
     )
-    parser.add_argument(
-        "--limit",
-        action="append",
-        default=[],
-        metavar="NAME=NUMBER",
-        help="set one of the limits of docs/GATEWAY.md",
-    )
+    add_limits(parser)
 
 
 def people_of(path: pathlib.Path) -> People:
@@ -106,6 +100,7 @@ def serve_team(arguments: argparse.Namespace) -> None:
     if arguments.state is None:
         raise Failed("the team's folder is missing: --state DIR")
     arguments.http_options = http_options_of(arguments)
+    limits = read_limits(arguments.limit)
     people, program = people_of(arguments.people), str(find_program(program_of(arguments)))
     fill_standard_streams()
     with Places(arguments.state, arguments.group) as places:
@@ -116,7 +111,7 @@ def serve_team(arguments: argparse.Namespace) -> None:
         watchdog = Watchdog()
         try:
             asyncio.set_event_loop_policy(Policy())
-            asyncio.run(run(places, people, program, arguments, watchdog))
+            asyncio.run(run(places, people, program, arguments, limits, watchdog))
         except Exception as fault:  # where no thread can be started, Python's own end fails too
             watchdog.hurry()
             end_with(fault)
@@ -166,12 +161,12 @@ async def run(
     people: People,
     program: str,
     arguments: argparse.Namespace,
+    limits: Limits,
     watchdog: Watchdog,
 ) -> None:
     """One gateway, from its start to its end. Raises Failed."""
-    loop = asyncio.get_running_loop()
-    limits = fit_to(read_limits(arguments.limit), raise_descriptors())
-    gateway = Gateway(places, people, program, arguments.most_sends, limits)
+    loop, most = asyncio.get_running_loop(), arguments.most_sends
+    gateway = Gateway(places, people, program, most, fit_to(limits, raise_descriptors()))
     gateway.watchdog = watchdog
     forward_all(gateway.log)
     for orphan in places.orphans:

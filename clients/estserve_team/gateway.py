@@ -92,6 +92,7 @@ class Gateway:
         self.dirty: Set[Any] = set()  # clients that have answers to send
         self.order = Order(0, [0] * 16)
         self.entries_written = 0
+        self.archives = 0  # that were made
         self.finished: "asyncio.Future[None]" = asyncio.get_running_loop().create_future()
         self._serving = asyncio.Event()
         self._writer: RecordWriter = None  # type: ignore[assignment]
@@ -655,6 +656,7 @@ class Gateway:
             self._tell_restart()
         if fault is not None:
             raise failed(str(fault)) from fault
+        self.archives += 1
 
     async def _follow_record(self, build: Callable[[Path, Path, str, Path], None]) -> None:
         """Has a new record made, puts it in the place of the old one, and begins anew from it.

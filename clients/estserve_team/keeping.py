@@ -93,10 +93,15 @@ def verify(arguments: argparse.Namespace) -> None:
         tip, blocks = known_of(state, path, database)
         database.execute("BEGIN")  # where a gateway runs, all is read of one moment
         proven = prove(path, database, tip, blocks=blocks)
+        if tip.entries < proven.entries:  # a gateway that runs has gone on since the head was read
+            tip, _ = known_of(state, path, database)
     print(told(proven))
     if proven.behind:
         print(f"the last {proven.behind} stand in the head alone, from which the record takes them")
     print(f"the head knows entry {tip.entries}, and its hash is that of the record")
+    if tip.entries < proven.entries:
+        print("the head's end is gone, and with it perhaps what stood there alone")
+        return
     print("so nothing was cut or changed since it was written, but by who could write both files")
 
 
@@ -107,9 +112,9 @@ def backup(arguments: argparse.Namespace) -> None:
     if target.exists():
         raise Failed(f"{target} is there already")
     beside = target.with_name(target.name + ".part")
-    beside.unlink(missing_ok=True)
-    os.close(os.open(beside, os.O_WRONLY | os.O_CREAT | os.O_EXCL, 0o600))
     try:
+        beside.unlink(missing_ok=True)
+        os.close(os.open(beside, os.O_WRONLY | os.O_CREAT | os.O_EXCL, 0o600))
         with open_reader(path) as source, contextlib.closing(sqlite3.connect(beside)) as copy:
             tip, blocks = known_of(state, path, source)  # the copy has at least as much
             source.backup(copy)
@@ -127,7 +132,8 @@ def backup(arguments: argparse.Namespace) -> None:
     except (sqlite3.Error, OSError) as fault:
         raise Failed(f"{target} cannot be made: {fault}") from fault
     finally:
-        beside.unlink(missing_ok=True)
+        with contextlib.suppress(OSError):
+            beside.unlink()
     print(f"{target}: {told(proven)}")
 
 

@@ -1,8 +1,10 @@
 """How much one Unix user may hold and use, and what is kept for administrators. docs/GATEWAY.md
 says why each number is as it is."""
+import argparse
 import time
 from typing import TYPE_CHECKING, Any, Callable, Dict, List, NamedTuple, Sequence
 
+from .lines import LINE_BYTES
 from .places import Failed
 from .reads.policy_model import JOURNAL, SESSIONS
 from .refusals import Refused, too_many
@@ -42,24 +44,64 @@ class Limits(NamedTuple):
     page_seconds: int = 30  # after which a page that asks nothing stands still
 
 
+# what a limit is at the least, where that is not 1
+LEAST = {
+    "connections": 2,  # one has the page's process
+    "person_connections": 2,
+    "kept_logins": 0,
+    "kept_sessions": 0,
+    "kept_entries": 0,
+    "waiting_bytes": LINE_BYTES,  # of the longest line
+    "http_connections": 2,  # one for news, one for requests
+    "person_http": 2,
+    "refusals_logged": 0,
+    "page_seconds": 4,  # in which it gives as many signs of life, and the gateway looks as often
+}
+# and at the most: others than administrators need one too
+MOST = {"kept_logins": SEATS - 1, "kept_sessions": SESSIONS - 1, "kept_entries": JOURNAL - 1}
+
+
+def add_limits(parser: argparse.ArgumentParser) -> None:
+    """Adds the option that sets limits."""
+    parser.add_argument(
+        "--limit",
+        action="append",
+        default=[],
+        metavar="NAME=NUMBER",
+        help="set one of the limits of docs/GATEWAY.md",
+    )
+
+
 def read_limits(words: Sequence[str]) -> Limits:
-    """The limits, changed by words as `idle_seconds=60`. Raises Failed."""
+    """The limits, changed by words as `idle_seconds=60`. Raises Failed, also where nobody could do
+    anything any more."""
     changed: Dict[str, int] = {}
     for word in words:
         name, _, number = word.partition("=")
         if name not in Limits._fields or not number.isdecimal() or len(number) > 9:
             raise Failed(f"--limit {word}: one of {', '.join(Limits._fields)} is set to a number")
         changed[name] = int(number)
+        if changed[name] < LEAST.get(name, 1):
+            raise Failed(f"--limit {word}: it has to be {LEAST.get(name, 1)} at least")
+        if changed[name] > MOST.get(name, changed[name]):
+            raise Failed(f"--limit {word}: it may be {MOST[name]} at most")
     return Limits()._replace(**changed)
 
 
 def fit_to(limits: Limits, descriptors: int) -> Limits:
-    """The limits of connections, so that so many descriptors are enough."""
+    """The limits of connections, so that so many descriptors are enough, and nobody has all."""
     room = max(descriptors - OWN_DESCRIPTORS, 32)
     if limits.connections + limits.http_connections <= room:
         return limits
     connections = min(limits.connections, room // 2)
-    return limits._replace(connections=connections, http_connections=room - connections)
+    http = room - connections
+    return limits._replace(
+        connections=connections,
+        person_connections=min(limits.person_connections, connections // 2),
+        http_connections=http,
+        person_http=min(limits.person_http, http // 2),
+        address_connections=min(limits.address_connections, http // 2),
+    )
 
 
 class Bucket:

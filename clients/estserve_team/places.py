@@ -5,8 +5,7 @@
     DIR/gateway.sock    0660: the gateway's own words
     DIR/metrics.sock    0660: counts for an operator
     DIR/page.sock       0660: the page's process
-    DIR/private         0700: what follows
-    .../lock            held while a gateway runs
+    DIR/private         0700: what follows; locked while a gateway runs
     .../inner.sock      the server's socket
     .../children        the processes that were started, by id and start time
     .../record.sqlite   the record
@@ -84,17 +83,21 @@ def narrow_folder(path: pathlib.Path, mode: int, group: Optional[str] = None) ->
         raise Failed(f"{path} cannot be made a folder of mode {mode:o}: {fault}") from fault
 
 
-def take_lock(path: pathlib.Path, state: pathlib.Path) -> int:
-    """The descriptor of the lock, which one process at a time holds. Raises Failed."""
+def take_lock(folder: pathlib.Path, state: pathlib.Path) -> int:
+    """The descriptor of a folder's lock, which one process at a time holds: no file in it can be
+    deleted to have it twice. Raises Failed."""
     try:
-        found = os.open(path, os.O_RDWR | os.O_CREAT | os.O_NOFOLLOW | os.O_CLOEXEC, 0o600)
+        found = os.open(folder, os.O_RDONLY | os.O_DIRECTORY | os.O_NOFOLLOW | os.O_CLOEXEC)
     except OSError as fault:
-        raise Failed(f"{path} cannot be opened: {fault.strerror}") from fault
+        raise Failed(f"{folder} cannot be opened: {fault.strerror}") from fault
     try:
         fcntl.flock(found, fcntl.LOCK_EX | fcntl.LOCK_NB)
-    except OSError:
+    except BlockingIOError:
         os.close(found)
         raise Failed(f"another gateway runs on {state}") from None
+    except OSError as fault:
+        os.close(found)
+        raise Failed(f"{folder} cannot be locked: {fault.strerror}") from fault
     return found
 
 
@@ -316,7 +319,7 @@ class Places:
         check_socket_path(self.inner_socket)
         make_folder(self.state, 0o750)
         make_folder(self.private, 0o700)
-        self._lock = take_lock(self.private / "lock", self.state)
+        self._lock = take_lock(self.private, self.state)
         try:  # a second gateway has changed nothing up to here
             make_folder(self.old_records, 0o700)
             narrow_folder(self.state, 0o750, self.group)

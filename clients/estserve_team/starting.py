@@ -7,7 +7,7 @@ import sqlite3
 import time
 from typing import Callable, List, NamedTuple, Optional, Tuple
 
-from .chain import Head, sync_folder
+from .chain import Head, NotProven, sync_folder
 from .places import Failed, Places, digest_of
 from .proving import check_record
 from .record import (
@@ -43,6 +43,8 @@ def open_record(places: Places, program: str, is_accepted: bool = False) -> Reco
     try:
         if check_record(places.record, head, is_accepted):
             return RecordWriter(places.record, head)
+        if not is_accepted and any(places.old_records.glob("*.sqlite")):
+            raise NotProven(places.record, "it is gone with its head, and older ones are there")
         return RecordWriter.make(places.record, program, head=head)
     except BaseException:
         head.close()

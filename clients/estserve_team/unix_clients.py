@@ -216,6 +216,7 @@ class WordClient(LineClient):
         super().__init__(gateway, clients)
         self.session: Optional[SharedSession] = None
         self.is_parked = False  # until another word of this user is done
+        self._archives = gateway.archives  # of which it knows
         self._task: "Optional[asyncio.Future[None]]" = None
 
     def may_take(self) -> bool:
@@ -269,7 +270,20 @@ class WordClient(LineClient):
         if asked.get("word") in ("login", "logout"):
             return await self._change_login(asked)
         session = self.session if self.session is not None and not self.session.is_over else None
-        return await words.act_on(words.Context(self.gateway, self.person, session), asked)
+        context = words.Context(self.gateway, self.person, session)
+        act = self._archive if asked.get("word") == "archive" else words.act_on
+        return await act(context, asked)
+
+    async def _archive(self, context: words.Context, asked: Dict[str, Any]) -> Dict[str, Any]:
+        """Has an archive made, unless another has come since this client was told of the last one: of
+        several that are asked for at once one is made, however long the others had to wait. Raises
+        Refused."""
+        try:
+            if self._archives != self.gateway.archives:
+                raise failed("an archive was made meanwhile; ask again")
+            return await words.act_on(context, asked)
+        finally:
+            self._archives = self.gateway.archives
 
     async def _change_login(self, asked: Dict[str, Any]) -> Dict[str, Any]:
         """`login` shares a session for this connection, `logout` gives it up. Raises Refused."""

@@ -11,7 +11,18 @@ import sys
 import tempfile
 import unittest
 import unittest.mock
-from typing import TYPE_CHECKING, Any, Callable, Dict, Iterable, List, Optional, TypeVar, Union
+from typing import (
+    TYPE_CHECKING,
+    Any,
+    Callable,
+    Dict,
+    Iterable,
+    List,
+    Optional,
+    Tuple,
+    TypeVar,
+    Union,
+)
 
 if TYPE_CHECKING:
     import estserve
@@ -54,6 +65,48 @@ def read_vcd(lines: Iterable[str], scope: int = 1) -> Dict[str, Dict[Optional[fl
             for name in names.get(words[0][1:], ()):
                 changes.setdefault(name, {})[instant] = words[0][0]
     return changes
+
+
+class InAFolder(unittest.TestCase):
+    """Tests each of which has a folder of its own."""
+
+    folder: pathlib.Path
+
+    def setUp(self) -> None:
+        held = tempfile.TemporaryDirectory()
+        self.addCleanup(held.cleanup)
+        self.folder = pathlib.Path(held.name).resolve()
+
+    def file(self, name: str, data: Union[str, bytes]) -> pathlib.Path:
+        """A file of the folder, of these bytes or of this text."""
+        path = self.folder / name
+        path.parent.mkdir(parents=True, exist_ok=True)
+        path.write_bytes(data if isinstance(data, bytes) else data.encode())
+        return path
+
+    def script(self, name: str, text: str) -> pathlib.Path:
+        """A program of the folder that is this script."""
+        path = self.file(name, text)
+        path.chmod(0o755)
+        return path
+
+
+class WithProgram(unittest.TestCase):
+    """Tests with a client of the real program, which the variable ESTSERVE names, as root."""
+
+    client: estserve.Client
+
+    def setUp(self) -> None:
+        import estserve
+
+        self.client = estserve.start(os.environ["ESTSERVE"], timeout=60)
+        self.addCleanup(self.client.close)
+        self.client.login("root", ["root"])
+
+    def grant(self, *rights: Tuple[str, str]) -> None:
+        """Grants root these pairs of an operation and an object."""
+        for op, object in rights:
+            self.client.grant("root", op, object)
 
 
 class Ran:

@@ -1,16 +1,15 @@
 """The command `apply` on the real program: what is tried, warned of, taken back and taken away;
 slots by their names.
 """
+import contextlib
 import json
 import os
-import pathlib
 import socket
-import tempfile
 import threading
 import unittest
 import unittest.mock
 
-from support import needs_program, run_client, serve
+from support import InAFolder, needs_program, run_client, serve
 
 import estserve
 from estserve_client import applying
@@ -31,13 +30,10 @@ driver = ["offer door.OPEN", "step door", "load 4"]
 DOOR = "module DOOR: input OPEN; output LAMP; every OPEN do emit LAMP end end module\n"
 
 
-class InAFolder(unittest.TestCase):
+class OfPolicy(InAFolder):
     def setUp(self):
-        held = tempfile.TemporaryDirectory()
-        self.addCleanup(held.cleanup)
-        self.folder = pathlib.Path(held.name)
-        self.path = self.folder / "p.toml"
-        self.path.write_text(POLICY)
+        super().setUp()
+        self.path = self.file("p.toml", POLICY)
 
     def apply(self, *more):
         """Applies the policy: the status, the lines that are printed and told, without the file's
@@ -50,14 +46,14 @@ class InAFolder(unittest.TestCase):
         return (ran.status, *lines)
 
 
-class Words(InAFolder):
+class Words(OfPolicy):
     def test_words_of_prune_alone(self):
         told = "estserve.py: --before and --yes are for --prune"
         for more in (["--yes"], ["--before", self.path]):
             self.assertEqual(self.apply(*more), (1, [], [told]))
 
 
-class Slots(InAFolder):
+class Slots(OfPolicy):
     def test_a_name_of_a_slot_stands_for_its_number(self):
         grants = [
             wish.command["object"]
@@ -90,7 +86,7 @@ class Slots(InAFolder):
 
 
 @needs_program
-class OnTheProgram(InAFolder):
+class OnTheProgram(OfPolicy):
     def test_a_dry_run_lists_the_commands_and_sends_nothing(self):
         with serve() as server:
             for more in (["--socket", server.path], ["--prune", "--yes"]):
@@ -279,7 +275,7 @@ class OnTheProgram(InAFolder):
 
 
 @needs_program
-class AtAGateway(InAFolder):
+class AtAGateway(OfPolicy):
     """The real program behind a stand-in for a gateway, which tells the whole policy."""
 
     KNOWN = {
@@ -306,15 +302,24 @@ class AtAGateway(InAFolder):
                     lines.write(json.dumps(told).encode() + b"\n")
                     lines.flush()
 
-    def test_prune_is_exact(self):
-        asked = []
-        with serve() as server, server.root() as root, socket.socket(socket.AF_UNIX) as listening:
+    @contextlib.contextmanager
+    def team(self, server):
+        """The path of a team's socket, with a gateway beside it, and what that is asked."""
+        asked, path = [], self.folder / "team.sock"
+        path.symlink_to(server.path)
+        with socket.socket(socket.AF_UNIX) as listening:
             listening.bind(str(self.folder / "gateway.sock"))
             listening.listen()
             thread = threading.Thread(target=self.answer, args=(listening, asked))
             thread.start()
-            path = self.folder / "team.sock"
-            path.symlink_to(server.path)
+            try:
+                yield path, asked
+            finally:
+                listening.shutdown(socket.SHUT_RDWR)
+                thread.join(60)
+
+    def test_prune_is_exact(self):
+        with serve() as server, server.root() as root, self.team(server) as (path, asked):
             self.apply("--socket", server.path)
             root.grant("driver", "offer", "3.OPNE")
             root.adduser("cho")
@@ -332,14 +337,12 @@ class AtAGateway(InAFolder):
             status, printed, told = self.apply("--socket", path, "--prune", "--yes")
             self.assertEqual((status, printed[1:], told), (0, [*taken, "5 taken away"], []))
             self.assertEqual(printed[0], "9 there already, 0 added")
-            listening.shutdown(socket.SHUT_RDWR)
-            thread.join(60)
         self.assertEqual(asked, ["ping", "login", "policy", "logout"] * 2)
 
     def test_a_set_that_is_another_one_is_made_anew(self):
-        asked, sets = [], '[separate.apart]\nroles = ["driver", "chief"]\ncount = 2\n'
+        sets = '[separate.apart]\nroles = ["driver", "chief"]\ncount = 2\n'
         self.path.write_text(sets)
-        with serve() as server, server.root() as root, socket.socket(socket.AF_UNIX) as listening:
+        with serve() as server, server.root() as root:
             for role in ("driver", "chief", "guest"):
                 root.addrole(role)
             root.adduser("bob")
@@ -349,30 +352,27 @@ class AtAGateway(InAFolder):
             status, printed, told = self.apply("--socket", server.path)
             self.assertEqual((status, printed), (0, ["1 there already, 0 added"]))
             self.assertIn("p.toml:2: warning: a set apart is there already, and the", told[0])
-            listening.bind(str(self.folder / "gateway.sock"))
-            listening.listen()
-            thread = threading.Thread(target=self.answer, args=(listening, asked))
-            thread.start()
-            path = self.folder / "team.sock"
-            path.symlink_to(server.path)
-            status, printed, told = self.apply("--socket", path)
-            self.assertEqual((status, printed), (0, ["0 there already, 1 added"]))
-            line = "p.toml:2: dsd apart 2 guest chief was there: it is made anew"
-            self.assertEqual(told, [line])
-            with estserve.connect(server.path) as bob:
-                with self.assertRaises(estserve.Refusal):
-                    bob.login("bob", ["driver", "chief"])
-            self.path.write_text(sets.replace('"chief"', '"nobody"'))
-            root.undsd("apart")
-            root.dsd("apart", ["guest", "chief"], 2)
-            self.assertEqual(self.apply("--socket", path)[0], 1)
-            with self.assertRaisesRegex(estserve.Refusal, "DsdExists"):
-                root.dsd("apart", ["guest", "chief"], 2)  # it is taken back
-            listening.shutdown(socket.SHUT_RDWR)
-            thread.join(60)
+            with self.team(server) as (path, _):
+                self.check_made_anew(server, root, path, sets)
+
+    def check_made_anew(self, server, root, path, sets):
+        """A gateway has the set made anew, and where that can't be done it stays."""
+        status, printed, told = self.apply("--socket", path)
+        self.assertEqual((status, printed), (0, ["0 there already, 1 added"]))
+        line = "p.toml:2: dsd apart 2 guest chief was there: it is made anew"
+        self.assertEqual(told, [line])
+        with estserve.connect(server.path) as bob:
+            with self.assertRaises(estserve.Refusal):
+                bob.login("bob", ["driver", "chief"])
+        self.path.write_text(sets.replace('"chief"', '"nobody"'))
+        root.undsd("apart")
+        root.dsd("apart", ["guest", "chief"], 2)
+        self.assertEqual(self.apply("--socket", path)[0], 1)
+        with self.assertRaisesRegex(estserve.Refusal, "DsdExists"):
+            root.dsd("apart", ["guest", "chief"], 2)  # it is taken back
 
 
-class Library(InAFolder):
+class Library(OfPolicy):
     @needs_program
     def test_a_policy_is_applied_by_the_library(self):
         with estserve.start(os.environ["ESTSERVE"]) as client:

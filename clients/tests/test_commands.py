@@ -29,7 +29,8 @@ from estserve_client.module_text import main_of
 # what is told besides of the runs that end at an instant which is refused
 REFUSED = {
     "paradox": f"""estserve.py: instant 2: Stuck: the instant has no constructive reaction; undecided: O
-  {EXAMPLES}/paradox/paradox.strl:4:8: O is undecided""",
+O waits for itself: line 6 may emit it once O is absent
+  {EXAMPLES}/paradox/paradox.strl:6:16: emit O, once O is absent""",
     "no_second": f"{EXAMPLES}/crossing/no_second.inputs:3:1: instant 2: Implied: "
     "relation 1 (MINUTE => SECOND) asks for SECOND too",
     "both": f"{EXAMPLES}/team/both.inputs:3:3: instant 2: Excluded: "

@@ -8,7 +8,7 @@ import sys
 import unittest
 
 from support import EXAMPLES, ROOT
-from test_lab import InAFolder, needs_lab
+from test_lab import OfLab, needs_lab
 
 sys.path.insert(0, str(ROOT / "clients"))
 sys.path.insert(0, str(ROOT / "tests" / "lab"))
@@ -68,7 +68,7 @@ class Words:
 
 @needs_lab
 @needs_compiler
-class Compiling(InAFolder):
+class Compiling(OfLab):
     def code_of(self, path, name):
         """The C of a module, written into the test's folder."""
         subject = read_subject([path], None)

@@ -14,7 +14,7 @@ import tempfile
 import threading
 import unittest
 
-from support import CLIENTS, EXAMPLES, ROOT, needs_program
+from support import CLIENTS, EXAMPLES, ROOT, InAFolder, needs_program
 from test_format import texts_of_the_repository
 
 import estserve
@@ -164,11 +164,9 @@ def program():
 
 
 @needs_program
-class Exchange(unittest.TestCase):
+class Exchange(InAFolder):
     def setUp(self):
-        held = tempfile.TemporaryDirectory()
-        self.addCleanup(held.cleanup)
-        self.folder = pathlib.Path(held.name).resolve()
+        super().setUp()
         self.path = self.folder / "m.strl"
 
     def test_faults_as_one_types(self):

@@ -3,14 +3,13 @@ pictures and its words; and the same texts on a program that reads them.
 """
 import contextlib
 import io
-import os
 import pathlib
 import re
 import tempfile
 import time
 import unittest
 
-from support import EXAMPLES, ROOT, needs_expressions, read_vcd, refusal_of, run_client
+from support import EXAMPLES, ROOT, WithProgram, needs_expressions, read_vcd, refusal_of, run_client
 
 import estserve
 from estserve_client.applying import warnings_of, wrong_permission
@@ -398,14 +397,10 @@ class Words(unittest.TestCase):
 
 
 @needs_expressions
-class OnTheProgram(unittest.TestCase):
+class OnTheProgram(WithProgram):
     def setUp(self):
-        self.client = estserve.start(os.environ["ESTSERVE"])
-        self.addCleanup(self.client.close)
-        self.client.login("root", ["root"])
-        for op, object in [("load", "0"), ("step", "0"), ("observe", "0.O"), ("observe", "0.P"),
-                           ("observe", "0.B")]:  # fmt: skip
-            self.client.grant("root", op, object)
+        super().setUp()
+        self.grant(("load", "0"), ("step", "0"), *(("observe", f"0.{name}") for name in "OPB"))
 
     def test_what_the_client_reads_is_loaded(self):
         for text in [*TESTS, *(form.format("[A and not B]") for _, form in TESTED)]:

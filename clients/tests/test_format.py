@@ -3,13 +3,11 @@ is laid out doesn't change.
 """
 import json
 import os
-import pathlib
 import random
 import re
-import tempfile
 import unittest
 
-from support import EXAMPLES, ROOT, needs_program, run_client
+from support import EXAMPLES, ROOT, InAFolder, needs_program, run_client
 
 from estserve_client.formatting import WIDTH, format_text
 from estserve_client.layout_tree import Words
@@ -139,13 +137,10 @@ class Layouts(unittest.TestCase):
         self.assertIsNone(format_text(""))
 
 
-class Command(unittest.TestCase):
+class Command(InAFolder):
     def setUp(self):
-        held = tempfile.TemporaryDirectory()
-        self.addCleanup(held.cleanup)
-        self.folder = pathlib.Path(held.name)
-        self.path = self.folder / "m.strl"
-        self.path.write_text(UGLY)
+        super().setUp()
+        self.path = self.file("m.strl", UGLY)
 
     def test_a_file_is_laid_out_once(self):
         ran = run_client(["format", self.path])

@@ -1,287 +1,31 @@
-"""What is said of the inside of instants: local signals, the lines that ran, why a signal is present,
-and what waits for what where an instant is stuck.
-
-The circles of STUCK and ACROSS are worked out by hand from what must and what can be emitted, as is
-said beside each.
-"""
-import dataclasses
+"""What is said of the inside of instants: local signals, the lines that ran, why a signal is present."""
 import os
 import sys
 import unittest
 import unittest.mock
 
-from support import EXAMPLES, ROOT, needs_program, read_vcd, run_client, serve
-from test_lab import InAFolder, needs_lab
+from support import EXAMPLES, ROOT, InAFolder, needs_program, read_vcd, run_client, serve
+from test_lab import WithLab, needs_lab
 
 from estserve_client.connection import Client
 from estserve_client.lab.asking import Subject, start_lab
-from estserve_client.lab.inside import Inside, Tie
-from estserve_client.lab.stuck import Stuck
 from estserve_client.lab.why import Why
 from estserve_client.library_text import join_texts
 from estserve_client.module_text import main_of
 
-sys.path.append(str(ROOT / "tests" / "lab"))
-import rules  # noqa: E402
-
-# Texts of which M is stuck in an instant without inputs, and what is said then.
-STUCK = [
-    # O is emitted only if O is present: it can be, and nothing says that it must.
-    (
-        "module M: output O;\npresent O then\n emit O end end module",
-        "O waits for itself: line 3 may emit it once O is present",
-        ["3:2: emit O, once O is present"],
-    ),
-    # O is emitted only if O is absent, by `present` and by `abort` and `suspend` after a pause.
-    (
-        "module M: output O;\npresent O else\n emit O end end module",
-        "O waits for itself: line 3 may emit it once O is absent",
-        ["3:2: emit O, once O is absent"],
-    ),
-    (
-        "module M: output O;\nabort\n pause; emit O\nwhen O end module",
-        "O waits for itself: line 3 may emit it once O is absent",
-        ["3:9: emit O, once O is absent"],
-    ),
-    (
-        "module M: output O;\nsuspend\n pause; emit O\nwhen O end module",
-        "O waits for itself: line 3 may emit it once O is absent",
-        ["3:9: emit O, once O is absent"],
-    ),
-    (
-        "module M: output O; pause;\nabort\n emit O\nwhen immediate O end module",
-        "O waits for itself: line 3 may emit it once O is absent",
-        ["3:2: emit O, once O is absent"],
-    ),
-    # O is emitted whether it is present or not, so that it would have to be. But only one of the
-    # ways is walked where the test is answered, and so none of them must be.
-    (
-        "module M: output O;\npresent O then\n emit O\nelse\n emit O end end module",
-        "O neither must nor can't be emitted: it waits for itself, and line 3 and line 5 may emit it"
-        " whether it is present or not",
-        ["3:2: emit O, once O is present", "5:2: emit O, once O is absent"],
-    ),
-    # The same by what comes after the test.
-    (
-        "module M: output O;\npresent O then nothing else nothing end;\nemit O end module",
-        "O neither must nor can't be emitted: it waits for itself, and line 3 may emit it whether it"
-        " is present or not",
-        ["3:1: emit O, once O is present", "3:1: emit O, once O is absent"],
-    ),
-    # `O or not O` always holds, but not before O is known.
-    (
-        "module M: output O;\npresent [O or not O] then\n emit O end end module",
-        "O waits for itself: line 3 may emit it once `O or not O` holds",
-        ["3:2: emit O, once `O or not O` holds"],
-    ),
-    # Two outputs, each of which the other's status decides.
-    (
-        "module M: output O, P;\npresent O then\n emit P end\n||\npresent P else\n emit O end end module",
-        "O (line 6) waits for P, which line 3 may emit once O is present",
-        ["6:2: emit O, once P is absent", "3:2: emit P, once O is present"],
-    ),
-    # An output and a local signal.
-    (
-        "module M: output O; signal L in\npresent L then\n emit O end\n||\npresent O else\n emit L end end"
-        " end module",
-        "O (line 3) waits for L, which line 6 may emit once O is absent",
-        ["3:2: emit O, once L is present", "6:2: emit L, once O is absent"],
-    ),
-    # What comes after an `await`, and after a trap that an exit may leave before.
-    (
-        "module M: output O; pause;\nawait immediate O;\nemit O end module",
-        "O waits for itself: line 3 may emit it once O is present",
-        ["3:1: emit O, once O is present"],
-    ),
-    (
-        "module M: output O; pause;\ntrap T in present O then exit T end;\nemit O end end module",
-        "O waits for itself: line 3 may emit it once O is absent",
-        ["3:1: emit O, once O is absent"],
-    ),
-    # One module that is run twice: B of one run is O, of the other P.
-    (
-        "module N: input A; output B;\npresent A then\n emit B end end module\n"
-        "module M: output O, P;\n[run N [signal O/A, P/B] || run N [signal P/A, O/B]] end module",
-        "O (line 3) waits for P, which line 3 may emit once O is present",
-        ["3:2: emit B (O), once P is present", "3:2: emit B (P), once O is present"],
-    ),
-    # Three signals. O, P and Q can all be emitted, and none must be.
-    (
-        "module M: output O, P, Q;\npresent O then\n emit P end\n||\npresent P then\n emit Q end\n||\n"
-        "present Q else\n emit O end end module",
-        "O (line 9) waits for Q, which line 6 may emit once P is present, which line 3 may emit once"
-        " O is present",
-        [
-            "9:2: emit O, once Q is absent",
-            "6:2: emit Q, once P is present",
-            "3:2: emit P, once O is present",
-        ],
-    ),
-]
-# A client asks, a master grants unless the line is busy, and a grant makes it busy. With ASK present
-# REQUEST must be emitted, so it is decided. GRANT can be emitted, by line 28 if BUSY is absent; BUSY
-# can be by line 38 if GRANT is present. Neither must be. READ is emitted only if GRANT is present: it
-# is open too, but nothing waits for it.
-ACROSS = """module ARBITER:
-input ASK;
-output READ;
-signal REQUEST, GRANT, BUSY in
-  run CLIENT
-||
-  run MASTER
-||
-  run LINE
-end
-end module
-module CLIENT:
-input ASK, GRANT; output REQUEST, READ;
-loop
-  nothing;
-  present ASK then
-    emit REQUEST;
-    present GRANT then emit READ end
-  end;
-  pause
-end
-end module
-module MASTER:
-input REQUEST, BUSY; output GRANT;
-loop
-  present REQUEST then
-    present BUSY else
-      emit GRANT
-    end
-  end;
-  pause
-end
-end module
-module LINE:
-input GRANT; output BUSY;
-loop
-  present GRANT then
-    emit BUSY
-  end;
-  pause
-end
-end module
-"""
-LATER = ACROSS.replace("nothing;", "pause;")
-CIRCLE = "GRANT (line 28) waits for BUSY, which line 38 may emit once GRANT is present"
-OPEN = ":4:17: the local signal GRANT is undecided"
-PLACES = ["28:7: emit GRANT, once BUSY is absent", "38:5: emit BUSY, once GRANT is present"]
-# Each motor hears its GO, emits its OVER, and then its OFF.
-RUNS = """module MAIN:
-input A; output O;
-signal S in
-  run MOTOR [signal A/GO, S/OFF] || run MOTOR [signal S/GO, O/OFF]
-end
-end module
-module MOTOR:
-input GO; output OFF;
-signal OVER in
-  loop
-    await GO;
-    emit OVER;
-    present OVER then emit OFF end
-  end
-end
-end module
-"""
-
-
-def inside_of(lab, text, main=None):
-    """A module in estlab."""
-    return Inside(lab, Subject(join_texts([("m.strl", text)]), main_of(text, main)))
-
-
-def with_ties(inside, look):
-    """An instant that is stuck with its ties: those of the rules, where estlab tells none."""
-    if look.ties is not None:
-        return look
-    program = rules.Program(inside.statements, inside.subject.module.outputs())
-    seen = program.react(look.inputs, look.before).seen
-    pairs = ((True, seen.waits), (False, seen.may_emit))
-    ties = [
-        Tie(at, waits, getattr(signal, "name", signal))
-        for waits, found in pairs
-        for at, signal in found
-    ]
-    return dataclasses.replace(look, ties=tuple(ties))
-
-
-def tells_ties():
-    """Whether the program estlab tells the ties of an instant that is stuck."""
-    with start_lab() as lab:
-        return inside_of(lab, STUCK[0][0]).look(()).ties is not None
+RUNS = (ROOT / "tests" / "lab" / "motors.strl").read_text()
 
 
 @needs_lab
-class Circles(unittest.TestCase):
-    def setUp(self):
-        self.lab = start_lab()
-        self.addCleanup(self.lab.client.close)
-
-    def stuck(self, text, word, main=None):
-        """A module, and its first instant of a word that is stuck."""
-        inside = inside_of(self.lab, text, main)
-        look = next(look for look in inside.looks(word) if look.is_stuck)
-        return inside, look
-
-    def lines(self, text, word, main=None):
-        """What is said of that instant: the first line, and the places."""
-        inside, look = self.stuck(text, word, main)
-        first, *places = Stuck(inside, with_ties(inside, look)).lines()
-        return first, [place.replace("  m.strl:", "", 1) for place in places]
-
-    def test_of_stuck_programs(self):
-        for text, sentence, places in STUCK:
-            with self.subTest(text):
-                self.assertEqual(self.lines(text, [(), ()], "M"), (sentence, places))
-
-    def test_across_modules(self):
-        for text in (ACROSS, LATER):
-            with self.subTest(text):
-                self.assertEqual(self.lines(text, [("ASK",), ("ASK",)]), (CIRCLE, PLACES))
-
-    def test_a_reader_in_a_third_module_is_in_no_circle(self):
-        inside, look = self.stuck(ACROSS, [("ASK",)])
-        self.assertEqual(look.undecided, ("READ",))
-        told = "\n".join(Stuck(inside, with_ties(inside, look)).lines())
-        self.assertNotIn("READ", told)
-        self.assertNotIn("REQUEST", told)
-
-    def test_without_ties_no_circle_is_drawn(self):
-        inside, look = self.stuck(ACROSS, [("ASK",)])
-        lines = Stuck(inside, dataclasses.replace(look, ties=None)).lines()
-        self.assertEqual(
-            lines,
-            [
-                "  m.strl:3:8: READ is undecided",
-                "  m.strl:4:17: the local signal GRANT is undecided",
-                "  m.strl:4:24: the local signal BUSY is undecided",
-            ],
-        )
-
-    def test_a_signal_that_is_begun_anew(self):
-        text = "module M:\nloop\n signal S in\n  pause;\n  present S else\n   emit S end\n end\nend"
-        text += " end module"
-        sentence = "S waits for itself: line 6 may emit it once S is absent"
-        self.assertEqual(self.lines(text, [(), ()])[0], sentence)
-        anew = text.replace("pause;", "nothing;").replace("emit S end", "emit S end; pause")
-        self.assertEqual(self.lines(anew, [()])[0], sentence)
-
-
-@needs_lab
-class Reincarnation(unittest.TestCase):
+class Reincarnation(WithLab):
     """In each instant but the first the loop ends its body and begins it anew: the old S is emitted
     before it ends, the new one is not, so one of the two is present.
     """
 
     def setUp(self):
-        self.lab = start_lab()
-        self.addCleanup(self.lab.client.close)
+        super().setUp()
         path = EXAMPLES / "reincarnation" / "reincarnation.strl"
-        self.inside = inside_of(self.lab, path.read_text())
+        self.inside = self.inside_of(path.read_text())
 
     def test_two_incarnations_have_statuses_of_their_own(self):
         first, second = self.inside.looks([(), ()])
@@ -419,18 +163,10 @@ class Runs(InAFolder):
         self.assertEqual((ran.printed, ran.status), ("", 1))
         self.assertIn("the client reads another kernel than the program", ran.told)
 
-    def test_a_stuck_instant_says_what_is_open(self):
-        ran = self.ran_with(ACROSS, "ASK\n")
-        self.assertIn("instant 1: Stuck: ", ran.told)
-        self.assertIn(CIRCLE if tells_ties() else OPEN, ran.told)
-
-    def test_without_estlab_it_is_said_that_nothing_can_be(self):
+    def test_without_estlab_nothing_is_drawn(self):
         missing = os.path.join(self.folder, "none")
-        ran = self.ran_with(ACROSS, "ASK\n", "--estlab", missing)
-        told = f"which signals are open inside can't be said: {missing} cannot be started"
-        self.assertTrue(ran.told.splitlines()[1].startswith(told), ran.told)
-        inner = self.ran_with(ACROSS, "ASK\n", "--estlab", missing, "--locals")
-        self.assertEqual((inner.printed, inner.status), ("", 1))
+        ran = self.ran_with(RUNS, "A\n", "--estlab", missing, "--locals")
+        self.assertEqual((ran.printed, ran.status), ("", 1))
 
 
 GRANTS = "".join(
@@ -539,15 +275,6 @@ class Shells(InAFolder):
     def test_an_input_that_may_not_be_observed_hides_the_inside(self):
         lines = self.lines("revoke root observe 0.R", "B;", "where")
         self.assertIn("you may not observe R", lines[-1])
-
-    def test_a_stuck_instant_says_what_is_open(self):
-        path = self.file("m.strl", ACROSS)
-        grants = "".join(f"grant root {one}\n" for one in ("load 0", "step 0", "offer 0.ASK"))
-        grants += "grant root observe 0.ASK\ngrant root observe 0.READ\n"
-        ran = run_client(["shell"], f"{grants}load 0 {path}\nASK;\ntry ASK;\ntry ;\n")
-        wanted = CIRCLE if tells_ties() else OPEN
-        self.assertEqual(ran.printed.count(wanted), 2, ran.printed)
-        self.assertIn("instant 1 would be: no output", ran.printed)
 
     def test_without_a_text_it_is_asked_for(self):
         ran = run_client(["shell"], "where\n")

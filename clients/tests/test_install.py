@@ -4,19 +4,17 @@ that scripts/trial.py keeps.
 import argparse
 import json
 import os
-import pathlib
 import re
 import resource
 import shutil
 import signal
 import subprocess
 import sys
-import tempfile
 import time
 import unittest
 import unittest.mock
 
-from support import CLIENTS, EXAMPLES, ROOT, needs_program
+from support import CLIENTS, EXAMPLES, ROOT, InAFolder, needs_program
 
 from estserve_client import commands
 from estserve_team import command
@@ -176,20 +174,6 @@ class Pages(unittest.TestCase):
         self.assertEqual(
             completed("estserve-client", "run", str(CLIENTS / "inst")), [str(CLIENTS / "install")]
         )
-
-
-class InAFolder(unittest.TestCase):
-    def setUp(self):
-        held = tempfile.TemporaryDirectory()
-        self.addCleanup(held.cleanup)
-        self.folder = pathlib.Path(held.name)
-
-    def script(self, name, text):
-        path = self.folder / name
-        path.parent.mkdir(parents=True, exist_ok=True)
-        path.write_text(text)
-        path.chmod(0o755)
-        return path
 
 
 class Installed(InAFolder):

@@ -4,12 +4,16 @@ import pathlib
 import re
 import shlex
 import shutil
-import tempfile
 import textwrap
 import unittest
 import xml.etree.ElementTree
 
-from support import EXAMPLES, ROOT, needs_program, run_client
+from support import EXAMPLES, ROOT, InAFolder, needs_program, run_client
+
+from estserve_client.lab.asking import Subject, start_lab
+from estserve_client.lab.inside import Inside
+from estserve_client.library_text import join_texts
+from estserve_client.module_text import main_of
 
 TWO_STATES = """digraph PARADOX {
   rankdir=LR;
@@ -73,19 +77,20 @@ def needs_lab(test):
     return unittest.skipUnless(os.environ.get("ESTLAB"), told)(test)
 
 
-class InAFolder(unittest.TestCase):
-    """Tests with a folder of their own."""
+class WithLab(unittest.TestCase):
+    """Tests with a program estlab."""
 
     def setUp(self):
-        made = tempfile.TemporaryDirectory()
-        self.addCleanup(made.cleanup)
-        self.folder = pathlib.Path(made.name)
+        self.lab = start_lab()
+        self.addCleanup(self.lab.client.close)
 
-    def file(self, name, text):
-        """A file of the folder."""
-        path = self.folder / name
-        path.write_text(textwrap.dedent(text))
-        return path
+    def inside_of(self, text, main=None):
+        """A module in it."""
+        return Inside(self.lab, Subject(join_texts([("m.strl", text)]), main_of(text, main)))
+
+
+class OfLab(InAFolder):
+    """Tests of commands that ask estlab."""
 
     def copied(self, path):
         """A copy of a file in the folder."""
@@ -105,7 +110,7 @@ class InAFolder(unittest.TestCase):
 
 
 @needs_lab
-class Proving(InAFolder):
+class Proving(OfLab):
     def test_what_holds_is_said_with_how_much_was_searched(self):
         words = ["--never", "O and R", "--always", "not O or A or B"]
         printed, status = self.ran("prove", abro(), *words)
@@ -144,7 +149,8 @@ class Proving(InAFolder):
         self.assertEqual(status, 1)
         self.assertIn("FAILED  it is never Stuck: fails in instant 2\n", printed)
         self.assertIn("instant 2: Stuck: the instant has no constructive reaction", printed)
-        self.assertIn(f"{path}:4:8: O is undecided\n", printed)
+        self.assertIn("O waits for itself: line 6 may emit it once O is absent\n", printed)
+        self.assertIn(f"{path}:6:16: emit O, once O is absent\n", printed)
         self.assertEqual(self.ran("prove", path, "--inputs", "")[1], 0)
 
     def test_inputs_say_what_may_be_offered(self):
@@ -186,7 +192,7 @@ class Proving(InAFolder):
 
 
 @needs_lab
-class Claims(InAFolder):
+class Claims(OfLab):
     def test_each_example_keeps_its_claims(self):
         folders = sorted(path.parent for path in EXAMPLES.glob("*/*.claims"))
         texts = sorted(path.parent for path in EXAMPLES.glob("*/*.strl"))
@@ -259,7 +265,7 @@ class Claims(InAFolder):
 
 
 @needs_lab
-class Coverage(InAFolder):
+class Coverage(OfLab):
     def test_what_is_written_tries_the_rest(self):
         self.copied(EXAMPLES / "mouse" / "mouse.strl")
         self.copied(EXAMPLES / "mouse" / "mouse.inputs")
@@ -308,7 +314,7 @@ class Coverage(InAFolder):
 
 
 @needs_lab
-class Linting(InAFolder):
+class Linting(OfLab):
     def test_each_thing_of_no_use(self):
         path = self.file("m.strl", OF_NO_USE)
         printed, status = self.ran("lint", path)
@@ -333,7 +339,7 @@ class Linting(InAFolder):
 
 
 @needs_lab
-class WhoCan(InAFolder):
+class WhoCan(OfLab):
     def setUp(self):
         super().setUp()
         self.copied(abro())
@@ -371,7 +377,7 @@ class WhoCan(InAFolder):
 
 @needs_lab
 @needs_program
-class Documents(InAFolder):
+class Documents(OfLab):
     BLOCK = re.compile(
         r"<!-- lab -->\s*```console\n\$ python3 clients/estserve.py ([^\n]*)\n(.*?)```\n", re.DOTALL
     )
@@ -379,7 +385,7 @@ class Documents(InAFolder):
     def test_each_command_prints_what_is_told(self):
         self.addCleanup(os.chdir, os.getcwd())
         os.chdir(ROOT)
-        for name, count in [("TUTORIAL", 3), ("PROVING", 4)]:
+        for name, count in [("TUTORIAL", 3), ("PROVING", 4), ("LANGUAGE", 1)]:
             text = (ROOT / "docs" / f"{name}.md").read_text()
             blocks = self.BLOCK.findall(text)
             self.assertEqual((len(blocks), text.count("<!-- lab -->")), (count, count))
@@ -392,7 +398,7 @@ class Documents(InAFolder):
 
 
 @needs_lab
-class Graphs(InAFolder):
+class Graphs(OfLab):
     def test_a_drawing(self):
         path = EXAMPLES / "paradox" / "paradox.strl"
         self.assertEqual(self.ran("graph", path), (TWO_STATES, 0))

@@ -5,7 +5,6 @@ import dataclasses
 import importlib
 import importlib.util
 import inspect
-import os
 import pathlib
 import pkgutil
 import re
@@ -16,7 +15,7 @@ import tempfile
 import time
 import unittest
 
-from support import CLIENTS, EXAMPLES, ROOT, needs_program, run_client
+from support import CLIENTS, EXAMPLES, ROOT, WithProgram, needs_program, run_client
 
 import estserve
 import estserve_client
@@ -25,20 +24,17 @@ ABRO = (EXAMPLES / "abro" / "abro.strl").read_text()
 
 
 @needs_program
-class OnTheProgram(unittest.TestCase):
+class OnTheProgram(WithProgram):
     def setUp(self):
-        self.client = estserve.start(os.environ["ESTSERVE"], timeout=60)
-        self.addCleanup(self.client.close)
-        self.client.login("root", ["root"])
-        for op, object in [
+        super().setUp()
+        self.grant(
             ("load", "0"),
             ("step", "0"),
             ("offer", "0.A"),
             ("offer", "0.B"),
             ("observe", "0.A"),
             ("observe", "0.O"),
-        ]:
-            self.client.grant("root", op, object)
+        )
         self.client.load(0, "ABRO", ABRO)
 
     def test_an_instant(self):

@@ -9,7 +9,7 @@ import re
 import tempfile
 import unittest
 
-from support import EXAMPLES, ROOT, needs_program, refusal_of, run_client
+from support import EXAMPLES, ROOT, WithProgram, needs_program, refusal_of, run_client
 from test_format import texts_of_the_repository
 
 import estserve
@@ -130,11 +130,9 @@ def module_of(body):
 
 
 @needs_program
-class OnTheProgram(unittest.TestCase):
+class OnTheProgram(WithProgram):
     def setUp(self):
-        self.client = estserve.start(os.environ["ESTSERVE"])
-        self.addCleanup(self.client.close)
-        self.client.login("root", ["root"])
+        super().setUp()
         self.client.ask_all(grants_of(Module("M", [], [], [])))
 
     def told_of(self, text):

@@ -1,12 +1,10 @@
 """Packages beside the client give it subcommands of their own, where their folder is there."""
-import pathlib
 import shutil
 import subprocess
 import sys
-import tempfile
 import unittest
 
-from support import CLIENTS
+from support import CLIENTS, InAFolder
 
 # runs a command of the client, and tells what it has imported
 IMPORTED = """import sys, estserve
@@ -23,11 +21,9 @@ def add_parser(commands):
 '''
 
 
-class Neighbours(unittest.TestCase):
+class Neighbours(InAFolder):
     def setUp(self):
-        held = tempfile.TemporaryDirectory()
-        self.addCleanup(held.cleanup)
-        self.folder = pathlib.Path(held.name)
+        super().setUp()
         shutil.copy(CLIENTS / "estserve.py", self.folder)
         shutil.copytree(CLIENTS / "estserve_client", self.folder / "estserve_client")
 

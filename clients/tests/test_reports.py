@@ -7,12 +7,11 @@ import os
 import pathlib
 import re
 import shlex
-import tempfile
 import unittest
 import unittest.mock
 import xml.etree.ElementTree
 
-from support import EXAMPLES, needs_program, run_client
+from support import EXAMPLES, InAFolder, needs_program, run_client
 
 import estserve
 from estserve_client.colours import Colours
@@ -25,18 +24,6 @@ from estserve_client.texts_beside import tell_choice, texts_beside
 ABRO = EXAMPLES / "abro" / "abro.strl"
 CELL = "module CELL: input I; output O; loop present I then emit O end; pause end end module\n"
 CI = EXAMPLES / "ci"
-
-
-class InAFolder(unittest.TestCase):
-    def setUp(self):
-        held = tempfile.TemporaryDirectory()
-        self.addCleanup(held.cleanup)
-        self.folder = pathlib.Path(held.name)
-
-    def file(self, name, text):
-        path = self.folder / name
-        path.write_text(text)
-        return path
 
 
 @needs_program

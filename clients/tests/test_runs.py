@@ -2,14 +2,12 @@
 watched, what is interrupted.
 """
 import os
-import pathlib
 import signal
 import subprocess
 import sys
-import tempfile
 import unittest
 
-from support import CLIENTS, EXAMPLES, needs_program, run_client, run_words, serve
+from support import CLIENTS, EXAMPLES, InAFolder, needs_program, run_client, run_words, serve
 
 from estserve_client.drawing import Progress
 from estserve_client.library_text import join_texts
@@ -25,17 +23,7 @@ ABRO = EXAMPLES / "abro" / "abro.strl"
 LONG = 20_000
 
 
-class InAFolder(unittest.TestCase):
-    def setUp(self):
-        held = tempfile.TemporaryDirectory()
-        self.addCleanup(held.cleanup)
-        self.folder = pathlib.Path(held.name)
-
-    def file(self, name, text):
-        path = self.folder / name
-        path.write_text(text)
-        return path
-
+class Running(InAFolder):
     def start(self, *words):
         """The client as a program of its own, whose output is read as it comes."""
         pipe = subprocess.PIPE
@@ -52,7 +40,7 @@ class InAFolder(unittest.TestCase):
 
 
 @needs_program
-class LongRuns(InAFolder):
+class LongRuns(Running):
     """A list of inputs whose run takes minutes: what is read at once has streamed."""
 
     def setUp(self):
@@ -82,7 +70,7 @@ class LongRuns(InAFolder):
 
 
 @needs_program
-class Runs(InAFolder):
+class Runs(Running):
     def test_signals_that_are_named(self):
         ran = run_client(run_words("abro", None, "--signals", "O,B", "--wave"))
         self.assertEqual(
@@ -267,7 +255,7 @@ class Interrupts(unittest.TestCase):
 
 
 @needs_program
-class OnAServer(InAFolder):
+class OnAServer(Running):
     def test_a_slot_of_a_server(self):
         with serve() as server, server.root() as root:
             for op in ("load", "step"):
@@ -312,7 +300,7 @@ class OnAServer(InAFolder):
 
 
 @needs_program
-class Folders(InAFolder):
+class Folders(Running):
     def test_a_folder_of_scenarios(self):
         self.file("abro.strl", ABRO.read_text())
         self.file("both.inputs", ";\nA B\n")

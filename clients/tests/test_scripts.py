@@ -13,7 +13,7 @@ import tempfile
 import threading
 import unittest
 
-from support import CLIENTS, EXAMPLES, needs_program, run_client, serve
+from support import CLIENTS, EXAMPLES, InAFolder, needs_program, run_client, serve
 
 import estserve
 from estserve_client.shell import Shell
@@ -214,11 +214,10 @@ class FakeServer:
                 connection.sendall(json.dumps(answer).encode() + b"\n")
 
 
-class Renewals(unittest.TestCase):
+class Renewals(InAFolder):
     def setUp(self):
-        held = tempfile.TemporaryDirectory()
-        self.addCleanup(held.cleanup)
-        self.path = pathlib.Path(held.name) / "socket"
+        super().setUp()
+        self.path = self.folder / "socket"
 
     def test_a_connection_that_the_server_ends_is_made_again(self):
         with FakeServer(self.path, 5) as server, estserve.connect(self.path, reads=6) as client:

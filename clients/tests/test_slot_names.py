@@ -1,11 +1,9 @@
 """Names of slots in the shell: what a policy file calls a slot stands for its number."""
 import contextlib
 import io
-import pathlib
-import tempfile
 import unittest
 
-from support import EXAMPLES, needs_program, run_client
+from support import EXAMPLES, InAFolder, needs_program, run_client
 
 from estserve_client.shell import Shell
 from estserve_client.shell_words import Usage
@@ -17,12 +15,10 @@ POLICY = '[slots]\ndoor = 3\nbell = 15\n\n[permissions]\nroot = ["step door"]\n'
 SLOTS = {"door": 3, "bell": 15}
 
 
-class Lines(unittest.TestCase):
+class Lines(InAFolder):
     def setUp(self):
-        held = tempfile.TemporaryDirectory()
-        self.addCleanup(held.cleanup)
-        self.policy = pathlib.Path(held.name) / "policy.toml"
-        self.policy.write_text(POLICY)
+        super().setUp()
+        self.policy = self.file("policy.toml", POLICY)
         self.shell = Shell(None, "ann", True)
 
     def numbered(self, line):

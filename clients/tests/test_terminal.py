@@ -4,19 +4,25 @@ its pictures are.
 import fcntl
 import importlib.util
 import os
-import pathlib
 import pty
 import re
 import select
 import socket
 import struct
 import sys
-import tempfile
 import termios
 import time
 import unittest
 
-from support import CLIENTS, DIALOGUES, EXAMPLES, dialogue_variables, needs_program, read_vcd
+from support import (
+    CLIENTS,
+    DIALOGUES,
+    EXAMPLES,
+    InAFolder,
+    dialogue_variables,
+    needs_program,
+    read_vcd,
+)
 
 SECONDS = 60  # whatever a terminal is to show comes in this time
 LOGIN = '{"ok":"login","session":1,"version":5}'
@@ -104,20 +110,9 @@ class Terminal:
         return self.shown, os.WEXITSTATUS(status)
 
 
-class InATerminal(unittest.TestCase):
-    def setUp(self):
-        held = tempfile.TemporaryDirectory()
-        self.addCleanup(held.cleanup)
-        self.folder = pathlib.Path(held.name)
-
+class InATerminal(InAFolder):
     def over(self, path, words, **more):
         return Terminal(words, dialogue_variables(path, self.folder / "faults"), **more)
-
-    def program(self, script):
-        path = self.folder / "program"
-        path.write_text(script)
-        path.chmod(0o755)
-        return path
 
     @unittest.skipUnless(importlib.util.find_spec("readline"), "this Python has no readline")
     def test_completion_and_history(self):
@@ -151,7 +146,7 @@ class InATerminal(unittest.TestCase):
 
     @unittest.skipUnless(importlib.util.find_spec("readline"), "this Python has no readline")
     def test_lines_are_kept_from_one_shell_to_the_next(self):
-        path = self.program(f"#!/bin/sh\nread line; echo '{LOGIN}'; cat > /dev/null\n")
+        path = self.script("program", f"#!/bin/sh\nread line; echo '{LOGIN}'; cat > /dev/null\n")
         words, state = ["shell", "--program", path], {"XDG_STATE_HOME": str(self.folder / "state")}
         for typed, shown in [("use 3\n", "use 3\n"), ("\x1b[A\x1b[A\n", "use 3\n")]:
             with Terminal(words, state) as terminal:
@@ -177,7 +172,7 @@ class InATerminal(unittest.TestCase):
             self.assertEqual((status, "\x1b[1m" in shown), (1, is_bold))
 
     def test_a_refusal_is_red_in_a_terminal(self):
-        path = self.program(f"#!/bin/sh\nread line; echo '{LOGIN}'; cat > /dev/null\n")
+        path = self.script("program", f"#!/bin/sh\nread line; echo '{LOGIN}'; cat > /dev/null\n")
         with Terminal(["shell", "--program", path], {"TERM": "xterm"}) as terminal:
             terminal.sees("root> ")
             terminal.type("fly\n")
@@ -186,7 +181,7 @@ class InATerminal(unittest.TestCase):
             self.assertEqual(terminal.ends()[1], 0)
 
     def test_ctrl_c_interrupts_a_command_and_not_the_program(self):
-        path = self.program(SLOW)
+        path = self.script("program", SLOW)
         with Terminal(["shell", "--program", path], {}) as terminal:
             terminal.sees("root> ")
             terminal.type("step 0\n")
@@ -254,7 +249,7 @@ class InATerminal(unittest.TestCase):
             '{"instant":1,"ok":"look","signals":[["A",true],["O",false]],"version":5}',
         ]
         lines = "".join(f"read line; echo '{answer}'\n" for answer in answers)
-        path = self.program(f"#!/bin/sh\n{lines}cat > /dev/null\n")
+        path = self.script("program", f"#!/bin/sh\n{lines}cat > /dev/null\n")
         with Terminal(["shell", "--program", path], {}) as terminal:
             terminal.sees("root> ")
             terminal.type("use 3\n")
@@ -271,7 +266,7 @@ class InATerminal(unittest.TestCase):
         inputs, vcd = self.folder / "inputs", self.folder / "out.vcd"
         inputs.write_text("R3\nR1 R3\n" * 10_000)
         words = ["run", EXAMPLES / "arbiter" / "arbiter.strl", "--inputs", inputs, "--vcd", vcd]
-        with Terminal([*words, "--program", self.program(SLOWED)], {}) as terminal:
+        with Terminal([*words, "--program", self.script("program", SLOWED)], {}) as terminal:
             terminal.sees(" of 20,000 instants")
             terminal.sees(" of 20,000 instants")
             terminal.type("\x03")

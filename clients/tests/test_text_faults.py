@@ -1,14 +1,12 @@
 """What the client says of a text that is refused, and of an instant that is stuck: held against the
 real program.
 """
-import os
 import pathlib
 import tempfile
 import unittest
 
-from support import needs_program, refusal_of, run_client
+from support import WithProgram, needs_program, refusal_of, run_client
 
-import estserve
 from estserve_client.library_text import join_texts
 from estserve_client.load_faults import load_fault
 from estserve_client.stage import grants_of
@@ -143,11 +141,9 @@ DECLARED_LEFT_OUT = [
 
 
 @needs_program
-class OnTheProgram(unittest.TestCase):
+class OnTheProgram(WithProgram):
     def setUp(self):
-        self.client = estserve.start(os.environ["ESTSERVE"])
-        self.addCleanup(self.client.close)
-        self.client.login("root", ["root"])
+        super().setUp()
         outputs = Module("M", [("O", "output"), ("P", "output")], [], [])
         self.client.ask_all(grants_of(outputs))
 

@@ -8,13 +8,11 @@ is written into /tmp goes into a folder of the test's own. The blocks after `<!-
 to a server; tests/socket runs them. Those after `<!-- lab -->` ask estlab; test_lab runs them.
 """
 import os
-import pathlib
 import re
 import shlex
-import tempfile
 import unittest
 
-from support import ROOT, play_dialogue, read_vcd
+from support import ROOT, InAFolder, play_dialogue, read_vcd
 
 BLOCK = re.compile(r"<!-- dialogue: (\S+) -->\s*```console\n(.*?)```", re.DOTALL)
 CLIENT = "python3 clients/estserve.py "
@@ -31,13 +29,11 @@ def commands_of(block):
         )
 
 
-class Tutorial(unittest.TestCase):
+class Tutorial(InAFolder):
     def setUp(self):
+        super().setUp()
         self.addCleanup(os.chdir, os.getcwd())
         os.chdir(ROOT)
-        held = tempfile.TemporaryDirectory()
-        self.addCleanup(held.cleanup)
-        self.folder = pathlib.Path(held.name)
 
     def check(self, path, command, typed, printed):
         """Runs a command over a stored dialogue."""

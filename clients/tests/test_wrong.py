@@ -14,7 +14,7 @@ import threading
 import unittest
 import unittest.mock
 
-from support import CLIENTS, DIALOGUES, EXAMPLES, play_dialogue, run_client, run_words
+from support import CLIENTS, DIALOGUES, EXAMPLES, InAFolder, play_dialogue, run_client, run_words
 
 import estserve
 from estserve_client import connection, session
@@ -25,23 +25,10 @@ LOGIN = '{"ok":"login","session":1,"version":5}'
 COMMAND = [sys.executable, "-B", str(CLIENTS / "estserve.py")]
 
 
-class WhatGoesWrong(unittest.TestCase):
-    def setUp(self):
-        held = tempfile.TemporaryDirectory()
-        self.addCleanup(held.cleanup)
-        self.folder = pathlib.Path(held.name)
-
-    def file(self, name, data):
-        """A file of these bytes, or of this text."""
-        path = self.folder / name
-        path.write_bytes(data if isinstance(data, bytes) else data.encode())
-        return path
-
+class WhatGoesWrong(InAFolder):
     def program(self, script):
         """A program that is this script of the shell."""
-        path = self.file("program", "#!/bin/sh\n" + script)
-        path.chmod(0o755)
-        return path
+        return self.script("program", "#!/bin/sh\n" + script)
 
     def is_one_line(self, ran, told, printed=""):
         self.assertEqual((ran.status, ran.printed), (1, printed), ran.told)

@@ -20,9 +20,12 @@ LINES = [
     {"cmd": "explore", "claims": ["always A", "never (O"], **LOOK},
     {"cmd": "same", "main": "M", "text": MODULE, **LOOK},
     {"cmd": "table", **LOOK},
+    {"cmd": "try", "inputs": ["A"]},
+    {"cmd": "instant", "inputs": []},
+    {"cmd": "back", "to": 0},  # answered alike where the instant before was refused
 ]
 SCRIPT = b"".join(json.dumps(line).encode() + b"\n" for line in LINES)
-TOLD = ["load", "kernel", "explore", None, "same", "table"]  # the word of each answer; the second of the fourth line's claims is none
+TOLD = ["load", "kernel", "explore", None, "same", "table", "instant", "instant", "back"]  # the word of each answer; the second of the fourth line's claims is none
 MEMORY, EMPTY = refused(90), refused(62)
 NO_ROOM = [written({"claim": number, "code": 81, "fault": "Claim", "why": {"code": 90, "fault": "Memory"}}) for number in (1, 2)]
 UNREAD, UNKNOWN = 2, 3

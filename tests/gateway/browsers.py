@@ -79,8 +79,16 @@ class Page:
         self.wait(lambda: part in self.text(selector), f"{part!r} in {selector}")
 
     def click(self, selector: str) -> None:
-        """Clicks on an element, once it is there."""
-        self.wait(lambda: self.find(selector), selector).click()
+        """Clicks on an element, once it is there: on the one in its place, where it is replaced
+        meanwhile."""
+
+        def clicked() -> bool:
+            found = self.find(selector)
+            if found:
+                found.click()
+            return bool(found)
+
+        self.wait(clicked, selector)
 
     def type(self, selector: str, text: str) -> None:
         """Types into an element."""

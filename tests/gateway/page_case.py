@@ -3,6 +3,7 @@ from __future__ import annotations
 
 import os
 import pathlib
+import tempfile
 import unittest
 from typing import Any
 
@@ -74,6 +75,20 @@ class PageCase(unittest.TestCase):
     def choose(self, selector: str, value: str) -> None:
         """Chooses in a list of the first browser."""
         self.assertEqual(self.one.run(CHOOSE, selector, value), value)
+
+    def allow_files(self, page: browsers.Page) -> pathlib.Path:
+        """A folder into which a browser saves."""
+        held = tempfile.TemporaryDirectory()
+        self.addCleanup(held.cleanup)
+        words = {"behavior": "allow", "downloadPath": held.name}
+        page.browser.execute_cdp_cmd("Browser.setDownloadBehavior", words)
+        return pathlib.Path(held.name)
+
+    def saved(self, folder: pathlib.Path, name: str) -> str:
+        """The text of a file that a browser saves there."""
+        path = folder / name
+        teams.wait_for(lambda: path.exists() and path.stat().st_size)
+        return path.read_text()
 
     def shoot(self, page: browsers.Page, name: str) -> None:
         """Keeps a picture, where pictures are wanted."""

@@ -57,7 +57,7 @@ const tests = {
     assert.deepEqual(drivenOf(one), { inputs: [["A"], [], ["M"]], hidden: ["A"] });
   },
 
-  async "a stuck instant has its sentence, and no circle is drawn"() {
+  async "a stuck instant has its sentence, and of a replayed one its circle"() {
     const { faultWords, furtherPlaces, plainDiagnosis } = await load("diagnosis.js");
     const { endedWords } = await load("parting.js");
     const sentence = "Stuck: the instant has no constructive reaction; undecided: O P";
@@ -65,13 +65,46 @@ const tests = {
     assert.deepEqual([plain.marks, plain.path, plain.is_chain], [[], [], false]);
     assert.equal(faultWords(plain), sentence);
     assert.deepEqual(furtherPlaces(plain), []);
-    const circle = "O waits for itself: ..\n  text:6:7: emit O, once O is absent";
-    for (const ended of [sentence, `${sentence}\n${circle}`]) {
-      assert.equal(
-        endedWords({ ended, rows: ["00"] }), `Your version was refused at instant 2: ${sentence}`
-      );
-    }
+    const [circle, place] = ["O waits for itself: ..", "  text:6:7: emit O, once O is absent"];
+    const told = `Your version was refused at instant 2: ${sentence}`;
+    assert.equal(endedWords({ ended: sentence, rows: ["00"] }), told);
+    const ended = [sentence, circle, place].join("\n");
+    assert.equal(endedWords({ ended, rows: ["00"] }), `${told}. ${circle}`, "places are left out");
     assert.equal(endedWords({ ended: null, rows: ["00"] }), "");
+  },
+
+  async "the circle of a stuck instant goes from tests to emissions, and back within"() {
+    const { curvesOf, wayOf } = await load("circle.js");
+    const told = (circle) => curvesOf(circle).map(({ from, to, name }) => `${from} ${to} ${name}`);
+    assert.deepEqual(told([
+      { signal: "GRANT", emission: 28, test: 27, target: "BUSY", to: 38 },
+      { signal: "BUSY", emission: 38, test: 37, target: "GRANT", to: 28 },
+    ]), ["28 27 ", "27 38 BUSY", "38 37 ", "37 28 GRANT"]);
+    const itself = { signal: "O", emission: 2, test: 2, target: "O", to: 2 };
+    assert.deepEqual(told([itself]), ["2 2 O"], "on one line, what waits for itself");
+    assert.deepEqual(told([itself, itself]), ["2 2 O"]);
+    assert.deepEqual(told([]), []);
+    assert.equal(wayOf(30, 90, 100, 140), "M 100 30 C 140 30 140 90 100 90");
+    assert.equal(wayOf(30, 30, 100, 140), "M 100 25 C 140 25 140 35 100 35", "a loop has two ends");
+  },
+
+  async "a line keeps its marks while they are the same, and loses them after"() {
+    const { markLines } = await load("source_text.js");
+    let changes = 0;
+    const lineOf = () => {
+      const names = new Set();
+      const change = (act) => (name) => { changes += 1; names[act](name); };
+      return { names, classList: { add: change("add"), remove: change("delete") } };
+    };
+    const source = { children: Array.from({ length: 5 }, lineOf) };
+    const told = () => source.children.map(({ names }) => [...names].sort().join(" "));
+    markLines(source, { ran: [1, 2], rests: [2], open: undefined });
+    assert.deepEqual(told(), ["ran", "ran rests", "", "", ""]);
+    markLines(source, { ran: [2, 3], rests: [2], open: [5, 9] });
+    assert.deepEqual(told(), ["", "ran rests", "ran", "", "open"]);
+    assert.equal(changes, 6, "lines that stay as they are are not touched");
+    markLines(source, {});
+    assert.deepEqual(told(), ["", "", "", "", ""]);
   },
 
   async "what happened inside an instant is told in words, and asked once at a time"() {
@@ -83,6 +116,8 @@ const tests = {
     );
     const ended = { instant: 1, ran: [], rests: [], locals: [] };
     assert.equal(insideWords(ended), "instant 1: ran nothing · nothing is left to run");
+    const stuck = { instant: 3, ran: [1], rests: [], locals: [], stuck: { told: "O waits for itself" } };
+    assert.equal(insideWords(stuck), "instant 3 is stuck: O waits for itself");
     const [all, some] = [{ A: true, O: true }, { A: true, O: false }];
     assert.deepEqual(
       [{ load: true, observe: some }, { load: false, observe: all }, { load: false, observe: some },
@@ -102,6 +137,44 @@ const tests = {
     await marks.show({ load: 2, may: seen.may }, 1);
     await marks.show({ load: 1, may: { load: false, observe: some } }, 1);
     assert.deepEqual([asked, marked], [[1, 3, 1], [3, null, null]], "of another load nothing is shown");
+  },
+
+  async "why nothing can be told is said, and not asked again for that load"() {
+    const { InsideMarks, insideWords } = await load("inside.js");
+    const { Refused } = await load("requests.js");
+    let [asked, fault] = [0, "Failed"];
+    const marked = [];
+    const read = async () => {
+      asked += 1;
+      throw new Refused({ sentence: `${fault}: another kernel`, refusal: { fault } });
+    };
+    const marks = new InsideMarks({ read }, 0, (found) => marked.push(found && insideWords(found)));
+    const may = { load: true, observe: {} };
+    for (const instant of [1, 2]) await marks.show({ load: 1, may }, instant);
+    const told = "what ran can't be told: Failed: another kernel";
+    assert.deepEqual([asked, marked.splice(0)], [1, [told, told]]);
+    fault = "NotAllowed";
+    for (const instant of [1, 2]) await marks.show({ load: 2, may }, instant);
+    assert.deepEqual([asked, marked], [2, [null, null]], "who may not know it is told nothing");
+  },
+
+  async "why the next instant is stuck is shown, if it is"() {
+    const { InsideMarks } = await load("inside.js");
+    const [asked, marked] = [[], []];
+    let stuck = { told: "O waits for itself" };
+    const read = async (name) => {
+      asked.push(name);
+      return { load: 1, instant: 5, ran: [], rests: [], locals: [], stuck };
+    };
+    const marks = new InsideMarks({ read }, 0, (found) => marked.push(found?.stuck?.told ?? null));
+    const seen = { load: 1, may: { load: true, observe: {} } };
+    await marks.showStuck(seen);
+    await marks.show(seen, 4);
+    stuck = null;
+    await marks.showStuck(seen);
+    await marks.showStuck({ load: 1, may: { load: false, observe: {} } });
+    assert.deepEqual(asked, ["stuck", "inside", "stuck"]);
+    assert.deepEqual(marked, ["O waits for itself", "O waits for itself", null, null]);
   },
 
   async "patterns are spread over the interface, and folded again"() {
@@ -220,6 +293,83 @@ const tests = {
     layout.grouping = "kind";
     assert.deepEqual(told(), ["inputs:3", "STOP", "KEY1", "KEY2"]);
     assert.deepEqual(["A", "A_B", "FLOOR12", "LIFT_DOOR_3"].map(stemOf), [null, "A", "FLOOR", "LIFT_DOOR"]);
+  },
+
+  async "local signals stand below, by their modules, and are folded"() {
+    const { WaveLayout } = await load("wave_layout.js");
+    const layout = new WaveLayout();
+    layout.reset([{ name: "A", kind: "input", place: 0 }]);
+    assert.equal(layout.showsLocals(), false);
+    layout.setLocals([["S", ""], ["M_1.OVER", "M_1"], ["M_2.OVER", "M_2"], ["M_1.ON", "M_1"]]);
+    const told = () => layout.lines().map((line) => line.label ?? line.name ?? `${line.title}:${line.count}`);
+    assert.deepEqual(
+      told(), ["A", "inside:1", "S", "inside M_1:2", "OVER", "ON", "inside M_2:1", "OVER"]
+    );
+    assert.deepEqual(layout.signals().map(({ place }) => place), [0, 0, 1, 3, 2]);
+    layout.fold("inside M_1");
+    assert.deepEqual(told(), ["A", "inside:1", "S", "inside M_1:2", "inside M_2:1", "OVER"]);
+    assert.equal(layout.showsLocals(), true);
+    layout.foldLocals(true);
+    assert.deepEqual(told(), ["A", "inside:1", "inside M_1:2", "inside M_2:1"]);
+    assert.equal(layout.showsLocals(), false);
+    layout.foldLocals(false);
+    assert.equal(layout.signals().length, 5);
+    layout.reset([]);
+    layout.setLocals(Array.from({ length: 13 }, (_, at) => [`S${at}`, ""]));
+    assert.deepEqual(told(), ["inside:13"], "many are folded at first");
+    layout.foldLocals(false);
+    layout.setLocals(Array.from({ length: 14 }, (_, at) => [`S${at}`, ""]));
+    assert.equal(layout.signals().length, 14, "what was unfolded stays so");
+  },
+
+  async "a wave that is saved has the local signals that one may know, all of one load"() {
+    const { takeWave } = await load("saving.js");
+    const { vcdText } = await load("exports.js");
+    const { WaveLayout } = await load("wave_layout.js");
+    const { WaveRows } = await load("wave_rows.js");
+    const rowsOf = (letters, view) => async (first, last) => {
+      view?.onAsked?.();
+      return Array.from({ length: last - first + 1 }, (_, at) => letters[(first + at) % 2]);
+    };
+    const viewOf = (locals) => {
+      const view = { module: "M", all: [{ name: "A", kind: "input", place: 0 }], ended: null };
+      view.layout = new WaveLayout();
+      view.layout.setLocals(locals);
+      view.rows = new WaveRows(rowsOf(["0", "1"]), () => {});
+      view.inner = new WaveRows(rowsOf(["01", "10"], view), () => {});
+      [[view.rows, 1], [view.inner, locals.length]].forEach(([rows, count]) => {
+        rows.reset(count);
+        rows.grow(300);
+      });
+      return view;
+    };
+    const locals = [["S", ""], ["N_1.T", "N_1"]];
+    const wave = await takeWave(viewOf(locals), true);
+    assert.deepEqual(wave.locals, locals);
+    assert.deepEqual([wave.rows.length, wave.inner.length, wave.inner[299]], [300, 300, "01"]);
+    const [head] = vcdText(wave).split("$enddefinitions");
+    assert.deepEqual(head.split("\n").slice(2, -1), [
+      "$scope module M $end", "$var wire 1 ! tick $end", '$var wire 1 " A $end',
+      "$var wire 1 # S $end", "$scope module N_1 $end", "$var wire 1 $ T $end",
+      "$upscope $end", "$upscope $end",
+    ]);
+    const plain = vcdText(await takeWave(viewOf(locals), false));
+    assert.equal(plain, vcdText(await takeWave(viewOf([]), true)));
+    assert.equal(plain, vcdText({ ...wave, inner: [] }), "of which nothing came, nothing is there");
+    assert.doesNotMatch(plain, / [ST] \$end|N_1/);
+    const revoked = viewOf(locals);
+    revoked.onAsked = () => {
+      revoked.layout.setLocals([]);
+      revoked.inner.reset(0);
+    };
+    assert.equal(vcdText(await takeWave(revoked, true)), plain, "what was taken away is not saved");
+    const granted = viewOf([]);
+    granted.localsTold = Promise.resolve().then(() => {
+      granted.layout.setLocals(locals);
+      granted.inner.reset(2);
+      granted.inner.grow(300);
+    });
+    assert.deepEqual(await takeWave(granted, true), wave, "what is being told is waited for");
   },
 
   async "marks have letters and distances"() {

@@ -12,6 +12,7 @@ import teams
 from estserve_client.command_table import BACK, KEYS
 from estserve_client.expecting import outcome_lines
 from estserve_client.inputs import read_inputs
+from estserve_client.lab.within import scope_at
 from estserve_client.pictures import Seen, vcd_lines
 from estserve_client.policy_file import read_policy
 from estserve_client.syntax_tree import KEYWORDS
@@ -51,23 +52,43 @@ ON = {
 
 
 def waves():
-    """Waves with few and many signals, absent, present and hidden ones, and a refusal at the end."""
+    """Waves with few and many signals, absent, present and hidden ones, local ones of which the last
+    rows are missing, and a refusal at the end."""
     random = teams.random_of("exports")
     for count in (0, 1, 4, 130):
         kinds = [random.choice(("input", "inout", "output")) for _ in range(count)]
         signals = [[f"{kind[:2].upper()}{at}", kind] for at, kind in enumerate(kinds)]
+        paths = random.choices(("", "RUN_1", "RUN_2", "RUN_2.IN", "DEEP.RUN_1"), k=count // 2)
+        locals = [[f"{path}.L{at}".strip("."), path] for at, path in enumerate(paths)]
         for instants, letters in ((0, "01"), (1, "01."), (12, "01."), (12, "01"), (3, ".")):
             rows = ["".join(random.choices(letters, k=count)) for _ in range(instants)]
+            inner = [
+                "".join(random.choices("01", k=len(locals))) for _ in rows[: random.randint(1, 12)]
+            ]
             ended = random.choice((None, "Stuck: no reaction\na circle"))
-            yield {"module": "M", "signals": signals, "rows": rows, "ended": ended}
+            wave = {"module": "M", "signals": signals, "rows": rows, "ended": ended}
+            yield {**wave, "locals": locals, "inner": inner}
 
 
 def seen_of(wave):
-    """A wave as the client has it."""
+    """A wave as the client has it, without local signals."""
     names = [name for name, _ in wave["signals"]]
     rows = [dict(zip(names, row)) for row in wave["rows"]]
     shown = [{name: has == "1" for name, has in row.items() if has != "."} for row in rows]
     return Seen(wave["module"], [tuple(one) for one in wave["signals"]], shown)
+
+
+def seen_inside(wave):
+    """A wave as the client has it, with local signals in the scopes of their modules."""
+    seen, names, scopes = seen_of(wave), [name for name, _ in wave["locals"]], []
+    seen.signals += [(name, "local") for name in names]
+    for instant, row in zip(seen.instants, wave["inner"]):
+        instant.update((name, has == "1") for name, has in zip(names, row))
+    for name, path in wave["locals"]:
+        if path:
+            scope_at(scopes, tuple(path.split("."))).signals.append((name[len(path) + 1 :], name))
+    seen.scopes = scopes
+    return seen
 
 
 def linear(part):
@@ -131,7 +152,7 @@ class ModulesTest(unittest.TestCase):
             seen, ended = seen_of(wave), wave["ended"]
             number = len(wave["rows"]) + 1
             refusal = f"instant {number}: {ended.splitlines()[0]}" if ended else None
-            self.assertEqual(saved["vcd"].splitlines(), vcd_lines(seen))
+            self.assertEqual(saved["vcd"].splitlines(), vcd_lines(seen_inside(wave)))
             self.assertEqual(saved["expected"].splitlines(), outcome_lines(seen, refusal))
             kinds = dict(seen.signals)
             offered = [

@@ -1,9 +1,7 @@
 """The page at work, in a real browser: a text edited and replayed, waves searched and saved, a policy
 chosen and read from a file, links and sizes."""
 import os
-import pathlib
 import sys
-import tempfile
 import unittest
 
 import teams
@@ -51,20 +49,6 @@ class WorkTest(PageCase):
         self.come_in(self.one, "root", "root")
         self.one.wait_text("#facts", f"{len(STEPS)} instants")
 
-    def saved(self, folder, name):
-        """The text of a file that the first browser saves."""
-        path = pathlib.Path(folder) / name
-        teams.wait_for(lambda: path.exists() and path.stat().st_size)
-        return path.read_text()
-
-    def allow_files(self):
-        """A folder into which the first browser saves."""
-        held = tempfile.TemporaryDirectory()
-        self.addCleanup(held.cleanup)
-        words = {"behavior": "allow", "downloadPath": held.name}
-        self.one.browser.execute_cdp_cmd("Browser.setDownloadBehavior", words)
-        return held.name
-
     # Edit, reload, replay.
 
     def test_a_version_is_replayed_beside_what_was_driven_and_saved(self):
@@ -90,18 +74,18 @@ class WorkTest(PageCase):
         """The scenario that is saved is one that the client runs."""
         from estserve_client.command_line import main
 
-        folder = self.allow_files()
+        folder = self.allow_files(self.one)
         self.one.find(".scenario-name").clear()
         self.one.type(".scenario-name", "seven")
         self.one.click("#save-scenario")
         self.assertEqual(self.saved(folder, "seven.inputs"), "B\nA\n;\nB\nA B\nR\nA\n")
         self.assertIn("      2  A       O", self.saved(folder, "seven.expected"))
-        (pathlib.Path(folder) / "team.strl").write_text(text)
+        (folder / "team.strl").write_text(text)
         os.environ["ESTSERVE"] = teams.program_file()
         with open(os.devnull, "w", encoding="utf-8") as nowhere:
             sys.stdout, out = nowhere, sys.stdout
             try:
-                self.assertEqual(main(["test", folder]), 0)
+                self.assertEqual(main(["test", str(folder)]), 0)
             finally:
                 sys.stdout = out
 
@@ -167,7 +151,7 @@ class WorkTest(PageCase):
         self.assertEqual(order, ["A", "R", "B", "O"])
         self.choose(".wave .grouping", "none")
         self.assertEqual(high - self.one.find(".wave-sizer").size["height"], 2 * 26, "two titles")
-        folder = self.allow_files()
+        folder = self.allow_files(self.one)
         self.one.click(".wave .save summary")
         self.one.click("[data-save=VCD]")
         self.assertIn("$var wire 1 % O $end", self.saved(folder, "TEAM.vcd"))
@@ -314,8 +298,10 @@ class WorkTest(PageCase):
         self.one.wait_text("h1", "TEAM")
         self.one.click("[data-view=policy]")
         self.one.wait_text(".facts", "all of it")
-        for command, told in (("grant", "done"), ("grant", "0 done, 4 there already")):
-            self.choose("#change-command", command)
+        every = "[aria-label='revoke observe 0.* of stepper']"
+        any_of = "[aria-label^='revoke observe 0.'][aria-label$=' of stepper']"
+        for told in ("4 done", "0 done, 4 there already"):
+            self.choose("#change-command", "grant")
             self.choose("[aria-label='Change the policy'] [name=role]", "stepper")
             self.choose("#change-operation", "observe")
             self.choose("#change-slot", "0")
@@ -326,20 +312,19 @@ class WorkTest(PageCase):
             self.one.wait_text(spread, "spread over 0.A, 0.B, 0.R, 0.O")
             self.one.click("#change")
             self.one.wait_text("[aria-label='Change the policy']", told)
-        row = "[aria-label='revoke observe 0.* of stepper']"
-        self.one.wait(lambda: self.one.find(row), "the row")
+            self.one.wait(lambda: self.one.find(every), "the row of all four")
         with self.team.client() as cho:
             cho.login("cho", ["stepper"])
             self.assertTrue(cho.check("observe", "0.R")["allowed"])
-            self.one.click(row)
-            self.one.wait(lambda: not self.one.find(row), "no such row any more")
+            self.one.click(every)  # which goes with the first of the four, and 0.R is the third
+            self.one.wait(lambda: not self.one.find(any_of), "none of the four any more")
             self.assertFalse(cho.check("observe", "0.R")["allowed"])
 
     def test_a_policy_is_saved_and_read_with_a_preview(self):
         self.come_in(self.one, "root", "root")
         self.one.click("[data-view=policy]")
         self.one.wait_text(".facts", "all of it")
-        folder = self.allow_files()
+        folder = self.allow_files(self.one)
         self.one.click("#policy-save")
         text = self.saved(folder, "policy.toml")
         commands = [wish.command for wish in read_policy(text)]

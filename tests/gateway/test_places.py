@@ -88,14 +88,14 @@ class TheFolder(unittest.TestCase):
 
     def test_a_link_is_not_followed(self):
         with tempfile.TemporaryDirectory() as folder:
-            for name in ("team", "team/private", "team/private/lock", "team/private/records"):
+            for name in ("team", "team/private", "team/private/records"):
                 with self.subTest(name):
                     root = pathlib.Path(folder) / name.replace("/", "-")
                     victim, link = root / "victim", root / name
                     victim.mkdir(parents=True)
                     victim.chmod(0o755)
                     link.parent.mkdir(mode=0o750, parents=True, exist_ok=True)
-                    link.symlink_to(victim / "file" if name.endswith("lock") else victim)
+                    link.symlink_to(victim)
                     with self.assertRaises(Failed):
                         with Places(root / "team"):
                             pass
@@ -114,6 +114,18 @@ class TheLock(unittest.TestCase):
             self.assertEqual((team.state.stat().st_gid, mode_of(team.state)), (os.getegid(), 0o700))
             after = [(path.stat().st_gid, mode_of(path)) for path in team.state.rglob("*")]
             self.assertEqual(after, before)
+
+    def test_no_file_can_be_deleted_to_start_a_team_twice(self):
+        with tempfile.TemporaryDirectory() as folder:
+            state = pathlib.Path(folder) / "team"
+            with Places(state) as places:
+                for path in [path for path in places.private.rglob("*") if path.is_file()]:
+                    path.unlink()
+                with self.assertRaisesRegex(Failed, "^another gateway runs on "):
+                    with Places(state):
+                        pass
+            with Places(state):
+                self.assertFalse((state / "private" / "lock").exists())
 
     def test_a_second_gateway_is_refused_and_the_first_goes_on(self):
         with Team() as team:

@@ -209,6 +209,16 @@ class Changed(Record):
             team.end()
             self.assertTrue(self.is_proven())
 
+    def test_a_record_that_is_gone_with_its_head_is_no_empty_team_where_older_ones_are(self):
+        shutil.copy(self.record, self.state / "private" / "records" / "0001.sqlite")
+        self.record.unlink()
+        self.head.unlink()
+        self.assertIn("it is gone with its head", failed_start(Team(state=self.state)))
+        with Team("--accept", state=self.state) as team:
+            self.assertEqual(team.entries(), [])
+            team.end()
+        self.assertTrue(self.is_proven())
+
     def test_a_link_or_a_pipe_is_not_followed(self):
         kept, whole = self.state.parent / "kept.sqlite", self.record.read_bytes()
         self.record.rename(kept)
@@ -309,6 +319,15 @@ class Changed(Record):
         text[at] ^= 1
         self.head.write_bytes(text)
         self.refused(f"it has {count - 2} entries, and {count} were written")
+
+    def test_a_head_whose_end_is_gone_is_told_of(self):
+        before, _ = self.grown()
+        self.put_back(before)
+        with open(self.head, "r+b") as file:
+            file.truncate(BLOCKS_AT)
+        status, told, _ = word(self.state, "verify")
+        self.assertEqual((status, "the head's end is gone" in told), (0, True), told)
+        self.assertNotIn("nothing was cut", told)
 
     def test_a_head_of_before_gets_blocks(self):
         with open(self.head, "r+b") as file:
@@ -476,6 +495,12 @@ class Kept(Record):
             for words in (["verify"], ["backup", f"{empty}/backup.sqlite"]):
                 status, _, fault = word(empty, *words)
                 self.assertEqual((status, "there is no record at" in fault), (1, True), fault)
+
+    def test_a_backup_that_cannot_be_made_is_told(self):
+        for target in ("/nowhere/backup.sqlite", "/dev/null/backup.sqlite"):
+            status, told, fault = word(self.state, "backup", target)
+            self.assertEqual((status, told), (1, ""))
+            self.assertIn(f"{target} cannot be made: ", fault)
 
     def test_a_backup_that_was_changed_is_not_restored(self):
         target = self.state.parent / "backup.sqlite"

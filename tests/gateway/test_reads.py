@@ -625,6 +625,47 @@ class OverTheGateway(unittest.TestCase):
                 self.assertEqual(len(words.word("log", slot=0, last=1_000)["entries"]), 8)
             root.close()
 
+    def test_of_five_archives_at_once_one_is_made(self):
+        with Team() as team:
+            root = team.root()
+            root.grant("root", "load", "0")
+            root.close()
+            talkers, answers = [team.words() for _ in range(5)], []
+            for words in talkers:
+                words.word("ping")
+            asking = [
+                threading.Thread(target=self.archive_as_root, args=(words, answers))
+                for words in talkers
+            ]
+            for thread in asking:
+                thread.start()
+            for thread in asking:
+                thread.join()
+            made = [answer for answer in answers if "ok" in answer]
+            self.assertEqual([answer["kept"] for answer in made], ["0001.sqlite"], answers)
+            for words in talkers:
+                words.close()
+
+    def test_who_connected_before_an_archive_is_told_of_it_and_asks_again(self):
+        with Team() as team:
+            root = team.root()
+            root.grant("root", "load", "0")
+            root.close()
+            with team.words() as late, team.words() as words:
+                answers = []
+                self.archive_as_root(words, answers)
+                for asking in (late, late, words):
+                    self.archive_as_root(asking, answers)
+        told = [answer.get("kept") or answer["why"] for answer in answers]
+        meanwhile = "an archive was made meanwhile; ask again"
+        kept = [f"{number:04}.sqlite" for number in (1, 2)]
+        self.assertEqual(told, [kept[0], meanwhile, kept[1], meanwhile])
+
+    def archive_as_root(self, words, answers):
+        """Logs in and asks for an archive, and keeps its answer."""
+        words.word("login", user="root", roles=["root"])
+        answers.append(words.word("archive"))
+
     def test_a_gateway_that_is_killed_while_it_archives(self):
         chance, kept = random_of("archive kills"), []
         with Team() as team:

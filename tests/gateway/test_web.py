@@ -14,7 +14,8 @@ import visitors
 from visitors import OwnTeam, SharedTeam, Visitor, link_of, visitor_of
 
 PAGE = teams.ROOT / "clients" / "estserve_team" / "page"
-READS = ("me", "here", "text", "looks", "inside", "policy", "why", "log", "who", "events")
+READS = ("me", "here", "text", "looks", "inside", "locals", "stuck", "policy", "why", "log", "who")
+READS += ("events",)
 ACTS = ("login", "leave", "ask", "archive", "retract", "try", "plan", "out")
 NOBODY = 65_534  # a user who is not the proxy
 
@@ -504,97 +505,6 @@ class ReadsTest(OwnTest):
     def test_numbers_out_of_form_are_refused(self):
         for query in ({"slot": "x"}, {"slot": 16}, {"slot": -1}, {"slot": 0, "from": "", "to": 1}):
             self.assertEqual(self.root.get("looks", **query).status, 400, query)
-
-
-@unittest.skipUnless(visitors.HAS_AIOHTTP, visitors.NO_AIOHTTP)
-class InsideTest(OwnTest):
-    """What happens inside instants is for those who may load, or observe all and step or audit."""
-
-    REFUSED = (
-        "NotAllowed: what happens inside instants needs load on 0, or observe on each signal of 0"
-        " with step or audit"
-    )
-
-    def setUp(self):
-        super().setUp()
-        self.root = visitor_of(self.team, "root", "root")
-        self.ann = visitor_of(self.team, "ann", "lead")
-        self.cho = visitor_of(self.team, "cho", "stepper")
-
-    def step(self, *names):
-        """An instant with these inputs."""
-        for name in names:
-            self.ann.ask(f"offer {name} {os.urandom(4).hex()}", "offer", slot=0, signal=name)
-        self.cho.ask(f"step {os.urandom(4).hex()}", "step", slot=0)
-
-    def inside(self, visitor, instant, slot=0):
-        """What one is told of the inside of an instant."""
-        return visitor.get("inside", slot=slot, instant=instant)
-
-    def grant(self, role, *pairs):
-        for operation, thing in pairs:
-            self.root.ask(os.urandom(4).hex(), "grant", role=role, op=operation, object=thing)
-
-    def test_a_watcher_of_some_signals_gets_the_same_bytes_whatever_the_instant_is(self):
-        bob = visitor_of(self.team, "bob", "watcher")
-        bodies = {self.inside(bob, 1).body}
-        self.step("A")
-        bodies |= {self.inside(bob, instant).body for instant in (0, 1, 2, 7)}
-        self.step("B")
-        bodies |= {self.inside(bob, instant).body for instant in (1, 2)}
-        self.root.ask("u", "unload", slot=0)
-        bodies.add(self.inside(bob, 1).body)
-        self.assertEqual(len(bodies), 1)
-        self.assertEqual(json.loads(bodies.pop())["sentence"], self.REFUSED)
-
-    def test_who_observes_all_may_not_look_inside_without_step_or_audit(self):
-        bob = visitor_of(self.team, "bob", "watcher")
-        self.step("A")
-        self.grant("watcher", ("observe", "0.B"), ("observe", "0.R"))
-        self.assertEqual(self.inside(bob, 1).told["sentence"], self.REFUSED)
-        self.grant("watcher", ("step", "0"))
-        self.assertNotIn("NotAllowed", json.dumps(self.inside(bob, 1).told))
-        self.root.ask("r", "revoke", role="watcher", op="observe", object="0.B")
-        self.assertEqual(self.inside(bob, 1).told["sentence"], self.REFUSED)
-
-    def test_who_steps_and_observes_little_is_refused(self):
-        self.step("A")
-        self.assertEqual(self.inside(self.cho, 1).told["sentence"], self.REFUSED)
-
-    @unittest.skipUnless(os.environ.get("ESTLAB"), "the variable ESTLAB names no program")
-    def test_the_lines_that_ran_are_told_of_any_instant(self):
-        for names in ((), ("A",), ("B",)):
-            self.step(*names)
-        first, third = self.inside(self.root, 1).told, self.inside(self.root, 3).told
-        text = self.root.get("text", slot=0).told["text"].split("\n")
-        lines = {
-            word: at
-            for at, line in enumerate(text, 1)
-            for word in ("await", "emit O")
-            if word in line
-        }
-        self.assertIn(lines["await"], first["ran"])
-        self.assertIn(lines["await"], first["rests"])
-        self.assertNotIn(lines["emit O"], first["ran"])
-        self.assertIn(lines["emit O"], third["ran"])
-        self.assertEqual(self.inside(self.root, 1).told, first)
-        self.assertEqual(self.inside(self.root, 4).told["instant"], None)
-        self.assertEqual(self.root.get("inside", slot=0, instant="x").status, 400)
-
-    @unittest.skipUnless(os.environ.get("ESTLAB"), "the variable ESTLAB names no program")
-    def test_another_load_is_another_text(self):
-        self.step("A")
-        self.inside(self.root, 1)
-        self.root.ask("u", "unload", slot=0)
-        text = (
-            "module M: output O;\nsignal S in\n emit S; present S then emit O end\nend end module"
-        )
-        self.root.ask("l", "load", slot=0, text=text)
-        self.assertEqual(self.inside(self.root, 1).told["instant"], None)
-        self.step()
-        told = self.inside(self.root, 1).told
-        self.assertEqual((told["ran"], told["rests"]), ([2, 3], []))
-        self.assertEqual(told["locals"], [["S", 1, 1]])
 
 
 class ProxyTest(unittest.TestCase):

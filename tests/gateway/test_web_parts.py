@@ -14,11 +14,13 @@ sys.path.insert(0, str(pathlib.Path(__file__).resolve().parents[2] / "clients"))
 from estserve_client.trying_out import try_text  # noqa: E402
 from estserve_team.people import Person  # noqa: E402
 from estserve_team.reads import who  # noqa: E402
+from estserve_team.reads.policy_model import PolicyModel  # noqa: E402
 from estserve_team.reads.printing import slots_lines  # noqa: E402
 from estserve_team.reads.slot_model import SlotsModel  # noqa: E402
 from estserve_team.reads.witness import Witness  # noqa: E402
 from estserve_team.refusals import Refused  # noqa: E402
 from estserve_team.visiting import page_slots  # noqa: E402
+from estserve_team.visiting.news import HARMLESS  # noqa: E402
 from estserve_team.visiting.seats import SILENT_SECONDS, Changes, Seat, Seats  # noqa: E402
 from estserve_team.visiting.visits import (  # noqa: E402
     LINK_SECONDS,
@@ -27,6 +29,8 @@ from estserve_team.visiting.visits import (  # noqa: E402
     Visits,
     digest_of,
 )
+from estserve_team.web import insides  # noqa: E402
+from estserve_team.web.binding import bind_unix  # noqa: E402
 from estserve_team.web.options import Bad, Options, add_options, read_options  # noqa: E402
 from estserve_team.web.refusing import refusal_of, sentence_of  # noqa: E402
 from estserve_team.web.trials import Trials  # noqa: E402
@@ -108,6 +112,26 @@ class OptionsTest(unittest.TestCase):
             options_of(*header, *socket, *origin, "--proxy-user", "no-such-user-here")
         read = options_of(*header, *socket, *origin, "--proxy-user", "root")
         self.assertEqual((read.header, read.proxy, read.socket), ("X-Remote-User", 0, "/tmp/s"))
+
+
+class BindingTest(unittest.TestCase):
+    """The Unix socket of a user who may not give it to its folder's group."""
+
+    def bound(self, proxy):
+        """The permissions of the socket."""
+        held = tempfile.TemporaryDirectory()
+        self.addCleanup(held.cleanup)
+        path = os.path.join(held.name, "web.sock")
+        with unittest.mock.patch("os.chown", side_effect=PermissionError(1, "no")):
+            bind_unix(path, proxy).close()
+        return os.stat(path).st_mode & 0o777
+
+    def test_the_proxy_reaches_it(self):
+        self.assertEqual(self.bound(os.geteuid()), 0o666)
+
+    def test_where_everyone_may_speak_it_is_not_opened(self):
+        with self.assertRaises(PermissionError):
+            self.bound(None)
 
 
 class LinksTest(unittest.TestCase):
@@ -309,6 +333,154 @@ class TrialsTest(unittest.TestCase):
         self.assertTrue(all(one["came"] for one in told))
         self.assertEqual(sorted(begun), ["ann"] * 8 + ["bob"])
         self.assertLess(begun.index("bob"), 2)
+
+
+class InsideSeat(TriedSeat):
+    """A seat of a person who looks into slots, each with the module of ten instants."""
+
+    async def ask(self, request, **keys):
+        if request == "here":
+            return await super().ask(request)
+        asked = {"name": "1.1", "load": 1, "main": "M", "text": "", "instants": 10}
+        return {**asked, "inputs": [[]] * (10 - keys["known"]), "pending": []}
+
+
+class StandingHeld:
+    """A module in whose slot 5 nothing comes until another has looked."""
+
+    def __init__(self, name, *_):
+        self.name, self.word, self.lab = name, [], unittest.mock.Mock()
+
+    def told(self, instant):
+        if instant == 5:
+            return {"came": InsidesTest.bobs.wait(WAIT_SECONDS)}
+        InsidesTest.bobs.set()
+        return {"came": True}
+
+
+class StuckHeld(insides.Held):
+    """A module of which a program says that instant 3 is stuck."""
+
+    labs = []
+
+    def __init__(self, name, load, *_):
+        self.name, self.load, self.word, self.kept = name, load, [], {}
+        self.lab = unittest.mock.Mock()
+        self.inside = unittest.mock.Mock(at=0, names={}, looks=self.looks)
+        self.labs.append(self.lab)
+
+    def looks(self, word):
+        """Stops at what is stuck, as the client's own does."""
+        for _ in word:
+            is_stuck = self.inside.at == 2
+            self.inside.at += not is_stuck
+            yield unittest.mock.Mock(is_stuck=is_stuck)
+            if is_stuck:
+                return
+
+    def shown(self, look):
+        return {"ran": [], "rests": [], "locals": []}
+
+
+class InsidesTest(unittest.TestCase):
+    bobs = threading.Event()
+
+    def test_one_who_looks_into_much_leaves_others_their_turns(self):
+        """Ann's first look lasts until Bob's has come."""
+
+        async def work():
+            looked = insides.Insides()
+            asked = [
+                looked.look(InsideSeat("ann"), {"slot": str(at % 8), "instant": "5"})
+                for at in range(8)
+            ]
+            bobs = looked.look(InsideSeat("bob"), {"slot": "9", "instant": "1"})
+            return await asyncio.gather(*asked, bobs)
+
+        with unittest.mock.patch.object(insides, "Held", StandingHeld):
+            self.assertTrue(all(one["came"] for one in asyncio.run(work())))
+
+    def test_a_look_that_takes_long_goes_on_when_it_is_asked_again(self):
+        held, now = insides.Held.__new__(insides.Held), [0.0]
+        held.load, held.word, held.kept = 3, [[]] * 20, {}
+        held.inside, held.shown = unittest.mock.Mock(at=0), lambda look: {}
+
+        def looks(word):
+            for _ in word:
+                now[0] += insides.LOOK_SECONDS / 4
+                held.inside.at += 1
+                yield unittest.mock.Mock(is_stuck=False)
+
+        held.inside.looks = looks
+        with unittest.mock.patch.object(insides.time, "monotonic", lambda: now[0]):
+            told = [held.told(20) for _ in range(4)]
+        self.assertEqual([one["instant"] for one in told], [None, None, None, 20])
+        self.assertEqual([one.get("later") for one in told], [True, True, True, None])
+
+    def test_a_made_instant_that_estlab_finds_stuck_is_a_fault_and_not_asked_for_again(self):
+        """The gateway has ten instants, estlab two: another kernel runs in it. Whoever asks for what
+        comes after these two gets that as a refusal, and no answer that is to be asked again."""
+        looked, ann, sentences = insides.Insides(), InsideSeat("ann"), []
+        asked = (
+            (looked.look, {"instant": "3"}),
+            (looked.look, {"instant": "9"}),
+            (looked.rows, {"from": "1", "to": "9"}),
+            (looked.stuck, {}),
+        )
+
+        async def work():
+            for ask, query in asked:
+                second = await looked.look(ann, {"slot": "0", "instant": "2"})
+                self.assertEqual(second["instant"], 2, "what came before is told")
+                with self.assertRaises(Refused) as raised:
+                    await ask(ann, {"slot": "0", **query})
+                sentences.append(sentence_of(raised.exception.answer, {}))
+                StuckHeld.labs.pop().client.close.assert_called_once_with()
+
+        with unittest.mock.patch.object(insides, "Held", StuckHeld):
+            asyncio.run(work())
+        told = "Failed: instant 3 was made, and estlab finds it stuck"
+        self.assertEqual(sentences, [told] * len(asked))
+        self.assertEqual(StuckHeld.labs, [], "each fault has ended its program")
+
+
+class NewsTest(unittest.TestCase):
+    def test_what_is_passed_over_leaves_each_session_what_it_might_do(self):
+        model = PolicyModel()
+
+        def give(session, cmd, **keys):
+            number = {"session": model.logins + 1} if cmd == "login" else {}
+            model.add(session, {"cmd": cmd, **keys}, {"version": model.version + 1, **number})
+
+        def rights():
+            return {
+                (number, pair): model.may(number, *pair)
+                for number in (1, 2)
+                for pair in model.pairs()
+            }
+
+        for role in ("driver", "lead"):
+            give(1, "addrole", role=role)
+            give(1, "grant", role=role, op="offer", object=f"0.{role}")
+        give(1, "adduser", user="ann")
+        give(1, "assign", user="ann", role="driver")
+        give(None, "login", user="root", roles=["root"])
+        give(None, "login", user="ann", roles=["driver"])
+        before = rights()
+        self.assertEqual(set(before.values()), {True, False})
+        given = {
+            "login": (None, {"user": "ann", "roles": ["driver"]}),
+            "logout": (3, {}),
+            "adduser": (1, {"user": "bob"}),
+            "addrole": (1, {"role": "watcher"}),
+            "assign": (1, {"user": "ann", "role": "lead"}),
+            "dsd": (1, {"name": "apart", "roles": ["driver", "lead"], "count": 2}),
+            "undsd": (1, {"name": "apart"}),
+        }
+        self.assertEqual(set(given), set(HARMLESS))
+        for cmd, (session, keys) in given.items():
+            give(session, cmd, **keys)
+            self.assertEqual(rights(), before, cmd)
 
 
 class SentencesTest(unittest.TestCase):

@@ -186,6 +186,14 @@ class Packages(unittest.TestCase):
         self.assertIn("it names ffffffffffffffff", self.refused(log_of_all(logic="f" * 16)))
         self.assertIn("it names nowhere", self.refused("rt: nowhere proved\n" + log_of_all()))
 
+    def test_a_wrong_body_that_the_kit_kept_is_not_told_as_done(self):
+        *lines, last = log_of_all().splitlines()
+        count = len(evidence.edits())
+        done = f"done in this run: 2 of the 60 proofs (of crates and of their tests) and 3 of the {count} must-fail edits"
+        lines.append(f"rt: ok; handles allowed: Net; must-fail edits: {count} refused; {done}; the others are kept from earlier runs")
+        said = evidence.read_log(self.write("kept-log", "\n".join([*lines, last]) + "\n"), LOGIC)
+        self.assertEqual((said["edits_done"], said["edits_kept"]), (3, count - 3))
+
     def test_a_program_that_is_not_of_the_commit_is_refused(self):
         tree = self.other
         program = tree / "crates/estserve/out/estserve"

@@ -13,7 +13,7 @@ ROOT = pathlib.Path(__file__).resolve().parents[2]
 sys.path.insert(0, str(ROOT / "scripts"))
 import run  # noqa: E402
 
-SCRIPTS = ("run.py", "crates.py")
+SCRIPTS = ("run.py", "crates.py", "over_gate.py")
 # tells when each crate is begun and ended, and what of the crates below is there; the crate `wrong` is not proved
 KIT = """#!/bin/sh
 if [ "$1" = version ]; then echo kit; exit; fi
@@ -36,6 +36,11 @@ fi
 CRATES = "# Storey: of tests\nshort:\nlong:\nmiddle: long\ntop: short middle kit_library\n"
 TABLE = "| `short` | 1.0 | 0.0 | 0.0 | 1.0 |\n| `long` | 1.0 | 0.0 | 0.0 | 1.0 |\n| `middle` | 3.0 | 0.0 | 0.0 | 3.0 |\n| `top` | 2.0 | 0.0 | 0.0 | 2.0 |\n"
 WAIT_SECONDS = 60
+
+
+def take_interrupts():
+    """Undoes that a shell has what runs in the background pass over interrupts."""
+    signal.signal(signal.SIGINT, signal.SIG_DFL)
 
 
 class Runs(unittest.TestCase):
@@ -70,6 +75,7 @@ class Runs(unittest.TestCase):
         return subprocess.Popen(
             [sys.executable, "-B", self.folder / "scripts" / "run.py", *words],
             stdin=subprocess.PIPE, stdout=subprocess.PIPE, stderr=subprocess.PIPE, text=True, env=self.variables(**more),
+            preexec_fn=take_interrupts,
         )  # fmt: skip
 
     def run_to_end(self, *words, **more):

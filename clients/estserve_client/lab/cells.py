@@ -9,9 +9,10 @@ of the statements too.
 from __future__ import annotations
 
 import dataclasses
-from typing import Dict, List, Optional, Tuple
+from typing import Dict, Optional, Sequence, Tuple
 
 from ..texts import Failed
+from .completion import Completion, code_of_exit
 from .inside import At, Inside, Look, pauses_of
 from .kernel import TICK, Asked, Signal, Statement, Trap
 
@@ -49,9 +50,20 @@ def any_of(*parts: Cell) -> Cell:
     return Cell(True if True in statuses else None if None in statuses else False, parts)
 
 
+COMPLETION = Completion(all_of, any_of, FALSE)
+
+
 def opposite(status: Status) -> Status:
     """The status of a `not`."""
     return None if status is None else not status
+
+
+def combined(kind: str, statuses: Sequence[Status]) -> Status:
+    """The status of a `not`, an `and` or an `or` over others."""
+    if kind == "not":
+        return opposite(statuses[0])
+    decides = kind == "or"
+    return decides if decides in statuses else None if None in statuses else not decides
 
 
 @dataclasses.dataclass(frozen=True)
@@ -78,6 +90,7 @@ class Cells:
         self.inside, self.look, self.rested = inside, look, pauses_of(look.before)
         self.begins: Dict[At, Cell] = {}
         self.codes: Dict[At, Codes] = {}
+        self.tests: Dict[At, Status] = {}  # whether each test that is asked holds
         self.statuses: Dict[Signal, Status] = {Signal(TICK): True, **self.interface()}
         root = inside.statements[0]
         try:
@@ -114,11 +127,7 @@ class Cells:
         assert asked
         if asked.signal:
             return self.statuses[asked.signal]
-        statuses = [self.test(part) for part in asked.parts]
-        if asked.kind == "not":
-            return opposite(statuses[0])
-        decides = asked.kind == "or"
-        return decides if decides in statuses else None if None in statuses else not decides
+        return combined(asked.kind, [self.test(part) for part in asked.parts])
 
     def lay(self, statement: Statement, place: Place) -> Codes:
         """The codes of a statement."""
@@ -129,22 +138,13 @@ class Cells:
         self.codes[at] = codes
         return codes
 
-    def merged(self, *several: Codes) -> Codes:
-        """Each code that one of these gives."""
-        codes = {code: [] for some in several for code in some}  # type: Dict[int, List[Cell]]
-        for some in several:
-            for code, cell in some.items():
-                codes[code].append(cell)
-        return {code: any_of(*cells) for code, cells in codes.items()}
-
     def lay_nothing(self, _: Statement, place: Place, __: At) -> Codes:
         return {0: place.begins}
 
     lay_emit = lay_nothing
 
     def lay_exit(self, statement: Statement, place: Place, _: At) -> Codes:
-        depth = next(at for at, trap in enumerate(place.traps) if trap is statement.trap)
-        return {depth + 2: place.begins}
+        return {code_of_exit(statement.trap, place.traps): place.begins}
 
     def lay_pause(self, statement: Statement, place: Place, at: At) -> Codes:
         if not (place.once and self.lives(statement)):
@@ -153,11 +153,12 @@ class Cells:
 
     def answers(self, status: Status, at: At) -> Tuple[Cell, Cell]:
         """The cells of a test that holds, and of one that doesn't."""
+        self.tests[at] = status
         return Cell(status, (), at, True), Cell(opposite(status), (), at, False)
 
     def lay_present(self, statement: Statement, place: Place, at: At) -> Codes:
         holds, fails = self.answers(self.test(statement.test), at)
-        return self.merged(
+        return COMPLETION.merged(
             *(
                 self.lay(part, place.after(all_of(place.begins, cell)))
                 for part, cell in zip(statement.parts, (holds, fails))
@@ -170,12 +171,12 @@ class Cells:
         holds, fails = self.answers(self.test(statement.test), at)
         goes = dataclasses.replace(place, goes=all_of(place.goes, fails))
         stays = all_of(place.goes, holds)
-        return self.merged(self.lay(statement.parts[0], goes), {1: stays})
+        return COMPLETION.merged(self.lay(statement.parts[0], goes), {1: stays})
 
     def lay_seq(self, statement: Statement, place: Place, _: At) -> Codes:
         first = dict(self.lay(statement.parts[0], place))
         second = self.lay(statement.parts[1], place.after(first.pop(0, FALSE)))
-        return self.merged(first, second)
+        return COMPLETION.merged(first, second)
 
     def lay_loop(self, statement: Statement, place: Place, _: At) -> Codes:
         if not place.once:
@@ -184,7 +185,7 @@ class Cells:
         body = dict(self.lay(statement.parts[0], place))
         ends = body.pop(0, FALSE)
         anew = Place(ends, FALSE, 1, place.traps, False)
-        return self.merged(body, self.lay(statement.parts[0], anew))
+        return COMPLETION.merged(body, self.lay(statement.parts[0], anew))
 
     def lay_par(self, statement: Statement, place: Place, _: At) -> Codes:
         lives = [place.once and self.lives(part) for part in statement.parts]
@@ -194,27 +195,13 @@ class Cells:
             if any(lives) and not here:  # it has ended before
                 codes[0] = any_of(codes.get(0, FALSE), place.goes)
             sides.append(codes)
-        return self.greatest(*sides)
-
-    def greatest(self, one: Codes, other: Codes) -> Codes:
-        """The greater code of two sides: one of them gives it, and the other no higher one."""
-        found = {}
-        for code in sorted({*one, *other}):
-            below = [
-                any_of(*(side[low] for low in sorted(side) if low <= code)) for side in (one, other)
-            ]
-            found[code] = any_of(
-                all_of(one.get(code, FALSE), below[1]), all_of(other.get(code, FALSE), below[0])
-            )
-        return found
+        return COMPLETION.greatest(*sides)
 
     def lay_trap(self, statement: Statement, place: Place, _: At) -> Codes:
         assert statement.trap
         traps = (statement.trap, *place.traps)
         codes = self.lay(statement.parts[0], dataclasses.replace(place, traps=traps))
-        outer = {code - 1: cell for code, cell in codes.items() if code > 2}
-        paused = {1: codes[1]} if 1 in codes else {}
-        return {0: any_of(codes.get(0, FALSE), codes.get(2, FALSE)), **paused, **outer}
+        return COMPLETION.trapped(codes)
 
     def lay_signal(self, statement: Statement, place: Place, at: At) -> Codes:
         assert statement.signal

@@ -10,7 +10,7 @@ from ..connection import Client
 from ..seeing import instants_from
 from ..texts import Failed
 from .asking import Lab, Subject
-from .inside import Inside, Look, pauses_of, presences
+from .inside import Inside, Look, presences
 from .stuck import Stuck
 from .why import Why
 from .within import OTHERS, mark_of
@@ -125,8 +125,5 @@ class Explorer:
         look = self.look
         if look is None:
             return [set(), set(), set()]
-        after = set() if look.is_stuck else pauses_of(look.after)
-        ran = {number for number, _ in look.began | look.went}
-        rests = {one.number for one in self.inside.statements if one.pause in after}
-        opened = {tie.at[0] for tie in look.ties or ()}
-        return [self.inside.lines(numbers) for numbers in (ran, rests, opened)]
+        opened = Stuck(self.inside, look).opened() if look.is_stuck else set()
+        return [self.inside.ran(look), self.inside.rests(look), opened]

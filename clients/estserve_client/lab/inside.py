@@ -14,7 +14,7 @@ from ..connection import Refusal, line_of
 from ..syntax_tree import Token, by_name, parse
 from ..texts import Failed
 from .asking import Lab, Subject
-from .kernel import Statement, checked_kernel
+from .kernel import TICK, Signal, Statement, checked_kernel
 from .naming import names_of_locals
 
 if TYPE_CHECKING:
@@ -22,6 +22,7 @@ if TYPE_CHECKING:
 
 At = Tuple[int, int]  # a statement's number, and its incarnation: 0, or i where the restart of the
 # i-th loop around it, from the innermost outwards, begins it
+Meant = Union[str, At]  # a signal: of the interface by its name, a local one by its declaration
 LISTS = ("seq", "par")  # statements that have no words of their own
 TOO_OLD = "{} doesn't know what happens inside an instant: it is older than this client"
 
@@ -43,19 +44,19 @@ def pauses_of(state: State) -> FrozenSet[int]:
 @dataclasses.dataclass(frozen=True)
 class Tie:
     """What a statement has to do with a signal that is open: its test `waits` for it, or it may still
-    emit it. A local signal is told by where it is declared.
+    emit it.
     """
 
     at: At
     waits: bool
-    signal: Union[str, At]
+    signal: Meant
 
 
 @dataclasses.dataclass(frozen=True)
 class Look:
     """An instant from inside, from the state `before` to the one `after`. Of one that is stuck
     `outputs` has those that are surely emitted, `undecided` those that stay so, and `ties` what is
-    tied to open signals, where that is told; of others it is None.
+    tied to open signals; of others it is None.
     """
 
     before: State
@@ -66,7 +67,7 @@ class Look:
     outputs: FrozenSet[str]
     after: State
     undecided: Optional[Tuple[str, ...]] = None
-    ties: Optional[Tuple[Tie, ...]] = None
+    ties: Tuple[Tie, ...] = ()
 
     @property
     def is_stuck(self) -> bool:
@@ -77,6 +78,14 @@ class Look:
         """Whether a statement surely began or went on."""
         return at in self.began or at in self.went
 
+    def status(self, meant: Meant) -> Optional[bool]:
+        """A signal's status; None where it is open."""
+        if not isinstance(meant, str):
+            return self.locals[meant]
+        if meant in (self.undecided or ()):
+            return None
+        return meant == TICK or meant in self.inputs or meant in self.outputs
+
 
 def pair(told: Sequence[int]) -> At:
     """A statement in an incarnation, as it is told."""
@@ -86,7 +95,7 @@ def pair(told: Sequence[int]) -> At:
 def tie_of(told: Dict[str, Any]) -> Tie:
     """A tie, as it is told."""
     signal = told["signal"]
-    named: Union[str, At] = signal if isinstance(signal, str) else pair(signal)
+    named: Meant = signal if isinstance(signal, str) else pair(signal)
     return Tie(pair(told["at"]), told["kind"] == "waits", named)
 
 
@@ -106,7 +115,7 @@ def look_of(before: State, inputs: Iterable[str], told: Answer) -> Look:
         frozenset(told.get("outputs", ())),
         before if is_stuck else state_of(told["next"]),
         tuple(told["undecided"]) if is_stuck else None,
-        tuple(map(tie_of, told["ties"])) if "ties" in told else None,
+        tuple(map(tie_of, told["ties"])) if is_stuck else (),
     )
 
 
@@ -124,6 +133,11 @@ class Inside:
             part.number: statement for statement in self.statements for part in statement.parts
         }
         self.names = names_of_locals(self.statements, list(subject.module.kinds()))
+        self.pauses = [one for one in self.statements if one.kind == "pause"]
+        self.places = [
+            {node.at.line for node in (one.node, *one.around) if node.kind not in LISTS}
+            for one in self.statements
+        ]
         self.at = 0  # it stands after this many instants
         self.state: State = "start"
 
@@ -152,7 +166,8 @@ class Inside:
 
     def told(self, inputs: Iterable[str], told: Answer) -> Look:
         """An instant, as the program tells it. Raises Refusal, Failed."""
-        if told.get("fault") == "NotARequest":
+        is_older = told.get("fault") == "Stuck" and "ties" not in told
+        if is_older or told.get("fault") == "NotARequest":
             raise Failed(TOO_OLD.format(self.lab.client.program))
         look = look_of(self.state, inputs, told)
         if not look.is_stuck:
@@ -170,6 +185,23 @@ class Inside:
     def local(self, at: At) -> str:
         """What the local signal is called that a statement declares."""
         return self.names[at[0]]
+
+    def called(self, meant: Meant) -> str:
+        """A signal's name, with the incarnation of one that a loop begins anew."""
+        if isinstance(meant, str):
+            return meant
+        return self.local(meant) + (" (as it begins anew)" if meant[1] else "")
+
+    def meant(self, signal: Signal, at: At) -> Meant:
+        """The signal that a statement means by one."""
+        if not signal.is_local:
+            return signal.name
+        return next(
+            outer
+            for outer in self.around(at)
+            if self.statements[outer[0]].signal == signal
+            and self.statements[outer[0]].kind == "signal"
+        )
 
     def parent(self, at: At) -> Optional[At]:
         """The statement around one, in its incarnation."""
@@ -191,9 +223,17 @@ class Inside:
 
     def lines(self, numbers: Iterable[int]) -> Set[int]:
         """The lines of these statements that have words of their own, and of the runs around them."""
-        found = [self.statements[number] for number in numbers]
-        nodes = [node for one in found for node in (one.node, *one.around)]
-        return {node.at.line for node in nodes if node.kind not in LISTS}
+        places = self.places
+        return set().union(*[places[number] for number in numbers])
+
+    def ran(self, look: Look) -> Set[int]:
+        """The lines of which a statement began or went on in an instant."""
+        return self.lines({number for number, _ in look.began | look.went})
+
+    def rests(self, look: Look) -> Set[int]:
+        """The lines in which control rests after an instant; none of one that is stuck."""
+        after = frozenset() if look.is_stuck else pauses_of(look.after)
+        return self.lines(one.number for one in self.pauses if one.pause in after)
 
 
 def presences(inside: Inside, look: Look) -> Dict[str, Tuple[int, int]]:

@@ -10,6 +10,7 @@ from __future__ import annotations
 import dataclasses
 from typing import Callable, Dict, Iterable, List, Optional, Tuple, Union
 
+from .completion import Completion, code_of_exit
 from .kernel import TICK, Asked, Signal, Statement, Trap
 
 Literal = Union[bool, Tuple[int, bool]]  # a constant, or a net and whether it is negated
@@ -61,6 +62,7 @@ class Nets:
     """The nets of a kernel, its root first, with these inputs and outputs."""
 
     def __init__(self, root: Statement, inputs: Iterable[str], outputs: Iterable[str]) -> None:
+        self.completion: Completion[Literal] = Completion(self.all, self.any, False)
         self.gates: List[Gate] = []
         self.nodes: List[Node] = []
         self.emitters: Dict[int, List[Literal]] = {}  # of an open list of emissions, by its net
@@ -153,11 +155,6 @@ class Nets:
             del self.nodes[at:]
         return codes
 
-    def merged(self, *codes: Codes) -> Codes:
-        """Each code that one of these gives."""
-        names = sorted({code for some in codes for code in some})
-        return {code: self.any(*(some.get(code, False) for some in codes)) for code in names}
-
     def lay_nothing(self, statement: Statement, place: Place, node: Node) -> Codes:
         return {0: place.go}
 
@@ -170,8 +167,7 @@ class Nets:
         return {0: place.go}
 
     def lay_exit(self, statement: Statement, place: Place, node: Node) -> Codes:
-        depth = next(at for at, trap in enumerate(place.traps) if trap is statement.trap)
-        return {depth + 2: place.go}
+        return {code_of_exit(statement.trap, place.traps): place.go}
 
     def lay_pause(self, statement: Statement, place: Place, node: Node) -> Codes:
         return {0: self.all(self.live(statement, place), place.runs), 1: place.go}
@@ -180,7 +176,7 @@ class Nets:
         test = self.test(statement.test, place)
         goes = (self.all(place.go, test), self.all(place.go, negated(test)))
         parts = zip(statement.parts, goes)
-        return self.merged(
+        return self.completion.merged(
             *[self.lay(part, dataclasses.replace(place, go=go)) for part, go in parts]
         )
 
@@ -197,7 +193,7 @@ class Nets:
         first = dict(self.lay(statement.parts[0], place))
         go = first.pop(0, False)
         second = self.lay(statement.parts[1], dataclasses.replace(place, go=go))
-        return self.merged(first, second)
+        return self.completion.merged(first, second)
 
     def lay_loop(self, statement: Statement, place: Place, node: Node) -> Codes:
         body = dict(self.lay(statement.parts[0], place))
@@ -206,7 +202,7 @@ class Nets:
             return body
         go = self.all(live, body.pop(0, False))
         anew = self.lay(statement.parts[0], dataclasses.replace(place, go=go, again=True))
-        return self.merged(body, anew)
+        return self.completion.merged(body, anew)
 
     def lay_par(self, statement: Statement, place: Place, node: Node) -> Codes:
         live, sides = self.live(statement, place), []
@@ -215,28 +211,13 @@ class Nets:
             ended = self.all(live, negated(self.live(part, place)))
             codes[0] = self.any(codes.get(0, False), self.all(ended, place.runs))
             sides.append(codes)
-        return self.greatest(*sides)
-
-    def greatest(self, one: Codes, other: Codes) -> Codes:
-        """The greater code of two sides: one of them gives it, and the other one no higher code."""
-        found = {}
-        for code in sorted({*one, *other}):
-            below = [
-                self.any(*(side[low] for low in sorted(side) if low <= code))
-                for side in (one, other)
-            ]
-            found[code] = self.any(
-                self.all(one.get(code, False), below[1]), self.all(other.get(code, False), below[0])
-            )
-        return found
+        return self.completion.greatest(*sides)
 
     def lay_trap(self, statement: Statement, place: Place, node: Node) -> Codes:
         assert statement.trap
         traps = (statement.trap, *place.traps)
         codes = self.lay(statement.parts[0], dataclasses.replace(place, traps=traps))
-        left = self.any(codes.get(0, False), codes.get(2, False))
-        outer = {code - 1: literal for code, literal in codes.items() if code > 2}
-        return {0: left, **({1: codes[1]} if 1 in codes else {}), **outer}
+        return self.completion.trapped(codes)
 
     def lay_signal(self, statement: Statement, place: Place, node: Node) -> Codes:
         assert statement.signal

@@ -7,8 +7,7 @@ import sys
 from typing import TYPE_CHECKING, Iterator, List
 
 from ..colours import Colours
-from ..connection import Disconnected
-from ..outcomes import ERROR, FAILED, PASSED, Outcome, write_junit
+from ..outcomes import FAILED, PASSED, Outcome, told_in_xml
 from ..texts import Failed, read_text, write_lines
 from ..texts_beside import texts_beside
 from .asking import Lab, Subject, lab_of, read_subject
@@ -234,13 +233,5 @@ def prove(arguments: argparse.Namespace) -> int:
     undecided. A file of JUnit is written in any case, and tells why the command ended early. Raises
     Failed, Disconnected.
     """
-    outcomes: List[Outcome] = []
-    suite = " ".join(arguments.file)
-    try:
+    with told_in_xml(arguments.junit, " ".join(arguments.file), "the claims") as outcomes:
         return prove_all(arguments, outcomes)
-    except (Failed, Disconnected) as fault:
-        outcomes.append(Outcome("the claims", ERROR, str(fault), [], suite))
-        raise
-    finally:
-        if arguments.junit:
-            write_junit(arguments.junit, suite, outcomes)

@@ -8,33 +8,22 @@ from __future__ import annotations
 
 import dataclasses
 import itertools
-from typing import (
-    Callable,
-    ContextManager,
-    Dict,
-    Iterator,
-    List,
-    Optional,
-    Sequence,
-    Set,
-    Tuple,
-    Union,
-)
+from typing import Any, Callable, ContextManager, Dict, Iterator, List, Optional, Sequence, Set
+from typing import Tuple
 
 from ..circles import shortest_circle
 from ..connection import Disconnected, Refusal, TimedOut, TooLong
 from ..words_of_tests import headed, written
 from ..texts import Failed
 from .asking import Lab, Subject
-from .cells import Cell, Cells
-from .inside import At, Inside, Look, Tie, undecided_lines
+from .cells import Cell, Cells, combined
+from .inside import At, Inside, Look, Meant, undecided_lines
+from .kernel import Asked
 
-Open = Union[
-    str, At
-]  # an open signal: of the interface by its name, a local one by its declaration
 CANT = "which signals are open inside can't be said: {}"
 NOT_STUCK = "estlab comes to a reaction there, with the inputs that are known here"
 NO_CIRCLE = "no circle is found among them: each neither must nor can't be emitted"
+TRIED = 8  # open signals of a test that are tried both ways
 
 
 @dataclasses.dataclass(frozen=True)
@@ -43,10 +32,10 @@ class Link:
     on, and whether it begins where that holds.
     """
 
-    signal: Open
+    signal: Meant
     emission: At
     test: At
-    target: Open
+    target: Meant
     holds: bool
 
 
@@ -61,10 +50,10 @@ class Stuck:
     def __init__(self, inside: Inside, look: Look) -> None:
         self.inside, self.look = inside, look
         self.cells = Cells(inside, look)
-        ties: Sequence[Tie] = look.ties or ()
-        self.emissions: Dict[Open, List[At]] = {}
-        self.waiting: Dict[At, List[Open]] = {}
-        for tie in ties:
+        self.ties = [tie for tie in look.ties if not tie.waits or self.cells.tests[tie.at] is None]
+        self.emissions: Dict[Meant, List[At]] = {}
+        self.waiting: Dict[At, List[Meant]] = {}
+        for tie in self.ties:
             if tie.waits:
                 self.waiting.setdefault(tie.at, []).append(tie.signal)
             else:
@@ -81,7 +70,7 @@ class Stuck:
                 yield one
             line += one.parts
 
-    def links_from(self, signal: Open) -> List[Tuple[Link, Open]]:
+    def links_from(self, signal: Meant) -> List[Tuple[Link, Meant]]:
         """What a signal waits for."""
         found = []
         for emission in self.emissions.get(signal, ()):
@@ -95,26 +84,38 @@ class Stuck:
     def circle(self) -> List[Link]:
         """A shortest circle, through an output that is undecided where there is one."""
         inner = [at for at, present in self.look.locals.items() if present is None]
-        signals: List[Open] = [*(self.look.undecided or ()), *inner]
+        signals: List[Meant] = [*(self.look.undecided or ()), *inner]
         circles = [shortest_circle(signal, self.links_from) for signal in signals]
         found = [circle for circle in circles if circle]
         outer = [circle for circle in found if any(isinstance(one.signal, str) for one in circle)]
         return min(outer or found, key=len, default=[])
 
-    def either_way(self, signal: Open) -> List[Link]:
-        """Two emissions of a signal, one where a test for it holds and one where it doesn't."""
+    def either_way(self, signal: Meant) -> List[Link]:
+        """Emissions of a signal that come whatever it is: one by a test that comes out so either
+        way, or two, one where a test for it holds and one where it doesn't.
+        """
         own = [link for link, target in self.links_from(signal) if target == signal]
         pairs = itertools.product(own, own)
         found = (pair for pair in pairs if pair[0].test == pair[1].test and is_opposite(*pair))
-        return list(next(found, ()))
+        return [link for link in own if self.is_anyway(link)][:1] or list(next(found, ()))
+
+    def is_anyway(self, link: Link) -> bool:
+        """Whether a link's test comes out as it has to, whatever its open signals are."""
+        opened, test = self.waiting[link.test], self.inside.statements[link.test[0]].test
+        assert test
+        ways = itertools.product((True, False), repeat=min(TRIED, len(opened)))
+        tried = (dict(zip(opened, way)) for way in ways)
+        return all(self.comes_out(test, link.test, one) is link.holds for one in tried)
+
+    def comes_out(self, asked: Asked, at: At, tried: Dict[Meant, bool]) -> Optional[bool]:
+        """What a test comes to where open signals are as they are tried."""
+        if asked.signal:
+            meant = self.inside.meant(asked.signal, at)
+            return tried.get(meant, self.look.status(meant))
+        parts = [self.comes_out(part, at, tried) for part in asked.parts]
+        return combined(asked.kind, parts)
 
     # In words.
-
-    def called(self, signal: Open) -> str:
-        """A signal's name."""
-        if isinstance(signal, str):
-            return signal
-        return self.inside.local(signal) + (" (as it begins anew)" if signal[1] else "")
 
     def line_of(self, at: At) -> str:
         """The line of a statement, with its file where that isn't the first one."""
@@ -130,21 +131,21 @@ class Stuck:
         while asked.kind == "not":
             asked, holds = asked.parts[0], not holds
         if asked.signal:
-            return f"{self.called(link.target)} is {'present' if holds else 'absent'}"
+            return f"{self.inside.called(link.target)} is {'present' if holds else 'absent'}"
         told = written(node.test)
         return f"`{told}` {'holds' if link.holds else 'fails'}"
 
     def sentence(self, circle: List[Link], both: List[Link]) -> str:
         """What waits for what, in one sentence; `both` are emissions either way."""
         first = circle[0]
-        name, line = self.called(first.signal), self.line_of(first.emission)
+        name, line = self.inside.called(first.signal), self.line_of(first.emission)
         if both:
             lines = list(dict.fromkeys(self.line_of(link.emission) for link in both))
             told = f"{name} neither must nor can't be emitted: it waits for itself"
             return f"{told}, and {' and '.join(lines)} may emit it whether it is present or not"
         if len(circle) == 1:
             return f"{name} waits for itself: {line} may emit it once {self.condition(first)}"
-        told = f"{name} ({line}) waits for {self.called(first.target)}"
+        told = f"{name} ({line}) waits for {self.inside.called(first.target)}"
         later = [
             f", which {self.line_of(link.emission)} may emit once {self.condition(link)}"
             for link in circle[1:]
@@ -153,21 +154,52 @@ class Stuck:
 
     def step(self, link: Link) -> str:
         """The place of an emission in the circle, and what it waits for."""
-        node, name = self.inside.statements[link.emission[0]].node, self.called(link.signal)
+        node, name = self.inside.statements[link.emission[0]].node, self.inside.called(link.signal)
         shown = self.inside.subject.library.show(node.at.line, node.at.column)
         also = f" ({name})" if node.names[0].text != name else ""
         return f"  {shown}: {headed(node)}{also}, once {self.condition(link)}"
 
-    def lines(self) -> List[str]:
-        """What is said of the instant."""
-        opened = undecided_lines(self.inside, self.look)
-        if self.look.ties is None:
-            return opened
+    def told(self) -> Tuple[str, List[Link]]:
+        """What waits for what, in one sentence, and the emissions and tests that it speaks of."""
         circle = self.circle()
         if not circle:
-            return [*opened, NO_CIRCLE]
+            return NO_CIRCLE, []
         both = self.either_way(circle[0].signal) if len(circle) == 1 else []
-        return [self.sentence(circle, both), *map(self.step, both or circle)]
+        return self.sentence(circle, both), both or circle
+
+    def lines(self) -> List[str]:
+        """What is said of the instant."""
+        told, links = self.told()
+        if not links:
+            return [*undecided_lines(self.inside, self.look), told]
+        return [told, *map(self.step, links)]
+
+    def opened(self) -> Set[int]:
+        """The lines of tests that wait, and of emissions that may still come."""
+        return {self.inside.line(tie.at[0]) for tie in self.ties}
+
+    def drawn(self) -> Dict[str, Any]:
+        """It as a page draws it over the text: what is said, the lines of open emissions and tests,
+        and the circle by lines. Each signal's emission waits for a test of the next one.
+        """
+        told, links = self.told()
+        inside, targets = self.inside, [*links[1:], *links[:1]]
+        if len({link.signal for link in links}) < len(links):
+            targets = links  # emissions of one signal, which waits for itself
+        return {
+            "told": told,
+            "open": sorted(self.opened()),
+            "circle": [
+                {
+                    "signal": inside.called(link.signal),
+                    "emission": inside.line(link.emission[0]),
+                    "test": inside.line(link.test[0]),
+                    "target": inside.called(link.target),
+                    "to": inside.line(after.emission[0]),
+                }
+                for link, after in zip(links, targets)
+            ],
+        }
 
 
 def stuck_lines(

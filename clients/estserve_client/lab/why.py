@@ -5,15 +5,14 @@ asked for in its turn.
 """
 from __future__ import annotations
 
-from typing import Dict, Iterator, List, Optional, Set, Tuple, Union
+from typing import Dict, Iterator, List, Optional, Set, Tuple
 
 from ..words_of_tests import headed, written
 from ..texts import Failed
 from .cells import Cell, Cells
-from .inside import At, Inside, Look
+from .inside import At, Inside, Look, Meant
 from .kernel import TICK, Asked, Signal
-
-Asking = Union[str, At]  # a signal of the interface, or the declaration of a local one
+from .stuck import Stuck
 
 
 class Why:
@@ -21,48 +20,39 @@ class Why:
 
     def __init__(self, inside: Inside, look: Look) -> None:
         self.inside, self.look = inside, look
-        self.cells = Cells(inside, look)
+        self.stuck = Stuck(inside, look) if look.is_stuck else None
+        self.cells = self.stuck.cells if self.stuck else Cells(inside, look)
 
-    def asked_for(self, name: str) -> List[Asking]:
+    def asked_for(self, name: str) -> List[Meant]:
         """The signals of a name: of a local one each incarnation that ran. Raises Failed."""
         if name in self.inside.subject.module.kinds():
             return [name]
         named = [at for at in self.look.locals if self.inside.local(at) == name]
         if not named:
             raise Failed(f"{self.inside.subject.module.name} has no signal {name}")
-        found: List[Asking] = []
+        found: List[Meant] = []
         found += [at for at in named if self.look.ran(at)] or named[:1]
         return found
 
     def lines(self, name: str) -> List[str]:
-        """What is said of a signal, and of all that its tests ask for. Raises Failed."""
-        line: List[Asking] = list(self.asked_for(name))
+        """What is said of a signal, and of all that its tests ask for; of open ones the circle in which
+        they wait. Raises Failed.
+        """
+        line: List[Meant] = list(self.asked_for(name))
         told = []
         for asking in line:
             lines, more = self.paragraph(asking)
             told += lines
             line += [one for one in dict.fromkeys(more) if one not in line]
+        if self.stuck and any(self.look.status(asking) is None for asking in line):
+            told.append(self.stuck.told()[0])
         return told
 
-    def called(self, asking: Asking) -> str:
-        """A signal's name, with the incarnation of one that a loop begins anew."""
-        if isinstance(asking, str):
-            return asking
-        return self.inside.local(asking) + (" (as it begins anew)" if asking[1] else "")
-
-    def is_present(self, asking: Asking) -> Optional[bool]:
-        """A signal's status; None where it is open."""
-        if not isinstance(asking, str):
-            return self.look.locals[asking]
-        if asking in (self.look.undecided or ()):
-            return None
-        return asking == TICK or asking in self.look.inputs or asking in self.look.outputs
-
-    def paragraph(self, asking: Asking) -> Tuple[List[str], List[Asking]]:
+    def paragraph(self, asking: Meant) -> Tuple[List[str], List[Meant]]:
         """What is said of one signal, and the signals that its emissions' tests ask for."""
-        name, status = self.called(asking), self.is_present(asking)
+        name, status = self.inside.called(asking), self.look.status(asking)
         if status is None:
-            return [f"{name} is undecided"], []
+            return self.undecided(asking)
         if not status:
             return self.absent(asking)
         if asking == TICK:
@@ -71,15 +61,27 @@ class Why:
         offered = asking in self.look.inputs
         return self.explained(f"{name} is {'offered' if offered else 'present'}", emissions, True)
 
-    def absent(self, asking: Asking) -> Tuple[List[str], List[Asking]]:
+    def absent(self, asking: Meant) -> Tuple[List[str], List[Meant]]:
         """What is said of a signal that is absent."""
-        name, emissions = self.called(asking), self.emissions(asking)
+        name, emissions = self.inside.called(asking), self.emissions(asking)
         if asking in self.inside.subject.module.inputs() and not emissions:
             return [f"{name} is not offered"], []
         first = {number: at for number, at in reversed([(at[0], at) for at in emissions])}
         return self.explained(f"{name} is absent", sorted(first.values()), False)
 
-    def emissions(self, asking: Asking) -> List[At]:
+    def undecided(self, asking: Meant) -> Tuple[List[str], List[Meant]]:
+        """What is said of a signal that is open: the emissions that may still come, each with the test
+        that it waits for first.
+        """
+        head = f"{self.inside.called(asking)} is undecided"
+        if not self.stuck:
+            return [head], []
+        found = reversed([link for link, _ in self.stuck.links_from(asking)])
+        links = sorted({link.emission: link for link in found}.items())
+        told = [f"  may be emitted at {self.stuck.step(link).strip()}" for _, link in links]
+        return [head, *told], [link.target for _, link in links]
+
+    def emissions(self, asking: Meant) -> List[At]:
         """The emissions of a signal that have cells, in the order of the text."""
         return sorted(
             at
@@ -87,26 +89,13 @@ class Why:
             if self.inside.statements[at[0]].kind == "emit" and self.emitted(at) == asking
         )
 
-    def emitted(self, at: At) -> Asking:
+    def emitted(self, at: At) -> Meant:
         """What an emission emits."""
         signal = self.inside.statements[at[0]].signal
         assert signal
-        return self.seen_from(signal, at)
+        return self.inside.meant(signal, at)
 
-    def seen_from(self, signal: Signal, at: At) -> Asking:
-        """The signal that a statement means by one."""
-        if not signal.is_local:
-            return signal.name
-        return next(
-            outer
-            for outer in self.inside.around(at)
-            if self.inside.statements[outer[0]].signal == signal
-            and self.inside.statements[outer[0]].kind == "signal"
-        )
-
-    def explained(
-        self, head: str, emissions: List[At], ran: bool
-    ) -> Tuple[List[str], List[Asking]]:
+    def explained(self, head: str, emissions: List[At], ran: bool) -> Tuple[List[str], List[Meant]]:
         """Lines about emissions, each with what it depends on, and the signals of the tests there."""
         lines, more = [head], []
         for at in emissions:
@@ -159,12 +148,12 @@ class Why:
             told += [f"`{written(node.test)}` {word}" for word in sorted(held, reverse=True)]
         return f"{self.place(cells[0].at)}: {' and '.join(told)}"
 
-    def signals(self, cell: Cell) -> List[Asking]:
+    def signals(self, cell: Cell) -> List[Meant]:
         """The signals that a test asks for."""
         if cell.holds is None or not cell.at:
             return []
         test = self.inside.statements[cell.at[0]].test
-        return [self.seen_from(signal, cell.at) for signal in signals_in(test)]
+        return [self.inside.meant(signal, cell.at) for signal in signals_in(test)]
 
 
 def signals_in(asked: Optional[Asked]) -> List[Signal]:

@@ -20,11 +20,6 @@ OTHERS = (
 )
 
 
-def lines_run(inside: Inside, look: Look) -> List[int]:
-    """The lines of the text of which a statement began or went on, in their order."""
-    return sorted(inside.lines({number for number, _ in look.began | look.went}))
-
-
 def ranges(numbers: Sequence[int]) -> str:
     """Numbers in a line, those that follow one another together: `4-6,9`."""
     parts: List[List[int]] = []
@@ -39,7 +34,7 @@ def ranges(numbers: Sequence[int]) -> str:
 def lines_told(inside: Inside, look: Look) -> str:
     """The lines that ran: of several files each with its own."""
     library, by_file = inside.subject.library, {}  # type: ignore[var-annotated]
-    for line in lines_run(inside, look):
+    for line in sorted(inside.ran(look)):
         path, inner = library.place(line)
         by_file.setdefault(path, []).append(inner)
     if len(library.paths) == 1:

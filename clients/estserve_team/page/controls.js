@@ -15,8 +15,10 @@ const breakable = (name) => name.split(/(?<=_)/).flatMap(
 );
 
 export class Controls {
-  constructor(connection) {
+  /** `stuck()` is called where the next instant is Stuck. */
+  constructor(connection, stuck = () => {}) {
     this.connection = connection;
+    this.stuck = stuck;
     this.toggles = new Map();
     this.watched = new Map(); // what is refused, by its place
     this.inputs = make("ul", { class: "toggles", "aria-label": "inputs" });
@@ -86,6 +88,7 @@ export class Controls {
     return trying(told, act, (fault) => {
       if (fault.refusal) this.watched.set(told, watch(fault.refusal, command, slot));
       else setTimeout(() => say(told, ""), 6_000);
+      if (fault.refusal?.fault === "Stuck") this.stuck();
     });
   }
 

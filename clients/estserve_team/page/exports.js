@@ -55,30 +55,60 @@ function codeOf(number) {
 /** The changes of a row against the one before. */
 function changesOf(wires, row, before) {
   const value = (letter) => (letter === "." ? "x" : letter);
-  return wires.filter(([, place]) => row[place] !== before?.[place]).map(
-    ([, place, code]) => value(row[place]) + code
+  return wires.filter(({ place }) => row[place] !== before?.[place]).map(
+    ({ place, code }) => value(row[place]) + code
   );
 }
 
+/** The wires of a VCD file: each signal that may be observed in some instant, by the path of its
+ * scope, the main module first; a local one stands in those of the modules around it. */
+function wiresOf({ module, signals, locals }, rows) {
+  const named = [
+    ...signals.map(([name]) => ({ name, path: [module] })),
+    ...locals.map(([name, path]) => ({
+      name: path ? name.slice(path.length + 1) : name,
+      path: [module, ...(path ? path.split(".") : [])],
+    })),
+  ].map((one, place) => ({ ...one, place }));
+  const isSeen = ({ place }) => !rows.length || rows.some((row) => row[place] !== ".");
+  return named.filter(isSeen).map((one, at) => ({ ...one, code: codeOf(at + 1) }));
+}
+
+/** The lines of scopes, each with its wires and the scopes in it. */
+function scopeLines(wires, depth = 0) {
+  const scopes = new Map();
+  for (const wire of wires.filter(({ path }) => path.length > depth)) {
+    scopes.set(wire.path[depth], scopes.get(wire.path[depth]) ?? []);
+    scopes.get(wire.path[depth]).push(wire);
+  }
+  return [...scopes].flatMap(([scope, members]) => [
+    `$scope module ${scope} $end`,
+    ...members.filter(({ path }) => path.length === depth + 1).map(
+      ({ name, code }) => `$var wire 1 ${code} ${name} $end`
+    ),
+    ...scopeLines(members, depth + 1),
+    "$upscope $end",
+  ]);
+}
+
 /** A VCD file (IEEE 1364) of a wave: instant n lasts from 10 n on, and `tick` is up in its first
- * half. Signals that may not be observed in any instant are left out. */
-export function vcdText({ module, signals, rows }) {
-  const seen = signals.flatMap(([name], place) => (
-    rows.length && rows.every((row) => row[place] === ".") ? [] : [[name, place]]
-  ));
-  const wires = seen.map(([name, place], at) => [name, place, codeOf(at + 1)]);
+ * half. Signals that may not be observed in any instant are left out. Where the wave has `locals`,
+ * pairs of a name and the modules around it, and `inner`, their rows, those are in it too. */
+export function vcdText({ module, signals, rows, locals = [], inner = [] }) {
+  const unknown = ".".repeat(locals.length);
+  const all = rows.map((row, at) => row + (inner[at] ?? unknown));
+  const wires = wiresOf({ module, signals, locals }, all);
   const tick = codeOf(0);
   const lines = [
-    "$version estserve $end", "$timescale 1 ns $end", `$scope module ${module} $end`,
-    `$var wire 1 ${tick} tick $end`,
-    ...wires.map(([name, , code]) => `$var wire 1 ${code} ${name} $end`),
-    "$upscope $end", "$enddefinitions $end",
+    "$version estserve $end", "$timescale 1 ns $end",
+    ...scopeLines([{ name: "tick", path: [module], code: tick }, ...wires]),
+    "$enddefinitions $end",
   ];
-  rows.forEach((row, at) => {
-    const changed = [`1${tick}`, ...changesOf(wires, row, rows[at - 1])];
+  all.forEach((row, at) => {
+    const changed = [`1${tick}`, ...changesOf(wires, row, all[at - 1])];
     lines.push(`#${STEP * (at + 1)}`);
     lines.push(...(at ? changed : ["$dumpvars", ...changed, "$end"]));
     lines.push(`#${STEP * (at + 1) + STEP / 2}`, `0${tick}`);
   });
-  return [...lines, `#${STEP * (rows.length + 1)}`].map((one) => `${one}\n`).join("");
+  return [...lines, `#${STEP * (all.length + 1)}`].map((one) => `${one}\n`).join("");
 }

@@ -1,5 +1,5 @@
 /** What happened inside the instant that a wave tells of: the lines of the text that ran, those in
- * which control rests, and the local signals. */
+ * which control rests, and the local signals; and why the next instant is stuck. */
 
 import { Refused } from "./requests.js";
 
@@ -23,8 +23,10 @@ export function ranges(numbers) {
 /** A local signal that was present, and of how many incarnations, where several ran. */
 const localWords = ([name, present, count]) => (count > 1 ? `${name} (${present} of ${count})` : name);
 
-/** What happened inside an instant, in words. */
-export function insideWords({ instant, ran, rests, locals }) {
+/** What happened inside an instant, in words; or why that can't be told. */
+export function insideWords({ instant, ran, rests, locals, stuck, fault }) {
+  if (fault) return `what ran can't be told: ${fault}`;
+  if (stuck) return `instant ${instant} is stuck: ${stuck.told}`;
   const present = locals.filter(([, count]) => count > 0).map(localWords);
   return [
     `instant ${instant}: ran ${ran.length ? ranges(ran) : "nothing"}`,
@@ -37,14 +39,25 @@ export class InsideMarks {
   /** `mark(told)` is called with what happened inside an instant, or null. */
   constructor(connection, number, mark) {
     Object.assign(this, { connection, number, mark, wanted: null, isAsking: false, refused: null });
+    this.failed = null; // a load whose inside can't be told, and why
   }
 
   /** Asks for an instant, if one may know it. Of several that are wanted meanwhile the last counts. */
-  async show(slot, instant) {
+  show(slot, instant) {
+    return this.want(slot, instant > 0 && { name: "inside", words: { instant } });
+  }
+
+  /** Asks why the next instant is stuck, if one may know it. */
+  showStuck(slot) {
+    return this.want(slot, { name: "stuck", words: {} });
+  }
+
+  async want(slot, what) {
     const rights = JSON.stringify(slot.may);
-    const isOpen = instant > 0 && mayLookInside(slot.may) && rights !== this.refused;
-    this.wanted = isOpen ? { load: slot.load, instant, rights } : null;
-    if (!isOpen) this.mark(null);
+    const isOpen = what && mayLookInside(slot.may) && rights !== this.refused;
+    const failed = this.failed?.load === slot.load ? this.failed : null;
+    this.wanted = isOpen && !failed ? { load: slot.load, rights, ...what } : null;
+    if (!this.wanted) this.mark(isOpen ? failed : null);
     if (this.isAsking) return;
     this.isAsking = true;
     while (this.wanted) await this.ask(this.wanted);
@@ -53,18 +66,22 @@ export class InsideMarks {
 
   async ask(asked) {
     const told = await this.take(asked);
-    if (this.wanted !== asked) return;
+    if (this.wanted !== asked || told?.later) return; // what takes long goes on as it is asked again
     this.wanted = null;
-    this.mark(told?.instant && told.load === asked.load ? told : null);
+    const isThere = told && (told.fault || (asked.name === "stuck" ? told.stuck : told.instant));
+    const isMeant = isThere && told.load === asked.load;
+    this.mark(isMeant ? told : null);
   }
 
-  /** What the gateway tells; null where it refuses, which it would do again. */
-  async take({ instant, rights }) {
+  /** What the gateway tells; null where one may not know it. What can't be told is not asked again. */
+  async take({ name, words, rights, load }) {
     try {
-      return await this.connection.read("inside", { slot: this.number, instant });
+      return await this.connection.read(name, { slot: this.number, ...words });
     } catch (fault) {
-      if (fault instanceof Refused) this.refused = rights;
-      return null;
+      if (!(fault instanceof Refused)) return null;
+      if (fault.fault === "NotAllowed") this.refused = rights;
+      else this.failed = { load, fault: fault.message };
+      return this.failed?.load === load ? this.failed : null;
     }
   }
 }

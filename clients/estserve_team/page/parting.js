@@ -37,11 +37,12 @@ export function partingWords(one, other) {
   return `They part at instant ${parting.instant}: ${told.join("; ")}.`;
 }
 
-/** What is said of the instant that was refused: its sentence. The circle that may follow it is only a
- * possible one, and in one line of words nobody could tell that. */
+/** What is said of the instant that was refused: its sentence, and of a stuck one its circle. Places of
+ * the text, which follow, are left out. */
 export function endedWords({ ended, rows }) {
   if (!ended) return "";
-  return `Your version was refused at instant ${rows.length + 1}: ${ended.split("\n")[0]}`;
+  const told = ended.split("\n").filter((line) => !line.startsWith(" ")).join(". ");
+  return `Your version was refused at instant ${rows.length + 1}: ${told}`;
 }
 
 /** The inputs of each instant of a wave, as lists of names; and those that may not be observed. An

@@ -27,6 +27,30 @@ const FORMS = {
   ".inputs": (wave) => scenarioFiles(wave.module, wave).slice(0, 1),
   "Scenario": (wave) => scenarioFiles(wave.module, wave),
 };
+const HAS_LOCALS = "VCD";
+
+/** Promises a wave as it is saved, all of it of one load and of the same permissions. */
+export async function takeWave(view, hasLocals) {
+  for (;;) {
+    await view.localsTold; // whether there are any
+    const lives = [view.rows.life, view.inner.life];
+    const rows = await view.rows.takeAll();
+    const inner = hasLocals && view.layout.locals.length ? await view.inner.takeAll() : [];
+    if (lives[0] !== view.rows.life || lives[1] !== view.inner.life) continue;
+    return {
+      module: view.module, signals: view.all.map(({ name, kind }) => [name, kind]), rows,
+      ended: view.ended, inner: inner.slice(0, rows.length),
+      locals: hasLocals ? view.layout.locals.map(({ name, path }) => [name, path]) : [],
+    };
+  }
+}
+
+/** What is said of instants that did not come. */
+function missingWords({ rows, locals, inner }, instants) {
+  if (rows.length < instants) return `only ${rows.length} instants came; `;
+  const isShort = locals.length && inner.length < rows.length;
+  return isShort ? `local signals of only ${inner.length} instants came; ` : "";
+}
 
 /** What is said of inputs that are not saved, since one may not observe them. */
 function leftWords(wave) {
@@ -37,19 +61,14 @@ function leftWords(wave) {
 /** The menu by which a wave is saved. */
 export function saveMenu(view) {
   const told = make("p", { class: "quiet", role: "status" });
-  const save = (filesOf) => async () => {
+  const save = (word, filesOf) => async () => {
     say(told, "..");
-    const rows = await view.rows.takeAll();
-    const wave = {
-      module: view.module, signals: view.all.map(({ name, kind }) => [name, kind]), rows,
-      ended: view.ended,
-    };
+    const wave = await takeWave(view, word === HAS_LOCALS);
     for (const [name, text] of filesOf(wave)) saveText(name, text);
-    const missing = rows.length < view.instants ? `only ${rows.length} instants came; ` : "";
-    say(told, missing + leftWords(wave));
+    say(told, missingWords(wave, view.instants) + leftWords(wave));
   };
   const buttons = Object.entries(FORMS).map(([word, filesOf]) => button(
-    word, save(filesOf), { "data-save": word }
+    word, save(word, filesOf), { "data-save": word }
   ));
   return make(
     "details", { class: "menu save" }, make("summary", {}, "Save"),

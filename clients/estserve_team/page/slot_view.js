@@ -2,9 +2,10 @@
 
 import { Controls } from "./controls.js";
 import { fill, make, say } from "./dom.js";
-import { InsideMarks } from "./inside.js";
+import { InsideMarks, mayLookInside } from "./inside.js";
 import { isMeantElsewhere } from "./keyboard.js";
 import { TextCard } from "./text_card.js";
+import { Refused } from "./requests.js";
 import { needs } from "./trying.js";
 import { WaveView } from "./wave_view.js";
 
@@ -14,7 +15,7 @@ export class SlotView {
   constructor(connection, number) {
     this.connection = connection;
     this.number = number;
-    this.controls = new Controls(connection);
+    this.controls = new Controls(connection, () => this.showStuck());
     this.wave = new WaveView((first, last) => this.fetchRows(first, last));
     this.wave.onHere = () => this.showInside();
     this.text = new TextCard(connection, number, () => this.takeDriven());
@@ -38,7 +39,46 @@ export class SlotView {
 
   /** Marks in the text what happened inside the instant that the wave tells of. */
   showInside() {
+    this.isStuck = false;
     if (this.load !== null) this.inside.show(this.slot, this.wave.here());
+  }
+
+  /** Draws over the text why the next instant is stuck. */
+  showStuck() {
+    this.isStuck = true;
+    this.inside.showStuck(this.slot);
+  }
+
+  /** Asks for the local signals anew, and shows them as they come. */
+  askLocals() {
+    this.wave.localsTold = this.showLocals().catch(() => {});
+  }
+
+  /** Shows the local signals in the wave, where one may know them; where not, none. */
+  async showLocals() {
+    const { load, slot } = this;
+    const told = mayLookInside(slot.may) ? await this.readLocals(1, 0) : null;
+    if (load !== this.load) return;
+    const signals = told?.load === load ? told.signals : [];
+    if (!signals.length && !this.wave.layout.locals.length) return;
+    this.wave.showLocals(signals, async (first, last) => {
+      const more = await this.readLocals(first, last);
+      if (!more) this.wave.showLocals([], async () => []);
+      return more?.load === load ? more.rows : [];
+    });
+  }
+
+  /** Local signals and their rows in some instants; null where they are refused. */
+  async readLocals(from, to) {
+    try {
+      for (;;) {
+        const told = await this.connection.read("locals", { slot: this.number, from, to });
+        if (!told.later) return told; // what takes long goes on as it is asked again
+      }
+    } catch (fault) {
+      if (fault instanceof Refused) return null;
+      throw fault;
+    }
   }
 
   /** What was driven since the load, as far as it may be observed. */
@@ -67,7 +107,10 @@ export class SlotView {
   renew(slot, before) {
     this.controls.update(slot);
     if (JSON.stringify(slot.may.observe) !== JSON.stringify(before.may.observe)) this.wave.forget();
-    if (JSON.stringify(slot.may) !== JSON.stringify(before.may)) this.showInside();
+    const isOther = JSON.stringify(slot.may) !== JSON.stringify(before.may);
+    if (isOther) this.askLocals();
+    const isGone = slot.instants !== before.instants || slot.pending.join() !== before.pending.join();
+    if (isOther || (this.isStuck && isGone)) this.showInside();
     this.wave.grow(slot.instants);
   }
 
@@ -94,6 +137,8 @@ export class SlotView {
     const side = make("div", { class: "side" }, rail);
     fill(this.parts, side, this.text.element, this.wave.element, this.text.replay.element);
     this.wave.show(slot.main, slot.signals, slot.instants);
+    this.isStuck = false;
+    this.askLocals();
   }
 
   tellFacts(slot) {

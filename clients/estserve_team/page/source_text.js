@@ -30,18 +30,20 @@ export function sourceText(text) {
   const lines = colouredLines(text.replace(/\n$/, ""));
   return make(
     "ol", { class: "source", tabindex: "0", "aria-label": "module text" },
-    ...lines.map((pieces, at) => make(
-      "li", { value: at + 1 }, make("code", {}, ...(pieces.length ? colouredPieces(pieces) : [" "]))
+    ...lines.map((pieces) => make(
+      "li", {}, make("code", {}, ...(pieces.length ? colouredPieces(pieces) : [" "]))
     ))
   );
 }
 
-/** Marks the lines of such an element that ran, and those in which control rests, and no others. */
-export function markLines(element, { ran, rests }) {
-  const wanted = [["ran", new Set(ran)], ["rests", new Set(rests)]];
-  [...element.children].forEach((line, at) => {
-    for (const [name, numbers] of wanted) {
-      if (line.classList.contains(name) !== numbers.has(at + 1)) line.classList.toggle(name);
-    }
-  });
+/** Marks the lines of such an element that ran, those in which control rests, and open ones of an
+ * instant that is stuck, and no others. */
+export function markLines(element, { ran = [], rests = [], open = [] }) {
+  const before = element.marked ?? {};
+  element.marked = { ran: new Set(ran), rests: new Set(rests), open: new Set(open) };
+  for (const [name, now] of Object.entries(element.marked)) {
+    const was = before[name] ?? new Set();
+    for (const line of was) if (!now.has(line)) element.children[line - 1]?.classList.remove(name);
+    for (const line of now) if (!was.has(line)) element.children[line - 1]?.classList.add(name);
+  }
 }

@@ -1,6 +1,7 @@
 /** The text of a slot: as it was loaded, or as one edits it, with what can be done with either. */
 
 import { button, field, fill, make, say } from "./dom.js";
+import { drawCircle, eraseCircle } from "./circle.js";
 import { Checker, diagnosisOf } from "./checking.js";
 import { plainDiagnosis } from "./diagnosis.js";
 import { Editor } from "./editor.js";
@@ -114,7 +115,13 @@ export class TextCard {
   showMarks() {
     const isShown = !this.isEditing && this.slot?.loaded && this.inside !== null;
     say(this.inner, isShown ? insideWords(this.inside) : "");
-    if (this.source?.children) markLines(this.source, isShown ? this.inside : { ran: [], rests: [] });
+    if (this.source?.localName !== "ol") return;
+    const { ran, rests, stuck } = isShown ? this.inside : {};
+    markLines(this.source, { ran, rests, open: stuck?.open });
+    if (this.drawn?.stuck === stuck && this.drawn?.source === this.source) return;
+    this.drawn = { stuck, source: this.source };
+    if (stuck) drawCircle(this.source, stuck.circle);
+    else eraseCircle(this.source);
   }
 
   reading() {

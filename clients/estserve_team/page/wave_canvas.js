@@ -19,8 +19,9 @@ export function coloursOf(element) {
   };
 }
 
-/** The sign before a signal's name, by its kind: what goes in, what comes out, and what does both. */
-const SIGNS = { input: "▸", output: "◂", inout: "◆" };
+/** The sign before a signal's name, by its kind: what goes in, what comes out, what does both, and what
+ * stays inside. */
+const SIGNS = { input: "▸", output: "◂", inout: "◆", local: "·" };
 
 /** The instants that a view shows, the first and the last. */
 export function shownInstants(view) {
@@ -114,9 +115,9 @@ function traceRow(view, statusAt, y, span) {
   return paths;
 }
 
-function drawRow(pen, view, rows, colours, at, span) {
+function drawRow(pen, view, statusOf, colours, at, span) {
   const signal = view.lines[at];
-  const statusAt = (instant) => rows.status(instant, signal.place);
+  const statusAt = (instant) => statusOf(signal, instant);
   const { solid, dotted, filled } = traceRow(view, statusAt, topOf(view, at), span);
   pen.strokeStyle = pen.fillStyle = colours[signal.kind] ?? colours.ink;
   pen.globalAlpha = 0.22;
@@ -160,7 +161,7 @@ function drawNames(pen, view, colours, [first, last]) {
       pen.fillStyle = colours[line.kind] ?? colours.ink;
       pen.fillText(SIGNS[line.kind] ?? "", 4, y + ROW / 2);
       pen.fillStyle = colours.ink;
-      pen.fillText(fitName(pen, line.name, view.names - 24), 17, y + ROW / 2);
+      pen.fillText(fitName(pen, line.label ?? line.name, view.names - 24), 17, y + ROW / 2);
     }
   }
   pen.fillStyle = colours.ground;
@@ -182,10 +183,11 @@ function drawLines(pen, view, colours, [first, last]) {
   pen.stroke();
 }
 
-/** Draws what a view shows of the rows. A view has `width`, `height`, `left`, `top` (how far it is
- * scrolled), `cell` (the width of an instant), `names` (the width of the names), `lines` (signals and
- * titles of groups), `instants`, `cursor`, `chosen` (a name), `marks`, `scale` (of the screen). */
-export function drawWave(pen, view, rows, colours) {
+/** Draws what a view shows; `statusOf` tells of a signal and an instant. A view has `width`, `height`,
+ * `left`, `top` (how far it is scrolled), `cell` (the width of an instant), `names` (the width of the
+ * names), `lines` (signals and titles of groups), `instants`, `cursor`, `chosen` (a name), `marks`,
+ * `scale` (of the screen). */
+export function drawWave(pen, view, statusOf, colours) {
   pen.setTransform(view.scale, 0, 0, view.scale, 0, 0);
   pen.fillStyle = colours.ground;
   pen.fillRect(0, 0, view.width, view.height);
@@ -197,7 +199,7 @@ export function drawWave(pen, view, rows, colours) {
   drawLines(pen, view, colours, lines);
   pen.lineWidth = 1.5;
   for (let at = lines[0]; at < lines[1]; at += 1) {
-    if (view.lines[at].name !== undefined) drawRow(pen, view, rows, colours, at, span);
+    if (view.lines[at].name !== undefined) drawRow(pen, view, statusOf, colours, at, span);
   }
   drawRuler(pen, view, colours, span);
   drawMarks(pen, view, colours);

@@ -2,6 +2,7 @@
 
 const KINDS = { input: "inputs", inout: "inouts", output: "outputs" };
 const OTHERS = "others";
+const FEW = 12; // local signals, which are unfolded at first
 
 /** The ways to group signals, and what each is called. */
 export const GROUPINGS = { none: "no groups", kind: "by kind", name: "by name" };
@@ -31,6 +32,36 @@ export class WaveLayout {
     this.order = [...signals];
     this.picked = null; // the names that are shown; null for all
     this.folded = new Set(); // titles of groups
+    this.locals = [];
+  }
+
+  /** Local signals stand under the others, those of one module together: pairs of a name and the
+   * modules around it. Many are folded at first, but for those that were there before. */
+  setLocals(signals) {
+    const before = new Set(this.localTitles());
+    this.locals = signals.map(([name, path], place) => ({
+      name, path, kind: "local", place, label: path ? name.slice(path.length + 1) : name,
+      group: path ? `inside ${path}` : "inside",
+    }));
+    const fresh = this.localTitles().filter((title) => !before.has(title));
+    if (signals.length > FEW) for (const title of fresh) this.folded.add(title);
+  }
+
+  localTitles() {
+    return [...new Set(this.locals.map(({ group }) => group))];
+  }
+
+  /** Whether a local signal is shown. */
+  showsLocals() {
+    return this.localTitles().some((title) => !this.folded.has(title));
+  }
+
+  /** Folds all local signals, or shows them all. */
+  foldLocals(isFolded) {
+    for (const title of this.localTitles()) {
+      if (isFolded) this.folded.add(title);
+      else this.folded.delete(title);
+    }
   }
 
   /** Moves a signal up or down among those that are shown. */
@@ -52,10 +83,16 @@ export class WaveLayout {
   /** The lines from above: signals, and a title `{ title, count, isFolded }` over each group. */
   lines() {
     const shown = this.order.filter(({ name }) => this.isShown(name));
-    if (this.grouping === "none") return shown;
+    const inner = this.grouped(this.locals, this.locals.map(({ group }) => group));
+    if (this.grouping === "none") return [...shown, ...inner];
+    return [...this.grouped(shown, titlesOf(shown, this.grouping)), ...inner];
+  }
+
+  /** The lines of signals, those of one title together. */
+  grouped(signals, titles) {
     const groups = new Map();
-    titlesOf(shown, this.grouping).forEach((title, at) => {
-      groups.set(title, [...(groups.get(title) ?? []), shown[at]]);
+    titles.forEach((title, at) => {
+      groups.set(title, [...(groups.get(title) ?? []), signals[at]]);
     });
     return [...groups].flatMap(([title, members]) => {
       const isFolded = this.folded.has(title);
@@ -65,6 +102,6 @@ export class WaveLayout {
 
   /** The signals that are shown, from above. */
   signals() {
-    return this.lines().filter(({ name }) => name !== undefined);
+    return this.lines().filter(({ kind }) => kind !== undefined);
   }
 }

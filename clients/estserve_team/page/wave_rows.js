@@ -104,12 +104,13 @@ export class WaveRows {
     }
   }
 
-  /** Promises the rows of all instants, as far as they can be got: strings with a letter a
-   * signal. */
+  /** Promises the rows of all instants, as far as they can be got before all is forgotten: strings
+   * with a letter a signal. */
   async takeAll() {
-    const rows = [];
+    const [rows, { life }] = [[], this];
     for (let instant = 1; instant <= this.newest; instant += 1) {
       if (this.signals && this.status(instant, 0) === UNKNOWN) await this.know(instant);
+      if (life !== this.life) return rows;
       const codes = Array.from({ length: this.signals }, (_, at) => this.status(instant, at));
       if (codes.includes(UNKNOWN)) return rows;
       rows.push(codes.map((code) => LETTERS[code]).join(""));

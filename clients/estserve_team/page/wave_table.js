@@ -13,18 +13,18 @@ export class WaveTable {
   }
 
   /** Writes the table soon, of these signals, up to the last instant that is seen. */
-  showLater(signals, rows, last) {
+  showLater(signals, statusOf, last) {
     clearTimeout(this.telling);
-    this.telling = setTimeout(() => this.show(signals, rows, last), TOLD_AFTER);
+    this.telling = setTimeout(() => this.show(signals, statusOf, last), TOLD_AFTER);
   }
 
-  show(signals, rows, last) {
+  show(signals, statusOf, last) {
     const seen = Array.from({ length: TOLD }, (_, at) => last - TOLD + 1 + at).filter(
       (one) => one > 0
     );
-    const lines = signals.map(({ name, kind, place }) => make(
-      "tr", {}, make("th", { scope: "row" }, `${name}, ${kind}`),
-      ...seen.map((instant) => make("td", {}, WORDS[rows.status(instant, place)]))
+    const lines = signals.map((signal) => make(
+      "tr", {}, make("th", { scope: "row" }, `${signal.name}, ${signal.kind}`),
+      ...seen.map((instant) => make("td", {}, WORDS[statusOf(signal, instant)]))
     ));
     fill(this.element, make(
       "table", { class: "wave-table" }, make("caption", {}, `${this.title}, in words`),

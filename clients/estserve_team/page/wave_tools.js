@@ -17,6 +17,9 @@ export class WaveTools {
     this.newest = button(
       "Newest", () => wave.followNewest(), { class: "newest", "aria-pressed": "true" }
     );
+    this.locals = button("Locals", () => this.foldLocals(), {
+      class: "locals", title: "show local signals, or fold them", hidden: true,
+    });
     this.element = make(
       "div", { class: "tools" }, make("h2", {}, title),
       this.buildJump(), this.newest, this.buildEdges(), this.buildZoom(),
@@ -81,10 +84,30 @@ export class WaveTools {
 
   /** Another interface: its signals, to be picked, ordered and grouped. */
   refill() {
-    const names = this.wave.all.map(({ name }) => make("option", {}, name));
-    fill(this.edged, ...names);
+    this.refillLocals();
     this.showMarks([]);
     this.fillPicks();
+  }
+
+  /** Other local signals. */
+  refillLocals() {
+    const { all, layout } = this.wave;
+    fill(this.edged, ...[...all, ...layout.locals].map(({ name }) => make("option", {}, name)));
+    if (this.wave.chosen !== null) this.showChosen(this.wave.chosen);
+    this.showFolds();
+  }
+
+  /** Shows all local signals, or folds them where some are shown. */
+  foldLocals() {
+    this.wave.layout.foldLocals(this.wave.layout.showsLocals());
+    this.showFolds();
+    this.wave.relayout();
+  }
+
+  showFolds() {
+    const { layout } = this.wave;
+    this.locals.hidden = !layout.locals.length;
+    this.locals.setAttribute("aria-pressed", String(layout.showsLocals()));
   }
 
   fillPicks() {
@@ -106,7 +129,7 @@ export class WaveTools {
       this.picks,
       make(
         "p", { class: "joined" }, grouping, button("All", all(null)),
-        button("None", all(new Set()))
+        button("None", all(new Set())), this.locals
       ),
       ...layout.order.map((signal) => this.buildPick(signal))
     );

@@ -5,6 +5,7 @@ import { findEdge } from "./edges.js";
 import { instantWords } from "./missing.js";
 import { refusalPlace } from "./trying.js";
 import { coloursOf, drawWave, ROW, RULER, shownInstants } from "./wave_canvas.js";
+import { pointed, pressed } from "./wave_hands.js";
 import { WaveLayout } from "./wave_layout.js";
 import { WaveMarks } from "./wave_marks.js";
 import { HIDDEN, PRESENT, UNKNOWN, WaveRows } from "./wave_rows.js";
@@ -13,14 +14,12 @@ import { WaveTools } from "./wave_tools.js";
 
 const CELLS = [2, 4, 8, 16, 28, 44]; // widths of an instant that one can choose
 const TALLEST = 0.85; // of the window's height
-const MOVES = {
-  ArrowLeft: -1, ArrowRight: 1, PageUp: -10, PageDown: 10, Home: -Infinity,
-};
 
 export class WaveView {
   /** `ask(first, last)` promises the rows of instants; `title` is the wave's. */
   constructor(ask, title = "Wave") {
     this.rows = new WaveRows(ask, () => this.redraw());
+    this.inner = new WaveRows(async () => [], () => this.redraw()); // of local signals
     this.layout = new WaveLayout();
     this.marks = new WaveMarks();
     this.all = [];
@@ -28,6 +27,7 @@ export class WaveView {
     this.cell = 28;
     this.chosen = null; // the name of a signal
     this.follows = true;
+    this.localsTold = null; // a promise, where local signals are asked for
     this.element = this.build(title);
     new ResizeObserver(() => this.sized()).observe(this.box);
     matchMedia("(prefers-color-scheme: dark)").addEventListener("change", () => this.recolour());
@@ -40,8 +40,8 @@ export class WaveView {
       "div", { class: "wave-box", tabindex: "0", role: "group", "aria-label": title }, this.sizer
     );
     this.box.addEventListener("scroll", () => this.scrolled(), { passive: true });
-    this.box.addEventListener("keydown", (event) => this.pressed(event));
-    this.canvas.addEventListener("click", (event) => this.pointed(event));
+    this.box.addEventListener("keydown", (event) => pressed(this, event));
+    this.canvas.addEventListener("click", (event) => pointed(this, event));
     this.readout = make("p", { class: "readout", role: "status", "aria-live": "polite" });
     this.table = new WaveTable(title);
     this.refused = refusalPlace();
@@ -81,11 +81,27 @@ export class WaveView {
     this.redraw();
   }
 
+  /** Shows local signals too, pairs of a name and the modules around it: `ask(first, last)` promises
+   * the rows of instants. */
+  showLocals(signals, ask) {
+    this.layout.setLocals(signals);
+    this.inner.ask = ask;
+    this.inner.reset(signals.length);
+    this.inner.grow(this.instants);
+    this.tools.refillLocals();
+    this.relayout();
+  }
+
+  /** The status of a signal in an instant. */
+  status({ kind, place }, instant) {
+    return (kind === "local" ? this.inner : this.rows).status(instant, place);
+  }
+
   /** Takes the number of instants. */
   grow(instants) {
     if (instants !== this.instants) say(this.refused, "");
     this.instants = instants;
-    this.rows.grow(instants);
+    for (const rows of [this.rows, this.inner]) rows.grow(instants);
     this.resize();
     if (this.follows) this.toEnd();
     this.redraw();
@@ -93,6 +109,7 @@ export class WaveView {
 
   /** Other signals are shown, or in another order. */
   relayout() {
+    this.tools.showFolds();
     this.resize();
     this.redraw();
   }
@@ -179,38 +196,6 @@ export class WaveView {
 
   // What is pointed at, and pressed.
 
-  pointed(event) {
-    const { left, top } = this.canvas.getBoundingClientRect();
-    const x = event.clientX - left - this.names();
-    const line = this.layout.lines()[
-      Math.floor((event.clientY - top - RULER + this.box.scrollTop) / ROW)
-    ];
-    const instant = Math.floor((x + this.box.scrollLeft) / this.cell) + 1;
-    if (line?.title !== undefined) this.layout.fold(line.title);
-    else if (x < 0) this.chosen = line?.name ?? this.chosen;
-    else if (instant <= this.instants) this.cursor = instant;
-    this.relayout();
-  }
-
-  pressed(event) {
-    if (event.target !== this.box || !this.act(event.key)) return;
-    event.preventDefault();
-    event.stopPropagation();
-  }
-
-  /** Does what a key stands for. True where it stands for something. */
-  act(key) {
-    const acts = {
-      ArrowUp: () => this.choose(-1), ArrowDown: () => this.choose(1),
-      "[": () => this.toEdge(-1), "]": () => this.toEdge(1), m: () => this.mark(),
-      "+": () => this.zoom(1), "-": () => this.zoom(-1), End: () => this.followNewest(),
-    };
-    if (key in acts) acts[key]();
-    else if (!(key in MOVES) || !this.instants) return false;
-    else this.jump(Math.max(1, Math.min(this.instants, this.here() + MOVES[key])));
-    return true;
-  }
-
   /** The instant that is told of. */
   here() {
     return this.cursor || this.instants;
@@ -227,12 +212,13 @@ export class WaveView {
 
   /** Goes to the edge of the chosen signal before or after the instant. */
   async toEdge(direction) {
-    const signal = this.all.find(({ name }) => name === this.chosen) ?? this.layout.signals()[0];
+    const all = [...this.all, ...this.layout.locals];
+    const signal = all.find(({ name }) => name === this.chosen) ?? this.layout.signals()[0];
     if (!signal) return;
     this.chosen = signal.name;
     this.tools.showChosen(signal.name);
-    const statusAt = (instant) => this.rows.status(instant, signal.place);
-    const known = (instant) => this.rows.know(instant);
+    const statusAt = (instant) => this.status(signal, instant);
+    const known = (instant) => (signal.kind === "local" ? this.inner : this.rows).know(instant);
     const found = await findEdge(statusAt, known, this.here(), direction, this.instants);
     if (found !== null) this.jump(found);
     else say(this.refused, `${signal.name} has no edge ${direction < 0 ? "before" : "after"} that`);
@@ -272,10 +258,12 @@ export class WaveView {
     const [first, last] = shownInstants(view);
     const margin = last - first + 1;
     this.rows.want(first - margin, last + margin);
-    drawWave(this.canvas.getContext("2d"), view, this.rows, this.colours);
+    if (this.layout.showsLocals()) this.inner.want(first - margin, last + margin);
+    const statusOf = (signal, at) => this.status(signal, at);
+    drawWave(this.canvas.getContext("2d"), view, statusOf, this.colours);
     say(this.readout, this.instants ? this.words(this.here()) : "no instant yet");
     if (this.here() !== this.toldOf) this.onHere?.(this.toldOf = this.here()); // where it is set
-    this.table.showLater(this.layout.signals(), this.rows, last);
+    this.table.showLater(this.layout.signals(), statusOf, last);
   }
 
   fitCanvas({ width, height, scale }) {
@@ -290,7 +278,7 @@ export class WaveView {
   words(instant) {
     const signals = this.layout.signals();
     const of = (status) => signals.filter(
-      ({ place }) => this.rows.status(instant, place) === status
+      (signal) => this.status(signal, instant) === status
     ).map(({ name }) => name);
     if (this.all.length && this.rows.status(instant, 0) === UNKNOWN) return `instant ${instant}: ..`;
     const told = instantWords(instant, of(PRESENT), of(HIDDEN), signals.length);

@@ -4,7 +4,7 @@ The inside of a program tells more than its outputs. So it is for those who may 
 the text; and for those who may observe every signal of the interface, and step or audit. All others
 get one refusal, before anything is looked at.
 """
-from typing import Any, Dict, List, Tuple
+from typing import Any, Dict, List, Optional, Tuple
 
 from ..reads.rights import Rights
 from ..refusals import Refused, failed, not_allowed
@@ -32,8 +32,9 @@ async def may_look_inside(rights: Rights, number: int, signals: List[Tuple[str, 
 
 
 async def inside_of(seat: Seat, number: int, load: str, known: int) -> Dict[str, Any]:
-    """The load, its main module and text, how many instants there are, and the inputs of those after
-    the first `known` ones of this load. Raises Refused.
+    """The load, its main module and text, how many instants there are, the inputs of those after the
+    first `known` ones of this load, and what is pending. What the page has of this load it isn't told
+    again. Raises Refused.
     """
     gateway = seat.context.gateway
     state = gateway.reads
@@ -45,19 +46,19 @@ async def inside_of(seat: Seat, number: int, load: str, known: int) -> Dict[str,
             if not may:
                 raise refusal_of(number)
             name = f"{gateway.visiting.restarts}.{slot.loaded}" if slot.is_loaded else ""
-            return told_of(slot, name, known if load == name else 0)
+            return told_of(slot, name, known if load == name else None)
     raise failed("permissions change too fast to be shown")
 
 
-def told_of(slot: Any, name: str, known: int) -> Dict[str, Any]:
-    """What is told of a slot, whose load has a name of its own, after so many instants."""
-    first = max(0, known)
-    return {
+def told_of(slot: Any, name: str, known: Optional[int]) -> Dict[str, Any]:
+    """What is told of a slot, whose load has a name of its own, after so many instants; None where
+    nothing of this load is known."""
+    first = max(0, known or 0)
+    told = {
         "name": name,
         "load": slot.loaded if slot.is_loaded else None,
-        "main": slot.main,
-        "text": slot.text,
         "instants": len(slot.instants),
-        "known": first,
         "inputs": [list(names) for names in slot.instants[first : first + AT_ONCE]],
+        "pending": list(slot.pending),
     }
+    return told if known is not None else {**told, "main": slot.main, "text": slot.text}

@@ -16,7 +16,9 @@ from .seats import Seat
 SLOTS = 16
 PAUSE = 0.04  # seconds between two tellings
 LONGEST_PAUSE = 1.0  # after one that took long
-QUIET = ("login", "logout")  # policy commands after which nobody else may do more or less
+QUIET = ("login", "logout")  # after which the policy is as before
+# policy commands after which each session that lives may do what it might do before
+HARMLESS = (*QUIET, "adduser", "addrole", "assign", "dsd", "undsd")
 NO_SESSION = 4
 LIFE = {
     "cmd": "look",
@@ -31,8 +33,8 @@ def text_of(value: Any) -> bytes:
 
 
 def changes_permissions(entry: Entry) -> bool:
-    """Whether somebody may do more or less after an entry."""
-    return entry.slot == POLICY and entry.command not in QUIET
+    """Whether a session may do more or less after an entry."""
+    return entry.slot == POLICY and entry.command not in HARMLESS
 
 
 class Watcher:
@@ -56,9 +58,10 @@ class Watcher:
             self._record = True
             if entry.slot != POLICY:
                 self._slots.add(entry.slot)
-            elif changes_permissions(entry):
-                self._slots.update(range(SLOTS))
+            elif entry.command not in QUIET:
                 self._policy = True
+            if changes_permissions(entry):
+                self._slots.update(range(SLOTS))
         self._news.set()
 
     def wake(self) -> None:
@@ -136,5 +139,10 @@ class Watcher:
         board, count = self.seat.board, self.seat.changes.count
         if board.life[0] != count:
             board.life = count, asyncio.ensure_future(self.seat.share.ask_answer(LIFE))
-        answer = await asyncio.shield(board.life[1])
+        life = board.life
+        try:
+            answer = await asyncio.shield(life[1])
+        except Refused:  # it is asked again
+            board.life = (-1, None) if board.life is life else board.life
+            raise
         return answer if answer.get("code") == NO_SESSION else None

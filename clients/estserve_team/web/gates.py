@@ -8,6 +8,7 @@ import weakref
 from typing import Any, Callable, Dict, Iterator, Optional
 
 from ..limits import Limits
+from ..people import peer_uid
 from ..refusals import Refused, too_many
 
 AHEAD_BYTES = 1 << 20  # may come before an answer is whole
@@ -22,7 +23,7 @@ class Gate(asyncio.Protocol):
 
     def __init__(self, gates: "Gates", inner: Any, address: str) -> None:
         self._gates, self._inner = gates, inner
-        self.address = address  # empty for a Unix socket
+        self.address = address  # empty for the proxy's
         self.person: Optional[str] = None
         self.shown: Optional[Dict[str, str]] = None  # the secrets of the person's visit
         self.transport: Any = None
@@ -99,9 +100,11 @@ class Gate(asyncio.Protocol):
 class Gates:
     """All connections over HTTP."""
 
-    def __init__(self, limits: Limits, make: Callable[[], Any]) -> None:
-        """`make` gives the protocol of aiohttp."""
-        self._limits, self._make = limits, make
+    def __init__(
+        self, limits: Limits, make: Callable[[], Any], proxy: Optional[int] = None
+    ) -> None:
+        """`make` gives the protocol of aiohttp; `proxy` is whom the Unix socket is for."""
+        self._limits, self._make, self._proxy = limits, make, proxy
         self._gates: Dict[Gate, None] = {}  # the oldest first
         self.by_transport: Dict[Any, Gate] = {}
         self._turns: "weakref.WeakValueDictionary[Any, asyncio.Semaphore]" = (
@@ -114,8 +117,7 @@ class Gates:
     def admit(self, connection: Any) -> Gate:
         """The protocol of a connection that was just made. Raises Refused, where there are too
         many of those that are known; others make place."""
-        name = connection.getpeername()
-        address = name[0] if isinstance(name, tuple) else ""
+        address = self._address_of(connection)
         if address:
             own = [gate for gate in self._strangers() if gate.address == address]
             if len(own) >= self._limits.address_connections:
@@ -128,6 +130,15 @@ class Gates:
         gate = Gate(self, self._make(), address)
         self._gates[gate] = None
         return gate
+
+    def _address_of(self, connection: Any) -> str:
+        """Whence a connection comes: a host, or at the Unix socket a user who is not the proxy;
+        empty for the proxy's."""
+        name = connection.getpeername()
+        if isinstance(name, tuple):
+            return str(name[0])
+        uid = peer_uid(connection) if self._proxy is not None else None
+        return "" if uid == self._proxy else f"user {uid}"
 
     def _strangers(self) -> Iterator[Gate]:
         return (gate for gate in self._gates if gate.person is None)

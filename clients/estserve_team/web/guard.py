@@ -61,7 +61,12 @@ class Guard:
         return f"estserve_{hashlib.sha256(state.encode()).hexdigest()[:12]}"
 
     def fault_of(self, request: web.Request) -> Optional[web.Response]:
-        """The answer to a request that may not be looked at; None where it may."""
+        """The answer to a request that may not be looked at; None where it may. Where its body has no
+        length, what follows on the connection might be a part of it, and is not read."""
+        if "Transfer-Encoding" in request.headers:
+            fault = told(411, "A request tells how long its body is.")
+            fault.force_close()
+            return fault
         if request.headers.getall("Host", []) and request.headers["Host"].lower() not in self.hosts:
             return told(403, "This host's name is not one of this page.")
         if not request.headers.getall("Host", []):

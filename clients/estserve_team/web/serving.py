@@ -7,7 +7,7 @@ from typing import Any
 
 from estserve_client.texts import Failed
 
-from ..limits import fit_to, read_limits
+from ..limits import add_limits, fit_to, read_limits
 from ..log import Log, fill_standard_streams, forward_all
 from ..places import PAGE_SOCKET, add_state
 from ..watchdog import raise_descriptors
@@ -24,13 +24,7 @@ def add_word(subparsers: Any) -> None:
     what = "serve the page of a gateway that runs on DIR, as a process of its own"
     parser = subparsers.add_parser("page", help=what, description=what)
     add_state(parser, argparse.SUPPRESS)
-    parser.add_argument(
-        "--limit",
-        action="append",
-        default=[],
-        metavar="NAME=NUMBER",
-        help="set one of the limits of docs/GATEWAY.md",
-    )
+    add_limits(parser)
     parser.add_argument("--program", metavar="PATH", help="the program to try texts on")
     add_options(parser)
     parser.set_defaults(act=serve_page)

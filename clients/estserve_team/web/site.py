@@ -3,9 +3,7 @@ import asyncio
 import contextlib
 import json
 import math
-import os
 import pathlib
-import socket
 from typing import Any, AsyncIterator, Awaitable, Callable, Dict, List, Optional
 
 from aiohttp import web
@@ -17,6 +15,7 @@ from ..log import Log
 from ..refusals import Refused
 from ..watchdog import Reserve
 from . import asking
+from .binding import bind, remove_socket
 from .core import Core, Denied
 from .gates import KEPT_SECONDS, Gates
 from .guard import HEADERS, TOKEN, Guard, told
@@ -58,13 +57,6 @@ def files() -> Dict[str, "tuple[str, bytes]"]:
     return found
 
 
-def remove_socket(path: str) -> None:
-    """Takes away a socket that stands at a path; a file of another kind stays."""
-    place = pathlib.Path(path)
-    if place.is_socket():
-        place.unlink()
-
-
 def read_float(text: str) -> float:
     """A number with fraction or exponent. Raises ValueError, where it is out of range."""
     found = float(text)
@@ -96,6 +88,8 @@ class Site:
         self._reads: Dict[str, Callable[[Any, Any], Awaitable[Dict[str, Any]]]] = {
             **asking.READS,
             "inside": self._insides.look,
+            "locals": self._insides.rows,
+            "stuck": self._insides.stuck,
         }
         self._streams: "set[Stream]" = set()
         self._files = files()
@@ -107,7 +101,7 @@ class Site:
 
     async def start(self) -> None:
         """Begins to serve. Raises OSError."""
-        sockets = self._bind()
+        sockets = bind(self._options)
         for one in sockets:
             one.listen(BACKLOG)
         self.port = sockets[0].getsockname()[1] if self._options.place else None
@@ -126,7 +120,7 @@ class Site:
         )
         await self._runner.setup()
         assert self._runner.server is not None
-        self._gates = Gates(self._limits, self._runner.server)
+        self._gates = Gates(self._limits, self._runner.server, self._options.proxy)
         reserve = Reserve()
         reserve.fill()
         self._listeners = [
@@ -143,30 +137,6 @@ class Site:
         while True:
             await asyncio.sleep(LOOK_SECONDS)
             self._gates.look_after()
-
-    def _bind(self) -> List[socket.socket]:
-        """The sockets that are asked for; the Unix socket is for its user and its folder's group.
-        Raises OSError."""
-        found = []
-        if self._options.place:
-            host, port = self._options.place
-            family = socket.AF_INET6 if ":" in host else socket.AF_INET
-            one = socket.socket(family, socket.SOCK_STREAM)
-            one.setsockopt(socket.SOL_SOCKET, socket.SO_REUSEADDR, 1)
-            one.bind((host, port))
-            found.append(one)
-        if self._options.socket:
-            remove_socket(self._options.socket)
-            one = socket.socket(socket.AF_UNIX, socket.SOCK_STREAM)
-            before = os.umask(0o117)
-            try:
-                one.bind(self._options.socket)
-                folder = pathlib.Path(self._options.socket).absolute().parent
-                os.chown(self._options.socket, -1, folder.stat().st_gid)
-            finally:
-                os.umask(before)
-            found.append(one)
-        return found
 
     async def stop(self) -> None:
         """Ends all streams, and serves no more."""

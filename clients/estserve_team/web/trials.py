@@ -4,7 +4,7 @@ import asyncio
 import contextlib
 import functools
 import weakref
-from typing import Any, Awaitable, Callable, Dict, List, Optional
+from typing import Any, AsyncIterator, Awaitable, Callable, Dict, List, Optional
 
 from estserve_client.command_table import SLOTS
 from estserve_client.connection import Disconnected, Refusal, TimedOut
@@ -16,6 +16,23 @@ from ..refusals import Refused, failed
 
 AT_ONCE = 2  # programs that try texts, each for another person
 Told = Dict[str, Any]
+
+
+class Turns:
+    """Who does what takes its time: a few at once, each another person. One who asks for much waits
+    for oneself alone."""
+
+    def __init__(self, at_once: int) -> None:
+        self._places = asyncio.Semaphore(at_once)
+        self._own: "weakref.WeakValueDictionary[str, asyncio.Lock]" = weakref.WeakValueDictionary()
+
+    @contextlib.asynccontextmanager
+    async def of(self, seat: Any, thing: Optional[asyncio.Lock] = None) -> AsyncIterator[None]:
+        """A turn of a seat's person, with a thing that one alone may use. Raises Denied."""
+        person = (await seat.ask("here"))["person"]
+        own = self._own.setdefault(person, asyncio.Lock())
+        async with own, thing or asyncio.Lock(), self._places:
+            yield
 
 
 async def apart(act: Callable[..., Told], *asked: Any) -> Told:
@@ -57,16 +74,12 @@ class Trials:
 
     def __init__(self, program: Optional[str]) -> None:
         self._program = program
-        self._turns = asyncio.Semaphore(AT_ONCE)
-        self._own: "weakref.WeakValueDictionary[str, asyncio.Lock]" = weakref.WeakValueDictionary()
+        self._turns = Turns(AT_ONCE)
 
     async def try_out(self, seat: Any, body: Told) -> Told:
-        """What becomes of a text on a program of its own. One who tries much waits for oneself
-        alone. Raises Denied, Refused."""
-        person = (await seat.ask("here"))["person"]
-        own = self._own.setdefault(person, asyncio.Lock())
+        """What becomes of a text on a program of its own. Raises Denied, Refused."""
         asked = [body.get(name) for name in ("text", "main", "inputs")]
-        async with own, self._turns:
+        async with self._turns.of(seat):
             try:
                 return await apart(try_text, self._program, *asked)
             except (Disconnected, TimedOut) as fault:

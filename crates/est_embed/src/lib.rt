@@ -8,3 +8,5 @@
 
 mod exports;
 mod handed;
+#[cfg(test)]
+mod tests;

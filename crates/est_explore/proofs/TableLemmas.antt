@@ -18,6 +18,7 @@ use Rattle.state_search.specs.declared.found.Found.{Found}
 use Rattle.state_search.specs.declared.found.Node.{Node}
 use Rattle.state_search.specs.declared.found.Row.{Row}
 use Rattle.state_search.proofs.Nodes.{is_one}
+use Rattle.est_explore.proofs.JudgeLemmas.{reached as is_reached}
 use Rattle.est_explore.proofs.RunLemmas.{term_of_position, DoesSo, row_for, follows}
 
 module _ (m : Module) (watched : ℕ → Bool) (f : Found Position (Asked Answer)) (e : IsExplored m watched f)
@@ -52,6 +53,7 @@ module _ (m : Module) (watched : ℕ → Bool) (f : Found Position (Asked Answer
     begins = record { node = e.begins.node; is = e.begins.is; term = first_term };
     reached = λ run t runs. leads_to 0 e.begins.node e.begins.is run t
         (subst (λ (v : Term). Runs m v run t) (sym first_term) runs);
+    only = λ place n here. is_reached m watched f e place n here;
     complete = λ place t s inputs lawful.
         let r = row_for m watched f e place s.node inputs s.is (let w = s.is.within in omega arith) lawful in
         record { row = r.row; listed = r.listed; from = r.from; is = r.is };

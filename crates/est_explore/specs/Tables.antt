@@ -7,6 +7,7 @@ use Rattle.est_meaning.specs.Reaction.{CannotReact}
 use Rattle.est_meaning.specs.Rounds.{judged_signals}
 use Rattle.est_meaning.specs.States.{state_term}
 use Rattle.est_explore.specs.Runs.{Module, IsLawful, Instant, Goes, Runs, start}
+use Rattle.est_explore.specs.Verdicts.{IsReached}
 use Rattle.est_cover.specs.InputSets.{InputSet, Agrees}
 use Rattle.est_cover.specs.declared.asked.Asked.{Asked}
 use Rattle.est_explore.specs.declared.one_module.Answer.{Answer}
@@ -43,12 +44,14 @@ pub record HasRowFor (rows : List (Row (Asked Answer))) (place : ℕ) (inputs : 
   pub from : row.from ≡ place
   pub is : IsFor row inputs
 
--- the table is closed: it begins where the module does; whatever a run leads to has a place; at each place there is a
--- row for each lawful set of inputs; each row is for some; and it is what the module does with each that it is for
+-- the table is closed: it begins where the module does; whatever a run leads to has a place, and to each place a run
+-- leads; at each place there is a row for each lawful set of inputs; each row is for some; and it is what the module
+-- does with each that it is for
 pub record IsClosedTable (m : Module) (f : Found Position (Asked Answer)) : Type 0 where
   pub begins : StandsFor m f.nodes.items 0 (start m)
   pub reached : (run : List Instant) (t : Term) → Runs m (start m) run t
       → (place : ℕ) × StandsFor m f.nodes.items place t
+  pub only : (place : ℕ) (n : Node Position) → Is f.nodes.items place n → IsReached m n.state
   pub complete : (place : ℕ) (t : Term) → StandsFor m f.nodes.items place t → (inputs : InputSet) → IsLawful m inputs
       → HasRowFor f.rows.items place inputs
   pub lawful : (row : Row (Asked Answer)) → Contains f.rows.items row → IsLawful m (bits row.label.inputs)

@@ -6,6 +6,7 @@ use Rattle.est_kernel.specs.declared.interface.Declaration.{Declaration}
 use Rattle.est_kernel.specs.declared.statement.Test.{Test}
 use Rattle.lab_lines.specs.Tests.{test_of}
 use Rattle.lab_lines.specs.declared.asked_test.AskedTest.{AskedTest}
+use Rattle.lab_lines.proofs.OfferLemmas.{cut_at}
 use Rattle.lab_claims.specs.Claims.{IsTestText, IsClaimText, always, never, AreClaimTexts, denial_text}
 use Rattle.lab_claims.specs.Refused.{IsClaimFault, IsFirstBad}
 use Rattle.lab_claims.specs.declared.claims.BadClaim.{BadClaim}
@@ -38,13 +39,6 @@ claims_next interface xs i x vs ws v within grown are is =
 pub one_longer : (vs ws : List AskedTest) (v : AskedTest) (i : ℕ) → ws ≡ vs ++ v ∷ [] → length vs ≡ i
     → length ws ≡ i + 1
 one_longer vs ws v i grown count = omega (arith, ap length grown, length-append vs (v ∷ []))
-
--- a list with a claim at this place
-cut_at : (xs : List (Bor (List ℕ))) (i : ℕ) (x : Bor (List ℕ)) → i < length xs
-    → map (λ t. t.now) xs ≡ map (λ t. t.now) (take i xs) ++ (get_or xs i x).now ∷ map (λ t. t.now) (drop (suc i) xs)
-cut_at [] i x within = absurd (omega arith)
-cut_at (y ∷ xs) zero x within = refl
-cut_at (y ∷ xs) (suc i) x within = ap (λ (ts : List (List ℕ)). y.now ∷ ts) (cut_at xs i x (omega arith))
 
 -- how many claims come before it
 earlier_count : (xs : List (Bor (List ℕ))) (i : ℕ) → i < length xs → length (map (λ t. t.now) (take i xs)) ≡ i

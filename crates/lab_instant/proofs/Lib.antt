@@ -1,3 +1,4 @@
 mod GoCells
 mod Meant
+mod OneByOne
 mod Steps

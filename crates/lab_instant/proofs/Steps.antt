@@ -1,10 +1,6 @@
--- Walking the owners of cells in their order.
-use Rattle.std.specs.Prelude.{◌≡◌, ◌+◌, ℕ, List, [], ◌∷◌, ◌++◌, Option}
-use Rattle.std.proofs.Common.{refl, sym, add-one, append-nil, append_assoc, arith}
-use Rattle.std.proofs.lemmas.List.FromFn.{map-range_with_len_more}
-use Rattle.est_net.specs.Owners.{cell_of, kind_at, own_owners}
-use Rattle.est_net.specs.declared.owners.CellKind.{CellKind}
-use Rattle.est_net.specs.declared.owners.StatementCell.{StatementCell}
+-- What is found at places, one after another.
+use Rattle.std.specs.Prelude.{◌≡◌, ◌<◌, ◌+◌, ℕ, zero, suc, List, [], ◌++◌, Option, None}
+use Rattle.std.proofs.Common.{◌∙◌, refl, sym, ap, add-one, add-suc, add-zero, append-nil, append_assoc, arith}
 use Rattle.lab_instant.specs.Seen.{found_below, listed}
 
 -- nothing is found below 0
@@ -13,20 +9,42 @@ unfolding found_below
 none_found f = refl
 
 -- what is found at one more place
-pub more_found : {A : Type 0} (f : ℕ → Option A) (n : ℕ) (xs ys : List A) (o : Option A) → o ≡ f n
-    → ys ≡ xs ++ listed o → xs ≡ found_below f n → ys ≡ found_below f (n + 1)
+pub one_found : {A : Type 0} (f : ℕ → Option A) (n : ℕ) → found_below f (suc n) ≡ found_below f n ++ listed (f n)
 unfolding found_below
-more_found f n xs ys o is grown so = rw (grown, so, is, add-one, found_below) refl
+one_found f n = refl
 
--- a statement has no cell before its first
-pub none_owned : (i n t : ℕ) (xs : List StatementCell) → xs ≡ xs ++ own_owners i n t 0
-none_owned i n t xs = sym (append-nil xs)
+pub more_found : {A : Type 0} (f : ℕ → Option A) (n : ℕ) (xs ys zs : List A) (o : Option A) → o ≡ f n
+    → ys ≡ xs ++ listed o → xs ≡ zs ++ found_below f n → ys ≡ zs ++ found_below f (n + 1)
+unfolding found_below
+more_found f n xs ys zs o is grown so =
+    rw (grown, so, is, add-one, found_below) (append_assoc zs (found_below f n) (listed (f n)))
 
--- the next of its own cells
-pub one_owned : (i n t x : ℕ) (xs ys zs : List StatementCell) (k : CellKind) → k ≡ kind_at t x
-    → xs ≡ zs ++ own_owners i n t x → ys ≡ xs ++ cell_of i n k ∷ [] → ys ≡ zs ++ own_owners i n t (x + 1)
-one_owned i n t x xs ys zs k is so grown =
-    let f = λ (y : ℕ). cell_of i n (kind_at t y) in
-    let more : own_owners i n t (x + 1) ≡ own_owners i n t x ++ f x ∷ []
-    = map-range_with_len_more f 0 x x (omega arith) in
-    rw (grown, so, is, more, append_assoc zs (own_owners i n t x) (f x ∷ [])) refl
+-- what is found at m places and at n more
+pub found_later : {A : Type 0} (f : ℕ → Option A) (m n : ℕ)
+    → found_below f (m + n) ≡ found_below f m ++ found_below (λ x. f (m + x)) n
+found_later f m zero =
+    ap (found_below f) (omega arith) ∙ (sym (append-nil (found_below f m))
+    ∙ ap (λ (l : List _). found_below f m ++ l) (sym (none_found (λ x. f (m + x)))))
+found_later f m (suc n) =
+    let all = found_below f m in
+    let later = found_below (λ x. f (m + x)) n in
+    let next : m + suc n ≡ suc (m + n) = omega arith in
+    ap (found_below f) next ∙ (one_found f (m + n)
+    ∙ (ap (λ (l : List _). l ++ listed (f (m + n))) (found_later f m n)
+    ∙ (append_assoc all later (listed (f (m + n)))
+    ∙ ap (λ (l : List _). all ++ l) (sym (one_found (λ x. f (m + x)) n)))))
+
+-- the same is found where both say the same
+pub same_found : {A : Type 0} (f g : ℕ → Option A) (n : ℕ) → ((x : ℕ) → x < n → f x ≡ g x)
+    → found_below f n ≡ found_below g n
+same_found f g zero h = none_found f ∙ sym (none_found g)
+same_found f g (suc n) h =
+    one_found f n ∙ (ap (λ (l : List _). l ++ listed (f n)) (same_found f g n (λ x l. h x (omega arith)))
+    ∙ (ap (λ (o : Option _). found_below g n ++ listed o) (h n (omega arith)) ∙ sym (one_found g n)))
+
+-- nothing is found where nothing is
+pub nothing_found : {A : Type 0} (f : ℕ → Option A) (n : ℕ) → ((x : ℕ) → x < n → f x ≡ None) → found_below f n ≡ []
+nothing_found f zero h = none_found f
+nothing_found f (suc n) h =
+    one_found f n ∙ (ap (λ (l : List _). l ++ listed (f n)) (nothing_found f n (λ x l. h x (omega arith)))
+    ∙ ap (λ (o : Option _). listed o) (h n (omega arith)))

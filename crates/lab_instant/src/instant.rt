@@ -5,36 +5,31 @@ ghost use Rattle.est_kernel.specs.declared.kernel.Kernel.{Kernel as KernelValue}
 ghost use Rattle.est_meaning.specs.States.{IsState};
 ghost use Rattle.est_net.specs.Layout.{output_count};
 ghost use Rattle.lab_instant.specs.Instants.{IsFor, IsInstant, IsSeen, statement_cells};
+ghost use Rattle.lab_instant.specs.OwnCells.{cells_of};
 
-use crate::owners::owners_of;
-use crate::reading::{all_begun, all_locals, all_resumed};
+use crate::owners::{OwnCells, owners_of};
+use crate::reading::all_seen;
 use crate::seen::{Instant, Seen};
 use est_kernel::kernel::Kernel;
 use est_kernel::state::{Inputs, State};
 use est_micro::micro::Micro;
 use est_net::net::Net;
-use est_net::owners::StatementCell;
 use std::alloc::{AllocError, Global};
 
 /// What took part, or memory was refused.
-fn seen_in(alloc: Global, net: &Net, owners: &[StatementCell]) -> Result<Seen, AllocError>
-    requires { net.now.outputs + length owners.now ≤ length net.now.cells.items }
-    ensures { IfOk result (λ seen. (k : KernelValue) → owners.now ≡ statement_cells k
+fn seen_in(alloc: Global, net: &Net, owners: &[OwnCells]) -> Result<Seen, AllocError>
+    requires { net.now.outputs + length (cells_of owners.now) ≤ length net.now.cells.items }
+    ensures { IfOk result (λ seen. (k : KernelValue) → cells_of owners.now ≡ statement_cells k
         → net.now.outputs ≡ output_count k.interface → IsSeen k net.now.cells.items seen) }
 {
-    let first = net.outputs();
-    Ok(Seen {
-        began: all_begun(alloc, owners, net, first)?,
-        went_on: all_resumed(alloc, owners, net, first)?,
-        locals: all_locals(alloc, owners, net, first)?,
-    })
+    all_seen(alloc, owners, net, net.outputs())
 }
 
 /// What reads the instants of a kernel from inside.
 #[derive(Drop)]
 pub struct Inside {
     engine: Micro,
-    owners: Vec<StatementCell>,
+    owners: Vec<OwnCells>,
 }
 
 impl Inside {

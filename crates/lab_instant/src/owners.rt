@@ -1,49 +1,60 @@
 //! Whose the cells of a statement are.
 
-ghost use Rattle.std.specs.Prelude.{◌≡◌, ◌<◌, ◌≤◌, ◌+◌, ◌++◌, true, length, IfOk};
+ghost use Rattle.std.specs.Prelude.{◌≡◌, ◌<◌, ◌≤◌, ◌+◌, true, length, IfOk};
 ghost use Rattle.est_kernel.specs.Limits.{trap_depth};
 ghost use Rattle.est_kernel.specs.View.{term_of};
-ghost use Rattle.est_net.specs.Owners.{kind_at, inside_loop, own_owners, owners_in};
-ghost use Rattle.lab_instant.specs.Adding.{AddsOwners};
+ghost use Rattle.est_net.specs.Owners.{inside_loop, owners_in};
+ghost use Rattle.lab_instant.specs.Adding.{AddsOwn, AddsOwners};
+ghost use Rattle.lab_instant.specs.OwnCells.{cells_of, own_count};
 
+use crate::seen::Incarnation;
 use est_kernel::kernel::Kernel;
 use est_kernel::statement::Statement;
-use est_net::owners::{CellKind, StatementCell};
 use std::alloc::{AllocError, Global};
 
-/// What the cell at this place among those of a statement tells.
-fn kind_at(traps: usize, offset: usize) -> CellKind
-    requires { traps < 65536 }
-    ensures { result ≡ kind_at traps offset }
+/// The cells that a statement has of its own in one incarnation, one after another: whether it is
+/// begun, whether it gives each code from 0 on, and the status of the signal that it declares.
+#[derive(Clone, Copy)]
+pub struct OwnCells {
+    /// The statement.
+    pub at: Incarnation,
+    /// How many traps it lies in.
+    pub traps: usize,
+    /// Whether it declares a signal.
+    pub declares: bool,
+}
+
+/// How many cells they are.
+pub fn own_count(own: OwnCells) -> usize
+    requires { own_count own.traps own.declares < 18446744073709551616 }
+    ensures { result ≡ own_count own.traps own.declares }
 {
-    if offset == 0 {
-        CellKind::Go
-    } else if offset - 1 < traps + 2 {
-        CellKind::Code(offset - 1)
+    if own.declares {
+        own.traps + 4
     } else {
-        CellKind::Status
+        own.traps + 3
     }
 }
 
-/// Adds the owners of a statement's own cells.
+/// Adds a statement's own cells.
 fn add_own(
-    owners: &mut Vec<StatementCell>,
+    owners: &mut Vec<OwnCells>,
     statement: usize,
     incarnation: usize,
     traps: usize,
-    own: usize,
+    declares: bool,
 ) -> Result<(), AllocError>
-    requires { traps < 65536 }
-    ensures { IfOk result (λ _. owners.new.items
-        ≡ owners.old.items ++ own_owners incarnation statement traps own) }
+    ensures { IfOk result (λ _. AddsOwn incarnation statement traps declares owners.old.items
+        owners.new.items) }
 {
-    for offset in 0..own {
-        owners.push(StatementCell {
+    owners.push(OwnCells {
+        at: Incarnation {
             statement,
-            incarnation,
-            kind: kind_at(traps, offset),
-        })?;
-    }
+            number: incarnation,
+        },
+        traps,
+        declares,
+    })?;
     Ok(())
 }
 
@@ -58,7 +69,7 @@ fn inside_loop(main: bool, incarnation: usize) -> usize
 /// Adds the owners of the cells of a statement. Answers the number of the statement after it. It
 /// goes as deep as the statement is.
 fn add(
-    owners: &mut Vec<StatementCell>,
+    owners: &mut Vec<OwnCells>,
     main: bool,
     s: &Statement,
     incarnation: usize,
@@ -73,20 +84,20 @@ fn add(
 {
     match s {
         Statement::Nothing | Statement::Pause(_) | Statement::Emit(_) | Statement::Exit(_) => {
-            add_own(owners, number, incarnation, traps, traps + 3)?;
+            add_own(owners, number, incarnation, traps, false)?;
             Ok(number + 1)
         }
         Statement::Present(_, p, q) | Statement::Seq(p, q) | Statement::Par(p, q) => {
-            add_own(owners, number, incarnation, traps, traps + 3)?;
+            add_own(owners, number, incarnation, traps, false)?;
             let next = add(owners, main, p, incarnation, number + 1, traps)?;
             add(owners, main, q, incarnation, next, traps)
         }
         Statement::Suspend(_, p) => {
-            add_own(owners, number, incarnation, traps, traps + 3)?;
+            add_own(owners, number, incarnation, traps, false)?;
             add(owners, main, p, incarnation, number + 1, traps)
         }
         Statement::Loop(p) => {
-            add_own(owners, number, incarnation, traps, traps + 3)?;
+            add_own(owners, number, incarnation, traps, false)?;
             let inside = inside_loop(main, incarnation);
             let next = add(owners, main, p, inside, number + 1, traps)?;
             if main {
@@ -95,19 +106,19 @@ fn add(
             Ok(next)
         }
         Statement::Trap(p) => {
-            add_own(owners, number, incarnation, traps, traps + 3)?;
+            add_own(owners, number, incarnation, traps, false)?;
             add(owners, main, p, incarnation, number + 1, traps + 1)
         }
         Statement::Local(_, p) => {
-            add_own(owners, number, incarnation, traps, traps + 4)?;
+            add_own(owners, number, incarnation, traps, true)?;
             add(owners, main, p, incarnation, number + 1, traps)
         }
     }
 }
 
 /// Whose the cells of a kernel's statement are, in their order, or memory was refused.
-pub fn owners_of(alloc: Global, kernel: &Kernel) -> Result<Vec<StatementCell>, AllocError>
-    ensures { IfOk result (λ owners. owners.items ≡ owners_in true kernel.now.root 0 0 0) }
+pub fn owners_of(alloc: Global, kernel: &Kernel) -> Result<Vec<OwnCells>, AllocError>
+    ensures { IfOk result (λ owners. cells_of owners.items ≡ owners_in true kernel.now.root 0 0 0) }
 {
     let mut owners = Vec::new(alloc);
     add(&mut owners, true, kernel.root(), 0, 0, 0)?;

@@ -1,77 +1,46 @@
 //! What took part in an instant, read off the cells.
 
-ghost use Rattle.std.specs.Prelude.{◌≡◌, ◌<◌, ◌≤◌, ◌+◌, ◌++◌, Some, length, slice_get, IfOk};
+ghost use Rattle.std.specs.Prelude.{◌≡◌, ◌≤◌, ◌+◌, ◌++◌, ℕ, length, IfOk};
+ghost use Rattle.est_meaning.specs.declared.status.Status.TheVariants.{Absent};
 ghost use Rattle.est_net.specs.Cells.{cell_at};
-ghost use Rattle.lab_instant.specs.Seen.{all_begun, all_locals, all_resumed, begun_at};
-ghost use Rattle.lab_instant.specs.Seen.{go_place, incarnation_of, listed, local_at};
-ghost use Rattle.lab_instant.specs.Seen.{resumed_by_kind};
+ghost use Rattle.est_net.specs.declared.owners.CellKind.TheVariants.{Code, Go};
+ghost use Rattle.lab_instant.specs.OwnCells.{cells_of, cells_of_one, own_count};
+ghost use Rattle.lab_instant.specs.Reading.{AreAll, codes_given};
+ghost use Rattle.lab_instant.specs.Seen.{all_begun, all_locals, all_resumed, begun_by_kind};
+ghost use Rattle.lab_instant.specs.Seen.{listed, resumed_by_kind};
 
-use crate::seen::{Incarnation, Local};
+use crate::owners::{OwnCells, own_count};
+use crate::seen::{Incarnation, Local, Seen};
 use est_meaning::status::Status;
 use est_net::net::Net;
-use est_net::owners::{CellKind, StatementCell};
 use std::alloc::{AllocError, Global};
 
-/// The statement that a cell belongs to.
-fn incarnation_of(owner: StatementCell) -> Incarnation
-    ensures { result ≡ incarnation_of owner }
+/// The statement, if its go cell tells that it began.
+fn begun(at: Incarnation, go: Status) -> Option<Incarnation>
+    ensures { result ≡ begun_by_kind Go go at }
 {
-    Incarnation {
-        statement: owner.statement,
-        number: owner.incarnation,
+    match go {
+        Status::Present => Some(at),
+        Status::Absent | Status::Unknown => None,
     }
 }
 
-/// The statement, if its cell tells that it began.
-fn begun(owner: StatementCell, status: Status) -> Option<Incarnation>
-    ensures { result ≡ begun_at (Some owner) status }
+/// The statement, which did not begin, if the cell of a code tells that it ran.
+fn resumed(at: Incarnation, gave: Status) -> Option<Incarnation>
+    ensures { (code : ℕ) → result ≡ resumed_by_kind (Code code) Absent gave at }
 {
-    match (owner.kind, status) {
-        (CellKind::Go, Status::Present) => Some(incarnation_of(owner)),
-        _ => None,
+    match gave {
+        Status::Present => Some(at),
+        Status::Absent | Status::Unknown => None,
     }
 }
 
-/// The place of the go cell of the statement that a cell belongs to.
-fn go_place(owner: StatementCell, place: usize) -> usize
-    ensures same { result ≡ go_place owner.kind place }
-    ensures within { result ≤ place }
+/// The local signal that a statement declares.
+fn local(declared: Incarnation, status: Status) -> Local
+    ensures declared { result.declared ≡ declared }
+    ensures status { result.status ≡ status }
 {
-    match owner.kind {
-        CellKind::Code(code) => place.saturating_sub(code).saturating_sub(1),
-        CellKind::Go | CellKind::Status => place,
-    }
-}
-
-/// The statement, if its cell tells that it ran and its go cell that it did not begin.
-fn resumed(owner: StatementCell, go: Status, status: Status) -> Option<Incarnation>
-    ensures { result ≡ resumed_by_kind owner.kind go status (incarnation_of owner) }
-{
-    match (owner.kind, go, status) {
-        (CellKind::Code(_), Status::Absent, Status::Present) => Some(incarnation_of(owner)),
-        _ => None,
-    }
-}
-
-/// The local signal, if the cell tells its status.
-fn local(owner: StatementCell, status: Status) -> Option<Local>
-    ensures { result ≡ local_at (Some owner) status }
-{
-    match owner.kind {
-        CellKind::Status => Some(Local {
-            declared: incarnation_of(owner),
-            status,
-        }),
-        CellKind::Go | CellKind::Code(_) => None,
-    }
-}
-
-/// The owner at a place.
-fn owner_at(owners: &[StatementCell], place: usize) -> StatementCell
-    requires { place < length owners.now }
-    ensures { slice_get owners.now place ≡ Some result }
-{
-    owners[place]
+    Local { declared, status }
 }
 
 /// Adds an item, if there is one.
@@ -84,63 +53,97 @@ fn push_if<T: Copy>(list: &mut Vec<T>, item: Option<T>) -> Result<(), AllocError
     Ok(())
 }
 
-/// The statements that began. The cells of these owners begin at place `first`.
-pub fn all_begun(
-    alloc: Global,
-    owners: &[StatementCell],
+/// Adds the statement, if it began. Its own cells begin at place `cell`.
+fn add_begun(
+    found: &mut Vec<Incarnation>,
     net: &Net,
-    first: usize,
-) -> Result<Vec<Incarnation>, AllocError>
-    requires { first + length owners.now ≤ length net.now.cells.items }
-    ensures { IfOk result (λ v. v.items
-        ≡ all_begun owners.now (cell_at net.now.cells.items) first) }
+    own: OwnCells,
+    cell: usize,
+) -> Result<(), AllocError>
+    requires { cell + own.traps + 3 ≤ length net.now.cells.items }
+    ensures { IfOk result (λ _. found.new.items ≡ found.old.items
+        ++ all_begun (cells_of_one own) (cell_at net.now.cells.items) cell) }
 {
-    let mut found = Vec::new(alloc);
-    for place in 0..owners.len() {
-        let owner = owner_at(owners, place);
-        let told = net.status(first + place);
-        push_if(&mut found, begun(owner, told))?;
-    }
-    Ok(found)
+    push_if(found, begun(own.at, net.status(cell)))
 }
 
-/// The statements that went on. The cells of these owners begin at place `first`.
-pub fn all_resumed(
-    alloc: Global,
-    owners: &[StatementCell],
+/// Adds the statement, which did not begin, for each code that it gave. The cells of the codes
+/// begin at place `first`.
+fn add_codes(
+    found: &mut Vec<Incarnation>,
     net: &Net,
+    at: Incarnation,
     first: usize,
-) -> Result<Vec<Incarnation>, AllocError>
-    requires { first + length owners.now ≤ length net.now.cells.items }
-    ensures { IfOk result (λ v. v.items
-        ≡ all_resumed owners.now (cell_at net.now.cells.items) first) }
+    codes: usize,
+) -> Result<(), AllocError>
+    requires { first + codes ≤ length net.now.cells.items }
+    ensures { IfOk result (λ _. found.new.items ≡ found.old.items
+        ++ codes_given at (cell_at net.now.cells.items) first codes) }
 {
-    let mut found = Vec::new(alloc);
-    for place in 0..owners.len() {
-        let owner = owner_at(owners, place);
-        let told = net.status(first + place);
-        let go = net.status(go_place(owner, first + place));
-        push_if(&mut found, resumed(owner, go, told))?;
+    for code in 0..codes {
+        push_if(found, resumed(at, net.status(first + code)))?;
     }
-    Ok(found)
+    Ok(())
 }
 
-/// The local signals. The cells of these owners begin at place `first`.
-pub fn all_locals(
+/// Adds the statement, if it went on. Its own cells begin at place `cell`.
+fn add_resumed(
+    found: &mut Vec<Incarnation>,
+    net: &Net,
+    own: OwnCells,
+    cell: usize,
+) -> Result<(), AllocError>
+    requires { cell + own.traps + 3 ≤ length net.now.cells.items }
+    ensures { IfOk result (λ _. found.new.items ≡ found.old.items
+        ++ all_resumed (cells_of_one own) (cell_at net.now.cells.items) cell) }
+{
+    match net.status(cell) {
+        Status::Absent => add_codes(found, net, own.at, cell + 1, own.traps + 2),
+        Status::Present | Status::Unknown => Ok(()),
+    }
+}
+
+/// Adds the signal that the statement declares, if it declares one. Its own cells begin at place
+/// `cell`.
+fn add_local(
+    found: &mut Vec<Local>,
+    net: &Net,
+    own: OwnCells,
+    cell: usize,
+) -> Result<(), AllocError>
+    requires { cell + own_count own.traps own.declares ≤ length net.now.cells.items }
+    ensures { IfOk result (λ _. found.new.items ≡ found.old.items
+        ++ all_locals (cells_of_one own) (cell_at net.now.cells.items) cell) }
+{
+    if own.declares {
+        found.push(local(own.at, net.status(cell + own.traps + 3)))?;
+    }
+    Ok(())
+}
+
+/// What took part. The cells of these owners begin at place `first`.
+pub fn all_seen(
     alloc: Global,
-    owners: &[StatementCell],
+    owners: &[OwnCells],
     net: &Net,
     first: usize,
-) -> Result<Vec<Local>, AllocError>
-    requires { first + length owners.now ≤ length net.now.cells.items }
-    ensures { IfOk result (λ v. v.items
-        ≡ all_locals owners.now (cell_at net.now.cells.items) first) }
+) -> Result<Seen, AllocError>
+    requires { first + length (cells_of owners.now) ≤ length net.now.cells.items }
+    ensures { IfOk result (AreAll (cells_of owners.now) (cell_at net.now.cells.items) first) }
 {
-    let mut found = Vec::new(alloc);
-    for place in 0..owners.len() {
-        let owner = owner_at(owners, place);
-        let told = net.status(first + place);
-        push_if(&mut found, local(owner, told))?;
+    let mut began = Vec::new(alloc);
+    let mut went_on = Vec::new(alloc);
+    let mut locals = Vec::new(alloc);
+    let mut cell = first;
+    for own in owners {
+        add_begun(&mut began, net, *own, cell)?;
+        add_resumed(&mut went_on, net, *own, cell)?;
+        add_local(&mut locals, net, *own, cell)?;
+        cell += own_count(*own);
     }
-    Ok(found)
+    Ok(Seen {
+        began,
+        went_on,
+        locals,
+    })
 }

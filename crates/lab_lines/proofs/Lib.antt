@@ -1,4 +1,6 @@
+pub mod LineLemmas
 pub mod NameLemmas
+pub mod OfferLemmas
 pub mod PauseLemmas
 pub mod RequestLemmas
 pub mod StatementLemmas

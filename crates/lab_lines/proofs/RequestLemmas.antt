@@ -1,5 +1,5 @@
 -- Members and texts of a value.
-use Rattle.std.proofs.Common.{◌≡◌, ◌∙◌, ◌+◌, ◌<◌, ℕ, zero, suc, eqb, Option, Some, None, Bor, Vec, Global, String}
+use Rattle.std.proofs.Common.{◌≡◌, ◌∙◌, ◌<◌, ℕ, zero, suc, eqb, Option, Some, None, Bor, Vec, Global, String}
 use Rattle.std.proofs.Common.{List, [], ◌∷◌, length, get_or, map, ap, sym, refl, arith}
 use Rattle.std.proofs.lemmas.Bool.Decides.{Decides-eqb}
 use Rattle.std.specs.Prelude.{IsTrue, MatchOption}

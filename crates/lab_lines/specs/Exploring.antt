@@ -11,6 +11,7 @@ use Rattle.est_explore.specs.declared.claim.Claim.TheVariants.{NeverStuck, Alway
 use Rattle.est_explore.specs.declared.one_module.Answer.{Answer}
 use Rattle.est_explore.specs.declared.one_module.Position.{Position}
 use Rattle.est_explore.specs.declared.verdict.Verdict.{Verdict}
+use Rattle.state_search.specs.Table.{HasEnded}
 use Rattle.state_search.specs.declared.found.Found.{Found}
 use Rattle.lab_lines.specs.Told.{verdict_json, exploration_json}
 
@@ -37,12 +38,13 @@ AreTold m states steps [] [] = Unit {0}
 AreTold m states steps (t ∷ ts) (d ∷ ds) = IsTestTold m states steps t d × AreTold m states steps ts ds
 AreTold m states steps _ _ = ⊥
 
--- what is told of a module: how many states and reactions a search of it has found, the verdict on the claim that it is
--- never Stuck, and that on each test in turn
+-- what is told of a module: how many states and reactions a search of it has found that has ended, the verdict on the
+-- claim that it is never Stuck, and that on each test in turn
 pub record IsExploration (m : Module) (tests : List Test) (states steps : ℕ) (d : Data) : Type 0 where
   pub found : Found Position (Asked Answer)
   pub watched : ℕ → Bool
   pub explored : IsExplored m watched found
+  pub ended : HasEnded states steps found.nodes.items found.rows.items found.done
   pub stuck : Data
   pub stuck_told : IsTold m NeverStuck states steps stuck
   pub verdicts : List Data

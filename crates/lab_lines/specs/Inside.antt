@@ -1,7 +1,6 @@
 -- What is told of an instant that is seen from inside (this project's own form).
 use Rattle.std.specs.Prelude.{true, false, List, codes, map}
 use Rattle.serde_json.specs.Data.{Data, null, boolean, number, unsigned, string, array, object, member, no_members}
-use Rattle.serde_json.specs.Data.{item, no_items}
 use Rattle.serde_json.specs.View.{items_of}
 use Rattle.est_kernel.specs.declared.interface.Declaration.{Declaration}
 use Rattle.est_kernel.specs.declared.state.State.{State}
@@ -11,13 +10,10 @@ use Rattle.lab_instant.specs.declared.seen.Incarnation.{Incarnation}
 use Rattle.lab_instant.specs.declared.seen.Instant.{Instant}
 use Rattle.lab_instant.specs.declared.seen.Instant.TheVariants.{Reaction, Stuck}
 use Rattle.lab_instant.specs.declared.seen.Local.{Local}
+use Rattle.lab_ties.specs.declared.tie.Tie.{Tie}
 use Rattle.lab_lines.specs.Tables.{state_json}
+use Rattle.lab_lines.specs.Ties.{incarnation_json, ties_json}
 use Rattle.lab_lines.specs.Told.{names_json}
-
--- a statement in one of its incarnations: its number and that of the incarnation
-abbrev pub incarnation_json : Incarnation → Data
-incarnation_json a =
-    array (item (number (unsigned a.statement)) (item (number (unsigned a.number)) no_items))
 
 -- whether it is present; null where that is not decided
 abbrev pub status_json : Status → Data
@@ -37,20 +33,27 @@ statements_json xs = array (items_of (map incarnation_json xs))
 abbrev pub locals_json : List Local → Data
 locals_json xs = array (items_of (map local_json xs))
 
--- an instant: what began and what went on, the local signals, and what comes of it
-abbrev pub inside_json : List Declaration → Instant → Data
-inside_json interface (Reaction o seen) = object (member (codes "began") (statements_json seen.began.items)
+-- an instant that is stuck, by what began, the local signals, the ties, what is not decided and what went on
+abbrev pub stuck_json : (began locals ties undecided went : Data) → Data
+stuck_json began locals ties undecided went = object (member (codes "began") began
+    (member (codes "code") (number (unsigned 50))
+    (member (codes "fault") (string (codes "Stuck"))
+    (member (codes "locals") locals
+    (member (codes "ties") ties
+    (member (codes "undecided") undecided
+    (member (codes "went") went no_members)))))))
+
+-- an instant: what began and what went on, the local signals, and what comes of it; of one that is stuck its ties
+abbrev pub inside_json : List Declaration → Instant → List Tie → Data
+inside_json interface (Reaction o seen) ties = object (member (codes "began") (statements_json seen.began.items)
     (member (codes "locals") (locals_json seen.locals.items)
     (member (codes "next") (state_json o.next)
     (member (codes "ok") (string (codes "instant"))
     (member (codes "outputs") (names_json interface o.outputs)
     (member (codes "went") (statements_json seen.went_on.items) no_members))))))
-inside_json interface (Stuck s seen) = object (member (codes "began") (statements_json seen.began.items)
-    (member (codes "code") (number (unsigned 50))
-    (member (codes "fault") (string (codes "Stuck"))
-    (member (codes "locals") (locals_json seen.locals.items)
-    (member (codes "undecided") (names_json interface s.undecided)
-    (member (codes "went") (statements_json seen.went_on.items) no_members))))))
+inside_json interface (Stuck s seen) ties =
+    stuck_json (statements_json seen.began.items) (locals_json seen.locals.items) (ties_json interface ties)
+    (names_json interface s.undecided) (statements_json seen.went_on.items)
 
 -- where a module stands again
 abbrev pub back_json : State → Data

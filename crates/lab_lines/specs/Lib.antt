@@ -3,8 +3,10 @@ pub mod Comparing
 pub mod Exploring
 pub mod Inside
 pub mod Offers
+pub mod Parts
 pub mod Requests
 pub mod Statements
 pub mod Tables
 pub mod Tests
+pub mod Ties
 pub mod Told

@@ -1,9 +1,13 @@
 -- Which signals somebody may offer, by their names (this project's own form).
-use Rattle.std.specs.Prelude.{◌≡◌, ℕ, Bool, false, nat_eq, List, Option, Some, None}
-use Rattle.std.specs.List.{list_any, position}
+use Rattle.std.specs.Prelude.{◌≡◌, ℕ, Bool, true, false, nat_eq, List, ◌∷◌, ◌++◌, Option, Some, None}
+use Rattle.std.specs.List.{All, list_any, position}
 use Rattle.est_kernel.specs.Bits.{bits}
-use Rattle.est_kernel.specs.Interfaces.{is_named}
+use Rattle.est_kernel.specs.Interfaces.{is_named, offerable}
 use Rattle.est_kernel.specs.declared.interface.Declaration.{Declaration}
+use Rattle.est_relations.specs.Offers.{IsOutputName, IsSignalName}
+use Rattle.est_relations.specs.declared.refusal.Refusal.{Refusal as OfferFault}
+use Rattle.est_relations.specs.declared.refusal.Refusal.TheVariants.{UnknownSignal, NotInput}
+use Rattle.est_text.specs.Identifiers.{is_identifier}
 
 -- whether this is that place
 abbrev pub is_place : Option ℕ → ℕ → Bool
@@ -14,6 +18,28 @@ is_place None n = false
 abbrev pub has_name : List Declaration → ℕ → List ℕ → Bool
 has_name interface n name = is_place (position (is_named name) interface) n
 
--- the signals of these names and no others
-abbrev pub AreNamed : List Declaration → (names : List (List ℕ)) → (signals : ℕ) → Type 0
-AreNamed interface names signals = (n : ℕ) → bits signals n ≡ list_any (has_name interface n) names
+-- a signal of this name may be offered
+pub record MayOffer (interface : List Declaration) (name : List ℕ) : Type 0 where
+  pub place : ℕ
+  pub there : position (is_named name) interface ≡ Some place
+  pub input : offerable interface place ≡ true
+
+-- each is the name of a signal that may be offered, and these are the signals of these names and no others
+pub record AreNamed (interface : List Declaration) (names : List (List ℕ)) (signals : ℕ) : Type 0 where
+  pub offered : All (MayOffer interface) names
+  pub only : (n : ℕ) → bits signals n ≡ list_any (has_name interface n) names
+
+-- why no signal of this name may be offered: it is no identifier, or no signal has it, or an output has
+pub data IsNoOffer (interface : List Declaration) (name : List ℕ) (fault : OfferFault) : Type 0 where
+  no_identifier : is_identifier name ≡ false → fault ≡ UnknownSignal → IsNoOffer interface name fault
+  unknown : (IsSignalName interface name → ⊥) → fault ≡ UnknownSignal → IsNoOffer interface name fault
+  output : IsOutputName interface name → fault ≡ NotInput → IsNoOffer interface name fault
+
+-- the first of the names that is none of a signal that may be offered, and why
+pub record AreNotNamed (interface : List Declaration) (names : List (List ℕ)) (fault : OfferFault) : Type 0 where
+  pub earlier : List (List ℕ)
+  pub name : List ℕ
+  pub later : List (List ℕ)
+  pub cut : names ≡ earlier ++ name ∷ later
+  pub offered : All (MayOffer interface) earlier
+  pub why : IsNoOffer interface name fault

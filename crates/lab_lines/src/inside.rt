@@ -1,107 +1,173 @@
-//! An instant from inside, as JSON.
+//! An instant from inside, as the line that tells it.
 
-ghost use Rattle.std.specs.Prelude.{◌≡◌, IfOk, map};
-ghost use Rattle.serde_json.specs.View.{view};
-ghost use Rattle.lab_lines.specs.Inside.{back_json, incarnation_json, inside_json, local_json};
-ghost use Rattle.lab_lines.specs.Inside.{locals_json, statements_json, status_json};
+ghost use Rattle.std.specs.Prelude.{◌≡◌, ◌++◌, ◌∷◌, [], codes, IfOk, OnOk};
+ghost use Rattle.serde_json.specs.Data.{number, string, unsigned};
+ghost use Rattle.serde_json.specs.Written.{compact_text};
+ghost use Rattle.lab_instant.specs.declared.seen.Instant.TheVariants as told;
+ghost use Rattle.wire_lines.specs.Inner.ReplyTokens.{item_tokens, member_tokens, value_tokens};
+ghost use Rattle.lab_lines.specs.Inside.{back_json, inside_json, local_json, locals_json};
+ghost use Rattle.lab_lines.specs.Inside.{statements_json, status_json};
+ghost use Rattle.lab_lines.specs.Parts.{members_in};
+ghost use Rattle.lab_lines.specs.Ties.{incarnation_json};
 
-use crate::tables::state;
-use crate::told::names;
+use crate::line::Line;
+use crate::parts::{names, state};
+use crate::ties::{incarnation, incarnation_under, ties};
 use est_kernel::interface::Interface;
-use est_kernel::state::State;
+use est_kernel::state::{Outcome, State, Stuck};
 use est_meaning::status::Status;
 use lab_instant::seen::{Incarnation, Instant, Local, Seen};
-use serde_json::{Value, json};
+use lab_ties::tie::Tie;
 use std::alloc::{AllocError, Global};
 
-/// A statement in one of its incarnations.
-fn incarnation(alloc: Global, at: Incarnation) -> Result<Value, AllocError>
-    ensures { IfOk result (λ v. view v ≡ incarnation_json at) }
+/// Writes whether it is present.
+fn status(line: &mut Line, status: Status) -> Result<(), AllocError>
+    ensures { OnOk result (line.new
+        ≡ line.old ++ value_tokens (codes "present") (status_json status)) }
 {
-    json!(in alloc; [at.statement, at.number])
-}
-
-/// Whether it is present.
-fn status(status: Status) -> Value
-    ensures { view result ≡ status_json status }
-{
+    line.key("present")?;
     match status {
-        Status::Present => Value::Bool(true),
-        Status::Absent => Value::Bool(false),
-        Status::Unknown => Value::Null,
+        Status::Present => line.boolean(true),
+        Status::Absent => line.boolean(false),
+        Status::Unknown => line.null(),
     }
 }
 
-/// A local signal.
-fn local(alloc: Global, local: Local) -> Result<Value, AllocError>
-    ensures { IfOk result (λ v. view v ≡ local_json local) }
+/// Writes what is said of a local signal.
+fn members(line: &mut Line, local: Local) -> Result<(), AllocError>
+    ensures { OnOk result (line.new ≡ line.old ++ member_tokens (members_in (local_json local))) }
 {
-    json!(in alloc; {"at": incarnation(alloc, local.declared)?, "present": status(local.status)})
+    incarnation_under(line, "at", local.declared)?;
+    status(line, local.status)
 }
 
-/// Statements.
-fn statements(alloc: Global, seen: &[Incarnation]) -> Result<Value, AllocError>
-    ensures { IfOk result (λ v. view v ≡ statements_json seen.now) }
+/// Writes a local signal.
+fn local(line: &mut Line, local: Local) -> Result<(), AllocError>
+    ensures { OnOk result (line.new ≡ line.old ++ item_tokens local_json (local ∷ [])) }
 {
-    let mut values = Vec::new(alloc);
-    for at in seen {
-        values.push(incarnation(alloc, *at)?)?;
-    }
-    Ok(Value::from(values))
+    line.begin_object()?;
+    members(line, local)?;
+    line.end_object()
 }
 
-/// Local signals.
-fn locals(alloc: Global, seen: &[Local]) -> Result<Value, AllocError>
-    ensures { IfOk result (λ v. view v ≡ locals_json seen.now) }
+/// Writes local signals as items of a list.
+fn each_local(line: &mut Line, seen: &[Local]) -> Result<(), AllocError>
+    ensures { OnOk result (line.new ≡ line.old ++ item_tokens local_json seen.now) }
 {
-    let mut values = Vec::new(alloc);
     for each in seen {
-        values.push(local(alloc, *each)?)?;
+        local(line, *each)?;
     }
-    Ok(Value::from(values))
+    Ok(())
 }
 
-/// An instant from inside.
-pub fn inside(alloc: Global, interface: &Interface, instant: &Instant) -> Result<Value, AllocError>
-    ensures { IfOk result (λ v. view v ≡ inside_json interface.now instant.now) }
+/// Writes the list of local signals.
+fn locals(line: &mut Line, seen: &[Local]) -> Result<(), AllocError>
+    ensures { OnOk result (line.new
+        ≡ line.old ++ value_tokens (codes "locals") (locals_json seen.now)) }
+{
+    line.key("locals")?;
+    line.begin_array()?;
+    each_local(line, seen)?;
+    line.end_array()
+}
+
+/// Writes statements as items of a list.
+fn each_statement(line: &mut Line, seen: &[Incarnation]) -> Result<(), AllocError>
+    ensures { OnOk result (line.new ≡ line.old ++ item_tokens incarnation_json seen.now) }
+{
+    for at in seen {
+        incarnation(line, *at)?;
+    }
+    Ok(())
+}
+
+/// Writes a list of statements under this key.
+fn statements(line: &mut Line, name: &str, seen: &[Incarnation]) -> Result<(), AllocError>
+    ensures { OnOk result (line.new
+        ≡ line.old ++ value_tokens name.now (statements_json seen.now)) }
+{
+    line.key(name)?;
+    line.begin_array()?;
+    each_statement(line, seen)?;
+    line.end_array()
+}
+
+/// The line of an instant with a reaction.
+fn reaction_line(
+    alloc: Global,
+    interface: &Interface,
+    outcome: &Outcome,
+    seen: &Seen,
+) -> Result<Vec<u8>, AllocError>
+    ensures { IfOk result (λ line. line.items
+        ≡ compact_text (inside_json interface.now (told.Reaction outcome.now seen.now) [])
+        ++ 10 ∷ []) }
+{
+    let mut line = Line::begin(alloc)?;
+    statements(&mut line, "began", seen.began.as_slice())?;
+    locals(&mut line, seen.locals.as_slice())?;
+    state(alloc, &mut line, "next", &outcome.next)?;
+    line.text_under("ok", "instant")?;
+    names(&mut line, "outputs", interface, outcome.outputs)?;
+    statements(&mut line, "went", seen.went_on.as_slice())?;
+    line.end()
+}
+
+/// Writes the number and the name of what an instant is that is stuck.
+fn label(line: &mut Line) -> Result<(), AllocError>
+    ensures { OnOk result
+        (line.new ≡ line.old ++ (value_tokens (codes "code") (number (unsigned 50))
+        ++ value_tokens (codes "fault") (string (codes "Stuck")))) }
+{
+    line.key("code")?;
+    line.number(50)?;
+    line.text_under("fault", "Stuck")
+}
+
+/// The line of an instant that is stuck.
+fn stuck_line(
+    alloc: Global,
+    interface: &Interface,
+    stuck: &Stuck,
+    seen: &Seen,
+    stuck_ties: &[Tie],
+) -> Result<Vec<u8>, AllocError>
+    ensures { IfOk result (λ line. line.items
+        ≡ compact_text (inside_json interface.now (told.Stuck stuck.now seen.now)
+        stuck_ties.now) ++ 10 ∷ []) }
+{
+    let mut line = Line::begin(alloc)?;
+    statements(&mut line, "began", seen.began.as_slice())?;
+    label(&mut line)?;
+    locals(&mut line, seen.locals.as_slice())?;
+    ties(&mut line, interface, stuck_ties)?;
+    names(&mut line, "undecided", interface, stuck.undecided)?;
+    statements(&mut line, "went", seen.went_on.as_slice())?;
+    line.end()
+}
+
+/// The line of an instant from inside, with the ties of one that is stuck.
+pub fn inside(
+    alloc: Global,
+    interface: &Interface,
+    instant: &Instant,
+    stuck_ties: &[Tie],
+) -> Result<Vec<u8>, AllocError>
+    ensures { IfOk result (λ line. line.items
+        ≡ compact_text (inside_json interface.now instant.now stuck_ties.now) ++ 10 ∷ []) }
 {
     match instant {
-        Instant::Reaction { outcome, seen } => {
-            let Seen {
-                began,
-                went_on,
-                locals: signals,
-            } = seen;
-            json!(in alloc; {
-                "began": statements(alloc, began.as_slice())?,
-                "locals": locals(alloc, signals.as_slice())?,
-                "next": state(alloc, &outcome.next)?,
-                "ok": "instant",
-                "outputs": names(alloc, interface, outcome.outputs)?,
-                "went": statements(alloc, went_on.as_slice())?
-            })
-        }
-        Instant::Stuck { stuck, seen } => {
-            let Seen {
-                began,
-                went_on,
-                locals: signals,
-            } = seen;
-            json!(in alloc; {
-                "began": statements(alloc, began.as_slice())?,
-                "code": 50,
-                "fault": "Stuck",
-                "locals": locals(alloc, signals.as_slice())?,
-                "undecided": names(alloc, interface, stuck.undecided)?,
-                "went": statements(alloc, went_on.as_slice())?
-            })
-        }
+        Instant::Reaction { outcome, seen } => reaction_line(alloc, interface, outcome, seen),
+        Instant::Stuck { stuck, seen } => stuck_line(alloc, interface, stuck, seen, stuck_ties),
     }
 }
 
-/// Where a module stands again.
-pub fn back(alloc: Global, stands: &State) -> Result<Value, AllocError>
-    ensures { IfOk result (λ v. view v ≡ back_json stands.now) }
+/// The line of where a module stands again.
+pub fn back(alloc: Global, stands: &State) -> Result<Vec<u8>, AllocError>
+    ensures { IfOk result (λ line. line.items ≡ compact_text (back_json stands.now) ++ 10 ∷ []) }
 {
-    json!(in alloc; {"next": state(alloc, stands)?, "ok": "back"})
+    let mut line = Line::begin(alloc)?;
+    state(alloc, &mut line, "next", stands)?;
+    line.text_under("ok", "back")?;
+    line.end()
 }

@@ -1,8 +1,8 @@
 //! Which signals somebody may offer.
 
-ghost use Rattle.std.specs.Prelude.{◌≡◌, ℕ, IfOk, map};
+ghost use Rattle.std.specs.Prelude.{◌≡◌, ℕ, IfErr, IfOk, map};
 ghost use Rattle.est_kernel.specs.Bits.{bits};
-ghost use Rattle.lab_lines.specs.Offers.{AreNamed, has_name};
+ghost use Rattle.lab_lines.specs.Offers.{AreNamed, AreNotNamed, IsNoOffer, MayOffer, has_name};
 
 use est_kernel::interface::Interface;
 use est_kernel::mask;
@@ -11,7 +11,9 @@ use est_text::identifier::Identifier;
 
 /// The signal of this name, alone in a mask, if it may be offered.
 fn offered(interface: &Interface, name: &str) -> Result<u64, OfferFault>
-    ensures { IfOk result (λ m. (n : ℕ) → bits m n ≡ has_name interface.now n name.now) }
+    ensures offered { IfOk result (λ m. MayOffer interface.now name.now) }
+    ensures only { IfOk result (λ m. (n : ℕ) → bits m n ≡ has_name interface.now n name.now) }
+    ensures fault { IfErr result (IsNoOffer interface.now name.now) }
 {
     let Some(name) = Identifier::from_text(name) else {
         return Err(OfferFault::UnknownSignal);
@@ -31,7 +33,8 @@ fn offered(interface: &Interface, name: &str) -> Result<u64, OfferFault>
 ///
 /// Where one of them is no signal, or may not be offered.
 pub fn among(interface: &Interface, names: &[&str]) -> Result<u64, OfferFault>
-    ensures { IfOk result (AreNamed interface.now (map (λ t. t.now) names.now)) }
+    ensures named { IfOk result (AreNamed interface.now (map (λ t. t.now) names.now)) }
+    ensures fault { IfErr result (AreNotNamed interface.now (map (λ t. t.now) names.now)) }
 {
     let mut signals = 0;
     for name in names {

@@ -6,9 +6,10 @@ ghost use Rattle.serde_json.specs.Data.{object, string, unsigned};
 ghost use Rattle.serde_json.specs.View.{items_of, view};
 ghost use Rattle.est_explore.specs.Views.{module_of};
 ghost use Rattle.est_kernel.specs.declared.state.State.TheVariants.{Paused};
-ghost use Rattle.lab_lines.specs.Tables.{IsTableTold, IsTooLarge, node_json, place_json, row_json};
-ghost use Rattle.lab_lines.specs.Tables.{state_json};
+ghost use Rattle.lab_lines.specs.Tables.{IsTableTold, IsTooLarge, node_json, number_json};
+ghost use Rattle.lab_lines.specs.Tables.{place_json, row_json, state_json};
 
+use crate::pauses::pause_numbers;
 use crate::told::names;
 use est_cover::asked::Asked;
 use est_cover::every::Every;
@@ -16,27 +17,31 @@ use est_explore::judge::explore;
 use est_explore::one_module::{Answer, OneModule, Position};
 use est_explore::table::is_closed;
 use est_kernel::interface::Interface;
-use est_kernel::limits::MOST_STATEMENTS;
 use est_kernel::pause_set::PauseSet;
 use est_kernel::state::State;
-use est_kernel::statement::PauseIndex;
 use est_rounds::part_engine::PartEngine;
 use serde_json::{Value, json};
 use state_search::found::{Found, Node, Row};
 use state_search::search::Limits;
 use std::alloc::{AllocError, Global};
 
+/// Numbers.
+fn number_values(alloc: Global, numbers: &[u16]) -> Result<Value, AllocError>
+    ensures { IfOk result (λ v. view v ≡ array (items_of (map number_json numbers.now))) }
+{
+    let mut values = Vec::new(alloc);
+    for number in numbers {
+        values.push(Value::from(*number))?;
+    }
+    Ok(Value::from(values))
+}
+
 /// The numbers of the pauses.
 fn pauses(alloc: Global, paused: &PauseSet) -> Result<Value, AllocError>
     ensures { IfOk result (λ v. view v ≡ state_json (Paused paused.now)) }
 {
-    let mut numbers = Vec::new(alloc);
-    for index in 0..MOST_STATEMENTS {
-        if paused.has(PauseIndex { index }) {
-            numbers.push(Value::from(index))?;
-        }
-    }
-    Ok(Value::from(numbers))
+    let numbers = pause_numbers(alloc, paused)?;
+    number_values(alloc, numbers.as_slice())
 }
 
 /// Where a module stands.

@@ -18,7 +18,6 @@ use Rattle.lab_instant.specs.declared.seen.Instant.{Instant}
 use Rattle.lab_instant.specs.declared.seen.Instant.TheVariants.{Reaction, Stuck}
 use Rattle.lab_instant.specs.declared.instant.Inside.{Inside}
 use Rattle.reactor_core.specs.declared.loaded.Module.{Module}
-use Rattle.serde_json.specs.Data.{Data}
 use Rattle.lab_run.specs.Walking.{AreLoaded, AreOffered, IsInstantOf, NameAnswer, Standing, states_after}
 
 -- a text that is given as an identifier is that
@@ -60,12 +59,13 @@ some_after states (Stuck s seen) some = some
 
 -- what is loaded after an instant
 pub loaded_after : (before : Standing) (m : Module) (inside : Inside) (states new : List State) (signals : ℕ)
-    (instant : Instant) (d : Data) → before ≡ record { loaded = m; states = states }
-    → IsInstantOf before signals instant d → AreLoaded m inside states → new ≡ states_after states instant
+    (instant : Instant) (line : List ℕ) → before ≡ record { loaded = m; states = states }
+    → IsInstantOf before signals instant line → AreLoaded m inside states → new ≡ states_after states instant
     → AreLoaded m inside new
-loaded_after before m inside states new signals instant d same told are grown =
+loaded_after before m inside states new signals instant line same told are grown =
     let there : Standing = record { loaded = m; states = states } in
-    let t : IsInstantOf there signals instant d = subst (λ (z : Standing). IsInstantOf z signals instant d) same told in
+    let t : IsInstantOf there signals instant line = subst
+    (λ (z : Standing). IsInstantOf z signals instant line) same told in
     rw grown
     (record {
       engine = are.engine;

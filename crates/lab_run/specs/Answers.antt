@@ -21,7 +21,7 @@ use Rattle.wire_lines.specs.Replies.{line_of}
 use Rattle.wire_lines.specs.Requests.{IsValue}
 use Rattle.lab_lines.specs.Comparing.{IsComparison}
 use Rattle.lab_lines.specs.Exploring.{IsExploration}
-use Rattle.lab_lines.specs.Offers.{AreNamed}
+use Rattle.lab_lines.specs.Offers.{AreNamed, AreNotNamed}
 use Rattle.lab_lines.specs.Statements.{IsKernelTold}
 use Rattle.lab_lines.specs.Tables.{IsTableTold, IsTooLarge}
 use Rattle.lab_lines.specs.Told.{names_json}
@@ -33,7 +33,7 @@ use Rattle.lab_claims.specs.Claims.{AreClaimTexts}
 use Rattle.lab_claims.specs.Refused.{IsFirstBad}
 use Rattle.lab_claims.specs.declared.claims.BadClaim.{BadClaim}
 use Rattle.lab_run.specs.declared.lab.Told.{Told}
-use Rattle.lab_run.specs.declared.lab.Told.TheVariants.{Refused, Says}
+use Rattle.lab_run.specs.declared.lab.Told.TheVariants.{Refused, Says, Written}
 use Rattle.lab_run.specs.Walking.{Standing, at_start, GoesBackIf, MakesIf, TriesIf}
 
 -- ---- what is loaded
@@ -65,13 +65,19 @@ pub record IsLoaded (main text : List ℕ) (d : Data) (after : Option Standing) 
 abbrev pub Loads : (main text : List ℕ) → (before : Option Standing) → Told → (after : Option Standing) → Type 0
 Loads main text before (Refused given) after = IsNotLoaded main text given × (after ≡ before)
 Loads main text before (Says v) after = IsLoaded main text (view v) after
+Loads main text before (Written line) after = ⊥
 
 -- ---- what is asked of it
 
--- one of the names of inputs is not that of a signal that may be offered
-pub record IsNotOffered (given : Refusal) : Type 0 where
+-- why inputs of these names are refused: the server's refusal of the first that may not be offered
+pub record IsNotOffered (interface : List Declaration) (names : List (List ℕ)) (given : Refusal) : Type 0 where
   pub fault : OfferFault
   pub told : given ≡ refusal.Module (of_module.Pending fault)
+  pub first : AreNotNamed interface names fault
+
+-- the same of what is looked at
+abbrev pub IsNoScope : Module → Scope → (given : Refusal) → Type 0
+IsNoScope m scope given = IsNotOffered m.kernel.interface (map (λ t. t.now) scope.inputs.items) given
 
 -- what is told of a claim that can't be read: its number, and the server's refusal
 pub record IsBadClaimTold (bad : BadClaim) (d : Data) : Type 0 where
@@ -107,8 +113,9 @@ pub record IsExplorationOf (m : Module) (claims : List (List ℕ)) (scope : Scop
 
 -- what is answered to claims of the module
 abbrev pub TellsOfClaims : Module → (claims : List (List ℕ)) → Scope → Told → Type 0
-TellsOfClaims m claims scope (Refused given) = IsNotOffered given
+TellsOfClaims m claims scope (Refused given) = IsNoScope m scope given
 TellsOfClaims m claims scope (Says v) = IsExplorationOf m claims scope (view v)
+TellsOfClaims m claims scope (Written line) = ⊥
 
 -- the two have one interface, and it is told whether they do the same
 pub record IsComparisonAmong (m other : Module) (among states steps : ℕ) (d : Data) : Type 0 where
@@ -136,8 +143,9 @@ pub record IsComparisonOf (m : Module) (main text : List ℕ) (scope : Scope) (d
 
 -- what is answered to the question whether the module and that of a text do the same
 abbrev pub TellsOfBoth : Module → (main text : List ℕ) → Scope → Told → Type 0
-TellsOfBoth m main text scope (Refused given) = IsNotOffered given ⊎ IsNotLoaded main text given
+TellsOfBoth m main text scope (Refused given) = IsNoScope m scope given ⊎ IsNotLoaded main text given
 TellsOfBoth m main text scope (Says v) = IsComparisonOf m main text scope (view v)
+TellsOfBoth m main text scope (Written line) = ⊥
 
 -- the table of the module in which only those inputs are offered, or that it is too large
 pub record IsTableOf (m : Module) (scope : Scope) (d : Data) : Type 0 where
@@ -148,8 +156,9 @@ pub record IsTableOf (m : Module) (scope : Scope) (d : Data) : Type 0 where
 
 -- what is answered to the question for the table
 abbrev pub TellsOfTable : Module → Scope → Told → Type 0
-TellsOfTable m scope (Refused given) = IsNotOffered given
+TellsOfTable m scope (Refused given) = IsNoScope m scope given
 TellsOfTable m scope (Says v) = IsTableOf m scope (view v)
+TellsOfTable m scope (Written line) = ⊥
 
 -- ---- what a request does
 
@@ -157,6 +166,7 @@ TellsOfTable m scope (Says v) = IsTableOf m scope (view v)
 abbrev pub TellsOfKernel : Module → Told → Type 0
 TellsOfKernel m (Refused given) = ⊥
 TellsOfKernel m (Says v) = IsKernelTold m.kernel (view v)
+TellsOfKernel m (Written line) = ⊥
 
 -- what is answered of the module that is loaded
 abbrev pub Answers : Module → Request → Told → Type 0

@@ -9,12 +9,12 @@ use Rattle.access_core.specs.declared.refusal.Refusal.TheVariants as refusal
 use Rattle.access_core.specs.declared.reply.Reply.TheVariants as reply
 use Rattle.wire_lines.specs.Replies.{line_of}
 use Rattle.wire_lines.specs.Requests.{IsValue}
-use Rattle.lab_lines.specs.Requests.{Says as SaysRequest}
+use Rattle.lab_lines.specs.Requests.{Says as SaysRequest, SaysNothing}
 use Rattle.lab_lines.specs.declared.request.Request.{Request}
 use Rattle.lab_run.specs.Answers.{Obeys}
 use Rattle.lab_run.specs.Walking.{Standing}
 use Rattle.lab_run.specs.declared.lab.Told.{Told}
-use Rattle.lab_run.specs.declared.lab.Told.TheVariants.{Refused, Says}
+use Rattle.lab_run.specs.declared.lab.Told.TheVariants.{Refused, Says, Written}
 
 -- the line of a value: its members and items, each once and in order, and the LF
 pub record IsLineOf (d : Data) (text : List ℕ) : Type 0 where
@@ -26,6 +26,7 @@ pub record IsLineOf (d : Data) (text : List ℕ) : Type 0 where
 abbrev pub IsTextOf : Told → (text : List ℕ) → Type 0
 IsTextOf (Refused given) text = text ≡ line_of (reply.Refused given)
 IsTextOf (Says v) text = IsLineOf (view v) text
+IsTextOf (Written line) text = text ≡ line.items
 
 -- the line is no JSON value
 abbrev pub HasNoValue : (line : List ℕ) → Type 0
@@ -48,10 +49,15 @@ pub record IsDone (before : Option Standing) (value : Data) (told : Told) (after
 abbrev pub IsLeft : (before : Option Standing) → (given : Refusal) → Told → (after : Option Standing) → Type 0
 IsLeft before given told after = (told ≡ Refused given) × (after ≡ before)
 
--- what a value is told: what it asks for is done, or it is refused as no request
+-- the value asks for nothing, and is refused as no request
+pub record IsNoRequest (before : Option Standing) (value : Data) (told : Told) (after : Option Standing) : Type 0 where
+  pub right : SaysNothing value
+  pub left : IsLeft before refusal.NotARequest told after
+
+-- what a value is told: what it asks for is done, or it asks for nothing
 abbrev pub IsValueTold : (before : Option Standing) → (value : Data) → Told → (after : Option Standing) → Type 0
 IsValueTold before value told after =
-    IsDone before value told after ⊎ IsLeft before refusal.NotARequest told after
+    IsDone before value told after ⊎ IsNoRequest before value told after
 
 -- the line has a value, and what that is told
 pub record IsToldOfValue (before : Option Standing) (line : List ℕ) (told : Told)

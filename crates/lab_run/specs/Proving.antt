@@ -11,7 +11,7 @@ use Rattle.access_core.specs.declared.refusal.Refusal.{Refusal}
 use Rattle.lab_lines.specs.Offers.{AreNamed}
 use Rattle.lab_run.specs.Answers.{IsNotLoaded, IsNotOffered, TellsAmong}
 use Rattle.lab_run.specs.declared.lab.Told.{Told}
-use Rattle.lab_run.specs.declared.lab.Told.TheVariants.{Refused, Says}
+use Rattle.lab_run.specs.declared.lab.Told.TheVariants.{Refused, Says, Written}
 use Rattle.lab_run.specs.declared.order.Proof.{Proof}
 
 -- these signals may be offered: all that the interface lets be, where all may be, or those of these names
@@ -25,9 +25,10 @@ IsAmong interface names among = IsAmongIf (length names == 0) interface names am
 
 -- what is told of the claims of the order on the module
 abbrev pub TellsOfModule : Module → Proof → Told → Type 0
-TellsOfModule m p (Refused given) = IsNotOffered given
+TellsOfModule m p (Refused given) = IsNotOffered m.kernel.interface (map (λ t. t.now) p.inputs.items) given
 TellsOfModule m p (Says v) = (among : ℕ) × IsAmong m.kernel.interface (map (λ t. t.now) p.inputs.items) among
     × TellsAmong m (map string_bytes p.claims.items) among p.most p.most (view v)
+TellsOfModule m p (Written line) = ⊥
 
 -- the text gives this module, and what is told of it
 pub record IsOfModule (p : Proof) (text : List ℕ) (told : Told) : Type 0 where

@@ -7,7 +7,7 @@ use Rattle.serde_json.specs.Find.{get}
 use Rattle.serde_json.specs.View.{view}
 use Rattle.access_core.specs.declared.refusal.Refusal.TheVariants as refusal
 use Rattle.lab_run.specs.declared.lab.Told.{Told}
-use Rattle.lab_run.specs.declared.lab.Told.TheVariants.{Refused, Says}
+use Rattle.lab_run.specs.declared.lab.Told.TheVariants.{Refused, Says, Written}
 
 -- the value is this text
 abbrev pub is_text : (word : List ℕ) → Data → Bool
@@ -59,3 +59,4 @@ abbrev pub status_of : Told → ℕ
 status_of (Refused refusal.Memory) = 3
 status_of (Refused _) = 2
 status_of (Says v) = status_in (view v)
+status_of (Written line) = 2

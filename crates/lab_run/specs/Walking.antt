@@ -2,8 +2,7 @@
 use Rattle.std.specs.Prelude.{◌≡◌, ◌≤◌, ◌<◌, ◌⊎◌, ◌+◌, ◌-◌, ◌++◌, ◌∷◌, [], ℕ, List, Option, Some, None, Result, Ok, Err}
 use Rattle.std.specs.Prelude.{false, length, slice_get, take}
 use Rattle.std.specs.List.{Contains}
-use Rattle.serde_json.specs.Data.{Data}
-use Rattle.serde_json.specs.View.{view}
+use Rattle.serde_json.specs.Written.{compact_text}
 use Rattle.est_text.specs.Identifiers.{is_identifier}
 use Rattle.est_kernel.specs.declared.state.State.{State}
 use Rattle.est_kernel.specs.declared.state.State.TheVariants.{Fresh}
@@ -20,9 +19,10 @@ use Rattle.lab_instant.specs.Instants.{IsFor, IsInstant}
 use Rattle.lab_instant.specs.declared.instant.Inside.{Inside}
 use Rattle.lab_instant.specs.declared.seen.Instant.{Instant}
 use Rattle.lab_instant.specs.declared.seen.Instant.TheVariants.{Reaction, Stuck}
+use Rattle.lab_ties.specs.Stuck.{instant_ties}
 use Rattle.lab_lines.specs.Inside.{back_json, inside_json}
 use Rattle.lab_run.specs.declared.lab.Told.{Told}
-use Rattle.lab_run.specs.declared.lab.Told.TheVariants.{Refused, Says}
+use Rattle.lab_run.specs.declared.lab.Told.TheVariants.{Refused, Says, Written}
 
 -- what is loaded: a module, and where it stood at the start and after each instant, of which the last is where it
 -- stands
@@ -82,23 +82,27 @@ pub record MayNotTake (m : Module) (names : List (List ℕ)) (given : Refusal) :
 
 -- ---- an instant
 
--- the instant of the module in this state with these inputs is told as it is seen from inside
-pub record IsInstantAt (m : Module) (state : State) (inputs : ℕ) (instant : Instant) (d : Data) : Type 0 where
+-- the instant of the module in this state with these inputs is told as it is seen from inside; of one that is stuck
+-- what is tied to each signal that is not decided; the line is the text of that value, and the LF
+pub record IsInstantAt (m : Module) (state : State) (inputs : ℕ) (instant : Instant) (line : List ℕ)
+    : Type 0 where
   pub cells : List Status
   pub right : IsInstant m.kernel state (record { signals = inputs }) cells instant
-  pub said : d ≡ inside_json m.kernel.interface instant
+  pub said : line
+      ≡ compact_text (inside_json m.kernel.interface instant (instant_ties m.kernel cells instant)) ++ 10 ∷ []
 
 -- the same of the state where the module stands
-pub record IsInstantOf (s : Standing) (inputs : ℕ) (instant : Instant) (d : Data) : Type 0 where
+pub record IsInstantOf (s : Standing) (inputs : ℕ) (instant : Instant) (line : List ℕ) : Type 0 where
   pub state : State
   pub stands : StandsAt s.states state
-  pub is : IsInstantAt s.loaded state inputs instant d
+  pub is : IsInstantAt s.loaded state inputs instant line
 
 -- the same, with the inputs of these names
-pub record IsInstantTold (s : Standing) (names : List (List ℕ)) (instant : Instant) (d : Data) : Type 0 where
+pub record IsInstantTold (s : Standing) (names : List (List ℕ)) (instant : Instant) (line : List ℕ)
+    : Type 0 where
   pub inputs : ℕ
   pub taken : MayTake s.loaded names inputs
-  pub is : IsInstantOf s inputs instant d
+  pub is : IsInstantOf s inputs instant line
 
 -- where the module stands after the instant: at its next state, or if it is stuck where it stood
 abbrev pub states_after : List State → Instant → List State
@@ -108,29 +112,32 @@ states_after states (Stuck undecided seen) = states
 -- the instant is made
 abbrev pub Makes : (before : Standing) → (names : List (List ℕ)) → Told → (after : Standing) → Type 0
 Makes before names (Refused given) after = MayNotTake before.loaded names given × (after ≡ before)
-Makes before names (Says v) after = (instant : Instant) × IsInstantTold before names instant (view v)
+Makes before names (Says v) after = ⊥
+Makes before names (Written line) after = (instant : Instant) × IsInstantTold before names instant line.items
     × (after ≡ standing_at before (states_after before.states instant))
 
 -- the instant is told, and the module stays where it stands
 abbrev pub Tries : (before : Standing) → (names : List (List ℕ)) → Told → (after : Standing) → Type 0
 Tries before names (Refused given) after = MayNotTake before.loaded names given × (after ≡ before)
-Tries before names (Says v) after =
-    ((instant : Instant) × IsInstantTold before names instant (view v)) × (after ≡ before)
+Tries before names (Says v) after = ⊥
+Tries before names (Written line) after =
+    ((instant : Instant) × IsInstantTold before names instant line.items) × (after ≡ before)
 
 -- ---- the way back
 
 -- the module stands where it stood after so many instants, and what came later is gone
-pub record IsBack (before : Standing) (to : ℕ) (d : Data) (after : Standing) : Type 0 where
+pub record IsBack (before : Standing) (to : ℕ) (line : List ℕ) (after : Standing) : Type 0 where
   pub state : State
   pub there : slice_get before.states to ≡ Some state
   pub is : after ≡ standing_at before (take (to + 1) before.states)
-  pub said : d ≡ back_json state
+  pub said : line ≡ compact_text (back_json state) ++ 10 ∷ []
 
 -- the same, or there were not so many
 abbrev pub GoesBack : (before : Standing) → (to : ℕ) → Told → (after : Standing) → Type 0
 GoesBack before to (Refused given) after =
     (given ≡ refusal.Module of_module.NoInstant) × (length before.states ≤ to) × (after ≡ before)
-GoesBack before to (Says v) after = IsBack before to (view v) after
+GoesBack before to (Says v) after = ⊥
+GoesBack before to (Written line) after = IsBack before to line.items after
 
 -- ---- where nothing may be loaded
 

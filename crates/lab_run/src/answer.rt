@@ -72,6 +72,7 @@ pub fn line_of(alloc: Global, told: Told) -> Result<Text, AllocError>
     match told {
         Told::Refused(refusal) => reply_text(alloc, &Reply::Refused(refusal)),
         Told::Says(value) => Ok(CowSlice::Owned(value_line(alloc, &value)?)),
+        Told::Written(line) => Ok(CowSlice::Owned(line)),
     }
 }
 

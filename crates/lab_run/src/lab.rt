@@ -11,13 +11,13 @@ ghost use Rattle.lab_lines.specs.Tables.{IsTableTold, IsTooLarge};
 ghost use Rattle.lab_lines.specs.Tests.{test_of};
 ghost use Rattle.lab_run.specs.Walking.{GoesBackIf, MakesIf, TriesIf};
 ghost use Rattle.lab_run.specs.Answers.{Answers, AnswersIf, IsBadClaimTold, IsLoadedTold};
-ghost use Rattle.lab_run.specs.Answers.{IsNotOffered, IsOtherInterface, Loads, Obeys};
+ghost use Rattle.lab_run.specs.Answers.{IsOtherInterface, Loads, Obeys};
 ghost use Rattle.lab_run.specs.Answers.{TellsAmong, TellsOfBoth, TellsOfClaims, TellsOfTable};
 ghost use Rattle.lab_run.specs.Answers.{TellsOfTwo};
 ghost use Rattle.wire_lines.specs.Replies.{line_of};
 ghost use Rattle.wire_lines.specs.Requests.{IsValue};
 
-use crate::loaded::Loaded;
+use crate::loaded::{Loaded, refusal_of};
 use access_core::refusal::Refusal;
 use access_core::reply::Reply;
 use est_cover::every::Every;
@@ -25,7 +25,6 @@ use est_explore::one_module::OneModule;
 use est_explore::two_modules::{Engines, TwoModules};
 use est_micro::micro::Micro;
 use est_net::net::Net;
-use est_relations::refusal::Refusal as OfferFault;
 use lab_claims::claims::{BadClaim, read_claims};
 use lab_lines::asked_test::AskedTest;
 use lab_lines::comparing::{are_same, compare_modules};
@@ -37,7 +36,6 @@ use lab_lines::tables::find_table;
 use lab_lines::told::names;
 use reactor_core::loaded::Module;
 use reactor_core::reading::read_module;
-use reactor_core::refusal::{ModuleRefusal, Refusal as LoadRefusal};
 use serde_json::{Value, json};
 use state_search::search::Limits;
 use std::alloc::{AllocError, Global};
@@ -51,6 +49,8 @@ pub enum Told {
     Refused(Refusal),
     /// A value, which is the line.
     Says(Value),
+    /// The line itself, with its LF.
+    Written(Vec<u8>),
 }
 
 /// What is loaded.
@@ -87,13 +87,6 @@ pub fn limits(most: u64) -> Limits
         states: most,
         steps: most,
     }
-}
-
-/// That a name is none of a signal that may be offered.
-pub fn not_offered(fault: OfferFault) -> Refusal
-    ensures { IsNotOffered result }
-{
-    Refusal::Module(ModuleRefusal::Pending(fault))
 }
 
 /// The line of a refusal, as a value.
@@ -166,7 +159,7 @@ fn explore_claims(
 {
     let among = match among(loaded.kernel.interface(), scope.inputs.as_slice()) {
         Ok(among) => among,
-        Err(fault) => return Ok(Told::Refused(not_offered(fault))),
+        Err(fault) => return Ok(Told::Refused(refusal_of(fault))),
     };
     let value = explore_among(alloc, loaded, claims, among, limits(scope.most))?;
     Ok(Told::Says(value))
@@ -239,7 +232,7 @@ fn compare_text(
 {
     let among = match among(loaded.kernel.interface(), scope.inputs.as_slice()) {
         Ok(among) => among,
-        Err(fault) => return Ok(Told::Refused(not_offered(fault))),
+        Err(fault) => return Ok(Told::Refused(refusal_of(fault))),
     };
     let other = match read_module(alloc, main, text) {
         Ok(other) => other,
@@ -278,7 +271,7 @@ fn table_of(alloc: Global, loaded: &Module, scope: &Scope<'_>) -> Result<Told, A
 {
     let among = match among(loaded.kernel.interface(), scope.inputs.as_slice()) {
         Ok(among) => among,
-        Err(fault) => return Ok(Told::Refused(not_offered(fault))),
+        Err(fault) => return Ok(Told::Refused(refusal_of(fault))),
     };
     let value = table_among(alloc, loaded, among, limits(scope.most))?;
     Ok(Told::Says(value))

@@ -3,7 +3,6 @@
 ghost use Rattle.std.specs.Prelude.{◌≡◌, ◌<◌, Some, Err, length, MatchResult, IfOk, IfErr, map};
 ghost use Rattle.std.specs.Prelude.{slice_get};
 ghost use Rattle.std.specs.List.{Contains};
-ghost use Rattle.serde_json.specs.View.{view};
 ghost use Rattle.est_meaning.specs.States.{IsState};
 ghost use Rattle.reactor_core.specs.declared.refusal.ModuleRefusal.TheVariants as of_module;
 ghost use Rattle.access_core.specs.declared.refusal.Refusal.TheVariants as refusal;
@@ -20,10 +19,10 @@ use est_relations::refusal::Refusal as OfferFault;
 use est_text::identifier::Identifier;
 use lab_instant::instant::Inside;
 use lab_instant::seen::Instant;
-use lab_lines::inside::{back, inside as inside_told};
+use lab_lines::inside::{back, inside as inside_line};
+use lab_ties::stuck::ties_after;
 use reactor_core::loaded::Module;
 use reactor_core::refusal::ModuleRefusal;
-use serde_json::Value;
 use std::alloc::{AllocError, Global};
 use std::marker::Model;
 
@@ -50,8 +49,8 @@ impl Model for Loaded {
     ghost invariant = { λ l. AreLoaded l.loaded l.inside l.states.items };
 }
 
-/// Why no instant may take the inputs.
-fn refusal_of(fault: OfferFault) -> Refusal
+/// Why inputs may not be offered.
+pub fn refusal_of(fault: OfferFault) -> Refusal
     ensures { result ≡ refusal.Module (of_module.Pending fault) }
 {
     Refusal::Module(ModuleRefusal::Pending(fault))
@@ -97,24 +96,26 @@ fn last_of(states: &[State]) -> State
     states[states.len() - 1]
 }
 
-/// The instant of a module in a state with these inputs, and how it is told.
+/// The instant of a module in a state with these inputs, and the line that tells it.
 fn look_inside(
     alloc: Global,
     inside: &mut Inside,
     loaded: &Module,
     state: &State,
     signals: u64,
-) -> Result<(Instant, Value), AllocError>
+) -> Result<(Instant, Vec<u8>), AllocError>
     requires is_for { IsFor inside.old loaded.now.kernel }
     requires state { IsState loaded.now.kernel.root state.now }
     ensures is_for { IsFor inside.new loaded.now.kernel }
     ensures told { IfOk result (λ told. IsInstantAt loaded.now state.now signals told.0
-        (view told.1)) }
+        told.1.items) }
 {
     let inputs = Inputs { signals };
     let instant = inside.look(alloc, &loaded.kernel, state, &inputs)?;
-    let value = inside_told(alloc, loaded.kernel.interface(), &instant)?;
-    Ok((instant, value))
+    let ties = ties_after(alloc, inside, &loaded.kernel, &instant)?;
+    let interface = loaded.kernel.interface();
+    let line = inside_line(alloc, interface, &instant, ties.as_slice())?;
+    Ok((instant, line))
 }
 
 /// The states after an instant.
@@ -153,9 +154,9 @@ impl Loaded {
         &self.loaded
     }
 
-    /// Its next instant from inside, with these inputs, and how it is told.
-    fn look(&mut self, alloc: Global, signals: u64) -> Result<(Instant, Value), AllocError>
-        ensures told { IfOk result (λ told. IsInstantOf self.old signals told.0 (view told.1)) }
+    /// Its next instant from inside, with these inputs, and the line that tells it.
+    fn look(&mut self, alloc: Global, signals: u64) -> Result<(Instant, Vec<u8>), AllocError>
+        ensures told { IfOk result (λ told. IsInstantOf self.old signals told.0 told.1.items) }
         ensures kept { self.new ≡ self.old }
     {
         let state = last_of(self.states.as_slice());
@@ -172,9 +173,9 @@ impl Loaded {
             Ok(signals) => signals,
             Err(fault) => return Ok(Told::Refused(refusal_of(fault))),
         };
-        let (instant, value) = self.look(alloc, signals)?;
+        let (instant, line) = self.look(alloc, signals)?;
         advance(&mut self.states, &instant)?;
-        Ok(Told::Says(value))
+        Ok(Told::Written(line))
     }
 
     /// Tells the next instant, with the inputs of these names, and stays where it stands.
@@ -187,8 +188,8 @@ impl Loaded {
             Ok(signals) => signals,
             Err(fault) => return Ok(Told::Refused(refusal_of(fault))),
         };
-        let (_, value) = self.look(alloc, signals)?;
-        Ok(Told::Says(value))
+        let (_, line) = self.look(alloc, signals)?;
+        Ok(Told::Written(line))
     }
 
     /// Goes back to where it stood after so many instants.
@@ -200,8 +201,8 @@ impl Loaded {
             return Ok(Told::Refused(Refusal::Module(ModuleRefusal::NoInstant)));
         }
         let to = to as usize;
-        let value = back(alloc, &self.states[to])?;
+        let line = back(alloc, &self.states[to])?;
         self.states.truncate(to + 1);
-        Ok(Told::Says(value))
+        Ok(Told::Written(line))
     }
 }

@@ -1,13 +1,15 @@
 //! A run of the program, over any words and streams.
 
-ghost use Rattle.std.specs.Prelude.{◌≡◌, IfOk, OnOk, map, string_bytes};
+ghost use Rattle.std.specs.Prelude.{◌≡◌, IfErr, IfOk, OnOk, map, string_bytes};
 ghost use Rattle.std.specs.Io.KnownBytes.{Appends};
+ghost use Rattle.lab_lines.specs.Offers.{AreNotNamed};
 ghost use Rattle.lab_run.specs.Proving.{IsAmong, TellsOfModule, TellsOfText};
 ghost use Rattle.lab_run.specs.Runs.{Proves, ProvesText, Runs, ServesAll, TellsSo};
 ghost use Rattle.lab_run.specs.Runs.{status_of_end};
 
 use crate::answer::{Clerk, line_of};
-use crate::lab::{Lab, Told, explore_among, limits, not_offered};
+use crate::lab::{Lab, Told, explore_among, limits};
+use crate::loaded::refusal_of;
 use crate::order::{Order, Proof, WordFault};
 use crate::status::{FAILS, UNKNOWN, UNREAD, status_of};
 use access_core::refusal::Refusal;
@@ -74,7 +76,8 @@ fn texts_of<'a>(alloc: Global, claims: &'a [String]) -> Result<Vec<&'a str>, All
 /// The signals that somebody may offer: those of these names, or without names all that may be
 /// offered.
 fn offered_of(interface: &Interface, names: &[&str]) -> Result<u64, OfferFault>
-    ensures { IfOk result (IsAmong interface.now (map (λ t. t.now) names.now)) }
+    ensures among { IfOk result (IsAmong interface.now (map (λ t. t.now) names.now)) }
+    ensures fault { IfErr result (AreNotNamed interface.now (map (λ t. t.now) names.now)) }
 {
     if names.is_empty() {
         Ok(interface.offerable())
@@ -89,7 +92,7 @@ fn prove_module(alloc: Global, proof: &Proof<'_>, loaded: &Module) -> Result<Tol
 {
     let among = match offered_of(loaded.kernel.interface(), proof.inputs.as_slice()) {
         Ok(among) => among,
-        Err(fault) => return Ok(Told::Refused(not_offered(fault))),
+        Err(fault) => return Ok(Told::Refused(refusal_of(fault))),
     };
     let claims = texts_of(alloc, proof.claims.as_slice())?;
     let value = explore_among(alloc, loaded, claims.as_slice(), among, limits(proof.most))?;

@@ -127,5 +127,6 @@ pub fn status_of(told: &Told) -> u8
         Told::Refused(Refusal::Memory) => UNKNOWN,
         Told::Refused(_) => UNREAD,
         Told::Says(answer) => status_in(answer),
+        Told::Written(_) => UNREAD,
     }
 }

@@ -14,3 +14,5 @@ mod modules;
 mod searching;
 #[cfg(test)]
 mod texts;
+#[cfg(test)]
+mod ties;

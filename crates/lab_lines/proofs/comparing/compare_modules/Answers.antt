@@ -12,6 +12,7 @@ returns g c =
       found = c.in_ok-found.found;
       watched = bits c.args.subject.now.watched;
       explored = c.in_ok-found.ensures.explored;
+      ended = c.in_ok-found.ensures.ended;
       comparison = c.in_ok-comparison.comparison;
       right = c.in_ok-comparison.ensures _ _ c.in_ok-found.ensures.ended;
       said = rw (← reactions, ← states) (search rules);

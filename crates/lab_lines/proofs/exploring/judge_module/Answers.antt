@@ -13,6 +13,7 @@ returns g c =
       found = c.in_ok-found.found;
       watched = bits c.watched_by.result;
       explored = c.in_ok-found.ensures.explored;
+      ended = c.in_ok-found.ensures.ended;
       stuck = view c.in_ok-stuck.stuck;
       stuck_told = record {
         verdict = c.in_ok-given.given;

@@ -5,6 +5,6 @@ use Rattle.lab_run.proofs.loaded.Loaded.try_instant.Goals as goal
 pub returns-clause-done : goal.returns-clause-done
 returns-clause-done c =
     let taken : MayTake c.args.self.now.loaded (map (λ t. t.now) c.args.names.now) c.in-Ok.signals = search rules in (
-      (c.in_ok-value.field-0-0, record { inputs = c.in-Ok.signals; taken = taken; is = c.in_ok-value.ensures.told }),
+      (c.in_ok-line.field-0-0, record { inputs = c.in-Ok.signals; taken = taken; is = c.in_ok-line.ensures.told }),
       c.look.ensures.kept,
     )

@@ -1,0 +1,112 @@
+//! What is tied to the signals that are not decided, in a line that is being written.
+
+ghost use Rattle.std.specs.Prelude.{◌≡◌, ◌++◌, ◌∷◌, [], codes, OnOk};
+ghost use Rattle.wire_lines.specs.Inner.ReplyTokens.{item_tokens, member_tokens, value_tokens};
+ghost use Rattle.lab_ties.specs.declared.tie.OpenSignal.TheVariants as open_signal;
+ghost use Rattle.lab_lines.specs.Parts.{members_in};
+ghost use Rattle.lab_lines.specs.Ties.{incarnation_json, kind_text, signal_json, tie_json};
+ghost use Rattle.lab_lines.specs.Ties.{ties_json};
+
+use crate::line::Line;
+use est_kernel::interface::Interface;
+use lab_instant::seen::Incarnation;
+use lab_ties::tie::{OpenSignal, Tie, TieKind};
+use std::alloc::AllocError;
+
+/// Writes a statement in one of its incarnations.
+pub(crate) fn incarnation(line: &mut Line, at: Incarnation) -> Result<(), AllocError>
+    ensures { OnOk result (line.new ≡ line.old ++ item_tokens incarnation_json (at ∷ [])) }
+{
+    line.begin_array()?;
+    line.number(at.statement)?;
+    line.number(at.number)?;
+    line.end_array()
+}
+
+/// Writes a statement in one of its incarnations under this key.
+pub(crate) fn incarnation_under(
+    line: &mut Line,
+    name: &str,
+    at: Incarnation,
+) -> Result<(), AllocError>
+    ensures { OnOk result (line.new ≡ line.old ++ value_tokens name.now (incarnation_json at)) }
+{
+    line.key(name)?;
+    incarnation(line, at)
+}
+
+/// What a statement has to do with a signal.
+fn kind(kind: TieKind) -> &'static str
+    ensures { result.now ≡ kind_text kind }
+{
+    match kind {
+        TieKind::Waits => "waits",
+        TieKind::MayEmit => "emits",
+    }
+}
+
+/// Writes a signal of the interface: its name.
+fn name_of(line: &mut Line, interface: &Interface, place: usize) -> Result<(), AllocError>
+    ensures { OnOk result (line.new ≡ line.old
+        ++ value_tokens (codes "signal") (signal_json interface.now
+        (open_signal.Interface place))) }
+{
+    line.key("signal")?;
+    match interface.declarations().get(place) {
+        Some(declaration) => line.text(declaration.name.as_str()),
+        None => line.null(),
+    }
+}
+
+/// Writes a signal: the name of one of the interface, or the statement that declares a local one.
+fn signal(line: &mut Line, interface: &Interface, signal: OpenSignal) -> Result<(), AllocError>
+    ensures { OnOk result (line.new ≡ line.old
+        ++ value_tokens (codes "signal") (signal_json interface.now signal)) }
+{
+    match signal {
+        OpenSignal::Interface(place) => name_of(line, interface, place),
+        OpenSignal::Local(declared) => incarnation_under(line, "signal", declared),
+    }
+}
+
+/// Writes what is said of a statement that has to do with a signal that is not decided.
+fn members(line: &mut Line, interface: &Interface, tie: Tie) -> Result<(), AllocError>
+    ensures { OnOk result (line.new
+        ≡ line.old ++ member_tokens (members_in (tie_json interface.now tie))) }
+{
+    incarnation_under(line, "at", tie.at)?;
+    line.text_under("kind", kind(tie.kind))?;
+    signal(line, interface, tie.signal)
+}
+
+/// Writes a statement that has to do with a signal that is not decided.
+fn tie(line: &mut Line, interface: &Interface, tie: Tie) -> Result<(), AllocError>
+    ensures { OnOk result (line.new
+        ≡ line.old ++ item_tokens (tie_json interface.now) (tie ∷ [])) }
+{
+    line.begin_object()?;
+    members(line, interface, tie)?;
+    line.end_object()
+}
+
+/// Writes ties as items of a list.
+fn each_tie(line: &mut Line, interface: &Interface, found: &[Tie]) -> Result<(), AllocError>
+    ensures { OnOk result (line.new
+        ≡ line.old ++ item_tokens (tie_json interface.now) found.now) }
+{
+    for each in found {
+        tie(line, interface, *each)?;
+    }
+    Ok(())
+}
+
+/// Writes the list of the ties of an instant.
+pub(crate) fn ties(line: &mut Line, interface: &Interface, found: &[Tie]) -> Result<(), AllocError>
+    ensures { OnOk result (line.new
+        ≡ line.old ++ value_tokens (codes "ties") (ties_json interface.now found.now)) }
+{
+    line.key("ties")?;
+    line.begin_array()?;
+    each_tie(line, interface, found)?;
+    line.end_array()
+}

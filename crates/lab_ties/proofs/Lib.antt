@@ -1,0 +1,3 @@
+mod Operands
+mod Signals
+mod Tying
