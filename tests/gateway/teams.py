@@ -16,6 +16,7 @@ import signal
 import subprocess
 import sys
 import tempfile
+import threading
 from typing import Any, Callable, Iterator, List, Optional, Sequence, TypeVar
 
 ROOT = pathlib.Path(__file__).resolve().parents[2]
@@ -33,6 +34,7 @@ WAIT_SECONDS = 60
 Self = TypeVar("Self", bound="Team")
 SEED = int(os.environ.get("GATEWAY_SEED", "31"))
 _folder = tempfile.TemporaryDirectory(prefix="gateway-")
+_writing = threading.Lock()
 
 
 def random_of(name: str) -> random.Random:
@@ -46,9 +48,10 @@ def program_file() -> str:
     if len(words) == 1:
         return str(words[0])
     path = pathlib.Path(_folder.name) / "estserve"
-    if not path.exists():
-        path.write_text(f'#!/bin/sh\nexec {shlex.join(words)} "$@"\n')
-        path.chmod(0o755)
+    with _writing:
+        if not path.exists():
+            path.write_text(f'#!/bin/sh\nexec {shlex.join(words)} "$@"\n')
+            path.chmod(0o755)
     return str(path)
 
 

@@ -12,6 +12,7 @@ import socket
 import subprocess
 import sys
 import tempfile
+import threading
 import time
 
 ROOT = pathlib.Path(__file__).resolve().parents[2]
@@ -99,6 +100,7 @@ def is_listening(path, process):
 
 _folder = tempfile.TemporaryDirectory(prefix="estserve-")
 _program = []
+_finding = threading.Lock()
 
 
 def words_of(named):
@@ -110,9 +112,10 @@ def words_of(named):
 
 def program():
     """How to call the program: the first words of its command line, of which the last is its file."""
-    if not _program:
-        named = os.environ.get("ESTSERVE")
-        _program.extend(words_of(named) if named else built_program(pathlib.Path(_folder.name)))
+    with _finding:
+        if not _program:
+            named = os.environ.get("ESTSERVE")
+            _program.extend(words_of(named) if named else built_program(pathlib.Path(_folder.name)))
     return _program
 
 
