@@ -1,17 +1,18 @@
 -- The rules of who may give a command to a slot, and those of what it asks of the slot.
-use Rattle.std.proofs.Common.{ℕ, List, refl, subst}
+use Rattle.std.proofs.Common.{ℕ, List, Option, Some, None, refl, subst}
 use Rattle.refusal_rules.specs.Rules.{Rules, AllPass, FirstRefuses}
 use Rattle.refusal_rules.proofs.RuleLemmas.{append, split, accepted, refused, all_passed}
 use Rattle.rbac_policy.specs.declared.commands.Entry.{Entry}
+use Rattle.rbac_policy.specs.declared.objects.Object.{Object}
+use Rattle.rbac_policy.specs.declared.objects.Operation.{Operation}
 use Rattle.reactor_core.specs.declared.entry.SlotEntry.{SlotEntry}
 use Rattle.access_core.specs.declared.command.SlotCommand.{SlotCommand}
-use Rattle.access_core.specs.declared.command.SlotCommand.TheVariants.{Load, Offer, Discard, Step, Unload, Look, Audit}
 use Rattle.access_core.specs.declared.refusal.Refusal.{Refusal}
 use Rattle.access_core.specs.declared.reply.Reply.{Reply}
 use Rattle.access_core.specs.declared.reply.Reply.TheVariants.{Refused}
 use Rattle.access_core.specs.Answering.{IsRefused, ByRules}
 use Rattle.access_core.specs.SlotStep.{access_rules, journal_rules, Does, SlotStep}
-use Rattle.access_core.specs.Needs.{permission_of, Needs, IsAccepted}
+use Rattle.access_core.specs.Needs.{permission_of, Has, Needs, IsAccepted}
 
 -- a refusal that leaves the state as it is
 pub refusing : {S : Type 0} {refusal : Refusal} {state : S} → IsRefused refusal state (Refused refusal) state
@@ -63,13 +64,13 @@ module _ (entries : List Entry) (slot session : ℕ) (command : SlotCommand) whe
       (split who (journal_rules entries slot session command before) (λ refusal. IsRefused refusal before reply after)
       (Does entries slot session command before reply after) h)).0
 
+-- a session that they let pass has the permission, if one is needed, and lives
+has_granted : (entries : List Entry) (session : ℕ) (needed : Option (Operation × Object))
+    → AllPass (access_rules entries session needed) → Has entries session needed
+has_granted entries session None may = may.0
+has_granted entries session (Some permission) may = may.1.0
+
 -- a session that they let pass has what the command needs
 pub has_needed : (entries : List Entry) (slot session : ℕ) (command : SlotCommand)
     → AllPass (access_rules entries session (permission_of slot command)) → Needs entries slot session command
-has_needed entries slot session (Load main text) may = may.1.0
-has_needed entries slot session (Offer signal) may = may.1.0
-has_needed entries slot session Discard may = may.1.0
-has_needed entries slot session Step may = may.1.0
-has_needed entries slot session Unload may = may.1.0
-has_needed entries slot session (Look n) may = may.0
-has_needed entries slot session Audit may = may.1.0
+has_needed entries slot session command may = has_granted entries session (permission_of slot command) may

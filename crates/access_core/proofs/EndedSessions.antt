@@ -1,27 +1,22 @@
 -- A session that has ended adds nothing to a slot's journal.
 use Rattle.std.proofs.Common.{◌≡◌, ℕ, ◌≤◌, List, ◌++◌, take, drop, sym, subst, le_trans}
-use Rattle.std.specs.Prelude.{Some, slice_get}
+use Rattle.std.specs.Prelude.{Option, Some, None, slice_get}
 use Rattle.std.proofs.lemmas.List.{take-take, take-append-drop}
 use Rattle.rbac_policy.specs.declared.commands.Entry.{Entry}
+use Rattle.rbac_policy.specs.declared.objects.Object.{Object}
+use Rattle.rbac_policy.specs.declared.objects.Operation.{Operation}
 use Rattle.rbac_policy.specs.Entries.{logins}
 use Rattle.rbac_policy.specs.Facts.{IsLive}
 use Rattle.reactor_core.specs.declared.entry.SlotEntry.{SlotEntry}
-use Rattle.access_core.specs.declared.command.SlotCommand.{SlotCommand}
-use Rattle.access_core.specs.declared.command.SlotCommand.TheVariants.{Load, Offer, Discard, Step, Unload, Look, Audit}
 use Rattle.access_core.specs.Journals.{command_of, IsLegal, HasEnded}
-use Rattle.access_core.specs.Needs.{Needs}
+use Rattle.access_core.specs.Needs.{permission_of, Has}
 use Rattle.access_core.proofs.Legality.{versions_rise, entry_allowed}
 
--- a session that has what a command needs lives
-needs_life : (entries : List Entry) (slot session : ℕ) (command : SlotCommand) → Needs entries slot session command
+-- a session that has what is needed lives
+has_life : (entries : List Entry) (session : ℕ) (needed : Option (Operation × Object)) → Has entries session needed
     → IsLive entries session
-needs_life entries slot session (Load main text) may = (may.user, may.lives)
-needs_life entries slot session (Offer signal) may = (may.user, may.lives)
-needs_life entries slot session Discard may = (may.user, may.lives)
-needs_life entries slot session Step may = (may.user, may.lives)
-needs_life entries slot session Unload may = (may.user, may.lives)
-needs_life entries slot session (Look n) live = live
-needs_life entries slot session Audit may = (may.user, may.lives)
+has_life entries session None live = live
+has_life entries session (Some permission) may = (may.user, may.lives)
 
 -- more of the first entries begin with fewer of them
 take_longer : (list : List Entry) (few many : ℕ) → few ≤ many
@@ -39,7 +34,7 @@ pub adds_nothing : ((entries more : List Entry) (session : ℕ) → session ≤ 
 adds_nothing stays list slot session version early late journal x y legal has le there then reached same =
     let later : version ≤ y.stamp.version =
     le_trans reached (versions_rise list slot journal legal early late x y le there then) in
-    let live = needs_life (take y.stamp.version list) slot y.stamp.session (command_of y.action)
+    let live = has_life (take y.stamp.version list) y.stamp.session (permission_of slot (command_of y.action))
     (entry_allowed list slot journal legal late y then) in
     let live_there : IsLive (take version list ++ drop version (take y.stamp.version list)) session =
     subst (λ l. IsLive l session) (sym (take_longer list version y.stamp.version later))

@@ -1,7 +1,7 @@
 -- A slot's journal goes on being legal.
 use Rattle.std.proofs.Common.{◌≡◌, ◌⊎◌, ◌∙◌, ℕ, zero, suc, ◌+◌, ◌<◌, ◌≤◌, List, [], ◌∷◌, ◌++◌, length, take, get_or}
-use Rattle.std.proofs.Common.{refl, sym, ap, subst, inl, inr, arith, le_trans, le_refl, below_more}
-use Rattle.std.specs.Prelude.{Some, Result, Ok, Err, MatchResult, slice_get, fold}
+use Rattle.std.proofs.Common.{refl, sym, ap, subst, inl, inr, arith, le_trans, le_refl, below_more, Bool, true, false}
+use Rattle.std.specs.Prelude.{Option, Some, None, Result, Ok, Err, MatchResult, slice_get, fold, is_some}
 use Rattle.std.proofs.lemmas.Bool.{cases_eq}
 use Rattle.std.proofs.lemmas.List.{take_more, take-append-le, length-append}
 use Rattle.std.proofs.lemmas.List.Sums.{fold_push}
@@ -13,20 +13,93 @@ use Rattle.rbac_admin.specs.PolicyLists.{Begins}
 use Rattle.reactor_core.specs.declared.entry.Stamp.{Stamp}
 use Rattle.reactor_core.specs.declared.entry.Action.{Action}
 use Rattle.reactor_core.specs.declared.entry.Action.TheVariants as action
+use Rattle.reactor_core.specs.declared.entry.PastInstant.{PastInstant}
 use Rattle.reactor_core.specs.declared.entry.SlotEntry.{SlotEntry}
 use Rattle.reactor_core.specs.declared.refusal.Refusal.{Refusal as ReactorRefusal}
 use Rattle.reactor_core.specs.Meaning.{entry}
 use Rattle.reactor_core.specs.Answers.{LoadAnswer, OfferAnswer, AddsLoad, load_of, load_rules, offer_rules}
 use Rattle.access_core.specs.declared.command.SlotCommand.{SlotCommand}
 use Rattle.access_core.specs.declared.command.SlotCommand.TheVariants.{Load, Offer, Discard, Step, Unload, Look, Audit}
+use Rattle.access_core.specs.declared.refusal.Refusal.{Refusal}
 use Rattle.access_core.specs.declared.reply.Reply.{Reply}
-use Rattle.access_core.specs.declared.reply.Reply.TheVariants.{Load as Loaded, Offer as Offered}
+use Rattle.access_core.specs.declared.reply.Reply.TheVariants.{Refused, Load as Loaded, Offer as Offered}
 use Rattle.access_core.specs.Answering.{IsRefused}
 use Rattle.access_core.specs.Refusals.{of_reactor}
 use Rattle.access_core.specs.Needs.{Needs, IsAccepted}
-use Rattle.access_core.specs.Journals.{command_of, last_version, Judges, Adds, IsLegalEntry, AreLegal, IsLegal}
+use Rattle.access_core.specs.Journals.{command_of, instant_of, last_version, Judges, Adds, IsLegalEntry, AreLegal}
+use Rattle.access_core.specs.Journals.{IsLegal}
 use Rattle.access_core.specs.SlotStep.{SlotStep, slot_rules, Does, stamp_of}
 use Rattle.access_core.proofs.Deciding.{accepted_access, has_needed}
+
+-- ---- entries and their commands
+
+-- what was asked for by no command that only asks
+no_look : (n : ℕ) (a : Action) → ¬ (command_of a ≡ Look n)
+no_look n (action.Load l) e = cc
+no_look n (action.Offer signal) e = cc
+no_look n action.Discard e = cc
+no_look n (action.Step i) e = cc
+no_look n action.Unload e = cc
+
+no_audit : (a : Action) → ¬ (command_of a ≡ Audit)
+no_audit (action.Load l) e = cc
+no_audit (action.Offer signal) e = cc
+no_audit action.Discard e = cc
+no_audit (action.Step i) e = cc
+no_audit action.Unload e = cc
+
+-- the action of a command, and of a step its instant; or else another one
+abbrev action_from : SlotCommand → Option PastInstant → Action → Action
+action_from (Load main text) i other = action.Load (load_of main text)
+action_from (Offer signal) i other = action.Offer signal
+action_from Discard i other = action.Discard
+action_from Step (Some i) other = action.Step i
+action_from Step None other = other
+action_from Unload i other = action.Unload
+action_from (Look n) i other = other
+action_from Audit i other = other
+
+action_again : (a other : Action) → action_from (command_of a) (instant_of a) other ≡ a
+action_again (action.Load l) other = refl
+action_again (action.Offer signal) other = refl
+action_again action.Discard other = refl
+action_again (action.Step i) other = refl
+action_again action.Unload other = refl
+
+-- an action is told by its command, and of a step by its instant
+pub same_action : (a b : Action) → command_of a ≡ command_of b → instant_of a ≡ instant_of b → a ≡ b
+same_action a b command instant =
+    sym (action_again a a) ∙ ap (λ c. action_from c (instant_of a) a) command
+    ∙ ap (λ i. action_from (command_of b) i a) instant ∙ action_again b a
+
+abbrev is_step : SlotCommand → Bool
+is_step Step = true
+is_step _ = false
+
+has_instant : (a : Action) → is_some (instant_of a) ≡ is_step (command_of a)
+has_instant (action.Load l) = refl
+has_instant (action.Offer signal) = refl
+has_instant action.Discard = refl
+has_instant (action.Step i) = refl
+has_instant action.Unload = refl
+
+none_there : {A : Type 0} (o : Option A) → is_some o ≡ false → o ≡ None
+none_there None none = refl
+none_there (Some x) none = absurd cc
+
+-- where the command is one that has no instant, no action of it has one
+pub also_none : (a b : Action) → command_of a ≡ command_of b → instant_of b ≡ None → instant_of a ≡ None
+also_none a b command none =
+    none_there (instant_of a)
+    (has_instant a ∙ ap is_step command ∙ sym (has_instant b) ∙ ap (λ (i : Option PastInstant). is_some i) none)
+
+-- what has an instant is a step
+pub steps_where : (a : Action) (i : PastInstant) → instant_of a ≡ Some i → a ≡ action.Step i
+steps_where (action.Load l) i e = absurd cc
+steps_where (action.Offer signal) i e = absurd cc
+steps_where action.Discard i e = absurd cc
+steps_where (action.Step j) i e = ap action.Step (same_Some j i e)
+steps_where action.Unload i e = absurd cc
 
 -- ---- what a slot step adds
 
@@ -42,81 +115,119 @@ pub record IsTaken (stamp : Stamp) (command : SlotCommand) (before : List SlotEn
 abbrev pub AddsOne : Stamp → SlotCommand → (before : List SlotEntry) → Reply → (after : List SlotEntry) → Type 0
 AddsOne stamp command before reply after = (after ≡ before) ⊎ IsTaken stamp command before reply after
 
+-- the command is refused, and the journal stays
+pub record IsLeft (before : List SlotEntry) (reply : Reply) (after : List SlotEntry) : Type 0 where
+  pub refusal : Refusal
+  pub is : IsRefused refusal before reply after
+
+-- the command only asks, and the journal stays
+pub record OnlyAsks (command : SlotCommand) (before after : List SlotEntry) : Type 0 where
+  pub adds_none : (a : Action) → ¬ (command_of a ≡ command)
+  pub stays : after ≡ before
+
+-- the command is refused, or it only asks, or it is taken
+abbrev pub Moves : Stamp → SlotCommand → (before : List SlotEntry) → Reply → (after : List SlotEntry) → Type 0
+Moves stamp command before reply after =
+    IsLeft before reply after ⊎ OnlyAsks command before after ⊎ IsTaken stamp command before reply after
+
 module _ (stamp : Stamp) (before : List SlotEntry) (reply : Reply) (after : List SlotEntry) where
+  left : (command : SlotCommand) (refusal : Refusal) → IsRefused refusal before reply after
+      → Moves stamp command before reply after
+  left command refusal h = inl (record { refusal = refusal; is = h })
+
   loaded : (main text : List ℕ) (answer : Result (List SlotEntry) (ReactorRefusal × List SlotEntry))
       → LoadAnswer before stamp main text answer
       → MatchResult answer
       (λ journal. (after ≡ journal) × (reply ≡ Loaded (length after) stamp.version))
       (λ refused. IsRefused (of_reactor refused.0) before reply after)
-      → AddsOne stamp (Load main text) before reply after
+      → Moves stamp (Load main text) before reply after
   loaded main text (Ok journal) given replied =
       let passed = all_passed (load_rules before main text) (λ refusal. Ok journal ≡ Err (refusal, before))
       ((longer : List SlotEntry) × (Ok journal ≡ Ok longer) × AddsLoad before stamp main text longer)
       (λ refusal e. cc) given in
       let e = passed.1.1 in
       let same : journal ≡ passed.1.0 = cc in
-      inr (record {
+      inr (inr (record {
         accepted = subst IsAccepted (sym replied.1) tt;
         done = action.Load (load_of main text);
         asked = refl;
         added = replied.0 ∙ same ∙ passed.1.2.added;
-      })
-  loaded main text (Err refusal) given replied = inl replied.stays
+      }))
+  loaded main text (Err refusal) given replied = left (Load main text) _ replied
 
   offered : (signal : List ℕ) (answer : Result (Unit {0}) ReactorRefusal) → OfferAnswer before stamp signal answer after
       → MatchResult answer
       (λ _. reply ≡ Offered (length after) stamp.version)
       (λ refusal. IsRefused (of_reactor refusal) before reply after)
-      → AddsOne stamp (Offer signal) before reply after
+      → Moves stamp (Offer signal) before reply after
   offered signal (Ok done) given replied =
       let passed = all_passed (offer_rules before given.running signal) _ _
       (λ refusal e. let no = e.0 in cc) given.given in
-      inr (record {
+      inr (inr (record {
         accepted = subst IsAccepted (sym replied) tt;
         done = action.Offer signal;
         asked = refl;
         added = passed.1.1;
-      })
-  offered signal (Err refusal) given replied = inl replied.stays
+      }))
+  offered signal (Err refusal) given replied = left (Offer signal) _ replied
 
 module _ (entries : List Entry) (slot session : ℕ) (before : List SlotEntry) (reply : Reply)
     (after : List SlotEntry) where
   does : (command : SlotCommand) → Does entries slot session command before reply after
-      → AddsOne (stamp_of entries session) command before reply after
+      → Moves (stamp_of entries session) command before reply after
   does (Load main text) h = loaded (stamp_of entries session) before reply after main text h.answer h.given h.replied
   does (Offer signal) h = offered (stamp_of entries session) before reply after signal h.answer h.given h.replied
   does Discard h =
-      inr (record {
+      inr (inr (record {
         accepted = subst IsAccepted (sym h.replied) tt;
         done = action.Discard;
         asked = refl;
         added = h.added;
-      })
+      }))
   does Step h =
-      inr (record {
+      inr (inr (record {
         accepted = subst IsAccepted (sym h.replied) tt;
         done = action.Step _;
         asked = refl;
         added = h.adds.appended;
-      })
+      }))
   does Unload h =
-      inr (record {
+      inr (inr (record {
         accepted = subst IsAccepted (sym h.replied) tt;
         done = action.Unload;
         asked = refl;
         added = h.added;
-      })
-  does (Look n) h = inl h.stays
-  does Audit h = inl h.stays
+      }))
+  does (Look n) h = inr (inl (record { adds_none = no_look n; stays = h.stays }))
+  does Audit h = inr (inl (record { adds_none = no_audit; stays = h.stays }))
+
+  -- a slot step refuses its command, answers what it asks, or adds one entry that it asks for
+  pub moves : (command : SlotCommand) → SlotStep entries slot session command before reply after
+      → Moves (stamp_of entries session) command before reply after
+  moves command h =
+      answered (slot_rules entries slot session command before) (λ refusal. IsRefused refusal before reply after)
+      (Does entries slot session command before reply after)
+      (Moves (stamp_of entries session) command before reply after)
+      (left (stamp_of entries session) before reply after command) (does command) h
+
+  stays_or_adds : (command : SlotCommand) → Moves (stamp_of entries session) command before reply after
+      → AddsOne (stamp_of entries session) command before reply after
+  stays_or_adds command (inl left) = inl left.is.stays
+  stays_or_adds command (inr (inl asks)) = inl asks.stays
+  stays_or_adds command (inr (inr taken)) = inr taken
 
   -- a slot step leaves the journal, or adds one entry that its command asks for
   pub adds_one : (command : SlotCommand) → SlotStep entries slot session command before reply after
       → AddsOne (stamp_of entries session) command before reply after
-  adds_one command h =
-      answered (slot_rules entries slot session command before) (λ refusal. IsRefused refusal before reply after)
-      (Does entries slot session command before reply after)
-      (AddsOne (stamp_of entries session) command before reply after)
-      (λ refusal refused. inl refused.stays) (does command) h
+  adds_one command h = stays_or_adds command (moves command h)
+
+-- a refused command leaves the journal
+pub refused_stays : (stamp : Stamp) (command : SlotCommand) (before : List SlotEntry) (refusal : Refusal)
+    (after : List SlotEntry)
+    → Moves stamp command before (Refused refusal) after → after ≡ before
+refused_stays stamp command before refusal after (inl left) = left.is.stays
+refused_stays stamp command before refusal after (inr (inl asks)) = asks.stays
+refused_stays stamp command before refusal after (inr (inr taken)) = absurd taken.accepted
 
 -- ---- versions
 

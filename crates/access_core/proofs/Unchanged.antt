@@ -1,5 +1,5 @@
 -- A refusal leaves desk and slots as they were.
-use Rattle.std.proofs.Common.{◌≡◌, ℕ, List, [], ◌∷◌, length, refl, sym, ◌∙◌, ap}
+use Rattle.std.proofs.Common.{◌≡◌, ℕ, List, [], ◌∷◌, refl, sym, ◌∙◌, ap}
 use Rattle.std.specs.Prelude.{zero, suc, Option, Some, None, Result, Ok, Err, MatchResult, slice_get, slice_set}
 use Rattle.refusal_rules.specs.Rules.{accept, ◌▸◌}
 use Rattle.refusal_rules.proofs.RuleLemmas.{answered, all_passed}
@@ -7,20 +7,18 @@ use Rattle.rbac_policy.specs.declared.commands.Entry.{Entry}
 use Rattle.rbac_policy.specs.declared.commands.AdminCommand.{AdminCommand}
 use Rattle.rbac_admin.specs.declared.refusals.Refusal.{Refusal as PolicyRefusal}
 use Rattle.reactor_core.specs.declared.entry.SlotEntry.{SlotEntry}
-use Rattle.reactor_core.specs.declared.refusal.Refusal.{Refusal as ReactorRefusal}
 use Rattle.access_core.specs.declared.command.SlotCommand.{SlotCommand}
-use Rattle.access_core.specs.declared.command.SlotCommand.TheVariants.{Load, Offer, Discard, Step, Unload, Look, Audit}
 use Rattle.access_core.specs.declared.refusal.Refusal.{Refusal}
 use Rattle.access_core.specs.declared.refusal.Refusal.TheVariants.{Policy}
 use Rattle.access_core.specs.declared.reply.Change.{Change}
 use Rattle.access_core.specs.declared.reply.Reply.{Reply}
-use Rattle.access_core.specs.declared.reply.Reply.TheVariants.{Refused, Load as Loaded, Offer as Offered}
+use Rattle.access_core.specs.declared.reply.Reply.TheVariants.{Refused}
 use Rattle.access_core.specs.Answering.{IsRefused, ByRules, no_memory}
-use Rattle.access_core.specs.Refusals.{of_reactor}
 use Rattle.access_core.specs.SlotState.{SlotState}
-use Rattle.access_core.specs.SlotStep.{SlotStep, slot_rules, Does, no_session}
+use Rattle.access_core.specs.SlotStep.{SlotStep, stamp_of, no_session}
 use Rattle.access_core.specs.Needs.{Needs, IsAccepted}
 use Rattle.access_core.proofs.Deciding.{not_refused, accepted_access, has_needed}
+use Rattle.access_core.proofs.Legality.{moves, refused_stays}
 use Rattle.access_core.specs.Desk.{DeskState, AdminStep, DeskStep, InSlot, Appends, list_full, no_slot, reply_of_change}
 use Rattle.access_core.specs.Desk.{change_of}
 
@@ -61,46 +59,13 @@ pub admin_refused : (session : Option ℕ) (command : AdminCommand) (before : De
     → AdminStep session command before (Refused refusal) after → after ≡ before
 admin_refused session command before refusal after step = admin_replied step.answer before refusal after step.replied
 
-loaded : (entries : List SlotEntry) (answer : Result (List SlotEntry) (ReactorRefusal × List SlotEntry)) (stamp : ℕ)
-    (before : List SlotEntry) (refusal : Refusal) (after : List SlotEntry)
-    → MatchResult answer
-    (λ journal. (after ≡ journal) × (Refused refusal ≡ Loaded (length after) stamp))
-    (λ refused. IsRefused (of_reactor refused.0) before (Refused refusal) after)
-    → after ≡ before
-loaded entries (Ok journal) stamp before refusal after h = let e = h.1 in absurd (cc)
-loaded entries (Err refused) stamp before refusal after h = h.stays
-
-offered : (answer : Result (Unit {0}) ReactorRefusal) (stamp : ℕ) (before : List SlotEntry) (refusal : Refusal)
-    (after : List SlotEntry)
-    → MatchResult answer
-    (λ done. Refused refusal ≡ Offered (length after) stamp)
-    (λ given. IsRefused (of_reactor given) before (Refused refusal) after)
-    → after ≡ before
-offered (Ok done) stamp before refusal after h = absurd (cc)
-offered (Err given) stamp before refusal after h = h.stays
-
--- what an accepted command does gives no refusal
-does_nothing : (entries : List Entry) (slot session : ℕ) (command : SlotCommand) (before : List SlotEntry)
-    (refusal : Refusal) (after : List SlotEntry)
-    → Does entries slot session command before (Refused refusal) after → after ≡ before
-does_nothing entries slot session (Load main text) before refusal after h =
-    loaded before h.answer (length entries) before refusal after h.replied
-does_nothing entries slot session (Offer signal) before refusal after h =
-    offered h.answer (length entries) before refusal after h.replied
-does_nothing entries slot session Discard before refusal after h = let e = h.replied in absurd (cc)
-does_nothing entries slot session Step before refusal after h = let e = h.replied in absurd (cc)
-does_nothing entries slot session Unload before refusal after h = let e = h.replied in absurd (cc)
-does_nothing entries slot session (Look n) before refusal after h = h.stays
-does_nothing entries slot session Audit before refusal after h = h.stays
-
 -- a refused slot command leaves the journal
 journal_stays : (entries : List Entry) (slot session : ℕ) (command : SlotCommand) (before : List SlotEntry)
     (refusal : Refusal) (after : List SlotEntry)
     → SlotStep entries slot session command before (Refused refusal) after → after ≡ before
-journal_stays entries slot session command before refusal after =
-    answered (slot_rules entries slot session command before) (λ given. IsRefused given before (Refused refusal) after)
-    (Does entries slot session command before (Refused refusal) after) (after ≡ before) (λ given refused. refused.stays)
-    (does_nothing entries slot session command before refusal after)
+journal_stays entries slot session command before refusal after step =
+    refused_stays (stamp_of entries session) command before refusal after
+    (moves entries slot session before (Refused refusal) after command step)
 
 in_slot_stays : (number session : ℕ) (command : SlotCommand) (before : DeskState) (refusal : Refusal)
     (after : DeskState)

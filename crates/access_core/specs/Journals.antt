@@ -1,11 +1,12 @@
 -- Legal journals of a slot: each entry is the very one that the slot step adds for its own command, at its version, to
 -- the entries before it, and versions never fall (this project's own form).
-use Rattle.std.specs.Prelude.{◌≡◌, ℕ, ◌<◌, ◌≤◌, List, [], ◌∷◌, ◌++◌, Some, length, take, fold, slice_get}
+use Rattle.std.specs.Prelude.{◌≡◌, ℕ, ◌<◌, ◌≤◌, List, [], ◌∷◌, ◌++◌, Option, Some, None, length, take, fold, slice_get}
 use Rattle.rbac_policy.specs.declared.commands.Entry.{Entry}
 use Rattle.rbac_policy.specs.Entries.{logins}
 use Rattle.rbac_policy.specs.Facts.{IsLive}
 use Rattle.reactor_core.specs.declared.entry.Action.{Action}
 use Rattle.reactor_core.specs.declared.entry.Action.TheVariants as action
+use Rattle.reactor_core.specs.declared.entry.PastInstant.{PastInstant}
 use Rattle.reactor_core.specs.declared.entry.SlotEntry.{SlotEntry}
 use Rattle.access_core.specs.declared.command.SlotCommand.{SlotCommand}
 use Rattle.access_core.specs.declared.command.SlotCommand.TheVariants.{Load, Offer, Discard, Step, Unload}
@@ -20,6 +21,11 @@ command_of (action.Offer signal) = Offer signal
 command_of action.Discard = Discard
 command_of (action.Step i) = Step
 command_of action.Unload = Unload
+
+-- the instant that an action keeps, if it is a step
+abbrev pub instant_of : Action → Option PastInstant
+instant_of (action.Step i) = Some i
+instant_of _ = None
 
 -- the version of the last of these entries, 0 where there is none
 abbrev pub last_version : List SlotEntry → ℕ

@@ -26,15 +26,14 @@ permission_of slot Unload = Some (ToLoad, Slot slot)
 permission_of slot (Look n) = None
 permission_of slot Audit = Some (ToAudit, Policy)
 
+-- the session has this permission, or, where none is needed, it lives
+abbrev pub Has : List Entry → (session : ℕ) → Option (Operation × Object) → Type 0
+Has entries session None = IsLive entries session
+Has entries session (Some permission) = May entries session permission.0 permission.1
+
 -- what a command on a slot needs: its permission, or, where it needs none, that the session lives
 abbrev pub Needs : List Entry → (slot session : ℕ) → SlotCommand → Type 0
-Needs entries slot session (Load main text) = May entries session ToLoad (Slot slot)
-Needs entries slot session (Offer signal) = May entries session ToOffer (Signal slot signal)
-Needs entries slot session Discard = May entries session ToStep (Slot slot)
-Needs entries slot session Step = May entries session ToStep (Slot slot)
-Needs entries slot session Unload = May entries session ToLoad (Slot slot)
-Needs entries slot session (Look n) = IsLive entries session
-Needs entries slot session Audit = May entries session ToAudit Policy
+Needs entries slot session command = Has entries session (permission_of slot command)
 
 -- the reply is no refusal
 abbrev pub IsAccepted : Reply → Type 0

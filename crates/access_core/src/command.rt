@@ -1,7 +1,9 @@
 //! Commands on slots.
 ghost use Rattle.std.specs.Prelude.{◌≡◌, IfOk};
+ghost use Rattle.access_core.specs.Journals.{command_of};
 
 use est_text::identifier::Identifier;
+use reactor_core::entry::Action;
 use reactor_core::text::Text;
 use std::alloc::{AllocError, Global};
 
@@ -25,6 +27,25 @@ pub enum SlotCommand {
 }
 
 impl SlotCommand {
+    /// The command that asks for this action, or the error where memory was refused.
+    pub fn of_action(alloc: Global, action: &Action) -> Result<SlotCommand, AllocError>
+        ensures { IfOk result (λ command. command ≡ command_of action.now) }
+    {
+        match action {
+            Action::Load(load) => {
+                let text = Text::copied(alloc, load.text.as_str())?;
+                Ok(SlotCommand::Load {
+                    main: load.main,
+                    text,
+                })
+            }
+            Action::Offer(signal) => Ok(SlotCommand::Offer { signal: *signal }),
+            Action::Discard => Ok(SlotCommand::Discard),
+            Action::Step(_) => Ok(SlotCommand::Step),
+            Action::Unload => Ok(SlotCommand::Unload),
+        }
+    }
+
     /// A copy of the command, or the error where memory was refused.
     pub fn try_clone(&self, alloc: Global) -> Result<SlotCommand, AllocError>
         ensures { IfOk result (λ copy. copy ≡ self.now) }

@@ -1,6 +1,6 @@
 -- What the second engine answers is an outcome of the journal, and an accepted step keeps it and leaves its term.
-use Rattle.std.proofs.Common.{◌≡◌, ◌∙◌, ℕ, false, List, refl, sym, ap, subst, ⊎_elim, inl}
-use Rattle.std.specs.Prelude.{Some, None}
+use Rattle.std.proofs.Common.{◌≡◌, ◌⊎◌, ◌∙◌, ℕ, false, List, refl, sym, ap, subst, ⊎_elim, inl}
+use Rattle.std.specs.Prelude.{Option, Some, None, MatchOption}
 use Rattle.std.proofs.lemmas.Option.{same_Some}
 use Rattle.refusal_rules.proofs.RuleLemmas.{first_or_none}
 use Rattle.est_kernel.specs.Bits.{bits}
@@ -36,7 +36,8 @@ use Rattle.access_core.specs.declared.reply.Reply.{Reply}
 use Rattle.access_core.specs.declared.reply.Reply.TheVariants.{Refused}
 use Rattle.access_core.specs.Answering.{IsRefused}
 use Rattle.access_core.specs.SlotStep.{SlotStep, slot_rules, Does, stamp_of}
-use Rattle.access_core.specs.Journals.{command_of}
+use Rattle.access_core.specs.Journals.{command_of, instant_of}
+use Rattle.access_core.proofs.Legality.{steps_where}
 use Rattle.access_core.proofs.OneNaming.{same_mask}
 use Rattle.audit_report.specs.Inner.Asking.{Predicts, LeavesOther, Thinks, ThinksOfStep, Fails}
 use Rattle.audit_report.specs.Inner.Faults.{last_instant, KeepsInstant}
@@ -113,11 +114,20 @@ none_at_all modules journal undecided b none next other = not_both modules journ
 
 -- nothing is asked where no module runs
 pub nothing_runs : (journal : List SlotEntry) (a : Action) → is_loaded journal ≡ false → Thinks journal a NotAsked
-nothing_runs journal (action.Load l) none = refl
-nothing_runs journal (action.Offer signal) none = refl
-nothing_runs journal action.Discard none = refl
-nothing_runs journal (action.Step i) none = inl (none, refl)
-nothing_runs journal action.Unload none = refl
+nothing_runs journal a none = by_instant (instant_of a) where
+  by_instant : (i : Option PastInstant)
+      → MatchOption i (NotAsked ≡ NotAsked)
+      (λ i. ((is_loaded journal ≡ false) × (NotAsked ≡ NotAsked)) ⊎ ThinksOfStep journal i.outputs NotAsked)
+  by_instant None = refl
+  by_instant (Some i) = inl (none, refl)
+
+-- what is thought of a step is thought of the action that keeps its instant
+pub thinks_of : (journal : List SlotEntry) (a : Action) (o : Opinion) (i : PastInstant) → Some i ≡ instant_of a
+    → ((is_loaded journal ≡ false) × (o ≡ NotAsked)) ⊎ ThinksOfStep journal i.outputs o → Thinks journal a o
+thinks_of journal a o i is h =
+    subst
+    (λ (kept : Option PastInstant). MatchOption kept (o ≡ NotAsked)
+    (λ i. ((is_loaded journal ≡ false) × (o ≡ NotAsked)) ⊎ ThinksOfStep journal i.outputs o)) is h
 
 -- an accepted step keeps this instant: it has an outcome with its outputs, whose term is left
 record KeepsOutcome (before : List SlotEntry) (i : PastInstant) (after : List SlotEntry) : Type 0 where
@@ -178,9 +188,13 @@ module _ (modules : OneModule) (judged : List Entry) (slot session : ℕ) (befor
   -- where an entry is kept, it is as the second engine has it
   pub opinion_holds : (a : Action) (o : Opinion) → SlotStep judged slot session (command_of a) before reply after
       → Thinks before a o → KeepsInstant after a → Fails after o → ⊥
-  opinion_holds (action.Load l) o h thinks keeps fails = unasked o thinks fails
-  opinion_holds (action.Offer signal) o h thinks keeps fails = unasked o thinks fails
-  opinion_holds action.Discard o h thinks keeps fails = unasked o thinks fails
-  opinion_holds (action.Step i) o h thinks keeps fails =
-      ⊎_elim (λ none. unasked o none.1 fails) (λ told. step_holds i o (step_keeps i h keeps) told fails) thinks
-  opinion_holds action.Unload o h thinks keeps fails = unasked o thinks fails
+  opinion_holds a o h thinks keeps fails = by_instant (instant_of a) refl thinks keeps where
+    by_instant : (i : Option PastInstant) → instant_of a ≡ i
+        → MatchOption i (o ≡ NotAsked)
+        (λ i. ((is_loaded before ≡ false) × (o ≡ NotAsked)) ⊎ ThinksOfStep before i.outputs o)
+        → MatchOption i (Unit {0}) (λ i. last_instant after ≡ Some i) → ⊥
+    by_instant None is thinks keeps = unasked o thinks fails
+    by_instant (Some i) is thinks keeps =
+        let step : SlotStep judged slot session (command_of (action.Step i)) before reply after =
+        subst (λ (d : Action). SlotStep judged slot session (command_of d) before reply after) (steps_where a i is) h in
+        ⊎_elim (λ none. unasked o none.1 fails) (λ told. step_holds i o (step_keeps i step keeps) told fails) thinks

@@ -1,10 +1,8 @@
 -- What the slot step does with the command of an entry.
-use Rattle.std.proofs.Common.{◌≡◌, ◌⊎◌, ◌∙◌, ℕ, ◌-◌, List, [], ◌∷◌, ◌++◌, length, refl, sym, ap, subst, inl, inr}
+use Rattle.std.proofs.Common.{◌≡◌, ◌∙◌, ℕ, ◌-◌, List, [], ◌∷◌, ◌++◌, length, refl, sym, ap, subst}
 use Rattle.std.proofs.Common.{⊎_elim, arith}
-use Rattle.std.specs.Prelude.{Some, Result, Ok, Err, MatchResult, slice_get}
+use Rattle.std.specs.Prelude.{Option, Some, None, MatchOption, slice_get}
 use Rattle.std.proofs.lemmas.List.{length_push}
-use Rattle.std.proofs.lemmas.Option.{same_Some}
-use Rattle.refusal_rules.proofs.RuleLemmas.{all_passed, first_or_none}
 use Rattle.rbac_policy.specs.declared.commands.Entry.{Entry}
 use Rattle.rbac_policy.proofs.Steps.{get_last}
 use Rattle.reactor_core.specs.declared.entry.Action.{Action}
@@ -12,113 +10,19 @@ use Rattle.reactor_core.specs.declared.entry.Action.TheVariants as action
 use Rattle.reactor_core.specs.declared.entry.PastInstant.{PastInstant}
 use Rattle.reactor_core.specs.declared.entry.SlotEntry.{SlotEntry}
 use Rattle.reactor_core.specs.declared.entry.Stamp.{Stamp}
-use Rattle.reactor_core.specs.declared.refusal.Refusal.{Refusal as ReactorRefusal}
 use Rattle.reactor_core.specs.Meaning.{entry}
-use Rattle.reactor_core.specs.Answers.{LoadAnswer, OfferAnswer, AddsLoad, load_rules, offer_rules}
 use Rattle.access_core.specs.declared.command.SlotCommand.{SlotCommand}
 use Rattle.access_core.specs.declared.refusal.Refusal.{Refusal}
 use Rattle.access_core.specs.declared.refusal.Refusal.TheVariants as refusal
 use Rattle.access_core.specs.declared.reply.Reply.{Reply}
-use Rattle.access_core.specs.declared.reply.Reply.TheVariants.{Refused, Load as Loaded, Offer as Offered}
-use Rattle.access_core.specs.Answering.{IsRefused}
-use Rattle.access_core.specs.Refusals.{of_reactor}
+use Rattle.access_core.specs.declared.reply.Reply.TheVariants.{Refused}
 use Rattle.access_core.specs.Needs.{IsAccepted}
-use Rattle.access_core.specs.SlotStep.{SlotStep, slot_rules, Does, Loads, Offers, stamp_of}
-use Rattle.access_core.specs.Journals.{command_of, Judges, Adds}
+use Rattle.access_core.specs.SlotStep.{SlotStep, stamp_of}
+use Rattle.access_core.specs.Journals.{command_of, instant_of, Judges, Adds}
 use Rattle.audit_report.specs.Findings.{ReactsOtherwise}
-use Rattle.audit_report.specs.Inner.Faults.{instant_of, instant_in, last_instant, KeepsInstant, fault_of, IsFaultOf}
-
--- the action that is added for an action's command: the very same, but for a step, which is added with some inputs and
--- outputs
-abbrev pub IsSame : Action → (done : Action) → Type 0
-IsSame (action.Load l) done = done ≡ action.Load l
-IsSame (action.Offer signal) done = done ≡ action.Offer signal
-IsSame action.Discard done = done ≡ action.Discard
-IsSame (action.Step i) done = (j : PastInstant) × (done ≡ action.Step j)
-IsSame action.Unload done = done ≡ action.Unload
-
--- the command is accepted, and such an action is added
-pub record IsTaken (judged : List Entry) (session : ℕ) (asked : Action) (before : List SlotEntry) (reply : Reply)
-    (after : List SlotEntry) : Type 0 where
-  pub accepted : IsAccepted reply
-  pub done : Action
-  pub same : IsSame asked done
-  pub added : after ≡ before ++ entry (stamp_of judged session) done ∷ []
-
--- the command is refused, and nothing is added
-pub record IsLeft (before : List SlotEntry) (reply : Reply) (after : List SlotEntry) : Type 0 where
-  pub refusal : Refusal
-  pub is : IsRefused refusal before reply after
-
-module _ (judged : List Entry) (slot session : ℕ) (before : List SlotEntry) (reply : Reply)
-    (after : List SlotEntry) where
-  abbrev pub Moves : Action → Type 0
-  Moves asked = IsLeft before reply after ⊎ IsTaken judged session asked before reply after
-
-  left : (asked : Action) (refusal : Refusal) → IsRefused refusal before reply after → Moves asked
-  left asked refusal h = inl (record { refusal = refusal; is = h })
-
-  loads : (main text : List ℕ) → Loads (stamp_of judged session) main text before reply after
-      → Moves (action.Load (record { main = main; text = text }))
-  loads main text h = by_answer h.answer h.given h.replied where
-    by_answer : (answer : Result (List SlotEntry) (ReactorRefusal × List SlotEntry))
-        → LoadAnswer before (stamp_of judged session) main text answer
-        → MatchResult answer
-        (λ journal. (after ≡ journal) × (reply ≡ Loaded (length after) (length judged)))
-        (λ refused. IsRefused (of_reactor refused.0) before reply after)
-        → Moves (action.Load (record { main = main; text = text }))
-    by_answer (Ok journal) given replied =
-        let passed = all_passed (load_rules before main text) (λ refusal. Ok journal ≡ Err (refusal, before))
-        ((longer : List SlotEntry) × (Ok journal ≡ Ok longer)
-        × AddsLoad before (stamp_of judged session) main text longer) (λ refusal e. cc) given in
-        let longer = passed.1.0 in
-        let e = passed.1.1 in
-        let same : journal ≡ longer = cc in
-        inr (record {
-          accepted = subst IsAccepted (sym replied.1) tt;
-          done = _;
-          same = refl;
-          added = replied.0 ∙ same ∙ passed.1.2.added;
-        })
-    by_answer (Err refusal) given replied = left _ _ replied
-
-  offers : (signal : List ℕ) → Offers (stamp_of judged session) signal before reply after → Moves (action.Offer signal)
-  offers signal h = by_answer h.answer h.given h.replied where
-    by_answer : (answer : Result (Unit {0}) ReactorRefusal)
-        → OfferAnswer before (stamp_of judged session) signal answer after
-        → MatchResult answer (λ _. reply ≡ Offered (length after) (length judged))
-        (λ refusal. IsRefused (of_reactor refusal) before reply after)
-        → Moves (action.Offer signal)
-    by_answer (Ok done) given replied =
-        let passed = all_passed (offer_rules before given.running signal) _ _
-        (λ refusal e. let no = e.0 in cc) given.given in
-        inr (record { accepted = subst IsAccepted (sym replied) tt; done = _; same = refl; added = passed.1.1 })
-    by_answer (Err refusal) given replied = left _ _ replied
-
-  does : (asked : Action) → Does judged slot session (command_of asked) before reply after → Moves asked
-  does (action.Load l) h = loads l.main l.text h
-  does (action.Offer signal) h = offers signal h
-  does action.Discard h =
-      inr (record { accepted = subst IsAccepted (sym h.replied) tt; done = _; same = refl; added = h.added })
-  does (action.Step i) h =
-      inr (record {
-        accepted = subst IsAccepted (sym h.replied) tt;
-        done = _;
-        same = (_, refl);
-        added = h.adds.appended;
-      })
-  does action.Unload h =
-      inr (record { accepted = subst IsAccepted (sym h.replied) tt; done = _; same = refl; added = h.added })
-
-  -- the slot step refuses the command, or adds an entry for it
-  pub moves : (asked : Action) → SlotStep judged slot session (command_of asked) before reply after → Moves asked
-  moves asked h =
-      ⊎_elim
-      (λ first. left asked first.0 first.2)
-      (λ passed. does asked passed.1)
-      (first_or_none (slot_rules judged slot session (command_of asked) before)
-      (λ refusal. IsRefused refusal before reply after)
-      (Does judged slot session (command_of asked) before reply after) h)
+use Rattle.audit_report.specs.Inner.Faults.{instant_in, last_instant, KeepsInstant, fault_of, IsFaultOf}
+use Rattle.access_core.proofs.Legality.{Moves, IsTaken, moves, refused_stays, same_action}
+use Rattle.access_core.proofs.Legality.{also_none, steps_where}
 
 -- the instant that the last of the entries keeps
 pub last_pushed : (before : List SlotEntry) (e : SlotEntry) → last_instant (before ++ e ∷ []) ≡ instant_of e.action
@@ -126,28 +30,28 @@ last_pushed before e =
     let last : length (before ++ e ∷ []) - 1 ≡ length before = omega (arith, length_push before e) in
     ap (λ k. instant_in (slice_get (before ++ e ∷ []) k)) last ∙ ap instant_in (get_last before e)
 
--- where the last entry keeps the instant, what was added is what was asked for
-kept : (asked done : Action) (stamp : Stamp) (before : List SlotEntry) → IsSame asked done
+-- where the last entry keeps the instant, what was added for the command is what was asked for
+kept : (asked done : Action) (stamp : Stamp) (before : List SlotEntry) → command_of done ≡ command_of asked
     → KeepsInstant (before ++ entry stamp done ∷ []) asked → done ≡ asked
-kept (action.Load l) done stamp before same keeps = same
-kept (action.Offer signal) done stamp before same keeps = same
-kept action.Discard done stamp before same keeps = same
-kept (action.Step i) done stamp before same keeps =
-    let last : instant_of done ≡ Some i = sym (last_pushed before (entry stamp done)) ∙ keeps in
-    let instant : same.0 ≡ i = same_Some same.0 i (sym (ap instant_of same.1) ∙ last) in
-    same.1 ∙ ap action.Step instant
-kept action.Unload done stamp before same keeps = same
+kept asked done stamp before command keeps = same_action done asked command (by_instant (instant_of asked) refl keeps)
+  where
+    by_instant : (i : Option PastInstant) → instant_of asked ≡ i
+        → MatchOption i (Unit {0}) (λ i. last_instant (before ++ entry stamp done ∷ []) ≡ Some i)
+        → instant_of done ≡ instant_of asked
+    by_instant None none keeps = also_none done asked command none ∙ sym none
+    by_instant (Some i) is keeps = sym (last_pushed before (entry stamp done)) ∙ keeps ∙ sym is
 
 -- where it doesn't, a step was asked for, and another was added
 not_kept : (asked done : Action) (stamp : Stamp) (before : List SlotEntry)
     → ¬ (KeepsInstant (before ++ entry stamp done ∷ []) asked)
     → ((i : PastInstant) × (asked ≡ action.Step i)) × ¬ (done ≡ asked)
-not_kept (action.Load l) done stamp before not = absurd (not tt)
-not_kept (action.Offer signal) done stamp before not = absurd (not tt)
-not_kept action.Discard done stamp before not = absurd (not tt)
-not_kept (action.Step i) done stamp before not =
-    ((i, refl), λ e. not (last_pushed before (entry stamp done) ∙ ap instant_of e))
-not_kept action.Unload done stamp before not = absurd (not tt)
+not_kept asked done stamp before not = by_instant (instant_of asked) refl not where
+  by_instant : (i : Option PastInstant) → instant_of asked ≡ i
+      → ¬ (MatchOption i (Unit {0}) (λ i. last_instant (before ++ entry stamp done ∷ []) ≡ Some i))
+      → ((i : PastInstant) × (asked ≡ action.Step i)) × ¬ (done ≡ asked)
+  by_instant None is not = absurd (not tt)
+  by_instant (Some i) is not =
+      ((i, steps_where asked i is), λ e. not (last_pushed before (entry stamp done) ∙ ap instant_of e ∙ is))
 
 -- the fault of a refusal
 pub refused_fault : (judged : List Entry) (slot : ℕ) (before : List SlotEntry) (e : SlotEntry) (given : Refusal)
@@ -159,19 +63,24 @@ refused_fault judged slot before e given step =
 module _ (judged : List Entry) (slot : ℕ) (before : List SlotEntry) (e : SlotEntry) (reply : Reply)
     (after : List SlotEntry)
     (version : length judged ≡ e.stamp.version) (step : Judges judged slot before e reply after) where
-  -- a refused command leaves the journal
-  pub refused_stays : (given : Refusal) → reply ≡ Refused given → after ≡ before
-  refused_stays given is = elim (moves judged slot e.stamp.session before reply after e.action step) [
-    | inl left ↦ left.is.stays
-    | inr taken ↦ absurd (subst IsAccepted is taken.accepted)
-  ]
+  -- what the slot step does with the entry's command
+  moved : Moves (stamp_of judged e.stamp.session) (command_of e.action) before reply after
+  moved = moves judged slot e.stamp.session before reply after (command_of e.action) step
 
-  taken_of : ((given : Refusal) → reply ≡ Refused given → ⊥)
-      → IsTaken judged e.stamp.session e.action before reply after
-  taken_of not = elim (moves judged slot e.stamp.session before reply after e.action step) [
-    | inl left ↦ absurd (not left.refusal left.is.replied)
-    | inr taken ↦ taken
-  ]
+  -- a refused command leaves the journal
+  pub stays_where : (given : Refusal) → reply ≡ Refused given → after ≡ before
+  stays_where given is =
+      refused_stays (stamp_of judged e.stamp.session) (command_of e.action) before given after
+      (subst (λ r. Moves (stamp_of judged e.stamp.session) (command_of e.action) before r after) is moved)
+
+  abbrev Taken : Type 0
+  Taken = IsTaken (stamp_of judged e.stamp.session) (command_of e.action) before reply after
+
+  -- an accepted one adds an entry that it asks for
+  taken_of : ((given : Refusal) → reply ≡ Refused given → ⊥) → Taken
+  taken_of not =
+      ⊎_elim (λ left. absurd (not left.refusal left.is.replied))
+      (⊎_elim (λ asks. absurd (asks.adds_none e.action refl)) (λ taken. taken)) moved
 
   stamped : stamp_of judged e.stamp.session ≡ e.stamp
   stamped = ap (λ v. let s : Stamp = record { version = v; session = e.stamp.session } in s) version
@@ -182,7 +91,7 @@ module _ (judged : List Entry) (slot : ℕ) (before : List SlotEntry) (e : SlotE
   adds not keeps =
       let taken = taken_of not in
       let done : taken.done ≡ e.action =
-      kept e.action taken.done (stamp_of judged e.stamp.session) before taken.same
+      kept e.action taken.done (stamp_of judged e.stamp.session) before taken.asked
       (subst (λ j. KeepsInstant j e.action) taken.added keeps) in
       let same : entry (stamp_of judged e.stamp.session) taken.done ≡ e =
       ap (λ s. entry s taken.done) stamped ∙ ap (entry e.stamp) done in
@@ -233,4 +142,4 @@ pub fault_is : (judged : List Entry) (slot : ℕ) (before : List SlotEntry) (e :
 fault_is judged slot before e given after version step =
     refused_fault judged slot before e given
     (subst (Judges judged slot before e (Refused given))
-    (refused_stays judged slot before e (Refused given) after version step given refl) step)
+    (stays_where judged slot before e (Refused given) after version step given refl) step)

@@ -1,16 +1,16 @@
 //! The audit of a slot's journal.
-ghost use Rattle.std.specs.Prelude.{◌≡◌, ◌↔◌, ◌≤◌, List, IsTrue, IfOk, IfErr, OnOk, length, take};
+ghost use Rattle.std.specs.Prelude.{◌≡◌, ◌↔◌, ◌≤◌, List, IsTrue, IfErr, OnOk, length, take};
 ghost use Rattle.est_kernel.specs.declared.kernel.Kernel.{Kernel as KernelValue};
 ghost use Rattle.rbac_policy.specs.declared.commands.Entry.{Entry};
 ghost use Rattle.rbac_policy.specs.Change.{policy_of};
 ghost use Rattle.rbac_policy.specs.StandsFor.{StandsFor};
 ghost use Rattle.rbac_admin.specs.PolicyLists.{IsPolicyList};
-ghost use Rattle.access_core.specs.Journals.{command_of, IsLegal};
+ghost use Rattle.access_core.specs.Journals.{IsLegal};
 ghost use Rattle.audit_report.specs.Findings.{IsFirstOfSlot};
 ghost use Rattle.audit_report.specs.Inner.Faults.{last_instant, KeepsInstant, fault_of, Replays};
 ghost use Rattle.audit_report.specs.Inner.Faults.{finding_of};
 
-use crate::asked_again::opinion_of;
+use crate::asked_again::{instant_of, opinion_of};
 use crate::finding::Finding;
 use access_core::command::SlotCommand;
 use access_core::refusal::Refusal;
@@ -22,8 +22,7 @@ use rbac_policy::objects::SlotNumber;
 use rbac_policy::policy::Policy;
 use reactor_core::entry::{Action, PastInstant, SlotEntry};
 use reactor_core::laws::one_module;
-use reactor_core::text::Text;
-use std::alloc::{AllocError, Global};
+use std::alloc::Global;
 
 /// Why an entry of a slot is not the one that the slot step adds at its version.
 #[derive(Drop)]
@@ -36,34 +35,12 @@ enum Fault {
     Memory,
 }
 
-/// The command that asks for this action, or the error where memory was refused.
-fn command_of(alloc: Global, action: &Action) -> Result<SlotCommand, AllocError>
-    ensures { IfOk result (λ command. command ≡ command_of action.now) }
-{
-    match action {
-        Action::Load(load) => {
-            let text = Text::copied(alloc, load.text.as_str())?;
-            Ok(SlotCommand::Load {
-                main: load.main,
-                text,
-            })
-        }
-        Action::Offer(signal) => Ok(SlotCommand::Offer { signal: *signal }),
-        Action::Discard => Ok(SlotCommand::Discard),
-        Action::Step(_) => Ok(SlotCommand::Step),
-        Action::Unload => Ok(SlotCommand::Unload),
-    }
-}
-
 /// The instant that the last of the entries keeps, if that is a step.
 fn last_instant(entries: &[SlotEntry]) -> Option<PastInstant>
     ensures { result ≡ last_instant entries.now }
 {
     match entries.last() {
-        Some(entry) => match &entry.action {
-            Action::Step(instant) => Some(*instant),
-            Action::Load(_) | Action::Offer(_) | Action::Discard | Action::Unload => None,
-        },
+        Some(entry) => instant_of(&entry.action),
         None => None,
     }
 }
@@ -72,9 +49,9 @@ fn last_instant(entries: &[SlotEntry]) -> Option<PastInstant>
 fn keeps_instant(entries: &[SlotEntry], action: &Action) -> bool
     ensures { IsTrue result ↔ KeepsInstant entries.now action.now }
 {
-    match action {
-        Action::Step(stored) => last_instant(entries) == Some(*stored),
-        Action::Load(_) | Action::Offer(_) | Action::Discard | Action::Unload => true,
+    match instant_of(action) {
+        Some(stored) => last_instant(entries) == Some(stored),
+        None => true,
     }
 }
 
@@ -114,7 +91,7 @@ fn replay_entry<E: Engine>(
         → length judged ≡ entry.now.stamp.version
         → Replays judged slot.old.number slot.old.journal entry.now result slot.new.journal }
 {
-    let Ok(command) = command_of(alloc, &entry.action) else {
+    let Ok(command) = SlotCommand::of_action(alloc, &entry.action) else {
         return Err(Fault::Memory);
     };
     let session = SessionId::new(entry.stamp.session);

@@ -1,5 +1,5 @@
 -- What the second engine is asked of a step, and what is asked of the slot after it: private to the audit of a slot.
-use Rattle.std.specs.Prelude.{◌≡◌, ◌⊎◌, ◌<◌, ℕ, true, false, List}
+use Rattle.std.specs.Prelude.{◌≡◌, ◌⊎◌, ◌<◌, ℕ, true, false, List, MatchOption}
 use Rattle.est_kernel.specs.Limits.{local_depth}
 use Rattle.est_kernel.specs.Term.{Term}
 use Rattle.est_kernel.specs.View.{term_of}
@@ -8,11 +8,11 @@ use Rattle.est_kernel.specs.declared.state.State.{State}
 use Rattle.est_left.specs.Orders.{are_in_order}
 use Rattle.est_meaning.specs.States.{state_term}
 use Rattle.reactor_core.specs.declared.entry.Action.{Action}
-use Rattle.reactor_core.specs.declared.entry.Action.TheVariants.{Load, Offer, Discard, Step, Unload}
 use Rattle.reactor_core.specs.declared.entry.SlotEntry.{SlotEntry}
 use Rattle.reactor_core.specs.Instants.{IsOutcome}
 use Rattle.reactor_core.specs.Left.{IsKernelOf, IsLeftOf}
 use Rattle.reactor_core.specs.Meaning.{is_loaded}
+use Rattle.access_core.specs.Journals.{instant_of}
 use Rattle.audit_report.specs.declared.asked_again.Opinion.{Opinion}
 use Rattle.audit_report.specs.declared.asked_again.Opinion.TheVariants.{NotAsked, Other, SameOutputs, Same}
 use Rattle.audit_report.specs.declared.asked_again.TheConstants.{ASKED_LOCALS}
@@ -44,12 +44,9 @@ ThinksOfStep journal outputs (Same next) = Predicts journal outputs next
 
 -- what the opinion of an action says: of each but a step nothing is asked, nor where nothing runs
 abbrev pub Thinks : List SlotEntry → Action → Opinion → Type 0
-Thinks journal (Load l) opinion = opinion ≡ NotAsked
-Thinks journal (Offer signal) opinion = opinion ≡ NotAsked
-Thinks journal Discard opinion = opinion ≡ NotAsked
-Thinks journal (Step i) opinion =
-    ((is_loaded journal ≡ false) × (opinion ≡ NotAsked)) ⊎ ThinksOfStep journal i.outputs opinion
-Thinks journal Unload opinion = opinion ≡ NotAsked
+Thinks journal action opinion =
+    MatchOption (instant_of action) (opinion ≡ NotAsked)
+    (λ i. ((is_loaded journal ≡ false) × (opinion ≡ NotAsked)) ⊎ ThinksOfStep journal i.outputs opinion)
 
 -- the term of this state of the running module's kernel is left, if one runs and its pauses are numbered in text order
 pub record StandsFor (journal : List SlotEntry) (next : State) : Type 0 where

@@ -1,10 +1,9 @@
 -- What comes of giving a slot the command of one entry: private to the audit of a slot.
 use Rattle.std.specs.Prelude.{◌≡◌, ℕ, ◌-◌, List, [], ◌∷◌, ◌++◌, Option, Some, None, Result, MatchResult, length}
-use Rattle.std.specs.Prelude.{slice_get}
+use Rattle.std.specs.Prelude.{slice_get, MatchOption}
 use Rattle.rbac_policy.specs.declared.commands.Entry.{Entry}
 use Rattle.reactor_core.specs.declared.entry.PastInstant.{PastInstant}
 use Rattle.reactor_core.specs.declared.entry.Action.{Action}
-use Rattle.reactor_core.specs.declared.entry.Action.TheVariants.{Load, Offer, Discard, Step, Unload}
 use Rattle.reactor_core.specs.declared.entry.SlotEntry.{SlotEntry}
 use Rattle.access_core.specs.declared.refusal.Refusal.{Refusal}
 use Rattle.access_core.specs.declared.refusal.Refusal.TheVariants as refusal
@@ -13,13 +12,8 @@ use Rattle.audit_report.specs.declared.finding.Finding.{Finding}
 use Rattle.audit_report.specs.declared.finding.Finding.TheVariants as finding
 use Rattle.audit_report.specs.declared.slot_audit.Fault.{Fault}
 use Rattle.audit_report.specs.declared.slot_audit.Fault.TheVariants.{Refused, Reaction, Memory}
-use Rattle.access_core.specs.Journals.{Adds}
+use Rattle.access_core.specs.Journals.{instant_of, Adds}
 use Rattle.audit_report.specs.Findings.{IsRefusedWith, ReactsOtherwise}
-
--- the instant that an action keeps, if it is a step
-abbrev pub instant_of : Action → Option PastInstant
-instant_of (Step i) = Some i
-instant_of _ = None
 
 -- the instant that an entry keeps, if there is one and it is a step
 abbrev pub instant_in : Option SlotEntry → Option PastInstant
@@ -32,11 +26,7 @@ last_instant entries = instant_in (slice_get entries (length entries - 1))
 
 -- where the action is a step, the last of the entries keeps its instant
 abbrev pub KeepsInstant : List SlotEntry → Action → Type 0
-KeepsInstant entries (Load l) = Unit {0}
-KeepsInstant entries (Offer signal) = Unit {0}
-KeepsInstant entries Discard = Unit {0}
-KeepsInstant entries (Step i) = last_instant entries ≡ Some i
-KeepsInstant entries Unload = Unit {0}
+KeepsInstant entries action = MatchOption (instant_of action) (Unit {0}) (λ i. last_instant entries ≡ Some i)
 
 -- the fault of an entry whose command is refused so
 abbrev pub fault_of : Refusal → Fault
