@@ -57,7 +57,7 @@ abbrev pub Same : {S : Type 0} (r s : Reply) (a b : S) → Type 0
 Same r s a b = (r ≡ s) × (a ≡ b)
 
 -- other words for the refusals and for what follows
-mapped : {R : Type 0} (rules : Rules R) (Before Other : R → Type 0) (Next Then : Type 0)
+pub mapped : {R : Type 0} (rules : Rules R) (Before Other : R → Type 0) (Next Then : Type 0)
     → ((refusal : R) → Before refusal → Other refusal) → (Next → Then) → Answers rules Before Next
     → Answers rules Other Then
 mapped accept Before Other Next Then refuses goes_on h = goes_on h
@@ -66,13 +66,13 @@ mapped (rule ▸ later) Before Other Next Then refuses goes_on (inl r) =
 mapped (rule ▸ later) Before Other Next Then refuses goes_on (inr p) =
     inr (record { passed = p.passed; next = mapped later Before Other Next Then refuses goes_on p.next })
 
-same_err : {A B : Type 0} (x y : B) → (let r : Result A B = Err x in r) ≡ Err y → x ≡ y
+pub same_err : {A B : Type 0} (x y : B) → (let r : Result A B = Err x in r) ≡ Err y → x ≡ y
 same_err x y e = cc
 
-no_ok : {A B C : Type 0} (x : B) (y : A) → (let r : Result A B = Err x in r) ≡ Ok y → C
+pub no_ok : {A B C : Type 0} (x : B) (y : A) → (let r : Result A B = Err x in r) ≡ Ok y → C
 no_ok x y e = absurd cc
 
-no_err : {A B C : Type 0} (x : A) (y : B) → (let r : Result A B = Ok x in r) ≡ Err y → C
+pub no_err : {A B C : Type 0} (x : A) (y : B) → (let r : Result A B = Ok x in r) ≡ Err y → C
 no_err x y e = absurd cc
 
 -- what a load is answered, by its rules

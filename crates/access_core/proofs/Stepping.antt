@@ -16,6 +16,7 @@ use Rattle.reactor_core.specs.Meaning.{is_loaded, instants_of}
 use Rattle.reactor_core.specs.Instants.{IsOutcome, AddsInstant, SettledInstant, CommitAnswer, OpenAnswer}
 use Rattle.reactor_core.specs.Instants.{KeepsRelations}
 use Rattle.reactor_core.proofs.OneMeaning.{OneModule, is_loaded_where, not_both, ready_or_lacking}
+use Rattle.reactor_core.proofs.Joining.{no_ok, same_err}
 use Rattle.access_core.specs.declared.command.SlotCommand.{SlotCommand}
 use Rattle.access_core.specs.declared.command.SlotCommand.TheVariants.{Step}
 use Rattle.access_core.specs.declared.refusal.Refusal.{Refusal}
@@ -27,6 +28,7 @@ use Rattle.access_core.specs.Answering.{ByRules, no_memory}
 use Rattle.access_core.specs.SlotStep.{SlotStep, no_permission, empty, NamesUndecided, no_reaction, journal_full}
 use Rattle.access_core.specs.SlotStep.{settle_rules, step_rules, implied, Steps, stamp_of}
 use Rattle.access_core.specs.StuckSteps.{ReachesReactor, IsStuckExactly}
+use Rattle.est_relations.proofs.OffersKeep.{no_fault}
 
 module _ (stamp : Stamp) (settled : SettledInstant) (refused : ReactorRefusal × List SlotEntry) where
   abbrev answer : Result (List SlotEntry) (ReactorRefusal × List SlotEntry)
@@ -97,24 +99,15 @@ step_stuck entries slot session stamp before refusal after (inl memory) same =
 step_stuck entries slot session stamp before refusal after (inr named) same =
     pass (record {}) (refuse refusal named (record { replied = refl; stays = same }))
 
-no_err : {A E : Type 0} (x : A) (e : E) → Ok x ≡ Err e → ⊥
-no_err x e h = cc
-
-no_ok : {A E : Type 0} (x : A) (e : E) → Err e ≡ Ok x → ⊥
-no_ok x e h = cc
-
 same_ok : {A E : Type 0} (a b : A) → ◌≡◌ {A = Result A E} (Ok a) (Ok b) → a ≡ b
 same_ok a b h = cc
-
-same_err : {A E : Type 0} (a b : E) → ◌≡◌ {A = Result A E} (Err a) (Err b) → a ≡ b
-same_err a b h = cc
 
 module _ (entries : List Entry) (slot session : ℕ) (stamp : Stamp) (before : List SlotEntry) where
   -- an instant that is opened
   pub step_opened : (opened : List SlotEntry) (reply : Reply) (after : List SlotEntry) → OpenAnswer before (Ok opened)
       → ByRules (settle_rules entries slot session opened) (Steps stamp) opened reply after
       → ByRules (step_rules entries slot session before) (Steps stamp) before reply after
-  step_opened opened reply after (inl lacks) h = absurd (no_err opened (lacks.refusal, before) lacks.answered)
+  step_opened opened reply after (inl lacks) h = absurd (no_fault opened (lacks.refusal, before) lacks.answered)
   step_opened opened reply after (inr passes) h =
       let same : opened ≡ before = same_ok opened before passes.next in
       pass passes.passed

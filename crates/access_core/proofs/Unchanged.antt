@@ -23,7 +23,7 @@ use Rattle.access_core.specs.Desk.{DeskState, AdminStep, DeskStep, InSlot, Appen
 use Rattle.access_core.specs.Desk.{change_of}
 
 -- a place that is set to what stands there
-same_place : (slots : List SlotState) (number : ℕ) (slot : SlotState) → slice_get slots number ≡ Some slot
+pub same_place : (slots : List SlotState) (number : ℕ) (slot : SlotState) → slice_get slots number ≡ Some slot
     → slice_set slots number slot ≡ slots
 same_place [] number slot there = refl
 same_place (first ∷ others) zero slot there = let e : first ≡ slot = cc in ap (λ s. s ∷ others) (sym e)

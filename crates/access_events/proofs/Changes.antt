@@ -16,7 +16,7 @@ use Rattle.rbac_policy.specs.declared.commands.Entry.{Entry}
 use Rattle.rbac_admin.specs.declared.refusals.Refusal.{Refusal as PolicyRefusal}
 use Rattle.rbac_admin.specs.PolicyStep.{PolicyStep, entry_of, policy_rules}
 use Rattle.rbac_admin.specs.Room.{HasRoomFor}
-use Rattle.rbac_admin.proofs.Accepted.{accepted_administers}
+use Rattle.rbac_admin.proofs.Accepted.{accepted_administers, accepted_entry}
 use Rattle.reactor_core.specs.Meaning.{entry}
 use Rattle.access_core.specs.declared.command.SlotCommand.{SlotCommand}
 use Rattle.access_core.specs.declared.refusal.Refusal.{Refusal}
@@ -28,7 +28,7 @@ use Rattle.access_core.specs.SlotState.{SlotState}
 use Rattle.access_core.specs.SlotStep.{no_session}
 use Rattle.access_core.specs.Desk.{DeskState, desk_at, AdminStep, InSlot, Appends, list_full, no_slot, accepted_reply}
 use Rattle.access_core.specs.Desk.{reply_of_change, change_of}
-use Rattle.access_core.proofs.Unchanged.{accepted_is_allowed}
+use Rattle.access_core.proofs.Unchanged.{accepted_is_allowed, same_place}
 use Rattle.access_events.specs.declared.event.Event.{Event}
 use Rattle.access_events.specs.declared.event.Event.TheVariants.{Admin, OnSlot}
 use Rattle.access_events.specs.Changes.{Changes}
@@ -36,13 +36,6 @@ use Rattle.access_events.specs.Changing.{Tells}
 use Rattle.access_events.specs.Runs.{WorldState, Moment, EventStep, Comes, desk_of, version_rules, Judged}
 use Rattle.access_events.proofs.Following.{reached}
 use Rattle.access_events.proofs.Moving.{moves, not_accepted}
-
--- a place that is set to what stands there
-same_place : (slots : List SlotState) (number : ℕ) (slot : SlotState) → slice_get slots number ≡ Some slot
-    → slice_set slots number slot ≡ slots
-same_place [] number slot there = refl
-same_place (first ∷ others) zero slot there = let e : first ≡ slot = cc in ap (λ s. s ∷ others) (sym e)
-same_place (first ∷ others) (suc number) slot there = ap (λ slots. first ∷ slots) (same_place others number slot there)
 
 -- the reply to an accepted policy command is no refusal
 pub accepted_change : (change : Option Change) (entries : List Entry) → IsAccepted (reply_of_change change entries)
@@ -54,16 +47,6 @@ no_refusal e refusal is = absurd cc
 
 same_entry : (e given : Entry) → (let r : Result Entry PolicyRefusal = Ok e in r) ≡ Ok given → e ≡ given
 same_entry e given is = cc
-
--- the entry of an accepted policy command is its own, with the session that gave it
-own_entry : (entries : List Entry) (session : Option ℕ) (command : AdminCommand) (e : Entry)
-    → PolicyStep entries session command (Ok e)
-    → e ≡ entry_of session command
-own_entry entries session command e step =
-    same_entry e (entry_of session command)
-    (all_passed (policy_rules entries session command)
-    (λ refusal. (let r : Result Entry PolicyRefusal = Ok e in r) ≡ Err refusal)
-    ((let r : Result Entry PolicyRefusal = Ok e in r) ≡ Ok (entry_of session command)) (no_refusal e) step).1
 
 -- the entry of a command has this command
 own_command : (session : Option ℕ) (command : AdminCommand) → (entry_of session command).command ≡ command
@@ -154,7 +137,7 @@ module _ (m : Moment) where
     appends : (e : Entry) → PolicyStep m.before.entries session command (Ok e) → HasRoomFor e.command m.before.entries
         → Appends e (desk_of m.before) m.reply (desk_of m.after) → Changes (Admin seat session command) m
     appends e given room h =
-        let is : e ≡ entry_of session command = own_entry m.before.entries session command e given in
+        let is : e ≡ entry_of session command = accepted_entry m.before.entries session command e given in
         let gives : e.command ≡ command = ap (λ (x : Entry). x.command) is ∙ own_command session command in inl (
           subst IsAccepted (sym h.replied) (accepted_change (change_of e.command) m.before.entries),
           record {

@@ -28,6 +28,7 @@ use Rattle.access_core.specs.Desk.{desk_at, AdminStep, DeskStep, InSlot, Appends
 use Rattle.access_core.specs.Needs.{IsAccepted}
 use Rattle.access_core.specs.SlotStep.{SlotStep, Loads, Offers, AddsEntry, Audits, stamp_of, journal_full}
 use Rattle.access_core.specs.SlotStep.{entry_rules as slot_entry_rules}
+use Rattle.access_core.proofs.OneSlotStep.{mapped, same_err, no_ok, no_err}
 use Rattle.access_events.specs.declared.event.Event.{Event}
 use Rattle.access_events.specs.declared.event.Event.TheVariants.{Admin, OnSlot}
 use Rattle.access_events.specs.Denying.{told_as, all_told_as, bad_offer, asked_rules, command_rules, rules_of}
@@ -50,16 +51,6 @@ named rules reply h =
     (λ first. subst (AnswersBy rules) (sym first.2) first.1)
     (λ none. answers_by rules reply none.1 none.0)
     (first_or_none rules (λ refusal. reply ≡ Refused refusal) (IsAccepted reply) h)
-
--- other words for the refusals and for what follows
-mapped : {R : Type 0} (rules : Rules R) (Before Other : R → Type 0) (Next Then : Type 0)
-    → ((refusal : R) → Before refusal → Other refusal) → (Next → Then)
-    → Answers rules Before Next → Answers rules Other Then
-mapped accept Before Other Next Then refuses goes_on h = goes_on h
-mapped (rule ▸ later) Before Other Next Then refuses goes_on (inl r) =
-    inl (record { refusal = r.refusal; given = r.given; answered = refuses r.refusal r.answered })
-mapped (rule ▸ later) Before Other Next Then refuses goes_on (inr p) =
-    inr (record { passed = p.passed; next = mapped later Before Other Next Then refuses goes_on p.next })
 
 -- rules of a crate below, told as those of a request
 told : {R : Type 0} (tell : R → Refusal) (rules : Rules R) (Before : R → Type 0) (After : Refusal → Type 0)
@@ -87,15 +78,6 @@ on goes_on (inr p) = inr (record { passed = p.passed; next = goes_on p.passed p.
 -- the rules for an offer of this name to what runs
 abbrev asked_of : Running → (name : List ℕ) → Rules ReactorRefusal
 asked_of running name = all_converted refusal_of_pending (pending_rules (pending_of running) name)
-
-same_err : {A B : Type 0} (x y : B) → (let r : Result A B = Err x in r) ≡ Err y → x ≡ y
-same_err x y e = cc
-
-no_ok : {A B C : Type 0} (x : B) (y : A) → (let r : Result A B = Err x in r) ≡ Ok y → C
-no_ok x y e = absurd cc
-
-no_err : {A B C : Type 0} (x : A) (y : B) → (let r : Result A B = Ok x in r) ≡ Err y → C
-no_err x y e = absurd cc
 
 same_ok : {A B : Type 0} (x y : A) → (let r : Result A B = Ok x in r) ≡ Ok y → x ≡ y
 same_ok x y e = cc

@@ -16,6 +16,7 @@ use Rattle.access_core.specs.declared.reply.Reply.TheVariants.{Refused}
 use Rattle.access_core.specs.Needs.{IsAccepted}
 use Rattle.access_core.specs.SlotState.{SlotState}
 use Rattle.access_core.specs.SlotStep.{SlotStep}
+use Rattle.access_core.proofs.Running.{instant_within}
 use Rattle.access_events.specs.declared.event.Event.TheVariants.{OnSlot}
 use Rattle.access_events.specs.Accepting.{MeetsNoLimit, HasInstant}
 use Rattle.access_events.specs.Runs.{Moment, EventStep, Comes, journal_in, journal_at}
@@ -30,12 +31,6 @@ loaded_below slots slot sixteen loaded = by_option (slice_get slots slot) refl w
   by_option : (o : Option SlotState) → slice_get slots slot ≡ o → slot < 16
   by_option None is = let none : false ≡ true = sym (ap (λ o. is_loaded (journal_in o)) is) ∙ loaded in absurd cc
   by_option (Some s) is = omega (arith, slice_get_within slots slot s is, sixteen)
-
--- an instant that is there is not missing
-not_missing : (journal : List SlotEntry) (n : ℕ) (i : PastInstant) → IsInstant journal n i → HasNoInstant journal n → ⊥
-not_missing journal n i there (inl none) = omega (arith, there.counted, none)
-not_missing journal n i there (inr short) =
-    omega (arith, there.counted, short, slice_get_within (instants_of journal) (n - 1) i there.there)
 
 -- a look that reaches its slot is answered where the instant is there
 look_accepted : (entries : List Entry) (slot session n : ℕ) (before : List SlotEntry) (reply : Reply)
@@ -68,6 +63,6 @@ look_law past m seat version slot session n comes is limit =
           (loaded_below m.before.slots slot (sixteen_slots past m comes) all.1)
           (λ after h. look_accepted (take version m.before.entries) slot session n
           (journal_at m.before slot) m.reply after limit all.0 all.1
-          (not_missing (journal_at m.before slot) n all.2.0 all.2.1) h)
+          (instant_within (journal_at m.before slot) n all.2.0 all.2.1) h)
           step,
     )

@@ -1,7 +1,7 @@
 -- Which names stand in a set of signals.
 use Rattle.std.proofs.Common.{◌≡◌, ◌⊎◌, ◌↔◌, ℕ, Bool, true, false, ◌||◌, List, refl, sym, ◌∙◌, ap, inl, inr, get_or}
 use Rattle.std.specs.Prelude.{Some, nat_eq, bit_or, ◌^◌}
-use Rattle.std.proofs.lemmas.Bool.{false≢true}
+use Rattle.std.proofs.lemmas.Bool.{false≢true, or_right as second}
 use Rattle.std.proofs.lemmas.Bool.Decides.{Decides-eqb}
 use Rattle.std.proofs.lemmas.Slice.Eq.{bytes_eq-Decides}
 use Rattle.std.proofs.lemmas.List.Quantifiers.{position-Some}
@@ -11,6 +11,7 @@ use Rattle.est_kernel.specs.declared.interface.Declaration.{Declaration}
 use Rattle.est_kernel.specs.declared.interface.Kind.TheVariants.{Input}
 use Rattle.est_kernel.proofs.Masks.{bits_or, bits_pow, bits_zero}
 use Rattle.est_relations.specs.Offers.{place_of}
+use Rattle.est_relations.proofs.Members.{or_true}
 use Rattle.reactor_core.specs.Meaning.{with_signal}
 use Rattle.access_events.specs.Entering.{StandsIn}
 
@@ -24,14 +25,6 @@ one_name ds a b place one other =
     sym ((bytes_eq-Decides (get_or ds place d).name a).0 first.1)
     ∙ (bytes_eq-Decides (get_or ds place d).name b).0 second.1
 
-either : (a b : Bool) → (a || b) ≡ true → (a ≡ true) ⊎ (b ≡ true)
-either true b h = inl refl
-either false b h = inr h
-
-second : (a b : Bool) → b ≡ true → (a || b) ≡ true
-second true b h = refl
-second false b h = h
-
 -- what stands after an offer: what stood before, and what was offered
 pub offered_stands : (ds : List Declaration) (pending : ℕ) (signal name : List ℕ) (place : ℕ)
     → place_of ds signal ≡ Some place
@@ -41,7 +34,7 @@ offered_stands ds pending signal name place there =
     let has : (q : ℕ) → bits (with_signal pending (place_of ds signal)) q ≡ (bits pending q || nat_eq place q) =
     λ q. ap (λ m. bits m q) mask
     ∙ (bits_or pending (2 ^ place) q ∙ ap (λ b. bits pending q || b) (bits_pow place q)) in (
-      λ h. elim (either (bits pending h.place) (nat_eq place h.place) (sym (has h.place) ∙ h.set)) [
+      λ h. elim (or_true (bits pending h.place) (nat_eq place h.place) (sym (has h.place) ∙ h.set)) [
         | inl old ↦ inr (record { place = h.place; there = h.there; set = old })
         | inr new ↦
             inl (one_name ds signal name place there (h.there ∙ ap Some (sym ((Decides-eqb place h.place).0 new))))

@@ -12,6 +12,7 @@ use Rattle.reactor_core.specs.contracts.journal.Journal as journal
 use Rattle.reactor_core.specs.contracts.reactor.Reactor as reactor
 use Rattle.access_core.specs.contracts.slot.Slot as slot
 use Rattle.policy_board.specs.declared.history.BoardName.{Ghosts}
+use Rattle.policy_board.proofs.SharedBoards.{option_sends}
 use Rattle.policy_board.specs.contracts.reader.SlotReader as reader
 use Rattle.slot_table.specs.contracts.slot.LockedSlot as locked
 use Rattle.slot_table.specs.contracts.slot.LockedSlot.TheInside as inside
@@ -27,9 +28,6 @@ reactor_sends = search (journal_sends, statement.crosses, test.crosses, crosses,
 slot_sends : IsSend slot.the_row
 slot_sends = search (journal_sends, reactor_sends, statement.crosses, test.crosses, crosses, maps.crosses, sendable)
     depth 60 fits 20000
-
-option_sends : (R : RattleType) → IsSend R → IsSend (option.the_field R).row
-option_sends R sends = search sendable depth 12
 
 module _ (B : RattleType) (g : Ghosts B.Denot) (reader_sends : IsSend (reader.the_row B g)) where
   inside_sends : (N : RattleType) → IsSend (inside.the_row B N g)

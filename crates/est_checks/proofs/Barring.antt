@@ -1,7 +1,7 @@
 -- Names of a module that is run, for none of which the run is refused.
 use Rattle.std.proofs.Common.{◌≡◌, ◌||◌, ◌&&◌, not, ℕ, List, Option, Some, None, Bool, true, false, map, option_map}
 use Rattle.std.proofs.Common.{refl, ap, sym, ◌∙◌, subst}
-use Rattle.std.proofs.lemmas.Bool.{false≢true, true≢false}
+use Rattle.std.proofs.lemmas.Bool.{false≢true, true≢false, and_from}
 use Rattle.std.specs.List.{find, list_any}
 use Rattle.std.specs.Str.{bytes_eq}
 use Rattle.est_syntax.specs.Tree.{RenamingTree}
@@ -13,7 +13,7 @@ use Rattle.est_modules.specs.Renamings.{is_renamed, renamed, callers_name}
 use Rattle.est_modules.specs.Visible.{is_local, is_tick, stands_in}
 use Rattle.est_modules.specs.declared.head.Declared.{Declared}
 use Rattle.est_modules.proofs.Lists.{any_map}
-use Rattle.est_modules.proofs.Testing.{and_both, found_passes, none_found, other_fails, same_bytes}
+use Rattle.est_modules.proofs.Testing.{found_passes, none_found, other_fails, same_bytes}
 use Rattle.est_checks.specs.Emissions.{is_refused, is_refused_in_run, refused_in_run}
 use Rattle.est_checks.specs.Inner.Emitted.{sent_in}
 use Rattle.est_checks.proofs.Leaving.{and_false, stands_left}
@@ -83,7 +83,7 @@ one_allowed : (em : List ℕ → List ℕ → Bool) (p : Program) (bs : List Bin
 unfolding is_refused_in_run
 one_allowed em p bs rs m q s true so all here =
     let names = map (λ (d : Declared). d.name) q.interface in
-    all (stands_left (em m) names s ∙ and_both (em m s) (stands_in names s) so here)
+    all (stands_left (em m) names s ∙ and_from (em m s) (stands_in names s) so here)
 one_allowed em p bs rs m q s false so all here = ap (λ b. b && is_refused p bs (renamed rs s)) so
 
 -- where the run is refused for none of the names that the module emits, it is not refused

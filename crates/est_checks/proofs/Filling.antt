@@ -23,6 +23,8 @@ use Rattle.est_modules.specs.Modules.{Program}
 use Rattle.est_checks.specs.Counting.{counted, AreCounts, IsCountOf, IsWithinLimit}
 use Rattle.est_modules.specs.ModuleOrders.{place_named, places_run, run_rows, IsOrderOf}
 use Rattle.est_modules.proofs.Ordering.{IsRunOf, run_is_run}
+use Rattle.est_modules.proofs.Testing.{some_same}
+use Rattle.est_modules.proofs.Standing.{program_at}
 use Rattle.est_checks.specs.Inner.Numbers.{number_found, number_of, IsFilled}
 
 -- ---- counting by numbers that are cut alike, or that are the same for what is run
@@ -172,20 +174,12 @@ in_take (y ∷ xs) zero i x l e = absurd (omega (arith, l))
 in_take (y ∷ xs) (suc n) zero x l e = e
 in_take (y ∷ xs) (suc n) (suc i) x l e = in_take xs n i x (omega (arith, l)) e
 
-same_some : {X : Type 0} (a b : X) → Some a ≡ Some b → a ≡ b
-same_some a b e = ap (λ o. unwrap_or o a) e
-
 -- an element of the first k + 1 is among the first k, or at k
 in_front : (order : List ℕ) (k i place : ℕ) → slice_get (take (k + 1) order) i ≡ Some place
     → (i < k + 1) × (slice_get order i ≡ Some place) × (i < k → slice_get (take k order) i ≡ Some place)
 in_front order k i place e =
     let front = of_front order (k + 1) i place e in
     (front.0, front.1, λ l. in_take order k i place l front.1)
-
-program_at : (ps : List Program) (i : ℕ) → i < length ps → (p : Program) × (slice_get ps i ≡ Some p)
-program_at [] i l = absurd (omega (arith, l))
-program_at (p ∷ ps) zero l = (p, refl)
-program_at (p ∷ ps) (suc i) l = program_at ps i (omega (arith, l))
 
 -- the number of a module that is not at the place is unchanged
 other_number : (whole : List ℕ) (place count : ℕ) (o : Option ℕ) → ((j : ℕ) → o ≡ Some j → j ≡ place → ⊥)
@@ -236,7 +230,7 @@ filling_goes_on ps order table k place number is_order k_in at there counts h =
           elim (cases_eq other place) [
             | inl e ↦
                 let is_p : program ≡ p =
-                same_some program p (sym found.1 ∙ subst (λ n. slice_get ps n ≡ Some p) e p_at) in
+                some_same program p (sym found.1 ∙ subst (λ n. slice_get ps n ≡ Some p) e p_at) in
                 subst (λ n. slice_index whole n ≡ count) (sym e)
                 (get_or-set_same h.whole place count 0 (omega (arith, there, h.each)))
                 ∙ ap (λ (q : Program). counted (number_of ps h.whole) q.body) is_p ∙ same

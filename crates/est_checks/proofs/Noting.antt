@@ -3,10 +3,11 @@ use mathlib.Core.Path.{fun_ext}
 use Rattle.std.proofs.Common.{◌≡◌, ◌<◌, ◌⊎◌, inl, inr, ◌||◌, ◌&&◌, not, ℕ, zero, suc, ◌+◌, take, List, [], ◌∷◌, map}
 use Rattle.std.proofs.Common.{length, nat_eq, Option, Some, None, Bool, true, get_or, false, cond, refl, ap, sym, ◌∙◌}
 use Rattle.std.proofs.Common.{subst}
-use Rattle.std.proofs.lemmas.Bool.{false≢true}
+use Rattle.std.proofs.lemmas.Bool.{false≢true, or_right, or_left, or_parts, and_from, not_from_false}
 use Rattle.std.specs.List.{list_any, find, fold, slice_get}
 use Rattle.std.specs.Prelude.{codes, is_some}
 use Rattle.std.specs.Str.{bytes_eq}
+use Rattle.std.proofs.lemmas.Map.Keys.{any_passes_from_place}
 use Rattle.est_syntax.specs.Tree.{RenamingTree}
 use Rattle.est_syntax.specs.Views.{renaming_view}
 use Rattle.est_syntax.specs.declared.tree.Renaming.{Renaming}
@@ -26,12 +27,13 @@ use Rattle.est_modules.proofs.Lists.{any_map}
 use Rattle.est_modules.proofs.Numbering.{any_next}
 use Rattle.est_modules.proofs.TellingNumbers.{adds_none, adds_same, adds_number, passes_none, passes_or}
 use Rattle.est_modules.proofs.TellingNumbers.{passes_and, unnamed}
-use Rattle.est_modules.proofs.Testing.{or_left, or_right, or_other, and_both, not_true, same_bytes, same_or, or_assoc}
-use Rattle.est_modules.proofs.Testing.{or_turned, or_parts, equal_bytes, found_passes, any_at, same_tests}
+use Rattle.est_modules.proofs.Testing.{or_other, same_bytes, same_or, or_assoc}
+use Rattle.est_modules.proofs.Testing.{or_turned, equal_bytes, found_passes, same_tests}
 use Rattle.est_checks.specs.Emissions.{emits_by, emits_in_run, emits_here}
 use Rattle.est_checks.specs.Inner.Noted.{is_noted, sends, sends_renamed, noted_after}
 use Rattle.est_checks.proofs.Deciding.{both, either}
 use Rattle.est_checks.proofs.Leaving.{and_false, distributed, names_sent}
+use Rattle.est_order.proofs.SearchLemmas.{not_false}
 
 -- ---- tests
 
@@ -44,10 +46,6 @@ turned a b =
     same_tests (bytes_eq a b) (bytes_eq b a)
     (λ h. subst (λ n. bytes_eq n a ≡ true) (same_bytes a b h) (equal_bytes a))
     (λ h. subst (λ n. bytes_eq n b ≡ true) (same_bytes b a h) (equal_bytes b))
-
-pub of_not : (b : Bool) → not b ≡ true → b ≡ false
-of_not true h = absurd (false≢true h)
-of_not false h = refl
 
 -- an element that passes a test, of a list that has one
 pub any_found : {X : Type 0} (p : X → Bool) (xs : List X) → list_any p xs ≡ true
@@ -85,26 +83,26 @@ sent_apart em q rs s h =
           let r : RenamingTree = g.1 in
           let same : r.inner ≡ d.name = same_bytes r.inner d.name g.3 in
           let declared : is_declared q.interface r.inner ≡ true =
-          any_at (λ (e : Declared). bytes_eq e.name r.inner) q.interface f.0 d f.2
+          any_passes_from_place (λ (e : Declared). bytes_eq e.name r.inner) q.interface f.0 d f.2
           (subst (λ n. bytes_eq d.name n ≡ true) (sym same) (equal_bytes d.name)) in
           let sends : em q.name r.inner ≡ true = subst (λ n. em q.name n ≡ true) (sym same) parts.0 in
           let named : bytes_eq (renamed rs r.inner) s ≡ true =
           subst (λ n. bytes_eq (renamed rs n) s ≡ true) (sym same) parts.1 in
           or_right (not (is_renamed rs s) && emits_in_run em s [] (Some q)) (sends_renamed em q rs rs s)
-          (any_at (λ (r : RenamingTree). (is_declared q.interface r.inner && em q.name r.inner)
+          (any_passes_from_place (λ (r : RenamingTree). (is_declared q.interface r.inner && em q.name r.inner)
           && bytes_eq (renamed rs r.inner) s) rs g.0 r g.2
-          (and_both (is_declared q.interface r.inner && em q.name r.inner) (bytes_eq (renamed rs r.inner) s)
-          (and_both (is_declared q.interface r.inner) (em q.name r.inner) declared sends) named))
+          (and_from (is_declared q.interface r.inner && em q.name r.inner) (bytes_eq (renamed rs r.inner) s)
+          (and_from (is_declared q.interface r.inner) (em q.name r.inner) declared sends) named))
       | inr not_so ↦
           let is_s : d.name ≡ s = sym (keeps_name rs d.name not_so) ∙ same_bytes (renamed rs d.name) s parts.1 in
-          let free : not (is_renamed rs s) ≡ true = not_true (is_renamed rs s)
+          let free : not (is_renamed rs s) ≡ true = not_from_false (is_renamed rs s)
           (subst (λ n. is_renamed rs n ≡ false) is_s not_so) in
           let plain : emits_in_run em s [] (Some q) ≡ true =
-          any_at (λ (e : Declared). em q.name e.name && bytes_eq e.name s) q.interface f.0 d f.2
-          (and_both (em q.name d.name) (bytes_eq d.name s) parts.0
+          any_passes_from_place (λ (e : Declared). em q.name e.name && bytes_eq e.name s) q.interface f.0 d f.2
+          (and_from (em q.name d.name) (bytes_eq d.name s) parts.0
           (subst (λ n. bytes_eq d.name n ≡ true) is_s (equal_bytes d.name))) in
           or_left (not (is_renamed rs s) && emits_in_run em s [] (Some q)) (sends_renamed em q rs rs s)
-          (and_both (not (is_renamed rs s)) (emits_in_run em s [] (Some q)) free plain)
+          (and_from (not (is_renamed rs s)) (emits_in_run em s [] (Some q)) free plain)
     ]
 
 sent_whole : (em : List ℕ → List ℕ → Bool) (q : Program) (rs : List RenamingTree) (s : List ℕ)
@@ -119,9 +117,9 @@ sent_whole em q rs s h =
           let at = both (em q.name d.name) (bytes_eq d.name s) f.3 in
           let is_s : d.name ≡ s = same_bytes d.name s at.1 in
           let keeps : renamed rs d.name ≡ d.name = keeps_name rs d.name
-          (subst (λ n. is_renamed rs n ≡ false) (sym is_s) (of_not (is_renamed rs s) parts.0)) in
-          any_at (λ (e : Declared). em q.name e.name && bytes_eq (renamed rs e.name) s) q.interface f.0 d f.2
-          (and_both (em q.name d.name) (bytes_eq (renamed rs d.name) s) at.0
+          (subst (λ n. is_renamed rs n ≡ false) (sym is_s) (not_false (is_renamed rs s) parts.0)) in
+          any_passes_from_place (λ (e : Declared). em q.name e.name && bytes_eq (renamed rs e.name) s) q.interface f.0 d f.2
+          (and_from (em q.name d.name) (bytes_eq (renamed rs d.name) s) at.0
           (subst (λ n. bytes_eq n s ≡ true) (sym keeps) at.1))
       | inr other ↦
           let g = any_found
@@ -134,8 +132,8 @@ sent_whole em q rs s h =
           let f = any_found (λ (d : Declared). bytes_eq d.name r.inner) q.interface sends.0 in
           let d : Declared = f.1 in
           let same : r.inner ≡ d.name = sym (same_bytes d.name r.inner f.3) in
-          any_at (λ (e : Declared). em q.name e.name && bytes_eq (renamed rs e.name) s) q.interface f.0 d f.2
-          (and_both (em q.name d.name) (bytes_eq (renamed rs d.name) s) (subst (λ n. em q.name n ≡ true) same sends.1)
+          any_passes_from_place (λ (e : Declared). em q.name e.name && bytes_eq (renamed rs e.name) s) q.interface f.0 d f.2
+          (and_from (em q.name d.name) (bytes_eq (renamed rs d.name) s) (subst (λ n. em q.name n ≡ true) same sends.1)
           (subst (λ n. bytes_eq (renamed rs n) s ≡ true) same parts.1))
     ]
 

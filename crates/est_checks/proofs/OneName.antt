@@ -5,10 +5,11 @@ use Rattle.std.proofs.lemmas.Option.{none-some}
 use Rattle.std.proofs.lemmas.List.Folds.{list_any-append}
 use Rattle.std.specs.List.{slice_get}
 use Rattle.std.specs.Str.{bytes_eq}
+use Rattle.std.proofs.lemmas.Bool.{or_parts}
 use Rattle.est_modules.specs.Visible.{stands_in}
 use Rattle.est_checks.specs.Duplicates.{duplicate_of, duplicate_after, redeclared_in}
 use Rattle.est_modules.specs.Modules.{Program, program_named}
-use Rattle.est_modules.proofs.Testing.{or_parts, or_none_parts, some_same, equal_bytes}
+use Rattle.est_modules.proofs.Testing.{or_none_parts, some_same, equal_bytes}
 
 unseen : (b : Bool) (n : List ℕ) (o : Option (List ℕ)) → (if b then Some n else o) ≡ None → b ≡ false
 unseen true n o h = absurd (none-some n (sym h))

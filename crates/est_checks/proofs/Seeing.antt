@@ -1,10 +1,11 @@
 -- A module that uses no name that isn't visible emits no others than it declares, or `tick`.
 use Rattle.std.proofs.Common.{◌≡◌, ◌||◌, ◌&&◌, not, inl, inr, ℕ, List, Option, Some, None, Bool, true, false}
 use Rattle.std.proofs.Common.{option_map, ◌<◌, length, get_or, map, refl, ap, sym, ◌∙◌}
-use Rattle.std.proofs.lemmas.Bool.{false≢true, true≢false}
+use Rattle.std.proofs.lemmas.Bool.{false≢true, true≢false, or_right, or_left}
 use Rattle.std.proofs.lemmas.Option.{none-some, slice_get_read, slice_get-map}
 use Rattle.std.specs.List.{list_any, find, slice_get}
 use Rattle.std.specs.Str.{bytes_eq}
+use Rattle.std.proofs.lemmas.Map.Keys.{any_passes_from_place}
 use Rattle.est_syntax.specs.Tree.{RenamingTree}
 use Rattle.est_modules.specs.Modules.{Program, program_named, program_of, is_declared}
 use Rattle.est_modules.specs.Occurrences.{Binder, Act, emits, tests, exits, binds, runs, Occurrence, first_of}
@@ -13,18 +14,19 @@ use Rattle.est_modules.specs.Visible.{is_local, is_tick, is_visible}
 use Rattle.est_modules.specs.declared.head.Declared.{Declared}
 use Rattle.est_modules.specs.declared.head.Head.{Head}
 use Rattle.est_modules.proofs.Standing.{first_none}
-use Rattle.est_modules.proofs.Testing.{or_other, or_none_parts, map_none, none_found, none_at, other_fails, not_false}
-use Rattle.est_modules.proofs.Testing.{any_at, or_left, or_right, same_bytes}
+use Rattle.est_modules.proofs.Testing.{or_other, or_none_parts, map_none, none_found, none_at, other_fails}
+use Rattle.est_modules.proofs.Testing.{same_bytes}
 use Rattle.est_checks.specs.Emissions.{emits_in_run, emits_by, emits_here}
 use Rattle.est_checks.specs.UnknownNames.{unless, is_unbound, unknown_renaming, unknown_in_run, unknown_act, unknown_at}
 use Rattle.est_checks.proofs.Deciding.{both, either}
-use Rattle.est_checks.proofs.Noting.{any_found, keeps_name, of_not}
+use Rattle.est_checks.proofs.Noting.{any_found, keeps_name}
+use Rattle.est_order.proofs.SearchLemmas.{not_false as of_not, is_true}
 
 -- the module declares the name, or it is `tick`
 abbrev pub is_outer : Program → List ℕ → Bool
 is_outer p s = is_declared p.interface s || is_tick s
 
-known : (b : Bool) (n : List ℕ) → unless b n ≡ None → b ≡ true
+pub known : (b : Bool) (n : List ℕ) → unless b n ≡ None → b ≡ true
 known true n h = refl
 known false n h = absurd (none-some n (sym h))
 
@@ -43,7 +45,7 @@ left_name : (p : Program) (bs : List Binder) (rs : List RenamingTree) (n : List 
 left_name p bs rs n None e so none =
     absurd (true≢false (sym so ∙ none_found (λ (r : RenamingTree). bytes_eq r.inner n) rs e))
 left_name p bs rs n (Some r) e so none =
-    not_false (is_visible p bs r.outer)
+    is_true (is_visible p bs r.outer)
     (other_fails (λ (r : RenamingTree). bytes_eq r.inner n) (λ (r : RenamingTree). not (is_visible p bs r.outer)) rs r
     none e)
 
@@ -57,7 +59,7 @@ bound_name p bs rs n true so none bound =
 bound_name p bs rs n false not_so none bound =
     ap (is_visible p bs) (keeps_name rs n not_so)
     ∙ or_other (is_renamed rs n) (is_visible p bs n) not_so
-    (not_false (is_renamed rs n || is_visible p bs n) bound)
+    (is_true (is_renamed rs n || is_visible p bs n) bound)
 
 seen_in_run : (em : List ℕ → List ℕ → Bool) (p : Program) (bs : List Binder) (s : List ℕ) (rs : List RenamingTree)
     (found : Option Program) → unknown_in_run p bs rs found ≡ None → is_local bs s ≡ false
@@ -119,6 +121,6 @@ numbered_here ps i p s numbered at all h =
     let declared = λ (p : Program). is_declared p.interface s in
     all
     (elim (either (is_declared p.interface s) (is_tick s) h) [
-      | inl own ↦ or_left (list_any declared ps) (is_tick s) (any_at declared ps i p at own)
+      | inl own ↦ or_left (list_any declared ps) (is_tick s) (any_passes_from_place declared ps i p at own)
       | inr tick ↦ or_right (list_any declared ps) (is_tick s) tick
     ])

@@ -3,7 +3,7 @@ use mathlib.Core.Path.{fun_ext}
 use Rattle.std.proofs.Common.{◌≡◌, ℕ, zero, suc, ◌+◌, ◌<◌, ◌≤◌, ◌⊎◌, inl, inr, List, [], ◌∷◌, ◌++◌, length, Bool, true}
 use Rattle.std.proofs.Common.{false, cond, not, ◌||◌, ◌&&◌, slice_index, Option, Some, None, option_map, Contains, refl}
 use Rattle.std.proofs.Common.{ap, sym, ◌∙◌, subst, arith}
-use Rattle.std.proofs.lemmas.Bool.{cases_lt, false≢true}
+use Rattle.std.proofs.lemmas.Bool.{cases_lt, false≢true, or_parts}
 use Rattle.std.proofs.lemmas.List.{length-map}
 use Rattle.std.proofs.lemmas.List.Elements.{Contains-append_right}
 use Rattle.std.proofs.lemmas.Option.{none-some, slice_get_within}
@@ -25,7 +25,7 @@ use Rattle.est_checks.proofs.OneName.{first_of_name, not_seen}
 use Rattle.est_modules.proofs.Standing.{found_place}
 use Rattle.est_modules.proofs.Ordering.{IsRunOf, run_is_run}
 use Rattle.est_modules.proofs.Positions.{position_cons}
-use Rattle.est_modules.proofs.Testing.{some_same, or_parts, or_none_parts, equal_bytes, same_bytes, found_passes}
+use Rattle.est_modules.proofs.Testing.{some_same, or_none_parts, equal_bytes, same_bytes, found_passes}
 use Rattle.est_order.proofs.OrderPlaces.{each_stands}
 
 -- ---- emissions by the same table, as far as it is asked

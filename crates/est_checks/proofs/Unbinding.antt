@@ -1,6 +1,6 @@
 -- Interface names of a module that is run, of which none is at fault.
 use Rattle.std.proofs.Common.{◌≡◌, ◌||◌, not, ℕ, List, [], ◌∷◌, None, Bool, true, false, map, option_map, refl, ap, sym}
-use Rattle.std.proofs.lemmas.Bool.{false≢true}
+use Rattle.std.proofs.lemmas.Bool.{false≢true, or_right, or_left}
 use Rattle.std.specs.List.{find}
 use Rattle.std.specs.Prelude.{Some}
 use Rattle.std.specs.Str.{bytes_eq}
@@ -10,7 +10,7 @@ use Rattle.est_modules.specs.Modules.{Program}
 use Rattle.est_modules.specs.Occurrences.{Binder}
 use Rattle.est_modules.specs.Visible.{is_visible, stands_in}
 use Rattle.est_modules.specs.declared.head.Declared.{Declared}
-use Rattle.est_modules.proofs.Testing.{or_left, or_right, equal_bytes}
+use Rattle.est_modules.proofs.Testing.{equal_bytes}
 use Rattle.est_checks.specs.Inner.InterfaceNames.{names_in}
 use Rattle.est_checks.specs.UnknownNames.{is_unbound, unknown_in_run}
 use Rattle.est_checks.proofs.Deciding.{passed_over}

@@ -5,7 +5,7 @@ use mathlib.Core.Path.{fun_ext}
 use Rattle.std.specs.Bool.{MatchBool}
 use Rattle.std.specs.List.{All}
 use Rattle.std.proofs.Common.{inl, inr}
-use Rattle.std.proofs.lemmas.Bool.{cases_Bool, false≢true}
+use Rattle.std.proofs.lemmas.Bool.{cases_Bool, false≢true, or_right, or_left}
 use Rattle.std.proofs.lemmas.List.Elements.{All-weaker}
 use Rattle.est_kernel.specs.Bits.{bits}
 use Rattle.est_kernel.specs.Interfaces.{emittable, offerable}
@@ -14,6 +14,7 @@ use Rattle.est_kernel.proofs.Masks.{bits_zero}
 use Rattle.est_meaning.specs.Knowledge.{IsIn}
 use Rattle.est_relations.specs.Keeping.{AreLawful}
 use Rattle.est_relations.specs.declared.relations.Relation.{Relation}
+use Rattle.est_relations.proofs.Answering.{and_first}
 use Rattle.est_cover.specs.InputSets.{may_offer, InputSet, IsAsked, HasInputs, HaveAllInputs}
 use Rattle.est_cover.specs.Inner.Parts.{AreWatched, HasPart, IsCovered}
 use Rattle.est_cover.specs.declared.asked.Asked.{Asked}
@@ -29,25 +30,13 @@ pub may_is : (ds : List Declaration) (among offer mask : ℕ) → bits offer ≡
     → ((n : ℕ) → bits mask n ≡ (bits offer n && bits among n)) → bits mask ≡ may_offer ds (bits among)
 may_is ds among offer mask e h = fun_ext (λ n. h n ∙ rw e refl)
 
-first_of : (a b : Bool) → (a && b) ≡ true → a ≡ true
-first_of true b h = refl
-first_of false b h = absurd (false≢true h)
-
-or_first : (a b : Bool) → a ≡ true → (a || b) ≡ true
-or_first true b e = refl
-or_first false b e = absurd (false≢true e)
-
-or_second : (a b : Bool) → b ≡ true → (a || b) ≡ true
-or_second true b e = refl
-or_second false b e = e
-
 pub watches : (ds : List Declaration) (among offer mask emit watched all : ℕ) → bits offer ≡ offerable ds
     → ((n : ℕ) → bits mask n ≡ (bits offer n && bits among n)) → bits emit ≡ emittable ds
     → ((n : ℕ) → bits all n ≡ (bits emit n || bits watched n)) → AreWatched ds offer mask all
 watches ds among offer mask emit watched all e h f k = record {
   all = e;
-  offered = λ n t. rw (← e) (first_of (bits offer n) (bits among n) (sym (h n) ∙ t));
-  emitted = λ n t u. k n ∙ or_first (bits emit n) (bits watched n) (rw f u);
+  offered = λ n t. rw (← e) (and_first (bits offer n) (bits among n) (sym (h n) ∙ t));
+  emitted = λ n t u. k n ∙ or_left (bits emit n) (bits watched n) (rw f u);
 }
 
 module _ {S A : Type 0} (answers : InputSet → A → Option S → Type 0) (is_state : S → Type 0) (may also : ℕ → Bool)
@@ -58,7 +47,7 @@ module _ {S A : Type 0} (answers : InputSet → A → Option S → Type 0) (is_s
       → IsAsked answers may relations (bits watched) s.label s.next
   fewer s h = record {
     lawful = h.lawful;
-    asks = λ n m w. h.asks n m (k n ∙ or_second (bits emit n) (bits watched n) w);
+    asks = λ n m w. h.asks n m (k n ∙ or_right (bits emit n) (bits watched n) w);
     answer = h.answer;
   }
 

@@ -4,7 +4,7 @@ use Rattle.std.proofs.Common.{sym, refl, inl, inr, None, length, get_or, subst, 
 use Rattle.std.proofs.lemmas.List.Folds.{list_all_at}
 use Rattle.std.specs.Prelude.{Some}
 use Rattle.std.specs.List.{find, list_any}
-use Rattle.std.proofs.lemmas.Bool.{cases_eq, cases_Bool, false≢true}
+use Rattle.std.proofs.lemmas.Bool.{cases_eq, cases_Bool, false≢true, or_left as or_first}
 use Rattle.est_kernel.specs.Bits.{bits}
 use Rattle.est_relations.specs.Keeping.{AreLawful, has_one_at_most, has_implied, keeps}
 use Rattle.est_relations.specs.declared.relations.Relation.{Relation}
@@ -51,10 +51,6 @@ not_another unasked inputs rest ms m n apart first out second set has one = elim
 pub record AreRest (unasked inputs m rest : ℕ) : Type 0 where
   pub out : bits rest m ≡ false
   pub other : (k : ℕ) → k ≢ m → bits rest k ≡ (bits inputs k || bits unasked k)
-
-or_first : (a b : Bool) → a ≡ true → (a || b) ≡ true
-or_first true b e = refl
-or_first false b e = absurd (false≢true e)
 
 or_left : (a b : Bool) → (a || b) ≡ true → b ≡ false → a ≡ true
 or_left true b e h = refl

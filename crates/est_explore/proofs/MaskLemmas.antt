@@ -11,6 +11,7 @@ use Rattle.est_kernel.proofs.Interfaces.{declares_beyond}
 use Rattle.est_kernel.proofs.Masks.{bits_or, bits_pow, bits_zero}
 use Rattle.est_meaning.specs.Knowledge.{IsIn}
 use Rattle.est_relations.specs.Offers.{with_place}
+use Rattle.est_relations.proofs.FirstBroken.{with_bits}
 use Rattle.est_cover.specs.InputSets.{InputSet}
 
 -- the mask has those of the set whose places are below p
@@ -21,9 +22,6 @@ record Below (p : ℕ) (set : InputSet) : Type 0 where
   mask : ℕ
   is : IsBelow p set mask
 
-with_place_bits : (m p n : ℕ) → bits (with_place m p) n ≡ (bits m n || nat_eq p n)
-with_place_bits m p n = bits_or m (2 ^ p) n ∙ ap (λ b. bits m n || b) (bits_pow p n)
-
 -- one more place
 same_below : (p : ℕ) (set : InputSet) (m : ℕ) → set p ≡ false → IsBelow p set m → IsBelow (suc p) set m
 same_below p set m out is n = elim (cases_eq n p) [
@@ -32,7 +30,7 @@ same_below p set m out is n = elim (cases_eq n p) [
 ]
 
 more_below : (p : ℕ) (set : InputSet) (m : ℕ) → set p ≡ true → IsBelow p set m → IsBelow (suc p) set (with_place m p)
-more_below p set m is_in is n = rw (with_place_bits m p n, is n) (elim (cases_eq n p) [
+more_below p set m is_in is n = rw (with_bits m p n, is n) (elim (cases_eq n p) [
   | inl e ↦ rw e (rw is_in (grind (arith, nat_tests)))
   | inr d ↦ grind (arith, nat_tests)
 ])

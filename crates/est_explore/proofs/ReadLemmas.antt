@@ -2,7 +2,7 @@
 use Rattle.std.proofs.Common.{◌≡◌, ◌∙◌, ℕ, ◌<◌, ◌+◌, Bool, true, false, ◌||◌, nat_eq, List, [], ◌∷◌}
 use Rattle.std.proofs.Common.{length, get_or, take, sym, refl, ap, subst}
 use Rattle.std.specs.List.{All, fold}
-use Rattle.std.proofs.lemmas.Bool.{eq-eqb, false≢true}
+use Rattle.std.proofs.lemmas.Bool.{eq-eqb, false≢true, or_right, or_left}
 use Rattle.std.proofs.lemmas.List.Elements.{All-head, All-more, All-tail, All-weaker}
 use Rattle.est_kernel.specs.Bits.{bits}
 use Rattle.est_kernel.specs.Term.{Query, Joint, tick, of, negated, joined, outer, inner}
@@ -45,20 +45,12 @@ joint_read c o s h f g a = h c f g a
 pub read_more : (q : Query) (s t : ℕ → Bool) → ((n : ℕ) → s n ≡ true → t n ≡ true) → IsReadBy q s → IsReadBy q t
 read_more q s t more h f g a = h f g (λ n x. a n (more n x))
 
-or_first : (a b : Bool) → a ≡ true → (a || b) ≡ true
-or_first true b e = refl
-or_first false b e = absurd (false≢true e)
-
-or_second : (a b : Bool) → b ≡ true → (a || b) ≡ true
-or_second true b e = refl
-or_second false b e = e
-
 pub in_first : (a b r : ℕ) → ((n : ℕ) → bits r n ≡ (bits a n || bits b n)) → (n : ℕ) → bits a n ≡ true → bits r n ≡ true
-in_first a b r h n t = h n ∙ or_first (bits a n) (bits b n) t
+in_first a b r h n t = h n ∙ or_left (bits a n) (bits b n) t
 
 pub in_second : (a b r : ℕ) → ((n : ℕ) → bits r n ≡ (bits a n || bits b n)) → (n : ℕ) → bits b n ≡ true
     → bits r n ≡ true
-in_second a b r h n t = h n ∙ or_second (bits a n) (bits b n) t
+in_second a b r h n t = h n ∙ or_right (bits a n) (bits b n) t
 
 -- what these ask is the same where the signals are
 pub record AreReadBy (first second : Query) (later : List Test) (s : ℕ → Bool) : Type 0 where

@@ -1,7 +1,7 @@
 -- Interfaces, a declaration at a time.
 use Rattle.std.proofs.Common.{◌≡◌, ◌≢◌, ◌<◌, ◌≤◌, ◌+◌, ℕ, zero, suc, Bool, true, false, ◌&&◌, ◌||◌, nat_lt, List, []}
 use Rattle.std.proofs.Common.{◌∷◌, ◌++◌, length, refl, inl, inr, arith, get_or}
-use Rattle.std.proofs.lemmas.Bool.{cases_eq, cases_lt}
+use Rattle.std.proofs.lemmas.Bool.{cases_eq, cases_lt, or_parts}
 use Rattle.std.proofs.lemmas.Bool.Decides.{nat_tests}
 use Rattle.std.specs.List.{IsDistinct, AllByRecursion, list_any}
 use Rattle.est_kernel.specs.Interfaces.{declares}
@@ -55,15 +55,11 @@ apart_push : {K : Type 0} (eq : K → K → Bool) (x : K) (xs : List K) (y : K) 
 apart_push eq x [] y a n = (n, tt)
 apart_push eq x (z ∷ zs) y a n = (a.0, apart_push eq x zs y a.1 n)
 
-neither : (a b : Bool) → (a || b) ≡ false → (a ≡ false) × (b ≡ false)
-neither false b h = (refl, h)
-neither true b h = cc
-
 -- one more, equal to none of them, at the end
 pub distinct_push : {K : Type 0} (eq : K → K → Bool) (xs : List K) (y : K) → IsDistinct eq xs
     → list_any (λ x. eq x y) xs ≡ false → IsDistinct eq (xs ++ y ∷ [])
 unfolding IsDistinct
 distinct_push eq [] y d n = (tt, tt)
 distinct_push eq (x ∷ xs) y d n =
-    let p = neither (eq x y) (list_any (λ z. eq z y) xs) n in
+    let p = or_parts (eq x y) (list_any (λ z. eq z y) xs) n in
     (apart_push eq x xs y d.0 p.0, distinct_push eq xs y d.1 p.1)

@@ -174,7 +174,7 @@ up_to_before : (s : Codes) (k n : ℕ) → ((i : ℕ) → i < k → s i ≡ fals
 up_to_before s k zero h l = h zero l
 up_to_before s k (suc n) h l = rw (up_to_before s k n h (omega arith), h (suc n) l) refl
 
-or_true : (b : Bool) → (b || true) ≡ true
+pub or_true : (b : Bool) → (b || true) ≡ true
 or_true true = refl
 or_true false = refl
 

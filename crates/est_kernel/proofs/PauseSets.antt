@@ -28,7 +28,7 @@ word_others ws n w l f i d = elim (cases_eq (i / 64) (n / 64)) [
   | inr g ↦ rw get_or-set_other refl
 ]
 
-zero_at : (m k : ℕ) → slice_index (replicate m 0) k ≡ 0
+pub zero_at : (m k : ℕ) → slice_index (replicate m 0) k ≡ 0
 zero_at zero k = refl
 zero_at (suc m) zero = refl
 zero_at (suc m) (suc k) = zero_at m k

@@ -3,6 +3,7 @@ use Rattle.std.proofs.Common.{◌≡◌, ℕ, ◌+◌, List, [], ◌∷◌, map,
 use Rattle.std.specs.Prelude.{Bool, true, false, ◌&&◌, nat_lt, ◌<◌, ◌↔◌, IsTrue, length}
 use Rattle.std.specs.List.{fold}
 use Rattle.std.proofs.lemmas.Bool.Decides.{nat_tests}
+use Rattle.std.proofs.lemmas.Bool.{and_from}
 use Rattle.est_kernel.specs.declared.interface.Declaration.{Declaration}
 use Rattle.est_kernel.specs.Inner.Counting.{is_seen, each_signal, each_signal_of_all, each_signal_of_joint}
 use Rattle.est_kernel.specs.Limits.{word_count, later_word_count, joint_word_count}
@@ -15,6 +16,7 @@ use Rattle.est_kernel.specs.declared.statement.Test.TheViews.{Joined, out-Operan
 use Rattle.est_kernel.specs.declared.statement.Test.TheOpen.{Operands-F}
 use Rattle.est_kernel.specs.declared.statement.Connective.{Connective}
 use Rattle.est_kernel.specs.declared.statement.Test.TheFolds.{the_lemmas}
+use Rattle.est_text.proofs.Heads.{both}
 
 mutual
   -- where one property of a signal implies another, so it does for each signal of a test
@@ -91,25 +93,18 @@ pub record Tells (f : Name → Bool) (P : Name → Type 0) : Type 0 where
   pub there : (s : Name) → f s ≡ true → P s
   pub back : (s : Name) → P s → f s ≡ true
 
-both_true : (a b : Bool) → (a && b) ≡ true → (a ≡ true) × (b ≡ true)
-both_true true b h = (refl, h)
-both_true false b h = cc
-
-and_true : (a b : Bool) → a ≡ true → b ≡ true → (a && b) ≡ true
-and_true a b h i = rw (h, i) refl
-
 mutual
   pub each_told : (f : Name → Bool) (P : Name → Type 0) → Tells f P → (t : Query) → each_signal f t ≡ true
       → EachSignal P t
   each_told f P w tick h = tt
   each_told f P w (of s) h = w.there s h
   each_told f P w (negated t) h = each_told f P w t h
-  each_told f P w (joined c t ts) h = let p = both_true _ _ h in (each_told f P w t p.0, all_told f P w ts p.1)
+  each_told f P w (joined c t ts) h = let p = both _ _ h in (each_told f P w t p.0, all_told f P w ts p.1)
 
   all_told : (f : Name → Bool) (P : Name → Type 0) → Tells f P → (ts : Queries) → each_signal_of_all f ts ≡ true
       → EachSignalOfAll P ts
   all_told f P w (last t) h = each_told f P w t h
-  all_told f P w (more t ts) h = let p = both_true _ _ h in (each_told f P w t p.0, all_told f P w ts p.1)
+  all_told f P w (more t ts) h = let p = both _ _ h in (each_told f P w t p.0, all_told f P w ts p.1)
 
 mutual
   pub each_tells : (f : Name → Bool) (P : Name → Type 0) → Tells f P → (t : Query) → EachSignal P t
@@ -117,12 +112,12 @@ mutual
   each_tells f P w tick h = refl
   each_tells f P w (of s) h = w.back s h
   each_tells f P w (negated t) h = each_tells f P w t h
-  each_tells f P w (joined c t ts) h = and_true _ _ (each_tells f P w t h.0) (all_tells f P w ts h.1)
+  each_tells f P w (joined c t ts) h = and_from _ _ (each_tells f P w t h.0) (all_tells f P w ts h.1)
 
   all_tells : (f : Name → Bool) (P : Name → Type 0) → Tells f P → (ts : Queries) → EachSignalOfAll P ts
       → each_signal_of_all f ts ≡ true
   all_tells f P w (last t) h = each_tells f P w t h
-  all_tells f P w (more t ts) h = and_true _ _ (each_tells f P w t h.0) (all_tells f P w ts h.1)
+  all_tells f P w (more t ts) h = and_from _ _ (each_tells f P w t h.0) (all_tells f P w ts h.1)
 
 less_told : (m n : ℕ) → nat_lt m n ≡ true → m < n
 less_told m n h = grind (arith, nat_tests)

@@ -2,6 +2,7 @@
 use Rattle.std.proofs.Common.{◌≡◌, ℕ, ◌+◌, List, [], ◌∷◌, ◌++◌, length, Bool, true, false, not, ◌||◌, ◌&&◌}
 use Rattle.std.proofs.Common.{if◌then◌else◌, Option, Some, None, refl, sym, ◌∙◌, subst, arith}
 use Rattle.std.specs.List.{list_any, AllByRecursion}
+use Rattle.std.proofs.lemmas.Bool.{or_right, or_left, and_from, not_from_false}
 use Rattle.est_modules.specs.Derived as derived
 use Rattle.est_modules.specs.Derived.{Derived}
 use Rattle.est_checks.specs.RecursiveRuns.{HasRun}
@@ -14,11 +15,12 @@ use Rattle.est_modules.specs.Modules.{Program, program_named}
 use Rattle.est_modules.specs.Occurrences.{Binder, signals, a_trap, emits, runs, Occurrence, tested, occurrences}
 use Rattle.est_modules.specs.Occurrences.{first_of}
 use Rattle.est_checks.specs.UnknownNames.{unknown_at, unless}
+use Rattle.est_checks.proofs.Seeing.{known as known_name}
 use Rattle.est_modules.specs.Visible.{is_local, is_trap, is_visible}
 use Rattle.est_syntax.specs.Tree.{RenamingTree}
 use Rattle.est_link.proofs.Binding.{bound_body}
 use Rattle.est_link.proofs.Naming.{IsFine, test_at, traps_around, trap_within, sent_at, run_bindings}
-use Rattle.est_modules.proofs.Testing.{or_left, or_right, and_both, not_true, equal_bytes, or_none_parts}
+use Rattle.est_modules.proofs.Testing.{equal_bytes, or_none_parts}
 use Rattle.est_modules.proofs.Testing.{all_parts}
 use Rattle.est_link.proofs.RunModules.{from_runs}
 use Rattle.est_reduce.specs.Bodies.{Body, nothing, pause, halt, emit, sustain, exit, await, present, suspend, abort}
@@ -53,7 +55,7 @@ more_traps n may k t l (par p q) h = (more_traps n may k t l p h.0, more_traps n
 emission_here : (local sent : Bool) (others : Bool) → local ≡ false → sent ≡ true
     → ((not local && sent) || others) ≡ true
 emission_here local sent others h e = or_left (not local && sent) others
-    (and_both (not local) sent (not_true local h) e)
+    (and_from (not local) sent (not_from_false local h) e)
 
 pub all_fine : (ps : List Program) (em : List ℕ → List ℕ → Bool) (p : Program) (os : List Occurrence)
     → first_of (unknown_at ps p) os ≡ None → first_of (refused_at ps em p) os ≡ None
@@ -75,11 +77,6 @@ all_fine ps em p (o ∷ os) known accepted sent =
     )
 
 -- ---- a statement
-
--- the name of an emission or of an exit that is known
-known_name : (b : Bool) (s : List ℕ) → unless b s ≡ None → b ≡ true
-known_name true s h = refl
-known_name false s h = cc
 
 accepted_name : (b : Bool) (s : List ℕ) → (if b then Some s else None) ≡ None → b ≡ false
 accepted_name true s h = cc

@@ -5,13 +5,13 @@ use Rattle.std.proofs.lemmas.Option.{none-some}
 use Rattle.std.proofs.lemmas.List.{append_assoc, append-nil, take-map, get_or-map, length-map}
 use Rattle.std.specs.List.{list_any}
 use Rattle.std.specs.Str.{bytes_eq}
+use Rattle.std.proofs.lemmas.Bool.{or_parts}
 use Rattle.est_kernel.specs.Interfaces.{is_named}
 use Rattle.est_link.specs.MainModule.{declaration_of}
 use Rattle.est_checks.specs.Duplicates.{redeclared}
 use Rattle.est_modules.specs.Visible.{stands_in}
 use Rattle.est_modules.specs.Visible.{is_tick}
 use Rattle.est_modules.specs.declared.head.Declared.{Declared}
-use Rattle.est_modules.proofs.Testing.{or_parts}
 
 pub kept_name : (b : Bool) (n : List ℕ) (o : Option (List ℕ)) → (if b then Some n else o) ≡ None
     → (b ≡ false) × (o ≡ None)

@@ -1,7 +1,7 @@
 -- Tables of bodies that are made one after another.
 use Rattle.std.proofs.Common.{◌≡◌, ℕ, ◌+◌, ◌<◌, ◌≤◌, ◌||◌, inl, inr, List, [], length, slice_index, slice_index_or}
 use Rattle.std.proofs.Common.{Bool, true, false, if◌then◌else◌, Option, Some, None, refl, ap, sym, subst, ◌∙◌, arith}
-use Rattle.std.proofs.lemmas.Bool.{cases_lt, false≢true}
+use Rattle.std.proofs.lemmas.Bool.{cases_lt, false≢true, or_right, or_left}
 use Rattle.std.proofs.lemmas.List.{length-map}
 use Rattle.std.proofs.lemmas.Option.{slice_get_within}
 use Rattle.std.specs.List.{slice_get}
@@ -9,7 +9,7 @@ use Rattle.std.specs.Prelude.{is_some}
 use Rattle.std.specs.Str.{bytes_eq}
 use Rattle.est_modules.specs.Modules.{Program, program_named, first_in_bodies}
 use Rattle.est_modules.specs.ModuleOrders.{IsOrderOf, run_rows, places_run}
-use Rattle.est_modules.proofs.Testing.{or_left, or_right, equal_bytes, same_bytes, some_same}
+use Rattle.est_modules.proofs.Testing.{equal_bytes, same_bytes, some_same}
 use Rattle.est_checks.specs.MissingModules.{missing_at}
 use Rattle.est_checks.specs.RecursiveRuns.{HasRun}
 use Rattle.est_order.proofs.OrderPlaces.{each_stands}

@@ -1,7 +1,7 @@
 -- The relations of the main module lie over its signals that may be offered.
 use Rattle.std.proofs.Common.{◌≡◌, ℕ, suc, ◌+◌, List, [], ◌∷◌, ◌++◌, map, unwrap_or, Bool, true, false, cond, not, ◌||◌}
 use Rattle.std.proofs.Common.{◌&&◌, Option, Some, None, option_map, refl, ap, sym, ◌∙◌, subst, arith}
-use Rattle.std.proofs.lemmas.Bool.{false≢true, true≢false}
+use Rattle.std.proofs.lemmas.Bool.{false≢true, true≢false, or_right, or_left, or_parts, and_from}
 use Rattle.std.proofs.lemmas.List.Folds.{list_any-append}
 use Rattle.std.specs.List.{list_any, list_all, position}
 use Rattle.std.specs.Str.{bytes_eq}
@@ -20,11 +20,12 @@ use Rattle.est_modules.specs.declared.head.Kind.{Kind}
 use Rattle.est_modules.specs.declared.head.Kind.TheVariants.{Input, Output, InputOutput}
 use Rattle.est_link.proofs.Distinct.{kept_name}
 use Rattle.est_modules.proofs.Positions.{position_cons}
-use Rattle.est_modules.proofs.Testing.{or_parts, or_left, or_right, not_false, same_bytes, map_none, no_place, and_both}
+use Rattle.est_modules.proofs.Testing.{same_bytes, map_none, no_place}
 use Rattle.est_relations.specs.Keeping.{is_within, AreOverInputs}
 use Rattle.est_relations.specs.declared.relations.Relation.{Relation}
 use Rattle.est_relations.specs.declared.relations.Relation.TheVariants.{Exclusion, Implication}
 use Rattle.est_syntax.specs.Tree.{RelationTree, excludes, implies}
+use Rattle.est_order.proofs.SearchLemmas.{is_true}
 
 -- ---- one signal of each name
 
@@ -133,8 +134,8 @@ members_within : (ds : List Declared) (ns : List (List ℕ)) → redeclared [] (
 members_within ds [] distinct h = refl
 members_within ds (n ∷ ns) distinct h =
     let parts = or_parts (not (is_offerable ds n)) (is_past_offers ds ns) h in
-    and_both _ _ (offer_at_place [] ds n distinct (sym (offer_is ds n)
-    ∙ not_false (is_offerable ds n) parts.0)) (members_within ds ns distinct parts.1)
+    and_from _ _ (offer_at_place [] ds n distinct (sym (offer_is ds n)
+    ∙ is_true (is_offerable ds n) parts.0)) (members_within ds ns distinct parts.1)
 
 relation_within : (ds : List Declared) (t : RelationTree) (r : Relation)
     → redeclared [] (map (λ (d : Declared). d.name) ds) ≡ None → is_lawless ds t ≡ false
@@ -147,9 +148,9 @@ relation_within ds (implies a b) (Implication x y) distinct h is =
     let inputs = offerable (map declaration_of ds) in
     let first = or_parts (not (is_offerable ds a)) _ h in
     let second = or_parts (not (is_offerable ds b)) false first.1 in
-    and_both (inputs x.index) (inputs y.index)
-    (ap inputs is.0 ∙ offer_at_place [] ds a distinct (sym (offer_is ds a) ∙ not_false (is_offerable ds a) first.0))
-    (ap inputs is.1 ∙ offer_at_place [] ds b distinct (sym (offer_is ds b) ∙ not_false (is_offerable ds b) second.0))
+    and_from (inputs x.index) (inputs y.index)
+    (ap inputs is.0 ∙ offer_at_place [] ds a distinct (sym (offer_is ds a) ∙ is_true (is_offerable ds a) first.0))
+    (ap inputs is.1 ∙ offer_at_place [] ds b distinct (sym (offer_is ds b) ∙ is_true (is_offerable ds b) second.0))
 
 all_within : (ds : List Declared) (ts : List RelationTree) (rs : List Relation)
     → redeclared [] (map (λ (d : Declared). d.name) ds) ≡ None → list_any (is_lawless ds) ts ≡ false
@@ -159,7 +160,7 @@ all_within ds [] (r ∷ rs) distinct h are = absurd are
 all_within ds (t ∷ ts) [] distinct h are = absurd are
 all_within ds (t ∷ ts) (r ∷ rs) distinct h are =
     let parts = or_parts (is_lawless ds t) (list_any (is_lawless ds) ts) h in
-    and_both (is_within (offerable (map declaration_of ds)) r) _ (relation_within ds t r distinct parts.0 are.0)
+    and_from (is_within (offerable (map declaration_of ds)) r) _ (relation_within ds t r distinct parts.0 are.0)
     (all_within ds ts rs distinct parts.1 are.1)
 
 -- relations of which none is lawless lie over the signals that may be offered

@@ -1,12 +1,13 @@
 -- What names mean where they are visible.
 use Rattle.std.proofs.Common.{◌≡◌, ℕ, ◌+◌, ◌<◌, List, [], ◌∷◌, length, get_or, Bool, true, false, not, ◌||◌, ◌&&◌}
 use Rattle.std.proofs.Common.{if◌then◌else◌, Option, Some, None, refl, ap, sym, ◌∙◌, subst, arith, codes}
-use Rattle.std.proofs.lemmas.Bool.{false≢true, true≢false}
+use Rattle.std.proofs.lemmas.Bool.{false≢true, true≢false, or_parts, and_from, not_from_false}
 use Rattle.std.proofs.lemmas.List.{get_or-map}
 use Rattle.std.proofs.lemmas.List.Quantifiers.{position-Some}
 use Rattle.std.proofs.lemmas.Option.{slice_get-get_or}
 use Rattle.std.specs.List.{find, list_any, position, slice_get}
 use Rattle.std.specs.Str.{bytes_eq}
+use Rattle.std.proofs.lemmas.Map.Keys.{any_passes_from_place}
 use Rattle.est_syntax.specs.Tree.{RenamingTree, TestTree}
 use Rattle.est_link.proofs.Asked.{test_each}
 use Rattle.est_kernel.specs.Term.{Query, tick}
@@ -24,9 +25,10 @@ use Rattle.est_checks.specs.UnknownNames.{is_unbound, unknown_renaming, unknown_
 use Rattle.est_modules.specs.declared.head.Declared.{Declared}
 use Rattle.est_modules.specs.declared.head.Kind.TheVariants.{Input}
 use Rattle.est_link.proofs.Binding.{more_asked, more_sent}
-use Rattle.est_modules.proofs.Testing.{or_parts, or_other, or_first, and_other, and_both, not_false, not_true}
-use Rattle.est_modules.proofs.Testing.{same_bytes, equal_bytes, none_at, any_at, found_passes, other_fails, none_found}
+use Rattle.est_modules.proofs.Testing.{or_other, or_first, and_other}
+use Rattle.est_modules.proofs.Testing.{same_bytes, equal_bytes, none_at, found_passes, other_fails, none_found}
 use Rattle.est_modules.proofs.Testing.{no_place, none_has_place, place_passes, or_none_parts, map_none}
+use Rattle.est_order.proofs.SearchLemmas.{is_true}
 
 -- some declaration, for the place past the end
 abbrev pub nobody : Declared
@@ -112,7 +114,7 @@ no_input : (p : Program) (bs : List Binder) (s : List ℕ) → is_local bs s ≡
     → (list_any (λ (d : Declared). bytes_eq d.name s && is_input_kind d.kind) p.interface ≡ false)
     × (bytes_eq s (codes "tick") ≡ false)
 unfolding is_refused is_input
-no_input p bs s h r = or_parts _ _ (and_other (not (is_local bs s)) _ (not_true (is_local bs s) h) r)
+no_input p bs s h r = or_parts _ _ (and_other (not (is_local bs s)) _ (not_from_false (is_local bs s) h) r)
 
 place_sent : (em : List ℕ → List ℕ → Bool) (p : Program) (s : List ℕ) (o : Option ℕ)
     → position (λ (d : Declared). bytes_eq d.name s) p.interface ≡ o → is_declared p.interface s ≡ true
@@ -164,8 +166,8 @@ renamed_known : (p : Program) (bs : List Binder) (rs : List RenamingTree) (s : L
     → is_visible p bs (callers_name o s) ≡ true
 unfolding is_unbound
 renamed_known p bs rs s None found left unbound = or_other (is_renamed rs s) (is_visible p bs s)
-    (none_found (λ (r : RenamingTree). bytes_eq r.inner s) rs found) (not_false _ unbound)
-renamed_known p bs rs s (Some r) found left unbound = not_false (is_visible p bs r.outer)
+    (none_found (λ (r : RenamingTree). bytes_eq r.inner s) rs found) (is_true _ unbound)
+renamed_known p bs rs s (Some r) found left unbound = is_true (is_visible p bs r.outer)
     (other_fails (λ (r : RenamingTree). bytes_eq r.inner s)
     (λ (r : RenamingTree). not (is_visible p bs r.outer)) rs r left found)
 
@@ -201,8 +203,8 @@ run_sent ps em p bs m rs q found fine i d there sent =
     (renamed_accepted em p bs rs m d.name allowed (ap (λ n. em n d.name) (sym same) ∙ sent))
     (λ h. fine.sent (renamed rs d.name) h
     (ap (emits_in_run em (renamed rs d.name) rs) found
-    ∙ any_at (λ (e : Declared). em q.name e.name && bytes_eq (renamed rs e.name) (renamed rs d.name)) q.interface i d
-    there (and_both (em q.name d.name) _ sent (equal_bytes (renamed rs d.name)))))
+    ∙ any_passes_from_place (λ (e : Declared). em q.name e.name && bytes_eq (renamed rs e.name) (renamed rs d.name)) q.interface i d
+    there (and_from (em q.name d.name) _ sent (equal_bytes (renamed rs d.name)))))
 
 bound_at : (p : Program) (bs : List Binder) (rs : List RenamingTree) (ds : List Declared) (i : ℕ) → i < length ds
     → get_or (interface_bound p bs rs ds) i tick ≡ signal_at p bs (renamed rs (get_or ds i nobody).name)

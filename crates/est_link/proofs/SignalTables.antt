@@ -8,6 +8,7 @@ use Rattle.std.specs.Cmp.Lexicographic.{nat_list_eq_equiv}
 use Rattle.std.specs.List.{list_any, position}
 use Rattle.std.specs.Str.{bytes_eq}
 use Rattle.std.specs.Map.{keys_of, values_of}
+use Rattle.std.proofs.lemmas.Bool.{or_parts}
 use Rattle.indexmap.specs.IndexMap.{insert_entry}
 use Rattle.est_kernel.specs.Interfaces.{is_named, IsInterface}
 use Rattle.est_kernel.specs.declared.interface.Declaration.{Declaration}
@@ -15,16 +16,13 @@ use Rattle.est_reduce.proofs.Interfaces.{new_before}
 use Rattle.est_link.specs.Inner.SignalTables.{HasNamesAsKeys, IsTableOfSignals}
 use Rattle.est_link.specs.MainModule.{member_place}
 use Rattle.est_modules.proofs.Positions.{position_cons}
-use Rattle.est_modules.proofs.Testing.{or_parts}
+use Rattle.est_checks.proofs.Noting.{turned}
 
 abbrev Entry : Type 0
 Entry = Bor (List ℕ) × Declaration
 
 abbrev pub same_key : Bor (List ℕ) → Bor (List ℕ) → Bool
 same_key a b = bytes_eq a.now b.now
-
-swapped : (a b : List ℕ) → bytes_eq a b ≡ bytes_eq b a
-swapped a b = nat_list_eq_equiv.symm a b
 
 abbrev head_of : List ℕ → List (List ℕ) → List ℕ
 head_of d [] = d
@@ -47,7 +45,7 @@ added_last [] k d named none = refl
 added_last (e ∷ es) k d named none =
     let parts = or_parts (bytes_eq e.1.name k.now) (list_any (is_named k.now) (values_of es)) none in
     let other : bytes_eq k.now e.0.now ≡ false = ap (bytes_eq k.now) (first_named e es named)
-    ∙ swapped k.now e.1.name ∙ parts.0 in
+    ∙ turned k.now e.1.name ∙ parts.0 in
     ap (λ b. if b then (e.0, d) ∷ es else e ∷ insert_entry same_key es k d) other
     ∙ ap (λ xs. e ∷ xs) (added_last es k d (later_named e es named) parts.1)
 
@@ -58,7 +56,7 @@ same_places [] n named = refl
 same_places (e ∷ es) n named =
     let later = later_named e es named in
     let here : bytes_eq n e.0.now ≡ bytes_eq e.1.name n = ap (bytes_eq n) (first_named e es named)
-    ∙ swapped n e.1.name in
+    ∙ turned n e.1.name in
     position_cons (λ (k : Bor (List ℕ)). bytes_eq n k.now) e.0 (keys_of es)
     ∙ ap (λ b. cond b (Some 0) (option_map (λ i. i + 1)
     (position (λ (k : Bor (List ℕ)). bytes_eq n k.now) (keys_of es)))) here

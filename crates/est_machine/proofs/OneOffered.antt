@@ -8,6 +8,7 @@ use Rattle.std.specs.List.{find, list_any}
 use Rattle.std.proofs.lemmas.Bool.{cases_eq, cases_Bool, eq-eqb, ne_eqb, false≢true}
 use Rattle.est_relations.proofs.Members.{found_is, none_found, one_means, one_where}
 use Rattle.est_relations.specs.Keeping.{has_implied, has_one_at_most}
+use Rattle.est_relations.proofs.Answering.{and_first}
 
 -- where none is offered
 pub none_is_kept : (present : ℕ → Bool) (ms : List ℕ) → find present ms ≡ None → has_one_at_most present ms ≡ true
@@ -34,10 +35,6 @@ one_is_kept present others ms s are none = one_where present ms (λ a b p q x y.
         (sym (none_found others ms n none p) ∙ (are n ∙ stays (present n) (nat_eq s n) x (ne_eqb s n d))))
   ]
 
-within : (x e : Bool) → (x && e) ≡ true → x ≡ true
-within true e h = refl
-within false e h = h
-
 -- where one is, and another is
 pub two_break : (present others : ℕ → Bool) (ms : List ℕ) (s t : ℕ)
     → ((n : ℕ) → others n ≡ (present n && not (nat_eq s n)))
@@ -46,7 +43,7 @@ two_break present others ms s t are first second = elim (cases_Bool (has_one_at_
   | inl h ↦
       let one = found_is present ms s first in
       let two = found_is others ms t second in
-      let there : present t ≡ true = within (present t) (not (nat_eq s t)) (sym (are t) ∙ two.1) in
+      let there : present t ≡ true = and_first (present t) (not (nat_eq s t)) (sym (are t) ∙ two.1) in
       let same : s ≡ t = one_means present ms h s t one.0 two.0 one.1 there in
       absurd (false≢true (sym (leaves (present t) (nat_eq s t) (eq-eqb s t same)) ∙ (sym (are t) ∙ two.1)))
   | inr f ↦ f

@@ -3,7 +3,7 @@ use Rattle.std.proofs.Common.{◌≡◌, ◌∙◌, ◌≤◌, ◌/◌, ◌%◌,
 use Rattle.std.proofs.Common.{length}
 use Rattle.std.proofs.Common.{refl, sym, arith}
 use Rattle.std.specs.Prelude.{slice_index}
-use Rattle.std.proofs.lemmas.Bool.{false≢true}
+use Rattle.std.proofs.lemmas.Bool.{false≢true, and_from}
 use Rattle.est_kernel.proofs.Masks.{bits_zero}
 use Rattle.est_kernel.specs.Bits.{bits}
 use Rattle.est_kernel.specs.PauseNumbers.{has_pause}
@@ -12,6 +12,7 @@ use Rattle.est_kernel.specs.declared.statement.Statement.TheVariants.{Nothing, P
 use Rattle.est_kernel.specs.declared.statement.Statement.TheVariants.{Loop', Par', Trap', Exit, Local' as Binder'}
 use Rattle.est_meaning.specs.States.{HasPausedAt, IsExclusive, is_live}
 use Rattle.est_machine.specs.Inner.Pauses.{are_exclusive}
+use Rattle.est_relations.proofs.Answering.{and_second, and_first}
 
 -- a list has no words after its end
 no_word : (ws : List ℕ) (k : ℕ) → length ws ≤ k → slice_index ws k ≡ 0
@@ -22,18 +23,6 @@ no_word (w ∷ ws) (suc k) l = no_word ws k (omega (arith, l))
 -- no bit is set in 32 words from place 2,048 on
 pub no_bit : (ws : List ℕ) (i : ℕ) → length ws ≡ 32 → 2048 ≤ i → bits (slice_index ws (i / 64)) (i % 64) ≡ false
 no_bit ws i e l = rw (no_word ws (i / 64) (omega (arith, e, l))) (bits_zero (i % 64))
-
-first : (a b : Bool) → (a && b) ≡ true → a ≡ true
-first true b h = refl
-first false b h = h
-
-second : (a b : Bool) → (a && b) ≡ true → b ≡ true
-second true b h = h
-second false b h = absurd (false≢true h)
-
-pair : (a b : Bool) → a ≡ true → b ≡ true → (a && b) ≡ true
-pair true b h k = k
-pair false b h k = h
 
 no_both : (a b : Bool) → not (a && b) ≡ true → (a && b) ≡ false
 no_both true true h = absurd (false≢true h)
@@ -48,19 +37,19 @@ is_exclusive Nothing f h = tt
 is_exclusive (Pause n) f h = tt
 is_exclusive (Emit s) f h = tt
 is_exclusive (Exit k) f h = tt
-is_exclusive (Present' t a p b q) f h = let rest = second _ _ h in (
-  is_exclusive p f (first _ _ h),
-  is_exclusive q f (first _ _ rest),
-  no_both (is_live p f) (is_live q f) (second (are_exclusive q f) _ rest),
+is_exclusive (Present' t a p b q) f h = let rest = and_second _ _ h in (
+  is_exclusive p f (and_first _ _ h),
+  is_exclusive q f (and_first _ _ rest),
+  no_both (is_live p f) (is_live q f) (and_second (are_exclusive q f) _ rest),
 )
 is_exclusive (Suspend' t a p) f h = is_exclusive p f h
-is_exclusive (Seq' a p b q) f h = let rest = second _ _ h in (
-  is_exclusive p f (first _ _ h),
-  is_exclusive q f (first _ _ rest),
-  no_both (is_live p f) (is_live q f) (second (are_exclusive q f) _ rest),
+is_exclusive (Seq' a p b q) f h = let rest = and_second _ _ h in (
+  is_exclusive p f (and_first _ _ h),
+  is_exclusive q f (and_first _ _ rest),
+  no_both (is_live p f) (is_live q f) (and_second (are_exclusive q f) _ rest),
 )
 is_exclusive (Loop' a p) f h = is_exclusive p f h
-is_exclusive (Par' a p b q) f h = (is_exclusive p f (first _ _ h), is_exclusive q f (second (are_exclusive p f) _ h))
+is_exclusive (Par' a p b q) f h = (is_exclusive p f (and_first _ _ h), is_exclusive q f (and_second (are_exclusive p f) _ h))
 is_exclusive (Trap' a p) f h = is_exclusive p f h
 is_exclusive (Binder' s a p) f h = is_exclusive p f h
 
@@ -70,12 +59,12 @@ exclusive (Pause n) f h = refl
 exclusive (Emit s) f h = refl
 exclusive (Exit k) f h = refl
 exclusive (Present' t a p b q) f h =
-    pair _ _ (exclusive p f h.0) (pair _ _ (exclusive q f h.1) (not_both (is_live p f) (is_live q f) h.2))
+    and_from _ _ (exclusive p f h.0) (and_from _ _ (exclusive q f h.1) (not_both (is_live p f) (is_live q f) h.2))
 exclusive (Suspend' t a p) f h = exclusive p f h
 exclusive (Seq' a p b q) f h =
-    pair _ _ (exclusive p f h.0) (pair _ _ (exclusive q f h.1) (not_both (is_live p f) (is_live q f) h.2))
+    and_from _ _ (exclusive p f h.0) (and_from _ _ (exclusive q f h.1) (not_both (is_live p f) (is_live q f) h.2))
 exclusive (Loop' a p) f h = exclusive p f h
-exclusive (Par' a p b q) f h = pair _ _ (exclusive p f h.0) (exclusive q f h.1)
+exclusive (Par' a p b q) f h = and_from _ _ (exclusive p f h.0) (exclusive q f h.1)
 exclusive (Trap' a p) f h = exclusive p f h
 exclusive (Binder' s a p) f h = exclusive p f h
 

@@ -2,7 +2,7 @@
 use Rattle.std.proofs.Common.{◌≡◌, ◌≢◌, ◌∙◌, ◌≤◌, ◌<◌, ◌+◌, ◌*◌, ◌/◌, ◌%◌, inl, inr, ℕ, Bool, false}
 use Rattle.std.proofs.Common.{◌&&◌, ◌||◌, nat_lt, List, refl, sym, ap, arith}
 use Rattle.std.specs.Prelude.{slice_index}
-use Rattle.std.proofs.lemmas.Bool.{cases_lt, ne_eqb}
+use Rattle.std.proofs.lemmas.Bool.{cases_lt, ne_eqb, or_from}
 use Rattle.std.proofs.lemmas.Bool.Decides.{nat_tests}
 use mathlib.Core.Path.{fun_ext}
 use Rattle.est_kernel.specs.Bits.{bits}
@@ -62,19 +62,16 @@ no_kind words a b c (Paused p) h = c h.kind
 
 -- ---- one state by one set of words
 
-neither : (a b : Bool) → a ≡ false → b ≡ false → (a || b) ≡ false
-neither a b h k = rw (h, k) refl
-
 -- a statement has no pause beyond the numbers that there are
 no_pause_beyond : (s : Statement) (i : ℕ) → 2048 ≤ i → has_pause s i ≡ false
 no_pause_beyond Nothing i g = refl
 no_pause_beyond (Pause n) i g = ne_eqb n.index i (λ e. let l : n.index < 2048 = n.in_range in omega (arith, l, e, g))
 no_pause_beyond (Emit s) i g = refl
-no_pause_beyond (Present' t a p b q) i g = neither _ _ (no_pause_beyond p i g) (no_pause_beyond q i g)
+no_pause_beyond (Present' t a p b q) i g = or_from _ _ (no_pause_beyond p i g) (no_pause_beyond q i g)
 no_pause_beyond (Suspend' t a p) i g = no_pause_beyond p i g
-no_pause_beyond (Seq' a p b q) i g = neither _ _ (no_pause_beyond p i g) (no_pause_beyond q i g)
+no_pause_beyond (Seq' a p b q) i g = or_from _ _ (no_pause_beyond p i g) (no_pause_beyond q i g)
 no_pause_beyond (Loop' a p) i g = no_pause_beyond p i g
-no_pause_beyond (Par' a p b q) i g = neither _ _ (no_pause_beyond p i g) (no_pause_beyond q i g)
+no_pause_beyond (Par' a p b q) i g = or_from _ _ (no_pause_beyond p i g) (no_pause_beyond q i g)
 no_pause_beyond (Trap' a p) i g = no_pause_beyond p i g
 no_pause_beyond (Exit k) i g = refl
 no_pause_beyond (Binder' s a p) i g = no_pause_beyond p i g

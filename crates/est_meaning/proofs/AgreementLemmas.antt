@@ -1,6 +1,6 @@
 -- What a statement's reading depends on: its own pauses.
 use Rattle.std.proofs.Common.{◌≡◌, ℕ, Bool, true, false, ◌||◌, refl, ap, sym}
-use Rattle.std.proofs.lemmas.Bool.{or_parts, eq-eqb, both_ways}
+use Rattle.std.proofs.lemmas.Bool.{or_parts, eq-eqb, both_ways, or_right}
 use Rattle.est_kernel.specs.PauseNumbers.{has_pause, AreApart}
 use Rattle.est_kernel.specs.View.{term_of, query_of}
 use Rattle.est_meaning.specs.States.{term_at, is_live, IsExclusive}
@@ -13,10 +13,6 @@ use Rattle.est_kernel.specs.declared.statement.Statement.TheVariants.{Loop', Par
 abbrev pub Agree : Statement → (ℕ → Bool) → (ℕ → Bool) → Type 0
 Agree s a b = (i : ℕ) → has_pause s i ≡ true → a i ≡ b i
 
-or_true : (x y : Bool) → y ≡ true → (x || y) ≡ true
-or_true true y e = refl
-or_true false y e = e
-
 -- what agrees on both sides agrees on the left one
 pub left_of : (p q : Statement) (a b : ℕ → Bool) → ((i : ℕ) → (has_pause p i || has_pause q i) ≡ true → a i ≡ b i)
     → Agree p a b
@@ -25,7 +21,7 @@ left_of p q a b f i h = f i (rw h refl)
 -- what agrees on both sides agrees on the right one
 pub right_of : (p q : Statement) (a b : ℕ → Bool) → ((i : ℕ) → (has_pause p i || has_pause q i) ≡ true → a i ≡ b i)
     → Agree q a b
-right_of p q a b f i h = f i (or_true (has_pause p i) (has_pause q i) h)
+right_of p q a b f i h = f i (or_right (has_pause p i) (has_pause q i) h)
 
 -- whether one of its pauses is set
 pub live_same : (s : Statement) (a b : ℕ → Bool) → Agree s a b → is_live s a ≡ is_live s b

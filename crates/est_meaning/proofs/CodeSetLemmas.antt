@@ -1,7 +1,7 @@
 -- The sets of completion codes that single codes make.
 use Rattle.std.specs.Prelude.{◌≡◌, ◌≢◌, ℕ, zero, suc, ◌≤◌, ◌<◌, Bool, true, false, ◌&&◌, ◌||◌, nat_eq, max}
 use Rattle.std.proofs.Common.{inl, inr, sym, ◌∙◌, refl, arith}
-use Rattle.std.proofs.lemmas.Bool.{eq-eqb, ne_eqb, eqb-true, cases_eq, or_cases, and_parts, cases_lt}
+use Rattle.std.proofs.lemmas.Bool.{eq-eqb, ne_eqb, eqb-true, cases_eq, or_cases, and_parts, cases_lt, or_right}
 use mathlib.Core.Path.{fun_ext}
 use Rattle.est_kernel.specs.Codes.{Codes, no_codes, code, either_code, but_zero, max_codes, some_up_to}
 use Rattle.est_kernel.specs.Codes.{codes_out_of_trap, code_out_of_trap}
@@ -37,11 +37,6 @@ same_test a b c d f g = elim (cases_eq a b) [
   | inr n ↦ ne_eqb a b n ∙ sym (ne_eqb c d (λ h. n (g h)))
 ]
 
--- either is true where the second is
-pub both_true : (x y : Bool) → y ≡ true → (x || y) ≡ true
-both_true true y e = refl
-both_true false y e = e
-
 max_at : (i j k : ℕ) → ((code i k && some_up_to (code j) k) || (code j k && some_up_to (code i) k)) ≡ code (max i j) k
 max_at i j k = elim (cases_lt i j) [
   | inl l ↦ elim (cases_eq k j) [
@@ -49,7 +44,7 @@ max_at i j k = elim (cases_lt i j) [
         let a : code j k ≡ true = code_at j k ∙ eq-eqb j k (sym e) in
         let b : code (max i j) k ≡ true = code_at (max i j) k ∙ eq-eqb (max i j) k (omega arith) in
         let c : some_up_to (code i) k ≡ true = up_to_code i k (omega arith) in
-        rw (a, b, c) (both_true (code i k && some_up_to (code j) k) true refl)
+        rw (a, b, c) (or_right (code i k && some_up_to (code j) k) true refl)
     | inr d ↦
         let a : code j k ≡ false = code_at j k ∙ ne_eqb j k (λ h. d (sym h)) in
         let b : code (max i j) k ≡ false = code_at (max i j) k ∙ ne_eqb (max i j) k (λ h. d (omega arith)) in
@@ -132,7 +127,7 @@ up_to_mono : (a b : Codes) (k : ℕ) → ((i : ℕ) → a i ≡ true → b i ≡
 up_to_mono a b zero f h = f 0 h
 up_to_mono a b (suc k) f h = elim (or_cases (some_up_to a k) (a (suc k)) h) [
   | inl g ↦ rw (up_to_mono a b k f g) refl
-  | inr g ↦ both_true (some_up_to b k) (b (suc k)) (f (suc k) g)
+  | inr g ↦ or_right (some_up_to b k) (b (suc k)) (f (suc k) g)
 ]
 
 -- the greater codes of larger sets are more
@@ -142,7 +137,7 @@ unfolding max_codes
 max_mono a b a' b' k f g h = elim (or_cases (a k && some_up_to b k) (b k && some_up_to a k) h) [
   | inl l ↦ let p = and_parts (a k) (some_up_to b k) l in rw (f k p.0, up_to_mono b b' k g p.1) refl
   | inr l ↦ let p = and_parts (b k) (some_up_to a k) l in
-      both_true (a' k && some_up_to b' k) _ (rw (g k p.0, up_to_mono a a' k f p.1) refl)
+      or_right (a' k && some_up_to b' k) _ (rw (g k p.0, up_to_mono a a' k f p.1) refl)
 ]
 
 -- of a larger set, more is seen outside a trap
@@ -150,7 +145,7 @@ pub out_of_trap_mono : (a b : Codes) (k : ℕ) → ((i : ℕ) → a i ≡ true �
     → codes_out_of_trap b k ≡ true
 unfolding codes_out_of_trap
 out_of_trap_mono a b zero f h = elim (or_cases (a 0) (a 2) h)
-    [ inl g ↦ rw (f 0 g) refl | inr g ↦ both_true (b 0) (b 2) (f 2 g) ]
+    [ inl g ↦ rw (f 0 g) refl | inr g ↦ or_right (b 0) (b 2) (f 2 g) ]
 out_of_trap_mono a b (suc zero) f h = f 1 h
 out_of_trap_mono a b (suc (suc k)) f h = f (suc (suc (suc k))) h
 

@@ -1,7 +1,7 @@
 -- A term that reacts must do just that and can do nothing else; and where Must gives a code, the rules react.
 use Rattle.std.specs.Prelude.{◌≡◌, ◌≢◌, ℕ, zero, suc, ◌+◌, Bool, true, false, cond, ◌&&◌, max}
 use Rattle.std.proofs.Common.{inl, inr, ap, sym, ◌∙◌, refl, arith}
-use Rattle.std.proofs.lemmas.Bool.{eq-eqb, or_cases, and_parts, both_ways}
+use Rattle.std.proofs.lemmas.Bool.{eq-eqb, or_cases, and_parts, both_ways, or_right}
 use Rattle.est_kernel.specs.Term.{inner, Query, Term, nothing, pause, emit, present, suspend, held, seq, loop, par}
 use Rattle.est_kernel.specs.Term.{trap, exit, signal}
 use Rattle.est_kernel.specs.Codes.{Codes, no_codes, code, either_code, but_zero, max_codes, some_up_to}
@@ -15,7 +15,7 @@ use Rattle.est_kernel.specs.StartCodes.{start_codes, IsLoopSafe}
 use Rattle.est_meaning.specs.Rules.{Gives, HasNoRule, rest_of, takes_first, takes_second, is_held, is_resumed, goes_on}
 use Rattle.est_meaning.specs.Rules.{ends_then}
 use Rattle.est_meaning.specs.Laws.{just, HasRule, HasNoCode}
-use Rattle.est_meaning.proofs.CodeSetLemmas.{both_true, code_at, code_zero, max_of_codes, out_of_trap_code, later_code}
+use Rattle.est_meaning.proofs.CodeSetLemmas.{code_at, code_zero, max_of_codes, out_of_trap_code, later_code}
 use Rattle.est_meaning.proofs.CodeSetLemmas.{up_to_found, max_mono, out_of_trap_mono, code_true, none_true}
 
 -- where the rules react, Must gives just that
@@ -79,13 +79,13 @@ chosen_starts : (v : Status) (a b : Acts) (c d : Codes) (k : ℕ) → (a.codes k
     → (by_status v a b no_acts).codes k ≡ true → either_code c d k ≡ true
 unfolding either_code no_codes
 chosen_starts Present a b c d k f g h = rw (f h) refl
-chosen_starts Absent a b c d k f g h = both_true (c k) (d k) (g h)
+chosen_starts Absent a b c d k f g h = or_right (c k) (d k) (g h)
 chosen_starts Unknown a b c d k f g h = cc
 
 held_starts : (v : Status) (a : Acts) (c : Codes) (k : ℕ) → (a.codes k ≡ true → c k ≡ true)
     → (by_status v (just_code 1) a no_acts).codes k ≡ true → either_code c (code 1) k ≡ true
 unfolding either_code no_codes
-held_starts Present a c k f h = both_true (c k) (code 1 k) h
+held_starts Present a c k f h = or_right (c k) (code 1 k) h
 held_starts Absent a c k f h = rw (f h) refl
 held_starts Unknown a c k f h = cc
 
@@ -103,7 +103,7 @@ seq_starts a b c d k f g h = go (a.codes 0) refl h
     go : (x : Bool) → a.codes 0 ≡ x → (cond x
         (record { signals = union a.signals b.signals; codes = b.codes }) a).codes k ≡ true
         → cond (c 0) (either_code (but_zero c) d) c k ≡ true
-    go true e l = rw (f 0 e) (both_true (but_zero c k) (d k) (g l))
+    go true e l = rw (f 0 e) (or_right (but_zero c k) (d k) (g l))
     go false e l = kept k (c 0) e l
 
 -- what must be given is among the codes at the start

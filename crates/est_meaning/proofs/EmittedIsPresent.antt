@@ -32,7 +32,7 @@ decided_as v false h = record {
   absent = (λ e. refl, λ e. h);
 }
 
-judged_at : (j : JudgedSignals) (t : Term) (e : Env) (n : ℕ) → j.has n ≡ true
+pub judged_at : (j : JudgedSignals) (t : Term) (e : Env) (n : ℕ) → j.has n ≡ true
     → round j t e (outer n) ≡ verdict ((must t e).signals (outer n)) ((can t sure e).signals (outer n))
 unfolding round
 judged_at j t e n h = rw h refl
@@ -55,16 +55,16 @@ judged_decided j w inputs t outputs u r n h =
     let there = judged_there j t (last_env j inputs t) r.signals r.code u still r.gives n h in
     decided_as (last_env j inputs t (outer n)) (outputs n) (there ∙ ap (λ b. verdict b b) (sym (r.seen n)))
 
-first_offered : (j : JudgedSignals) (inputs : ℕ → Bool) (n : ℕ) → j.has n ≡ false
+pub first_offered : (j : JudgedSignals) (inputs : ℕ → Bool) (n : ℕ) → j.has n ≡ false
     → first_env j inputs (outer n) ≡ verdict (inputs n) false
 unfolding first_env
 first_offered j inputs n h = rw h refl
 
-kept : (j : JudgedSignals) (t : Term) (e : Env) (n : ℕ) → j.has n ≡ false → round j t e (outer n) ≡ e (outer n)
+pub kept : (j : JudgedSignals) (t : Term) (e : Env) (n : ℕ) → j.has n ≡ false → round j t e (outer n) ≡ e (outer n)
 unfolding round
 kept j t e n h = rw h refl
 
-stays_offered : (m : ℕ) (j : JudgedSignals) (inputs : ℕ → Bool) (t : Term) (n : ℕ) → j.has n ≡ false
+pub stays_offered : (m : ℕ) (j : JudgedSignals) (inputs : ℕ → Bool) (t : Term) (n : ℕ) → j.has n ≡ false
     → env_after m j t (first_env j inputs) (outer n) ≡ verdict (inputs n) false
 stays_offered zero j inputs t n h = first_offered j inputs n h
 stays_offered (suc m) j inputs t n h = kept j t (env_after m j t (first_env j inputs)) n h

@@ -1,7 +1,7 @@
 -- More knowledge makes Must larger and Can smaller.
 use Rattle.std.specs.Prelude.{◌≡◌, ℕ, zero, suc, ◌+◌, Bool, true, false, not, cond, ◌&&◌, max}
 use Rattle.std.proofs.Common.{inl, inr, ap, sym, ◌∙◌, refl, arith, subst}
-use Rattle.std.proofs.lemmas.Bool.{or_cases, and_parts, both_ways}
+use Rattle.std.proofs.lemmas.Bool.{or_cases, and_parts, both_ways, or_right}
 use Rattle.est_kernel.specs.Term.{inner, Query, tick, of, negated, joined, Queries, last, more, Term, nothing, pause}
 use Rattle.est_kernel.specs.Term.{emit, present, suspend, held, seq, loop, par, trap, exit, signal}
 use Rattle.est_kernel.specs.Codes.{Codes, no_codes, code, either_code, but_zero, max_codes, some_up_to}
@@ -16,27 +16,27 @@ use Rattle.est_meaning.specs.Environments.{with_local, verdict, by_status}
 use Rattle.est_meaning.specs.MustCan.{Acts, no_acts, just_code, either, together, acts_out_of_trap, hide, may_stay}
 use Rattle.est_meaning.specs.MustCan.{must_then, can_then, Mode, sure, maybe, next_mode, must, can, env_within}
 use Rattle.est_meaning.specs.Knowledge.{IsBelow, KnowsLess, IsIn, IsWithin}
-use Rattle.est_meaning.proofs.CodeSetLemmas.{both_true, max_mono, out_of_trap_mono, up_to_found, code_true}
+use Rattle.est_meaning.proofs.CodeSetLemmas.{max_mono, out_of_trap_mono, up_to_found, code_true}
 
-same_within : (a : Acts) → IsWithin a a
+pub same_within : (a : Acts) → IsWithin a a
 same_within a = record { signals = λ x h. h; codes = λ x h. h }
 
 then_within : {a b c : Acts} → IsWithin a b → IsWithin b c → IsWithin a c
 then_within f g = record { signals = λ x h. g.signals x (f.signals x h); codes = λ x h. g.codes x (f.codes x h) }
 
-none_within : (a : Acts) → IsWithin no_acts a
+pub none_within : (a : Acts) → IsWithin no_acts a
 unfolding no_signals no_codes
 none_within a = record { signals = λ x h. cc; codes = λ x h. cc }
 
-union_in : (a b c d : Signals) → IsIn a c → IsIn b d → IsIn (union a b) (union c d)
+pub union_in : (a b c d : Signals) → IsIn a c → IsIn b d → IsIn (union a b) (union c d)
 unfolding union
 union_in a b c d f g x h = elim (or_cases (a x) (b x) h)
-    [ inl l ↦ rw (f x l) refl | inr l ↦ both_true (c x) (d x) (g x l) ]
+    [ inl l ↦ rw (f x l) refl | inr l ↦ or_right (c x) (d x) (g x l) ]
 
-either_in : (a b c d : Codes) → IsIn a c → IsIn b d → IsIn (either_code a b) (either_code c d)
+pub either_in : (a b c d : Codes) → IsIn a c → IsIn b d → IsIn (either_code a b) (either_code c d)
 unfolding either_code
 either_in a b c d f g x h = elim (or_cases (a x) (b x) h)
-    [ inl l ↦ rw (f x l) refl | inr l ↦ both_true (c x) (d x) (g x l) ]
+    [ inl l ↦ rw (f x l) refl | inr l ↦ or_right (c x) (d x) (g x l) ]
 
 left_in : (a b : Codes) → IsIn a (either_code a b)
 unfolding either_code
@@ -44,7 +44,7 @@ left_in a b x h = rw h refl
 
 right_in : (a b : Codes) → IsIn b (either_code a b)
 unfolding either_code
-right_in a b x h = both_true (a x) (b x) h
+right_in a b x h = or_right (a x) (b x) h
 
 left_union : (a b : Signals) → IsIn a (union a b)
 unfolding union
@@ -52,14 +52,14 @@ left_union a b x h = rw h refl
 
 right_union : (a b : Signals) → IsIn b (union a b)
 unfolding union
-right_union a b x h = both_true (a x) (b x) h
+right_union a b x h = or_right (a x) (b x) h
 
-but_zero_in : (a b : Codes) → IsIn a b → IsIn (but_zero a) (but_zero b)
+pub but_zero_in : (a b : Codes) → IsIn a b → IsIn (but_zero a) (but_zero b)
 unfolding but_zero
 but_zero_in a b f zero h = h
 but_zero_in a b f (suc n) h = f (suc n) h
 
-without_in : (s : ℕ) (a b : Signals) → IsIn a b → IsIn (without s a) (without s b)
+pub without_in : (s : ℕ) (a b : Signals) → IsIn a b → IsIn (without s a) (without s b)
 unfolding without
 without_in s a b f x h = let p = and_parts (not (same_name (inner s) x)) (a x) h in rw (p.0, f x p.1) refl
 
@@ -378,7 +378,7 @@ sure_below s p P e f k =
     ((P.can_down sure (with_local e s Unknown) (with_local f s Unknown) kk).signals (inner s))
     ((must_can p (with_local f s Unknown)).signals (inner s)))
 
-no_true : {A : Type 0} → false ≡ true → A
+pub no_true : {A : Type 0} → false ≡ true → A
 no_true h = cc
 
 signal_down : (s : ℕ) (p : Term) → Monotone p → (m : Mode) (e f : Env) → KnowsLess e f

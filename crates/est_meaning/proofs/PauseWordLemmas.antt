@@ -5,12 +5,12 @@ use Rattle.std.specs.Prelude.{bit_or, slice_index, All}
 use Rattle.std.proofs.Math.Pow.{pow-lt}
 use Rattle.std.proofs.lemmas.List.Elements.{All-nil, All-cons}
 use Rattle.std.proofs.lemmas.Nat.{or_lt, pow_pos}
-use Rattle.std.proofs.lemmas.Bool.{cases_eq, cases_lt, eq-eqb, ne_eqb}
+use Rattle.std.proofs.lemmas.Bool.{cases_eq, cases_lt, eq-eqb, ne_eqb, or_from}
 use mathlib.Core.Path.{fun_ext}
 use Rattle.est_kernel.specs.Bits.{bits}
 use Rattle.est_kernel.specs.Pauses.{pauses_of}
 use Rattle.est_kernel.specs.PauseNumbers.{has_pause}
-use Rattle.est_kernel.proofs.Masks.{bits_or, bits_pow, bits_zero}
+use Rattle.est_kernel.proofs.Masks.{bits_or, bits_pow, bits_zero, or_true}
 use Rattle.est_kernel.specs.declared.limits.TheConstants.{MOST_STATEMENTS}
 use Rattle.est_kernel.specs.declared.statement.Statement.{Statement}
 use Rattle.est_meaning.specs.Laws.{IsWordSet}
@@ -22,13 +22,9 @@ abbrev pub word_of : (ℕ → Bool) → ℕ → ℕ
 word_of f zero = 0
 word_of f (suc n) = cond (f n) (bit_or (word_of f n) (2 ^ n)) (word_of f n)
 
-or_false : (x : Bool) → (x || false) ≡ x
+pub or_false : (x : Bool) → (x || false) ≡ x
 or_false true = refl
 or_false false = refl
-
-or_true : (x : Bool) → (x || true) ≡ true
-or_true true = refl
-or_true false = refl
 
 with_last : (b : Bool) (w n k : ℕ) → bits (cond b (bit_or w (2 ^ n)) w) k ≡ (bits w k || cond b (nat_eq n k) false)
 with_last true w n k = bits_or w (2 ^ n) k ∙ ap (λ x. bits w k || x) (bits_pow n k)
@@ -117,21 +113,18 @@ has_members f out = fun_ext (λ n. elim (cases_lt n MOST_STATEMENTS) [
       ap (λ w. bits w (n % 64)) (no_word f 0 32 (n / 64) i) ∙ (bits_zero (n % 64) ∙ sym (out n g))
 ])
 
-either_false : (x y : Bool) → x ≡ false → y ≡ false → (x || y) ≡ false
-either_false x y p q = rw (p, q) refl
-
 -- each pause of a statement has a number below `MOST_STATEMENTS`
 pub no_pause_above : (s : Statement) (i : ℕ) → MOST_STATEMENTS ≤ i → has_pause s i ≡ false
 no_pause_above Nothing i l = refl
 no_pause_above (Pause n) i l = ne_eqb n.index i (λ e. absurd (omega (arith, l, e, n.in_range)))
 no_pause_above (Emit s) i l = refl
 no_pause_above (Present' t x p y q) i l =
-    either_false (has_pause p i) (has_pause q i) (no_pause_above p i l) (no_pause_above q i l)
+    or_from (has_pause p i) (has_pause q i) (no_pause_above p i l) (no_pause_above q i l)
 no_pause_above (Suspend' t x p) i l = no_pause_above p i l
-no_pause_above (Seq' x p y q) i l = either_false (has_pause p i) (has_pause q i) (no_pause_above p i l)
+no_pause_above (Seq' x p y q) i l = or_from (has_pause p i) (has_pause q i) (no_pause_above p i l)
     (no_pause_above q i l)
 no_pause_above (Loop' x p) i l = no_pause_above p i l
-no_pause_above (Par' x p y q) i l = either_false (has_pause p i) (has_pause q i) (no_pause_above p i l)
+no_pause_above (Par' x p y q) i l = or_from (has_pause p i) (has_pause q i) (no_pause_above p i l)
     (no_pause_above q i l)
 no_pause_above (Trap' x p) i l = no_pause_above p i l
 no_pause_above (Exit k) i l = refl

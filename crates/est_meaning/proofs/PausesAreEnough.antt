@@ -38,11 +38,11 @@ no_bits : ℕ → Bool
 no_bits i = false
 
 -- a set of the pauses of one side alone
-other_dead : (p q : Statement) (n : ℕ → Bool) → ((i : ℕ) → has_pause q i ≡ true → has_pause p i ≡ false)
+pub other_dead : (p q : Statement) (n : ℕ → Bool) → ((i : ℕ) → has_pause q i ≡ true → has_pause p i ≡ false)
     → ((i : ℕ) → has_pause p i ≡ false → n i ≡ false) → is_live q n ≡ false
 other_dead p q n apart own = cleared_dead q n (λ i h. own i (apart i h))
 
-turned : (p q : Statement) → AreApart p q → (i : ℕ) → has_pause q i ≡ true → has_pause p i ≡ false
+pub turned : (p q : Statement) → AreApart p q → (i : ℕ) → has_pause q i ≡ true → has_pause p i ≡ false
 turned p q d i h = go (has_pause p i) refl
   where
     go : (x : Bool) → has_pause p i ≡ x → x ≡ false
@@ -57,10 +57,10 @@ quiet_at s t e o k z dead g = record {
   own = λ i h. refl;
 }
 
-not_one : (k : ℕ) → k ≡ 0 → k ≡ 1 → ⊥
+pub not_one : (k : ℕ) → k ≡ 0 → k ≡ 1 → ⊥
 not_one k z h = absurd (omega (arith, z, h))
 
-gone : (k : ℕ) → (k ≡ 1 → ⊥) → rest_of k nothing ≡ nothing
+pub gone : (k : ℕ) → (k ≡ 1 → ⊥) → rest_of k nothing ≡ nothing
 gone zero d = refl
 gone (suc zero) d = refl
 gone (suc (suc k)) d = refl
@@ -100,14 +100,14 @@ loops {p = p} {k = k} d n = record {
   own = n.own;
 }
 
-out_of_trap_live : (i : ℕ) → nat_eq i 1 ≡ nat_eq (code_out_of_trap i) 1
+pub out_of_trap_live : (i : ℕ) → nat_eq i 1 ≡ nat_eq (code_out_of_trap i) 1
 out_of_trap_live zero = refl
 out_of_trap_live (suc zero) = refl
 out_of_trap_live (suc (suc zero)) = ne_eqb 2 1 (λ h. absurd (omega arith))
 out_of_trap_live (suc (suc (suc i))) =
     ne_eqb (suc (suc (suc i))) 1 (λ h. absurd (omega arith)) ∙ sym (ne_eqb (suc (suc i)) 1 (λ h. absurd (omega arith)))
 
-out_of_trap_rest : (i : ℕ) (x : Term) → rest_of (code_out_of_trap i) (trap x)
+pub out_of_trap_rest : (i : ℕ) (x : Term) → rest_of (code_out_of_trap i) (trap x)
     ≡ rest_of (code_out_of_trap i) (trap (rest_of i x))
 out_of_trap_rest zero x = refl
 out_of_trap_rest (suc zero) x = refl

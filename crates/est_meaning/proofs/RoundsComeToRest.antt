@@ -1,7 +1,7 @@
 -- Rounds only learn, and there are enough of them.
 use Rattle.std.proofs.Common.{◌≡◌, ◌≤◌, ◌<◌, ℕ, zero, suc, ◌+◌, Bool, true, false, not, cond, ◌&&◌, inl, inr, refl, ap}
 use Rattle.std.proofs.Common.{sym, ◌∙◌, arith, List, length}
-use Rattle.std.proofs.lemmas.Bool.{and_parts, both_ways, cases_eq, cases_lt}
+use Rattle.std.proofs.lemmas.Bool.{and_parts, both_ways, cases_eq, cases_lt, and_from}
 use mathlib.Core.Path.{fun_ext}
 use Rattle.est_kernel.proofs.Interfaces.{declares_beyond}
 use Rattle.est_kernel.specs.Interfaces.{can_be_emitted, emittable}
@@ -85,13 +85,10 @@ unknown_stays : (v w : Status) → IsBelow v w → is_unknown w ≡ true → is_
 unknown_stays v w (inl h) g = rw h refl
 unknown_stays v w (inr h) g = rw h g
 
-both_are : (x y : Bool) → x ≡ true → y ≡ true → (x && y) ≡ true
-both_are x y p q = rw (p, q) refl
-
 open_fewer : (j : JudgedSignals) (e f : Env) → KnowsLess e f → (n : ℕ) → open_in j f n ≡ true → open_in j e n ≡ true
 open_fewer j e f k n h =
     let p = and_parts (j.has n) (is_unknown (f (outer n))) h in
-    both_are (j.has n) (is_unknown (e (outer n))) p.0 (unknown_stays (e (outer n)) (f (outer n)) (k (outer n)) p.1)
+    and_from (j.has n) (is_unknown (e (outer n))) p.0 (unknown_stays (e (outer n)) (f (outer n)) (k (outer n)) p.1)
 
 known_same : (v w : Status) → IsBelow v w → is_unknown v ≡ is_unknown w → v ≡ w
 known_same v w (inr h) g = h
@@ -105,7 +102,7 @@ known_same v w (inl h) g = h ∙ sym (is_it w (sym g ∙ ap is_unknown h))
 when_has : (b x y : Bool) → b ≡ true → (b && x) ≡ (b && y) → x ≡ y
 when_has b x y e h = rw e at h
 
-inner_kept : (j : JudgedSignals) (t : Term) (e : Env) (n : ℕ) → round j t e (inner n) ≡ e (inner n)
+pub inner_kept : (j : JudgedSignals) (t : Term) (e : Env) (n : ℕ) → round j t e (inner n) ≡ e (inner n)
 unfolding round
 inner_kept j t e n = refl
 

@@ -12,6 +12,7 @@ use Rattle.est_cells.specs.Next.{stays}
 use Rattle.est_cells.specs.Tables.{sheet_size, is_sure}
 use Rattle.est_net.specs.Cells.{cell_at}
 use Rattle.est_net.specs.Layout.{output_count, sheet_in, sure_codes}
+use Rattle.est_net.proofs.Reaching.{or_assoc}
 use Rattle.est_micro.specs.Pausing.{Collects, CollectsIn}
 use Rattle.est_micro.proofs.Telling.{nat_eq_same, nat_eq_other, same_or_not}
 
@@ -43,11 +44,6 @@ swap false false p q e h = refl
 pub kept_pause : (x on : Bool) (n i : ℕ) (f : ℕ → Bool)
     → (x || ((on && f n) && nat_eq n i)) ≡ (x || (on && (nat_eq n i && f i)))
 kept_pause x on n i f = swap x on (f n) (f i) (nat_eq n i) (λ e. ap f (eqb-true n i e))
-
--- two parts, of which the second stands at a place that was looked up
-or_assoc : (a b c : Bool) → ((a || b) || c) ≡ (a || (b || c))
-or_assoc true b c = refl
-or_assoc false b c = refl
 
 pub two_collected : (new mid old first : Bool) (second : ℕ → Bool) (m n : ℕ) → new ≡ (mid || second m)
     → mid ≡ (old || first) → m ≡ n → new ≡ (old || (first || second n))

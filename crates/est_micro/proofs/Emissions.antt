@@ -11,17 +11,14 @@ use Rattle.est_cells.proofs.Reach.{none_union, union_none}
 use Rattle.est_cells.specs.Tables.{emits, is_sure, sheet_size}
 use Rattle.est_net.specs.Cells.{cell_at}
 use Rattle.est_net.specs.Layout.{sheet_in}
+use Rattle.est_net.proofs.Reaching.{or_assoc}
 use Rattle.est_rounds.specs.Views.{set_of}
 use Rattle.est_rounds.specs.declared.signal_set.SignalSet.{SignalSet}
 use Rattle.est_micro.specs.Views.{AddsBoth, AddsEmitted}
 
-or_over : (a b c : Bool) → ((a || b) || c) ≡ (a || (b || c))
-or_over true b c = refl
-or_over false b c = refl
-
 union_over : (a b c : Signals) → union (union a b) c ≡ union a (union b c)
 unfolding union
-union_over a b c = fun_ext (λ n. or_over (a n) (b n) (c n))
+union_over a b c = fun_ext (λ n. or_assoc (a n) (b n) (c n))
 
 pub both_added : (main : Bool) (p q : Statement) (c t : ℕ) (cells : List Status) (old mid new : SignalSet)
     (past end : ℕ) → AddsEmitted main p c t cells old mid past → AddsEmitted main q past t cells mid new end

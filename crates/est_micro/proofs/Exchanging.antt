@@ -16,6 +16,8 @@ use Rattle.est_meaning.specs.declared.status.Status.TheVariants.{Present, Absent
 use Rattle.est_cells.specs.Tables.{is_sure, is_possible}
 use Rattle.est_cells.specs.Whole.{known}
 use Rattle.est_net.specs.Cells.{cell_at, learned}
+use Rattle.est_net.proofs.OwnerValues.{read_back}
+use Rattle.est_net.proofs.Ranges.{last_or_before}
 use Rattle.est_rounds.specs.Views.{env_of, set_of}
 use Rattle.est_rounds.specs.declared.signal_set.Env.{Env as Known}
 use Rattle.est_micro.specs.Outputs.{AreSignalsTold, IsToldOne}
@@ -24,7 +26,7 @@ use Rattle.est_micro.specs.Views.{Changes}
 use Rattle.est_micro.proofs.BegunNodes.{widen, nothing_changes}
 use Rattle.est_micro.proofs.Frames.{changes_then, learn_changes}
 use Rattle.est_micro.proofs.Rounds.{rank_within}
-use Rattle.est_micro.proofs.Telling.{ReadSoFar, read_more, read_none, read_same, same_or_less}
+use Rattle.est_micro.proofs.Telling.{ReadSoFar, read_more, read_none, read_same}
 
 -- the cell that is next, and what was told so far
 pub record Telling (f : ℕ → Bool) (n : ℕ) (gate : ℕ → Status) (cell : ℕ) (old new : List Status) : Type 0 where
@@ -53,7 +55,7 @@ step_told f n gate old mid new next x y = go (f n) refl
           changes = changes_then 0 (how_many f n) (how_many f n) (how_many f n + 1) 0 (how_many f (suc n)) old mid new
               (omega arith) (omega arith) (omega arith) (omega arith) x.changes
               (learn_changes (how_many f n) (gate n) mid new t);
-          told = λ k l h. elim (same_or_less k n (omega arith)) [
+          told = λ k l h. elim (last_or_before k n (omega arith)) [
             | inl z ↦ subst (λ (u : ℕ). cell_at new (how_many f u) ≡ learned (cell_at old (how_many f u)) (gate u))
                 (sym z)
                 (t.here ∙ ap (λ (v : Status). learned v (gate n)) (x.changes.after (how_many f n) (omega arith)))
@@ -66,7 +68,7 @@ step_told f n gate old mid new next x y = go (f n) refl
         record {
           changes = widen 0 0 (how_many f n) (how_many f (suc n)) old new (omega arith) (omega arith)
               (subst (λ (z : List Status). Changes 0 (how_many f n) old z) (sym same) x.changes);
-          told = λ k l h. elim (same_or_less k n (omega arith)) [
+          told = λ k l h. elim (last_or_before k n (omega arith)) [
             | inl z ↦ let c : false ≡ true = sym e ∙ subst (λ (u : ℕ). f u ≡ true) z h in cc
             | inr z ↦ ap (λ (w : List Status). cell_at w (how_many f k)) same ∙ x.told k z h
           ];
@@ -138,17 +140,11 @@ exchanging_more f n gate cell next a b x y old mid new h t p q r s =
           (ap (λ (z : ℕ). f n && is_possible (cell_at new z)) c);
     }
 
--- what is known of a signal
-status_back : (v : Status) → verdict (is_sure v) (is_possible v) ≡ v
-status_back Present = refl
-status_back Absent = refl
-status_back Unknown = refl
-
 said : (i f b : Bool) (v : Status) → (f ≡ true → b ≡ true)
     → verdict (i || (b && (f && is_sure v))) (i || (b && (f && is_possible v))) ≡ cond (f && not i) v (verdict i false)
 said true true b v h = refl
 said true false b v h = refl
-said false true true v h = status_back v
+said false true true v h = read_back v
 said false true false v h = let z : false ≡ true = h refl in cc
 said false false true v h = refl
 said false false false v h = refl

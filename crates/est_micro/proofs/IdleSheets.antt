@@ -13,9 +13,10 @@ use Rattle.est_meaning.specs.Signals.{Signals, no_signals, union, without}
 use Rattle.est_meaning.specs.Environments.{Env, and_status, opposite, status_of, verdict, with_local}
 use Rattle.est_meaning.specs.declared.status.Status.{Status}
 use Rattle.est_meaning.specs.declared.status.Status.TheVariants.{Present, Absent, Unknown}
+use Rattle.est_meaning.proofs.SteppingLemmas.{and_false}
 use Rattle.est_cells.proofs.Emitted.{again_none, run_none}
 use Rattle.est_cells.proofs.Reach.{code_none, max_none, none_then, trap_none, union_none, without_none}
-use Rattle.est_cells.proofs.ValuesAreMeant.{two}
+use Rattle.est_cells.proofs.ValuesAreMeant.{two, ends_none}
 use Rattle.est_cells.specs.Gates.{ends, emitted_status, gates, then_codes}
 use Rattle.est_cells.specs.Tables.{Cells, Node, Parts, Sheet, emits, if_run}
 use Rattle.est_cells.specs.Tables.{is_sure, is_possible, make_again, map_again}
@@ -65,11 +66,6 @@ may_rests : (f : ℕ → Status) (c n : ℕ) → Untrue c (c + n) f
 unfolding may_told sure_codes possible_codes no_codes
 may_rests f c n h = fun_ext (λ k. code_rests is_possible (ltb k n) (f (c + k)) refl
     (λ b. h (c + k) (omega arith) (let l : k < n = ltb-true k n b in omega arith)))
-
--- the gates of a statement that is not begun, and whose parts are idle
-ends_idle : verdict (no_codes 0) (no_codes 0) ≡ Absent
-unfolding no_codes
-ends_idle = refl
 
 record NoCodes (c : Cells) : Type 0 where
   must : c.must ≡ no_codes
@@ -217,7 +213,7 @@ parts_rest way main (Seq' y p z q) e h f c t d a =
     (told_false (f k) h (d k (omega arith) (omega arith)) a)
     (parts_rest way main p e _ f k t (λ i l u. d i (omega arith) (omega arith))
     (told_false (f k) h (d k (omega arith) (omega arith)) a)) in
-    let later = ap (λ (w : Sheet main p). ends w.cells) one ∙ ends_idle in
+    let later = ap (λ (w : Sheet main p). ends w.cells) one ∙ ends_none in
     two one
     (sweep_rests way main q _ _ f m t (λ i l u. d i (omega arith) (omega arith))
     (told_false (f m) _ (d m (omega arith) (omega arith)) later)
@@ -285,10 +281,6 @@ swept_rests way main s e g f c t d a =
 -- cells that are false stand for the idle sheet
 abbrev pub all_false : ℕ → Status
 all_false i = Absent
-
-and_false : (b : Bool) → (b && false) ≡ false
-and_false true = refl
-and_false false = refl
 
 sure_false : (c n : ℕ) → sure_codes all_false c n ≡ no_codes
 unfolding sure_codes no_codes

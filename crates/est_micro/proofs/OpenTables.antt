@@ -8,6 +8,7 @@ use Rattle.est_kernel.specs.declared.statement.Statement.TheVariants.{Nothing, P
 use Rattle.est_kernel.specs.declared.statement.Statement.TheVariants.{Loop', Par', Trap', Exit, Local' as Binder'}
 use Rattle.est_meaning.specs.declared.status.Status.{Status}
 use Rattle.est_meaning.specs.declared.status.Status.TheVariants.{Unknown}
+use Rattle.est_meaning.proofs.SteppingLemmas.{and_false}
 use Rattle.est_cells.proofs.ValuesAreMeant.{two}
 use Rattle.est_cells.specs.Opening.{with_cell, opened, open_parts, open_sheet}
 use Rattle.est_cells.specs.Tables.{make_again}
@@ -18,10 +19,6 @@ use Rattle.est_micro.proofs.Frames.{same_node_of, scoped}
 -- every cell is open
 abbrev pub all_open : ℕ → Status
 all_open i = Unknown
-
-and_false : (b : Bool) → (b && false) ≡ false
-and_false true = refl
-and_false false = refl
 
 and_true : (b : Bool) → (b && true) ≡ b
 and_true true = refl

@@ -33,8 +33,10 @@ use Rattle.est_meaning.specs.Environments.{Env, verdict, is_unknown}
 use Rattle.est_meaning.specs.Steps.{StepsTo}
 use Rattle.est_meaning.specs.declared.status.Status.{Status}
 use Rattle.est_meaning.specs.declared.status.Status.TheVariants.{Unknown}
+use Rattle.est_meaning.proofs.KnowledgeIsMonotone.{no_true}
+use Rattle.est_meaning.proofs.RoundsComeToRest.{judged_within}
 use Rattle.est_cells.proofs.MicrostepsAgree.{decided_up, values_decided, meaning_by, all_decided, some_open, left_open}
-use Rattle.est_cells.proofs.NextState.{first_pauses, next_pauses}
+use Rattle.est_cells.proofs.NextState.{first_pauses, next_pauses, same_bool}
 use Rattle.est_cells.proofs.Order.{emits_up}
 use Rattle.est_cells.proofs.WholeTable.{sheet_sure, table_least}
 use Rattle.est_cells.specs.Decided.{SheetDecided, TableDecided}
@@ -51,23 +53,14 @@ use Rattle.est_rounds.specs.declared.signal_set.SignalSet.{SignalSet}
 use Rattle.est_micro.specs.Runs.{IsSettled, output_cells, table_of}
 use Rattle.est_micro.specs.Engine.{GoesOnFrom, HasValues, IsAsMeant}
 use Rattle.est_micro.specs.declared.cells.Found.{Found}
-use Rattle.est_micro.proofs.Settling.{within_places}
 use Rattle.est_micro.proofs.AllDecided.{all_cells_decided}
-
-never : {A : Type 0} → false ≡ true → A
-never h = cc
-
-same_bool : (x y : Bool) → (x ≡ true → y ≡ true) → (y ≡ true → x ≡ true) → x ≡ y
-same_bool true y f g = sym (f refl)
-same_bool false true f g = g refl
-same_bool false false f g = refl
 
 -- the code of a kernel's cells is one of its term, where it has not ended
 code_meant : (s : Statement) (x : State) (e : Env) (k : ℕ) → (sheet_meaning s x e).cells.must k ≡ true
     → (must (state_term s x) e).codes k ≡ true
 unfolding no_codes
 code_meant s Fresh e k h = h
-code_meant s Done e k h = never h
+code_meant s Done e k h = no_true h
 code_meant s (Paused p) e k h = h
 
 meant_code : (s : Statement) (x : State) (e : Env) (k : ℕ) → (x ≡ Done → ⊥) → (must (state_term s x) e).codes k ≡ true
@@ -108,7 +101,7 @@ decided_by k x inputs cells r h o n u g =
     let v = meaning_by s x e o n u g in
     record {
       outputs = λ a l z.
-          let y = judged_decided j (within_places k.interface inputs) inputs (state_term s x) (λ b. o (outer b)) u
+          let y = judged_decided j (judged_within k.interface inputs) inputs (state_term s x) (λ b. o (outer b)) u
           (record { signals = o; code = n; gives = g; seen = λ b. refl }) a l in
           y.decided (known_below_is (m.outputs a l) y.decided ∙ z);
       sheet = decided_up true s (sheet_meaning s x e) (sheet_in (cell_at cells) true s (output_count k.interface) 0)
@@ -129,7 +122,7 @@ values_of k x inputs cells r safe q h d = record {
   all = all_cells_decided k inputs cells h.size d h.offered;
   offered = h.offered;
   decided = d;
-  values = all_decided (judged_signals k.interface inputs) (within_places k.interface inputs) inputs k.root safe x q
+  values = all_decided (judged_signals k.interface inputs) (judged_within k.interface inputs) inputs k.root safe x q
       (table_of k.interface k.root cells) h.sound d;
 }
 
@@ -282,11 +275,11 @@ few_codes f c n h = ltb-true n 2 (first (ltb n 2) (is_sure (f (c + n))) h)
   where
     first : (a b : Bool) → (a && b) ≡ true → a ≡ true
     first true b h = refl
-    first false b h = never h
+    first false b h = no_true h
 
 no_code : (codes : Codes) (n : ℕ) → n < 2 → codes 0 ≡ false → codes 1 ≡ false → codes n ≡ true → ⊥
-no_code codes zero l a b h = let z : false ≡ true = sym a ∙ h in never z
-no_code codes (suc zero) l a b h = let z : false ≡ true = sym b ∙ h in never z
+no_code codes zero l a b h = let z : false ≡ true = sym a ∙ h in no_true z
+no_code codes (suc zero) l a b h = let z : false ≡ true = sym b ∙ h in no_true z
 no_code codes (suc (suc n)) l a b h = absurd (omega arith)
 
 -- what is open is undecided
@@ -313,7 +306,7 @@ undecided_at k x inputs cells r e u n h knows is =
     is ∙ (unknown_is (bits e.present.interface n) (bits e.possible.interface n)
     ∙ (ap (λ (f : Env). is_unknown (f (outer n))) knows
     ∙ left_unknown (j.has n) (inputs n) (output_cells k.interface cells n) _
-    (λ l. left_open j (within_places k.interface inputs) inputs k.root x
+    (λ l. left_open j (judged_within k.interface inputs) inputs k.root x
     (table_of k.interface k.root cells) h.sound h.closed n l)))
 
 -- a table without an open cell has one of the two codes
@@ -345,7 +338,7 @@ no_reaction k x i cells r e u safe q n h knows a b is =
     let inputs = bits i.signals in
     let j = judged_signals k.interface inputs in
     record {
-      cannot = some_open j (within_places k.interface inputs) inputs k.root x (table_of k.interface k.root cells)
+      cannot = some_open j (judged_within k.interface inputs) inputs k.root x (table_of k.interface k.root cells)
           h.closed (some_code k x inputs cells r safe q n h a b);
       undecided = λ m. undecided_at k x inputs cells r e u.undecided m h knows (is m);
     }

@@ -14,6 +14,7 @@ use Rattle.est_meaning.specs.Knowledge.{IsIn}
 use Rattle.est_meaning.specs.States.{IsState}
 use Rattle.est_meaning.specs.declared.status.Status.{Status}
 use Rattle.est_meaning.specs.declared.status.Status.TheVariants.{Present}
+use Rattle.est_meaning.proofs.RoundsComeToRest.{judged_within}
 use Rattle.est_net.specs.Cells.{cell_at, decided}
 use Rattle.est_net.specs.Layout.{output_count, sheet_in}
 use Rattle.est_rounds.specs.Contract.{AreInputs}
@@ -28,7 +29,7 @@ use Rattle.est_micro.specs.declared.run.Settled.{Settled}
 use Rattle.est_micro.proofs.FullTables.{full_decided}
 use Rattle.est_micro.proofs.OpenTests.{waits_unasked}
 use Rattle.est_micro.proofs.Outcomes.{some_code}
-use Rattle.est_micro.proofs.Settling.{full_settled, within_places}
+use Rattle.est_micro.proofs.Settling.{full_settled}
 
 -- inputs that agree on what is asked
 not_there : (i : List Declaration) (a : ℕ → Bool) (n : ℕ) → IsIn a (offerable i) → offerable i n ≡ false
@@ -90,7 +91,7 @@ left_open u asked k x inputs cells r w e q h none is =
     let some : decided cells ≢ length cells = λ all.
     let c = none all in
     some_code k x inputs cells r.found k.loop_safe q c.lives (full_settled u k x inputs cells r s all) c.ends c.pauses
-    (full_decided k inputs cells (within_places k.interface inputs) s.size all) in
+    (full_decided k inputs cells (judged_within k.interface inputs) s.size all) in
     let first : w ≡ table_waits_for (not_asked k.interface asked) k.interface inputs k.root x T =
     is ∙ (ap (λ (z : Env). waits_for u true k.root (pauses_from x) Present z T.sheet) s.knows
     ∙ ap (λ (z : ℕ → Bool). table_waits_for z k.interface inputs k.root x T) e) in

@@ -17,6 +17,7 @@ use Rattle.est_meaning.specs.Rounds.{judged_signals, last_env}
 use Rattle.est_meaning.specs.States.{state_term}
 use Rattle.est_meaning.specs.declared.status.Status.{Status}
 use Rattle.est_meaning.specs.declared.status.Status.TheVariants.{Present, Absent}
+use Rattle.est_meaning.proofs.RoundsComeToRest.{judged_within}
 use Rattle.est_cells.proofs.Order.{below_then}
 use Rattle.est_cells.proofs.WholeTable.{table_known, table_sound}
 use Rattle.est_cells.specs.Tables.{Below, Sheet, emits, is_possible, is_sure, sheet_size}
@@ -38,7 +39,6 @@ use Rattle.est_micro.proofs.Frames.{sheet_same}
 use Rattle.est_micro.proofs.Passing.{passed}
 use Rattle.est_micro.proofs.PassingOn.{passed_on}
 use Rattle.est_micro.proofs.Rounds.{gate_is, last_heard, may_be, not_input, rank_within}
-use Rattle.est_micro.proofs.Settling.{within_places}
 use Rattle.est_micro.proofs.Told.{learned_below}
 use Rattle.est_micro.proofs.Unasked.{emitted_there, exchange_by, heard_but, opened_less}
 
@@ -74,7 +74,7 @@ pass_sound unasked k x inputs e old new a ready h =
     let i = k.interface in
     let s = k.root in
     let j = judged_signals i inputs in
-    let w = within_places i inputs in
+    let w = judged_within i inputs in
     let last = last_env j inputs (state_term s x) in
     let o = known j inputs (output_cells i old) in
     let c = ready.sound in
@@ -123,7 +123,7 @@ exchange_ready unasked k x inputs sure possible e f old mid new ready pass judge
     let i = k.interface in
     let s = k.root in
     let j = judged_signals i inputs in
-    let w = within_places i inputs in
+    let w = judged_within i inputs in
     let last = last_env j inputs (state_term s x) in
     let T = table_of i s mid in
     let g = table_sound j w inputs s x T pass.sound in

@@ -20,8 +20,9 @@ use Rattle.est_meaning.specs.States.{state_term}
 use Rattle.est_meaning.specs.Environments.{Env, verdict}
 use Rattle.est_meaning.specs.declared.status.Status.{Status}
 use Rattle.est_meaning.specs.declared.status.Status.TheVariants.{Present, Absent, Unknown}
+use Rattle.est_meaning.proofs.EmittedIsPresent.{judged_at}
 use Rattle.est_cells.proofs.Order.{below_then}
-use Rattle.est_cells.proofs.WholeTable.{at_rest, judged_round, sheet_sure, table_known, table_sound}
+use Rattle.est_cells.proofs.WholeTable.{at_rest, sheet_sure, table_known, table_sound}
 use Rattle.est_cells.specs.Tables.{Sheet, Below, emits, is_sure, is_possible}
 use Rattle.est_cells.specs.Whole.{Table, TableBelow, known, sheet_gates, sheet_meaning, table_meaning}
 use Rattle.est_net.specs.Cells.{cell_at, learned}
@@ -77,7 +78,7 @@ last_heard j w inputs outputs s x (outer n) h o = go (j.has n) refl o
         let m : (must t e).signals (outer n) ≡ true
         = sym (ap (λ (f : Signals). f (outer n)) (sheet_sure s x e)) ∙ h in
         sym (ap (λ (f : Env). f (outer n)) (at_rest j w inputs t))
-        ∙ (judged_round j t e n i
+        ∙ (judged_at j t e n i
         ∙ ap (λ (b : Bool). verdict b ((can t sure e).signals (outer n))) m)
     go false i z = absurd (decided (inputs n) z)
 last_heard j w inputs outputs s x (inner n) h o = let z : Absent ≡ Unknown = o in cc

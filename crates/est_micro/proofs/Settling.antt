@@ -21,8 +21,10 @@ use Rattle.est_meaning.specs.States.{state_term}
 use Rattle.est_meaning.specs.Environments.{Env, verdict}
 use Rattle.est_meaning.specs.declared.status.Status.{Status}
 use Rattle.est_meaning.specs.declared.status.Status.TheVariants.{Present, Absent, Unknown}
+use Rattle.est_meaning.proofs.EmittedIsPresent.{judged_at}
+use Rattle.est_meaning.proofs.RoundsComeToRest.{judged_within}
 use Rattle.est_cells.proofs.OpenTable.{opened_begun, opened_resumed}
-use Rattle.est_cells.proofs.WholeTable.{at_rest, judged_round}
+use Rattle.est_cells.proofs.WholeTable.{at_rest}
 use Rattle.est_cells.specs.Opening.{open_sheet}
 use Rattle.est_cells.specs.Tables.{Sheet, Below}
 use Rattle.est_cells.specs.Whole.{TableBelow, known, sheet_gates, sheet_meaning, table_meaning}
@@ -45,9 +47,6 @@ use Rattle.est_micro.proofs.Unasked.{none_opened}
 use Rattle.est_micro.proofs.OpenTables.{all_open, sheet_open, open_there}
 use Rattle.est_micro.proofs.Rounds.{before_round, round_sheet, round_sound, round_quiet, rank_within, may_be, not_input}
 use Rattle.est_micro.proofs.Rounds.{gate_is}
-
-pub within_places : (i : List Declaration) (inputs : ℕ → Bool) → IsWithinPlaces (judged_signals i inputs)
-within_places i inputs n h = emittable_within i n (may_be i inputs n h)
 
 -- what holds after one
 pub record Settling (unasked : ℕ → Bool) (k : Kernel) (x : State) (inputs : ℕ → Bool) (before now : ℕ)
@@ -83,7 +82,7 @@ pub round_made : (unasked : ℕ → Bool) (way : Direction) (k : Kernel) (x : St
     → Settling unasked k x inputs before now new r f
 round_made unasked way k x inputs e f old new r before now alone ready h before_is now_is =
     let j = judged_signals k.interface inputs in
-    let w = within_places k.interface inputs in
+    let w = judged_within k.interface inputs in
     let sweep = h.sweep.changes in
     let exchange = h.exchange.changes in
     let p = sweep.more in
@@ -127,7 +126,7 @@ pub full_settled : (unasked : ℕ → Bool) (k : Kernel) (x : State) (inputs : �
 full_settled unasked k x inputs cells r h all = record {
   size = h.size;
   sound = h.sound;
-  closed = full_closed k x inputs cells (within_places k.interface inputs) h.size all h.sound;
+  closed = full_closed k x inputs cells (judged_within k.interface inputs) h.size all h.sound;
   found = h.found;
   offered = h.offered;
 }
@@ -176,7 +175,7 @@ possible_below j w inputs t possible m l f = go (possible m) refl
     last = last_env j inputs t
 
     is : last (outer m) ≡ verdict ((must t last).signals (outer m)) ((can t surely last).signals (outer m))
-    is = sym (ap (λ (e : Env). e (outer m)) (at_rest j w inputs t)) ∙ judged_round j t last m l
+    is = sym (ap (λ (e : Env). e (outer m)) (at_rest j w inputs t)) ∙ judged_at j t last m l
 
     absent : (a b : Bool) → (a ≡ true → b ≡ true) → (b ≡ true → false ≡ true) → verdict a b ≡ Absent
     absent a true g h = let z : false ≡ true = h refl in cc
@@ -206,15 +205,15 @@ start_ready unasked k x inputs sure possible n new e closed size none all h long
       sound = record {
         outputs = λ m l.
             let o = may_be i inputs m l in
-            let r = rank_within (emittable i) (length i) m (within_places i inputs m l) o in
+            let r = rank_within (emittable i) (length i) m (judged_within i inputs m l) o in
             let told : output_cells i new m ≡ verdict false (possible m)
-            = h.told m (within_places i inputs m l) o
+            = h.told m (judged_within i inputs m l) o
             ∙ (ap (λ (v : Status). learned v (output_gate inputs sure possible m))
             (open_there n (rank i m) (omega arith))
             ∙ (gate_is inputs sure possible m (not_input i inputs m l)
             ∙ ap (λ (b : Bool). verdict b (possible m)) (none m))) in
             subst (λ (v : Status). IsBelow v (last (outer m))) (sym told)
-            (possible_below j (within_places i inputs) inputs (state_term k.root x) possible m l (all last m));
+            (possible_below j (judged_within i inputs) inputs (state_term k.root x) possible m l (all last m));
         sheet = subst (λ (z : Sheet true k.root). Below true k.root z (sheet_meaning k.root x last)) (sym same)
             (open_meaning k x last closed);
       };

@@ -12,7 +12,7 @@ use Rattle.est_meaning.specs.Environments.{Env, opposite, and_status, status_of,
 use Rattle.est_meaning.specs.declared.status.Status.{Status}
 use Rattle.est_meaning.specs.declared.status.Status.TheVariants.{Absent}
 use Rattle.est_cells.proofs.Order.{emits_up, ends_below}
-use Rattle.est_cells.proofs.Sound.{sound, live_sound, local_sound, live_local_sound}
+use Rattle.est_cells.proofs.Sound.{sound, live_sound, local_sound, live_local_sound, again_sound}
 use Rattle.est_cells.specs.Gates.{ends, emitted_status, gates, live_gates}
 use Rattle.est_cells.specs.Meaning.{cells_at, status_at, begun, begun_parts, resumed, resumed_parts}
 use Rattle.est_cells.specs.Tables.{Again, Parts, Sheet, PartsBelow, Below, AgainBelow, emits, is_sure, make_again}
@@ -50,12 +50,6 @@ sweep_sound main s f r g e l T b k c w =
       cells = told_below U.cells (gates main s g l U).cells M.cells h d u.cells (sound main s r g e l U b k u).cells;
       parts = p;
     }
-
-again_swept : {A : Type 0} (main : Bool) (R : A → A → Type 0) (b : A) (f : A → A) (y : Again main A)
-    → AgainBelow main R y (make_again main b) → ((x : A) → R x b → R (f x) b)
-    → AgainBelow main R (map_again main f y) (make_again main b)
-again_swept true R b f y c h = h y c
-again_swept false R b f y c h = tt
 
 -- the parts of a statement that is begun, if at all
 pub parts_sound : (way : Direction) (main : Bool) (s : Statement) (r h : Status) (e l : Env) (x : Parts main s)
@@ -104,7 +98,7 @@ parts_sound way main (Seq' a p z q) r h e l x b k u c =
 parts_sound way main (Loop' a p) r h e l x b k u c = record {
   first = sweep_sound main p (swept_parts way main p l) r h e l x.first b k c.first
       (λ g d. parts_sound way main p r g e l x.first.parts d k (heard_left _ _ e l u) c.first.parts);
-  second = again_swept main (Below false p) (begun false p Absent e)
+  second = again_sound main (Below false p) (begun false p Absent e)
       (sweep_by false p (swept_parts way false p l) l Absent) x.second
       c.second (λ y i. sweep_sound false p (swept_parts way false p l) Absent Absent e l y (inr refl) k i
       (λ g d. parts_sound way false p Absent g e l y.parts d k (idle_heard false p e e l) i.parts));

@@ -6,12 +6,16 @@ use Rattle.std.proofs.lemmas.Bool.{ltb-true, lt-ltb, eq-eqb, eqb-true}
 use mathlib.Core.Path.{fun_ext}
 use Rattle.est_kernel.specs.Codes.{Codes, code, either_code, no_codes}
 use Rattle.est_kernel.specs.CodeViews.{codes_of}
+use Rattle.est_kernel.proofs.Masks.{or_true}
 use Rattle.est_meaning.specs.Environments.{verdict}
 use Rattle.est_meaning.specs.declared.status.Status.{Status}
 use Rattle.est_meaning.specs.declared.status.Status.TheVariants.{Present, Absent, Unknown}
+use Rattle.est_meaning.proofs.PauseWordLemmas.{or_false}
 use Rattle.est_cells.specs.Tables.{is_sure, is_possible}
 use Rattle.est_net.specs.Cells.{cell_at, decided, learned, Learns}
 use Rattle.est_net.specs.Layout.{sure_codes, possible_codes}
+use Rattle.est_net.proofs.OwnerValues.{read_back}
+use Rattle.est_net.proofs.Ranges.{last_or_before}
 use Rattle.est_rounds.specs.declared.acts.Judgement.{Judgement}
 use Rattle.est_micro.specs.Sweeps.{sure_told, may_told}
 use Rattle.est_micro.specs.Views.{AreTold}
@@ -37,13 +41,6 @@ told_none c j old = record {
   quiet = λ e. refl;
 }
 
-pub same_or_less : (k n : ℕ) → k < n + 1 → (k ≡ n) ⊎ (k < n)
-same_or_less zero zero l = inl refl
-same_or_less zero (suc n) l = inr (omega arith)
-same_or_less (suc k) zero l = absurd (omega arith)
-same_or_less (suc k) (suc n) l = elim (same_or_less k n (omega arith))
-    [ inl e ↦ inl (ap suc e) | inr d ↦ inr (omega arith) ]
-
 pub told_more : (c n : ℕ) (j : Judgement) (old mid new : List Status) (now : Status) → ToldSoFar c n j old mid
     → Learns (c + n) now mid new → now ≡ verdict (codes_of j.must.codes n) (codes_of j.can.codes n)
     → ToldSoFar c (n + 1) j old new
@@ -51,7 +48,7 @@ told_more c n j old mid new now x y e =
     let p = x.more in
     let q = y.more in
     record {
-      told = λ k l. elim (same_or_less k n l) [
+      told = λ k l. elim (last_or_before k n l) [
         | inl z ↦ subst (λ (u : ℕ). cell_at new (c + u)
             ≡ learned (cell_at old (c + u)) (verdict (codes_of j.must.codes u) (codes_of j.can.codes u))) (sym z)
             (y.here ∙ (ap (λ (v : Status). learned v now) (x.after (c + n) (omega arith))
@@ -65,14 +62,9 @@ told_more c n j old mid new now x y e =
       quiet = λ d. y.quiet (omega arith) ∙ x.quiet (omega arith);
     }
 
-status_back : (v : Status) → verdict (is_sure v) (is_possible v) ≡ v
-status_back Present = refl
-status_back Absent = refl
-status_back Unknown = refl
-
 code_told : (pick : Status → Bool) (b : Bool) (v w n : Status) → pick Absent ≡ false → (b ≡ true → n ≡ learned v w)
     → (b && pick n) ≡ pick (learned (verdict (b && is_sure v) (b && is_possible v)) w)
-code_told pick true v w n e h = ap pick (h refl ∙ ap (λ (x : Status). learned x w) (sym (status_back v)))
+code_told pick true v w n e h = ap pick (h refl ∙ ap (λ (x : Status). learned x w) (sym (read_back v)))
 code_told pick false v w n e h = sym e
 
 pub told_done : (c n : ℕ) (j : Judgement) (old new : List Status) → ToldSoFar c n j old new → AreTold c n j old new
@@ -93,14 +85,6 @@ nat_eq_other m n d = not_same (nat_eq m n) refl
     not_same : (b : Bool) → nat_eq m n ≡ b → b ≡ false
     not_same true e = absurd (d (sym (eqb-true m n e)))
     not_same false e = refl
-
-or_true : (a : Bool) → (a || true) ≡ true
-or_true true = refl
-or_true false = refl
-
-or_false : (a : Bool) → (a || false) ≡ a
-or_false true = refl
-or_false false = refl
 
 pub with_here : (R A S : Codes) (n m : ℕ) → R ≡ either_code A S → S ≡ code m → m ≡ n → R n ≡ (A n || true)
 unfolding either_code code
@@ -133,7 +117,7 @@ ltb_next k n d = go (ltb k n) refl (ltb k (n + 1)) refl
     go false e false f = refl
     go true e false f = let l : k < n = ltb-true k n e in
         (let m : k < n + 1 = omega arith in sym (sym f ∙ lt-ltb k (n + 1) m))
-    go false e true f = elim (same_or_less k n (ltb-true k (n + 1) f))
+    go false e true f = elim (last_or_before k n (ltb-true k (n + 1) f))
         [ inl z ↦ absurd (d z) | inr l ↦ sym e ∙ lt-ltb k n l ]
 
 pub same_or_not : (x y : ℕ) → (x ≡ y) ⊎ (x ≢ y)

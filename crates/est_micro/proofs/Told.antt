@@ -5,14 +5,12 @@ use Rattle.est_meaning.specs.Knowledge.{IsBelow}
 use Rattle.est_meaning.specs.Environments.{verdict}
 use Rattle.est_meaning.specs.declared.status.Status.{Status}
 use Rattle.est_meaning.specs.declared.status.Status.TheVariants.{Present, Absent, Unknown}
+use Rattle.est_meaning.proofs.KnowledgeIsMonotone.{no_true}
 use Rattle.est_cells.specs.Tables.{Cells, Node, CellsBelow, is_sure, is_possible}
 use Rattle.est_net.specs.Cells.{learned}
 use Rattle.est_micro.specs.Sweeps.{sure_told, may_told, entered, one_way}
 use Rattle.est_micro.specs.declared.direction.Direction.{Direction}
 use Rattle.est_micro.specs.declared.direction.Direction.TheVariants.{Forwards, Backwards}
-
-never : {A : Type 0} → false ≡ true → A
-never h = cc
 
 pub learned_below : (u v w : Status) → IsBelow u w → IsBelow v w → IsBelow (learned u v) w
 learned_below Present v w b c = b
@@ -35,16 +33,16 @@ sure_of : (a b c d m : Bool) → (a ≡ true → m ≡ true) → (c ≡ true →
     → is_sure (learned (verdict a b) (verdict c d)) ≡ true → m ≡ true
 sure_of true b c d m f g h = f refl
 sure_of false true true d m f g h = g refl
-sure_of false true false true m f g h = never h
-sure_of false true false false m f g h = never h
-sure_of false false c d m f g h = never h
+sure_of false true false true m f g h = no_true h
+sure_of false true false false m f g h = no_true h
+sure_of false false c d m f g h = no_true h
 
 may_of : (a b c d : Bool) → b ≡ true → d ≡ true → is_possible (learned (verdict a b) (verdict c d)) ≡ true
 may_of true b c d i j = refl
 may_of false true true d i j = refl
 may_of false true false true i j = refl
 may_of false true false false i j = j
-may_of false false c d i j = never i
+may_of false false c d i j = no_true i
 
 pub told_below : (x y z : Cells) (h : Status) → IsBelow h z.go → CellsBelow x z → CellsBelow y z
     → CellsBelow
@@ -60,8 +58,8 @@ told_below x y z h b c d = record {
 sure_quiet : (a b c d : Bool) → b ≡ true → c ≡ true → is_sure (learned (verdict a b) (verdict c d)) ≡ a → a ≡ true
 sure_quiet true b c d i j h = refl
 sure_quiet false true true d i j h = sym h
-sure_quiet false true false d i j h = never j
-sure_quiet false false c d i j h = never i
+sure_quiet false true false d i j h = no_true j
+sure_quiet false false c d i j h = no_true i
 
 may_quiet : (a b c d : Bool) → b ≡ true → (a ≡ true → d ≡ true) → (c ≡ true → d ≡ true)
     → is_possible (learned (verdict a b) (verdict c d)) ≡ b → d ≡ true
@@ -69,7 +67,7 @@ may_quiet true b c d i f g h = f refl
 may_quiet false true true d i f g h = g refl
 may_quiet false true false true i f g h = refl
 may_quiet false true false false i f g h = h
-may_quiet false false c d i f g h = never i
+may_quiet false false c d i f g h = no_true i
 
 -- where the cells don't change, there was nothing to tell
 pub told_quiet : (x y z : Cells) → IsBelow y.go x.go → sure_told x.must x.may y.must y.may ≡ x.must

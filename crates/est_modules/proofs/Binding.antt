@@ -3,10 +3,10 @@ use Rattle.std.proofs.Common.{◌≡◌, ℕ, List, [], ◌∷◌, ◌++◌, tru
 use Rattle.std.proofs.lemmas.List.Folds.{list_any-append}
 use Rattle.std.specs.List.{fold}
 use Rattle.std.specs.Str.{bytes_eq}
+use Rattle.std.proofs.lemmas.Bool.{or_left}
 use Rattle.est_modules.specs.BoundNames.{bound_by}
 use Rattle.est_modules.specs.Occurrences.{Occurrence}
 use Rattle.est_modules.specs.Visible.{stands_in}
-use Rattle.est_modules.proofs.Testing.{or_left}
 
 -- a name that stands in a list stands there when those of acts have been added
 pub still_bound : (os : List Occurrence) (names : List (List ℕ)) (s : List ℕ) → stands_in names s ≡ true

@@ -3,7 +3,7 @@
 use Rattle.std.proofs.Common.{◌≡◌, ℕ, zero, suc, ◌+◌, ◌<◌, ◌⊎◌, inl, inr, Bool, true, false, not, List, [], length}
 use Rattle.std.proofs.Common.{replicate, Some, slice_index_or, slice_set, if◌then◌else◌, count_by, Contains, refl, sym}
 use Rattle.std.proofs.Common.{◌∙◌, subst, arith}
-use Rattle.std.proofs.lemmas.Bool.{cases_eq, false≢true}
+use Rattle.std.proofs.lemmas.Bool.{cases_eq, false≢true, false_from_ne_true}
 use Rattle.std.proofs.lemmas.List.{length-set, length-map, length-replicate, get_or-replicate, get_or-set_other}
 use Rattle.std.proofs.lemmas.List.Sums.{sum_by-set}
 use Rattle.std.proofs.lemmas.Option.{slice_get_within}
@@ -17,14 +17,9 @@ use Rattle.est_modules.proofs.Ordering.{IsRunOf, run_is_run}
 use Rattle.est_order.specs.PlaceOrders.{NoneIsRecursive}
 use Rattle.est_order.specs.PlaceSets.{IsIn}
 use Rattle.est_order.specs.RunRows.{IsRun, Leads, once}
-use Rattle.est_order.proofs.SearchLemmas.{extended, in_bounds}
+use Rattle.est_order.proofs.SearchLemmas.{extended, in_bounds, in_set, none_in_none}
 
 -- ---- places, each after those that it is run by: none is met again, so the way down ends
-
--- a place of the set with one more is an old one, or that one
-old_or_new : (seen : List Bool) (p q : ℕ) → IsIn (slice_set seen p true) q → IsIn seen q ⊎ (p ≡ q)
-old_or_new seen p q h =
-    elim (cases_eq q p) [ inl e ↦ inr (sym e) | inr d ↦ inl (sym (get_or-set_other seen p q true false d) ∙ h) ]
 
 -- one place fewer is left
 one_fewer : (seen : List Bool) (p : ℕ) → p < length seen → slice_index_or seen p false ≡ false
@@ -37,14 +32,10 @@ one_fewer seen p l e =
     ≡ count_by (λ b. not b) seen + 0) e counted in
     omega (arith, one)
 
-not_true : (b : Bool) → (b ≡ true → ⊥) → b ≡ false
-not_true true h = absurd (h refl)
-not_true false h = refl
-
 -- the way to a place goes on by one run
 led_on : (rows : List (List ℕ)) (seen : List Bool) (place run : ℕ) → IsRun rows place run
     → ((s : ℕ) → IsIn seen s → Leads rows s place) → (s : ℕ) → IsIn (slice_set seen place true) s → Leads rows s run
-led_on rows seen place run is led s h = elim (old_or_new seen place s h) [
+led_on rows seen place run is led s h = elim (in_set seen place s h) [
   | inl old ↦ extended rows (led s old) is
   | inr e ↦ subst (λ k. Leads rows k run) e (once is)
 ]
@@ -61,12 +52,7 @@ down (suc n) rows P none step seen same few place there unseen led =
     let on = led_on rows seen place run is led in
     down n rows P none step (slice_set seen place true) (length-set seen place true ∙ same)
     (omega (arith, few, fewer)) run is.there
-    (not_true (slice_index_or (slice_set seen place true) run false) (λ h. none run (on run h))) on)
-
-none_at_first : (n p : ℕ) → IsIn (replicate n false) p → ⊥
-none_at_first n p h =
-    let there : p < length (replicate n false) = in_bounds (replicate n false) p h in
-    false≢true (sym (get_or-replicate n p false false (omega (arith, there, length-replicate n false))) ∙ h)
+    (false_from_ne_true (slice_index_or (slice_set seen place true) run false) (λ h. none run (on run h))) on)
 
 -- what holds of a place where it holds of those that it runs holds of each
 pub by_places : (rows : List (List ℕ)) (P : ℕ → Type 0) → NoneIsRecursive rows
@@ -76,7 +62,7 @@ by_places rows P none step place there =
     let seen : List Bool = replicate (length rows) false in
     down (suc (count_by (λ b. not b) seen)) rows P none step seen (length-replicate (length rows) false)
     (omega arith) place there
-    (get_or-replicate (length rows) place false false there) (λ s h. absurd (none_at_first (length rows) s h))
+    (get_or-replicate (length rows) place false false there) (λ s h. absurd (none_in_none (length rows) s h))
 
 -- the same of modules and their names
 pub by_modules : (ps : List Program) (P : List ℕ → Program → Type 0) → NoneIsRecursive (run_rows ps)

@@ -1,6 +1,7 @@
 -- What is known after statements and lists.
 use Rattle.std.proofs.Common.{◌≡◌, ℕ, List, [], ◌∷◌, ◌++◌, map, refl, ap, sym, ◌∙◌, rules}
 use Rattle.std.specs.List.{fold}
+use Rattle.std.proofs.lemmas.List.Sums.{fold-append}
 use Rattle.est_syntax.specs.Views.{unit_view, sequence_view, statement_view, units_of, sequences_of}
 use Rattle.est_syntax.specs.Tree.{TestTree, sequence, statement}
 use Rattle.est_syntax.specs.declared.tree.Unit.{Unit}
@@ -16,14 +17,9 @@ use Rattle.est_modules.specs.Occurrences.{Binder, signals, a_trap, tests, binds,
 use Rattle.est_modules.specs.Tests.{test_names}
 use Rattle.est_modules.specs.Walks.{past, past_names, past_test, passed}
 
-pub fold_append : {A B : Type 0} (f : B → A → B) (k : B) (xs ys : List A)
-    → fold f k (xs ++ ys) ≡ fold f (fold f k xs) ys
-fold_append f k [] ys = refl
-fold_append f k (x ∷ xs) ys = fold_append f (f k x) xs ys
-
 two : {S : Type 0} (f : S → Occurrence → S) (xs ys : List Occurrence) (k : S) {m n : S} → m ≡ fold f k xs
     → n ≡ fold f m ys → n ≡ fold f k (xs ++ ys)
-two f xs ys k d e = e ∙ ap (λ m. fold f m ys) d ∙ sym (fold_append f k xs ys)
+two f xs ys k d e = e ∙ ap (λ m. fold f m ys) d ∙ sym (fold-append f k xs ys)
 
 -- what is known after the names of tests is what is known after their places
 names_fold : {S : Type 0} (f : S → Occurrence → S) (bs : List Binder) (ns : List (List ℕ)) (k : S)

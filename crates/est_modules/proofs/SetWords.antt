@@ -6,20 +6,16 @@ use Rattle.std.specs.Int.{trailing_zeros}
 use Rattle.std.specs.Prelude.{slice_index}
 use Rattle.std.proofs.lemmas.Bool.{cases_eq, cases_lt, eq-eqb, ne_eqb, lt-ltb, le-ltb, false≢true}
 use Rattle.std.proofs.lemmas.Nat.Bits.{bit_at-trailing_zeros}
-use Rattle.est_kernel.proofs.Masks.{bits_zero}
+use Rattle.est_kernel.proofs.Masks.{bits_zero, or_true}
 use Rattle.est_kernel.specs.Bits.{bits}
-use Rattle.est_modules.proofs.Testing.{same_or, or_true}
+use Rattle.est_kernel.proofs.PauseSets.{zero_at}
+use Rattle.est_modules.proofs.Testing.{same_or}
 
 -- ---- words of a list
 
 -- the bit of a number
 abbrev pub bit_in : List ℕ → ℕ → Bool
 bit_in ws i = bits (slice_index ws (i / 64)) (i % 64)
-
-zero_at : (n k : ℕ) → slice_index (replicate n 0) k ≡ 0
-zero_at zero k = refl
-zero_at (suc n) zero = refl
-zero_at (suc n) (suc k) = zero_at n k
 
 -- words of zeros behind the last one change no word
 pub padded : (ws : List ℕ) (n k : ℕ) → slice_index (ws ++ replicate n 0) k ≡ slice_index ws k

@@ -1,7 +1,7 @@
 -- Elements of lists that pass a test, or don't.
 use Rattle.std.proofs.Common.{◌≡◌, ℕ, zero, suc, ◌+◌, List, [], ◌∷◌, ◌++◌, Bool, true, false, not, ◌||◌, ◌&&◌, cond}
 use Rattle.std.proofs.Common.{Option, Some, None, option_map, refl, ap, sym, ◌∙◌}
-use Rattle.std.proofs.lemmas.Bool.{false≢true, true≢false}
+use Rattle.std.proofs.lemmas.Bool.{false≢true, true≢false, or_right, or_left, or_parts}
 use Rattle.std.proofs.lemmas.Option.{none-some, get_or_from_slice_get}
 use Rattle.std.proofs.lemmas.List.Quantifiers.{position-Some}
 use Rattle.std.specs.List.{find, list_any, position, slice_get, AllByRecursion}
@@ -9,16 +9,13 @@ use Rattle.std.specs.Option.{option_or}
 use Rattle.std.specs.Str.{bytes_eq}
 use Rattle.std.proofs.lemmas.Slice.Eq.{bytes_eq-Decides}
 use Rattle.est_modules.proofs.Positions.{position_cons}
+use Rattle.est_kernel.proofs.Masks.{or_true}
 
 -- ---- tests
 
 pub same_or : (b : Bool) → b ≡ (b || false)
 same_or true = refl
 same_or false = refl
-
-pub or_true : (b : Bool) → (b || true) ≡ true
-or_true true = refl
-or_true false = refl
 
 pub or_turned : (a b : Bool) → (a || b) ≡ (b || a)
 or_turned true true = refl
@@ -29,17 +26,6 @@ or_turned false false = refl
 pub or_assoc : (a b c : Bool) → ((a || b) || c) ≡ (a || (b || c))
 or_assoc true b c = refl
 or_assoc false b c = refl
-
-pub or_parts : (b c : Bool) → (b || c) ≡ false → (b ≡ false) × (c ≡ false)
-or_parts true c h = absurd (true≢false h)
-or_parts false c h = (refl, h)
-
-pub or_right : (b c : Bool) → c ≡ true → (b || c) ≡ true
-or_right true c h = refl
-or_right false c h = h
-
-pub or_left : (b c : Bool) → b ≡ true → (b || c) ≡ true
-or_left b c h = ap (λ x. x || c) h
 
 -- the second holds where the first doesn't
 pub or_other : (b c : Bool) → b ≡ false → (b || c) ≡ true → c ≡ true
@@ -55,18 +41,6 @@ or_first false c h e = absurd (true≢false (sym e ∙ h))
 pub and_other : (b c : Bool) → b ≡ true → (b && c) ≡ false → c ≡ false
 and_other true c h e = e
 and_other false c h e = absurd (false≢true h)
-
-pub and_both : (b c : Bool) → b ≡ true → c ≡ true → (b && c) ≡ true
-and_both true c h e = e
-and_both false c h e = absurd (false≢true h)
-
-pub not_false : (b : Bool) → not b ≡ false → b ≡ true
-not_false true h = refl
-not_false false h = absurd (true≢false h)
-
-pub not_true : (b : Bool) → b ≡ false → not b ≡ true
-not_true true h = absurd (true≢false h)
-not_true false h = refl
 
 -- each holds where the other does
 pub same_tests : (a b : Bool) → (a ≡ true → b ≡ true) → (b ≡ true → a ≡ true) → a ≡ b
@@ -94,12 +68,6 @@ pub none_at : {X : Type 0} (p : X → Bool) (xs : List X) (i : ℕ) (x : X) → 
 none_at p [] i x h e = absurd (none-some x e)
 none_at p (y ∷ ys) zero x h e = ap p (sym (some_same y x e)) ∙ (or_parts (p y) (list_any p ys) h).0
 none_at p (y ∷ ys) (suc i) x h e = none_at p ys i x (or_parts (p y) (list_any p ys) h).1 e
-
-pub any_at : {X : Type 0} (p : X → Bool) (xs : List X) (i : ℕ) (x : X) → slice_get xs i ≡ Some x → p x ≡ true
-    → list_any p xs ≡ true
-any_at p [] i x e h = absurd (none-some x e)
-any_at p (y ∷ ys) zero x e h = or_left (p y) (list_any p ys) (ap p (some_same y x e) ∙ h)
-any_at p (y ∷ ys) (suc i) x e h = or_right (p y) (list_any p ys) (any_at p ys i x e h)
 
 -- the element that is found passes
 found_here : {X : Type 0} (p : X → Bool) (y x : X) (b : Bool) (o : Option X) → p y ≡ b → (o ≡ Some x → p x ≡ true)

@@ -1,7 +1,7 @@
 -- Whatever a statement can emit is told by its pauses.
 use Rattle.std.specs.Prelude.{◌≡◌, ◌<◌, ◌+◌, ℕ, suc, nat_eq, Bool, true, false, cond, ◌&&◌, ◌||◌}
 use Rattle.std.proofs.Common.{refl, sym, ◌∙◌, arith}
-use Rattle.std.proofs.lemmas.Bool.{eqb-true}
+use Rattle.std.proofs.lemmas.Bool.{eqb-true, or_right, or_left}
 use Rattle.est_kernel.specs.Codes.{code, either_code, but_zero, max_codes, codes_out_of_trap}
 use Rattle.est_kernel.specs.Codes.{some_up_to}
 use Rattle.est_kernel.specs.Pauses.{pauses_of}
@@ -19,6 +19,7 @@ use Rattle.est_meaning.specs.Signals.{no_signals, only, union, without, same_nam
 use Rattle.est_meaning.specs.States.{IsState, is_live, term_at}
 use Rattle.est_meaning.specs.declared.status.Status.{Status}
 use Rattle.est_meaning.specs.declared.status.Status.TheVariants.{Present, Absent, Unknown}
+use Rattle.est_meaning.proofs.KnowledgeIsMonotone.{no_true}
 use Rattle.est_net.specs.Reach.{HasEmissions, IsReachOf, Tells, from_pauses, from_state, may_emit}
 use Rattle.est_net.specs.declared.reach.Reach.{Reach}
 
@@ -28,17 +29,6 @@ record Covers (n : ℕ) (end exit : Bool) (a : Acts) (said : Bool) : Type 0 wher
   ends : a.codes 0 ≡ true → end ≡ true → said ≡ true
   exits : (k : ℕ) → a.codes (suc (suc k)) ≡ true → exit ≡ true → said ≡ true
 
-no : {A : Type 0} → false ≡ true → A
-no h = cc
-
-or_left : (a b : Bool) → a ≡ true → (a || b) ≡ true
-or_left true b h = refl
-or_left false b h = no h
-
-or_right : (a b : Bool) → b ≡ true → (a || b) ≡ true
-or_right true b h = refl
-or_right false b h = h
-
 -- one of two
 one_of : {A : Type 0} (a b : Bool) → (a || b) ≡ true → (a ≡ true → A) → (b ≡ true → A) → A
 one_of true b h f g = f refl
@@ -46,7 +36,7 @@ one_of false b h f g = g h
 
 first_of : {A : Type 0} (a b : Bool) → (a && b) ≡ true → (a ≡ true → A) → A
 first_of true b h f = f refl
-first_of false b h f = no h
+first_of false b h f = no_true h
 
 -- code 0 or 1 is no exit's
 other_code : {A : Type 0} (j k : ℕ) → (j < 2) → nat_eq j (suc (suc k)) ≡ true → A
@@ -64,20 +54,20 @@ wider n end exit a x y f c = record {
 -- a statement that gives one code and emits nothing
 ended : (n : ℕ) (end exit : Bool) → Covers n end exit (just_code 0) end
 unfolding no_signals code
-ended n end exit = record { emits = λ h. no h; ends = λ h e. e; exits = λ k h e. other_code 0 k (omega arith) h }
+ended n end exit = record { emits = λ h. no_true h; ends = λ h e. e; exits = λ k h e. other_code 0 k (omega arith) h }
 
 paused : (n : ℕ) (end exit said : Bool) → Covers n end exit (just_code 1) said
 unfolding no_signals code
 paused n end exit said = record {
-  emits = λ h. no h;
-  ends = λ h e. no h;
+  emits = λ h. no_true h;
+  ends = λ h e. no_true h;
   exits = λ k h e. other_code 1 k (omega arith) h;
 }
 
 exited : (n k : ℕ) (end exit : Bool) → Covers n end exit (just_code (k + 2)) exit
 unfolding no_signals code
 exited n k end exit = record {
-  emits = λ h. no h;
+  emits = λ h. no_true h;
   ends = λ h e. let z : k + 2 ≡ 0 = eqb-true (k + 2) 0 h in absurd (omega arith);
   exits = λ i h e. e;
 }
@@ -112,7 +102,7 @@ then_covers n end exit next a b said c d = go (a.codes 0) refl
       exits = λ k h e. one_of (a.codes (suc (suc k))) (b.codes (suc (suc k))) h (λ j. c.exits k j e)
           (λ j. c.ends i (d.exits k j e));
     }
-    go false i = record { emits = c.emits; ends = λ h e. no (sym i ∙ h); exits = c.exits }
+    go false i = record { emits = c.emits; ends = λ h e. no_true (sym i ∙ h); exits = c.exits }
 
 -- side by side
 together_covers : (n : ℕ) (end exit : Bool) (a b : Acts) (said : Bool) → Covers n end exit a said
@@ -134,7 +124,7 @@ beside_ended : (n : ℕ) (end exit : Bool) (a : Acts) (said : Bool) → Covers n
     → Covers n end exit (together a (just_code 0)) said
 unfolding union max_codes no_signals code
 beside_ended n end exit a said c = record {
-  emits = λ h. one_of (a.signals (outer n)) false h c.emits (λ i. no i);
+  emits = λ h. one_of (a.signals (outer n)) false h c.emits (λ i. no_true i);
   ends = λ h e. one_of (a.codes 0 && true) (a.codes 0) h (λ i. first_of (a.codes 0) true i (λ j. c.ends j e))
       (λ j. c.ends j e);
   exits = λ k h e. one_of (a.codes (suc (suc k)) && some_up_to (code 0) (suc (suc k)))
@@ -177,7 +167,7 @@ stay_covers : (n : ℕ) (end exit : Bool) (a : Acts) (said : Bool) → Covers n 
 unfolding either_code code
 stay_covers n end exit a said c = record {
   emits = c.emits;
-  ends = λ h e. one_of (a.codes 0) false h (λ i. c.ends i e) (λ i. no i);
+  ends = λ h e. one_of (a.codes 0) false h (λ i. c.ends i e) (λ i. no_true i);
   exits = λ k h e. one_of (a.codes (suc (suc k))) (code 1 (suc (suc k))) h (λ i. c.exits k i e)
       (λ i. other_code 1 k (omega arith) i);
 }
@@ -243,21 +233,21 @@ sides n end exit said m e true true p q l f g =
     together_covers n end exit (can p m e) (can q m e) said (f refl) (g refl)
 sides n end exit said m e true false p q l f g = beside_ended n end exit (can p m e) said (f refl)
 sides n end exit said m e false true p q l f g = ended_beside n end exit (can q m e) said (g refl)
-sides n end exit said m e false false p q l f g = no l
+sides n end exit said m e false false p q l f g = no_true l
 
 other : (a b : Bool) → a ≡ false → (a || b) ≡ true → b ≡ true
-other true b h l = no (sym h)
+other true b h l = no_true (sym h)
 other false b h l = l
 
 -- a statement that goes on from pauses
 resumed_covers : (n : ℕ) (s : Statement) (end exit : Bool) (told : (ℕ → Bool) → Bool) (bits : ℕ → Bool) (m : Mode)
     (e : Env) → Tells n s end exit told → is_live s bits ≡ true
     → Covers n end exit (can (term_at s bits) m e) (told bits)
-resumed_covers n Nothing end exit told bits m e t l = no l
+resumed_covers n Nothing end exit told bits m e t l = no_true l
 resumed_covers n (Pause i) end exit told bits m e t l =
     wider n end exit (just_code 0) end (told bits) (t bits l) (ended n end exit)
-resumed_covers n (Emit s) end exit told bits m e t l = no l
-resumed_covers n (Exit k) end exit told bits m e t l = no l
+resumed_covers n (Emit s) end exit told bits m e t l = no_true l
+resumed_covers n (Exit k) end exit told bits m e t l = no_true l
 resumed_covers n (Present' x a p b q) end exit told bits m e t l =
     choice n end exit (told bits) m e (is_live p bits) (term_at p bits) (term_at q bits)
     (λ i. resumed_covers n p end exit told bits m e t.0 i)
@@ -296,7 +286,7 @@ pub reach_has_emissions : (s : Statement) (x : State) (r : Reach) → IsReachOf 
     → HasEmissions s x (from_state r x)
 unfolding no_signals
 reach_has_emissions s Fresh r h w e n k = h.first n ∙ (begun_covers n s false false sure e).emits k
-reach_has_emissions s Done r h w e n k = no k
+reach_has_emissions s Done r h w e n k = no_true k
 reach_has_emissions s (Paused p) r h w e n k =
     (resumed_covers n s false false (λ set. from_pauses r.pauses.items set n) (pauses_of p) sure e (h.later n)
     w.live).emits k

@@ -2,11 +2,11 @@ pub mod Deciding
 mod Covering
 mod Extending
 pub mod Ranges
-mod Reaching
+pub mod Reaching
 mod Finding
 mod KernelOwners
 mod OwnerCells
 mod OwnerCounts
 pub mod OwnerLists
-mod OwnerValues
+pub mod OwnerValues
 pub mod EmissionLists

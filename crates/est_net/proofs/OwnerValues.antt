@@ -20,7 +20,7 @@ use Rattle.est_net.proofs.OwnerLists.{is_inside, is_itself, own_at, own_length}
 use Rattle.est_net.proofs.OwnerLists.{owners_length, split, stands}
 
 -- a code's cell, read back from the lists of codes
-read_back : (v : Status) → verdict (is_sure v) (is_possible v) ≡ v
+pub read_back : (v : Status) → verdict (is_sure v) (is_possible v) ≡ v
 read_back Present = refl
 read_back Absent = refl
 read_back Unknown = refl

@@ -11,7 +11,7 @@ use Rattle.est_cells.specs.Tables.{is_sure}
 use Rattle.est_net.specs.Cells.{AllDecided, AllOpen, AreFalse, Learns, NoneTrue, cell_at, decided, is_known, is_open}
 use Rattle.est_net.specs.Cells.{known_as, learned, steps_of}
 
-last_or_before : (k n : ℕ) → k < n + 1 → (k ≡ n) ⊎ (k < n)
+pub last_or_before : (k n : ℕ) → k < n + 1 → (k ≡ n) ⊎ (k < n)
 last_or_before zero zero l = inl refl
 last_or_before zero (suc n) l = inr (omega arith)
 last_or_before (suc k) zero l = absurd (omega arith)

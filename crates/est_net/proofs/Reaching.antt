@@ -3,6 +3,7 @@ use Rattle.std.specs.Prelude.{◌≡◌, ◌<◌, ◌+◌, ℕ, Bool, true, fals
 use Rattle.std.specs.Prelude.{get_or, take}
 use Rattle.std.proofs.Common.{refl, sym, ap, ◌∙◌, subst}
 use Rattle.std.proofs.lemmas.List.{take_more}
+use Rattle.std.proofs.lemmas.Bool.{or_right, or_left, and_from}
 use Rattle.est_kernel.specs.Bits.{bits}
 use Rattle.est_kernel.specs.declared.statement.PauseIndex.{PauseIndex}
 use Rattle.est_kernel.specs.declared.statement.Statement.{Statement}
@@ -12,6 +13,7 @@ use Rattle.est_net.specs.Inner.Adding.{IsAdded}
 use Rattle.est_net.specs.Reach.{IsReachOf, Tells, from_pauses, may_emit}
 use Rattle.est_net.specs.declared.reach.Reach.{Reach}
 use Rattle.est_net.specs.declared.reach.FromPause.{FromPause}
+use Rattle.est_meaning.proofs.PauseWordLemmas.{or_false}
 
 -- what is told of one list is told of a longer one
 tells_more : (n : ℕ) (s : Statement) (end exit : Bool) (f g : (ℕ → Bool) → Bool)
@@ -31,22 +33,9 @@ tells_more n (Trap' a p) end exit f g h t = tells_more n p end (end || exit) f g
 tells_more n (Exit k) end exit f g h t = tt
 tells_more n (Binder' s a p) end exit f g h t = tells_more n p end exit f g h t
 
--- one more in a list
-or_left : (a b : Bool) → a ≡ true → (a || b) ≡ true
-or_left true b h = refl
-or_left false b h = let z : false ≡ true = h in cc
-
-or_right : (a b : Bool) → b ≡ true → (a || b) ≡ true
-or_right true b h = refl
-or_right false b h = h
-
 or_step : (a b c : Bool) → (b ≡ true → c ≡ true) → (a || b) ≡ true → (a || c) ≡ true
 or_step true b c f h = refl
 or_step false b c f h = f h
-
-both : (a b : Bool) → a ≡ true → b ≡ true → (a && b) ≡ true
-both true b h k = k
-both false b h k = let z : false ≡ true = h in cc
 
 longer : (xs : List FromPause) (x : FromPause) (set : ℕ → Bool) (n : ℕ) → from_pauses xs set n ≡ true
     → from_pauses (xs ++ x ∷ []) set n ≡ true
@@ -57,7 +46,7 @@ longer (y ∷ ys) x set n h =
 
 in_it : (xs : List FromPause) (x : FromPause) (set : ℕ → Bool) (n : ℕ) → set x.pause.index ≡ true
     → bits x.signals n ≡ true → from_pauses (xs ++ x ∷ []) set n ≡ true
-in_it [] x set n here e = or_left (set x.pause.index && bits x.signals n) false (both _ _ here e)
+in_it [] x set n here e = or_left (set x.pause.index && bits x.signals n) false (and_from _ _ here e)
 in_it (y ∷ ys) x set n here e =
     or_right (set y.pause.index && bits y.signals n) (from_pauses (ys ++ x ∷ []) set n) (in_it ys x set n here e)
 
@@ -153,13 +142,9 @@ trap_added p end exit end' exit' old new x end_is exit_is body a =
     }
 
 -- one more is told of
-or_assoc : (a b c : Bool) → ((a || b) || c) ≡ (a || (b || c))
+pub or_assoc : (a b c : Bool) → ((a || b) || c) ≡ (a || (b || c))
 or_assoc true b c = refl
 or_assoc false b c = refl
-
-or_false : (a : Bool) → (a || false) ≡ a
-or_false true = refl
-or_false false = refl
 
 last_told : (xs : List FromPause) (x : FromPause) (set : ℕ → Bool) (n : ℕ)
     → from_pauses (xs ++ x ∷ []) set n ≡ (from_pauses xs set n || (set x.pause.index && bits x.signals n))

@@ -1,7 +1,7 @@
 -- How many places a module leads to: fewer than each module that runs it, where none is recursive.
 use Rattle.std.proofs.Common.{◌≡◌, ℕ, zero, suc, ◌+◌, ◌<◌, ◌≤◌, inl, inr, Bool, true, false, List, [], ◌∷◌, ◌++◌}
 use Rattle.std.proofs.Common.{if◌then◌else◌, length, slice_index, slice_index_or, refl, ap, sym, ◌∙◌, subst, arith}
-use Rattle.std.proofs.lemmas.Bool.{cases_lt, false≢true}
+use Rattle.std.proofs.lemmas.Bool.{cases_lt, false≢true, false_from_ne_true}
 use Rattle.std.proofs.lemmas.List.{get_or_append_left, get_or_push, length_push}
 use Rattle.std.proofs.lemmas.List.Sums.{sum_by-cons}
 use Rattle.est_order.specs.RunRows.{IsRun, Leads, once, through, IsRecursive}
@@ -53,17 +53,13 @@ fewer (a ∷ xs) (b ∷ ys) (suc k) e h out in_b =
     let tails : size xs < size ys = fewer xs ys k (omega (arith, e)) (λ i. h (suc i)) out in_b in
     omega (arith, heads, tails, size-cons a xs, size-cons b ys)
 
-not_true : (b : Bool) → (b ≡ true → ⊥) → b ≡ false
-not_true true h = absurd (h refl)
-not_true false h = refl
-
 -- a module that is run leads to fewer places than its runner, unless it is recursive
 fewer_below : (rows : List (List ℕ)) (p q m n : ℕ) → IsRankOf rows p m → IsRankOf rows q n → IsRun rows p q
     → (IsRecursive rows q → ⊥) → n < m
 fewer_below rows p q m n above below run none =
     let less = fewer below.set above.set q (below.reach.each ∙ sym above.reach.each)
     (λ i x. (above.reach.exact i).1 (through run ((below.reach.exact i).0 x)))
-    (not_true _ (λ x. none ((below.reach.exact q).0 x)))
+    (false_from_ne_true _ (λ x. none ((below.reach.exact q).0 x)))
     ((above.reach.exact q).1 (once run)) in
     omega (arith, less, above.counted, below.counted)
 

@@ -44,7 +44,7 @@ grows_on s t u a b = record {
   work = b.work ∙ a.work;
 }
 
-not_false : (b : Bool) → not b ≡ true → b ≡ false
+pub not_false : (b : Bool) → not b ≡ true → b ≡ false
 not_false true h = absurd (false≢true h)
 not_false false h = refl
 
@@ -55,7 +55,7 @@ new_is seen p h =
     (search (rules, parts.0), not_false _ parts.1)
 
 -- a place beside the one that was put in is in the set as before
-in_set : (seen : List Bool) (p q : ℕ) → IsIn (slice_set seen p true) q → IsIn seen q ⊎ (p ≡ q)
+pub in_set : (seen : List Bool) (p q : ℕ) → IsIn (slice_set seen p true) q → IsIn seen q ⊎ (p ≡ q)
 in_set seen p q h =
     elim (cases_eq q p) [ inl e ↦ inr (sym e) | inr d ↦ inl (sym (get_or-set_other seen p q true false d) ∙ h) ]
 
@@ -110,7 +110,7 @@ in_bounds set p h =
           absurd (false≢true (sym (get_or_past set p false past) ∙ h))
     ]
 
-is_true : (b : Bool) → not b ≡ false → b ≡ true
+pub is_true : (b : Bool) → not b ≡ false → b ≡ true
 is_true true h = refl
 is_true false h = absurd (false≢true (sym h))
 
@@ -164,7 +164,7 @@ pub extended : (rows : List (List ℕ)) {a b c : ℕ} → Leads rows a b → IsR
 extended rows (once run) more = through run (once more)
 extended rows (through run rest) more = through run (extended rows rest more)
 
-none_in_none : (n p : ℕ) → IsIn (replicate n false) p → ⊥
+pub none_in_none : (n p : ℕ) → IsIn (replicate n false) p → ⊥
 none_in_none n p h =
     let there : p < length (replicate n false) = in_bounds (replicate n false) p h in
     false≢true (sym (get_or-replicate n p false false (omega (arith, there, length-replicate n false))) ∙ h)

@@ -48,11 +48,11 @@ none_first keep xs n h p = at_end (length xs) (position_or_len (λ x. not (keep 
       at_end : (l at n : ℕ) → at ≡ l → cond (nat_lt at l) (Some at) None ≡ Some n → ⊥
       at_end l at n e p = grind (arith, nat_tests)
 
-and_first : (a b : Bool) → (a && b) ≡ true → a ≡ true
+pub and_first : (a b : Bool) → (a && b) ≡ true → a ≡ true
 and_first true b h = refl
 and_first false b h = h
 
-and_second : (a b : Bool) → (a && b) ≡ true → b ≡ true
+pub and_second : (a b : Bool) → (a && b) ≡ true → b ≡ true
 and_second true b h = h
 and_second false b h = absurd (false≢true h)
 

@@ -4,7 +4,7 @@ use Rattle.std.proofs.Common.{nat_lt, cond, List, [], ◌∷◌, length, take, g
 use Rattle.std.proofs.Common.{option_map}
 use Rattle.std.specs.Prelude.{Some, position, MatchOption}
 use Rattle.std.specs.List.{find, list_any, list_all, position_or_len}
-use Rattle.std.proofs.lemmas.Bool.{false≢true}
+use Rattle.std.proofs.lemmas.Bool.{false≢true, or_right}
 use Rattle.std.proofs.lemmas.Bool.Decides.{nat_tests}
 use Rattle.std.proofs.lemmas.List.Sums.{position_or_len_is}
 use Rattle.std.proofs.lemmas.Option.{slice_get-get_or}
@@ -16,7 +16,7 @@ use Rattle.est_relations.specs.Keeping.{has_one_at_most, has_implied, keeps, kee
 use Rattle.est_relations.specs.Offers.{with_place, IsFirstBroken, IsFirstLacking}
 use Rattle.est_relations.specs.declared.relations.Relation.{Relation}
 use Rattle.est_relations.specs.declared.relations.Relation.TheVariants.{Exclusion}
-use Rattle.est_relations.proofs.Members.{one_beside, one_alone, not_two, or_second}
+use Rattle.est_relations.proofs.Members.{one_beside, one_alone, not_two}
 
 -- the mask with one more bit
 pub with_bits : (mask place n : ℕ) → bits (with_place mask place) n ≡ (bits mask n || nat_eq place n)
@@ -53,7 +53,7 @@ implied_missing present a b p q = rw (p, q) refl
 
 pub implied_there : (present : ℕ → Bool) (a b : ℕ) → present b ≡ true → has_implied present a b ≡ true
 unfolding has_implied
-implied_there present a b h = or_second (not (present a)) (present b) h
+implied_there present a b h = or_right (not (present a)) (present b) h
 
 pub not_asked : (present : ℕ → Bool) (a b : ℕ) → present a ≡ false → has_implied present a b ≡ true
 unfolding has_implied

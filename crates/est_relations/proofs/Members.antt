@@ -3,7 +3,7 @@ use Rattle.std.proofs.Common.{◌≡◌, ◌∙◌, ◌⊎◌, inl, inr, ℕ, Bo
 use Rattle.std.proofs.Common.{◌∷◌, map, Option, None, refl, sym, ap, option_map}
 use Rattle.std.specs.Prelude.{Some}
 use Rattle.std.specs.List.{find, list_any, list_all}
-use Rattle.std.proofs.lemmas.Bool.{cases_eq, cases_Bool, eq-eqb, ne_eqb, false≢true}
+use Rattle.std.proofs.lemmas.Bool.{cases_eq, cases_Bool, eq-eqb, ne_eqb, false≢true, or_right, or_left}
 use Rattle.est_kernel.specs.declared.statement.InterfaceSignal.{InterfaceSignal}
 use Rattle.est_relations.specs.Keeping.{has_one_at_most}
 
@@ -37,14 +37,6 @@ all_places p (x ∷ xs) = ap (λ b. p x.index && b) (all_places p xs)
 
 -- ---- all and any, by members
 
-or_first : (a b : Bool) → a ≡ true → (a || b) ≡ true
-or_first true b e = refl
-or_first false b e = absurd (false≢true e)
-
-pub or_second : (a b : Bool) → b ≡ true → (a || b) ≡ true
-or_second true b e = refl
-or_second false b e = e
-
 pub or_true : (a b : Bool) → (a || b) ≡ true → (a ≡ true) ⊎ (b ≡ true)
 or_true true b h = inl refl
 or_true false b h = inr h
@@ -75,8 +67,8 @@ pub all_of : (p : ℕ → Bool) (xs : List ℕ) → ((x : ℕ) → list_any (nat
     → list_all p xs ≡ true
 all_of p [] h = refl
 all_of p (y ∷ ys) h = both (p y) (list_all p ys)
-    (h y (or_first (nat_eq y y) (list_any (nat_eq y) ys) (eq-eqb y y refl)))
-    (all_of p ys (λ x m. h x (or_second (nat_eq x y) (list_any (nat_eq x) ys) m))) where
+    (h y (or_left (nat_eq y y) (list_any (nat_eq y) ys) (eq-eqb y y refl)))
+    (all_of p ys (λ x m. h x (or_right (nat_eq x y) (list_any (nat_eq x) ys) m))) where
       both : (a b : Bool) → a ≡ true → b ≡ true → (a && b) ≡ true
       both true b e f = f
       both false b e f = e
@@ -121,8 +113,8 @@ found_is p (x ∷ xs) m h = at_head (p x) refl h (found_is p xs m) where
       → (find p xs ≡ Some m → (list_any (nat_eq m) xs ≡ true) × (p m ≡ true))
       → ((nat_eq m x || list_any (nat_eq m) xs) ≡ true) × (p m ≡ true)
   at_head true e h later = let same : x ≡ m = cc in
-      (rw (← same) (or_first (nat_eq x x) (list_any (nat_eq x) xs) (eq-eqb x x refl)), rw (← same) e)
-  at_head false e h later = let rest = later h in (or_second (nat_eq m x) (list_any (nat_eq m) xs) rest.0, rest.1)
+      (rw (← same) (or_left (nat_eq x x) (list_any (nat_eq x) xs) (eq-eqb x x refl)), rw (← same) e)
+  at_head false e h later = let rest = later h in (or_right (nat_eq m x) (list_any (nat_eq m) xs) rest.0, rest.1)
 
 -- where none is found, no member passes
 pub none_found : (p : ℕ → Bool) (ms : List ℕ) (m : ℕ) → find p ms ≡ None → list_any (nat_eq m) ms ≡ true → p m ≡ false
@@ -167,7 +159,7 @@ not_two before after ms s m is new in_it found = elim (cases_Bool (has_one_at_mo
   | inl t ↦
       let other = found_is before ms m found in
       let same : s ≡ m = one_means after ms t s m in_it other.0
-      (is s ∙ or_second (before s) (nat_eq s s) (eq-eqb s s refl)) (is m ∙ or_first (before m) (nat_eq s m) other.1) in
+      (is s ∙ or_right (before s) (nat_eq s s) (eq-eqb s s refl)) (is m ∙ or_left (before m) (nat_eq s m) other.1) in
       absurd (false≢true (sym new ∙ rw same other.1))
   | inr f ↦ f
 ]

@@ -47,7 +47,7 @@ first_failing keep (x ∷ xs) h = at_head (keep x) refl h (first_failing keep xs
 input_there : (i : List Declaration) (n : ℕ) → (offerable i n ≡ false → ⊥) → offerable i n ≡ true
 input_there i n o = elim (cases_Bool (offerable i n)) [ inl t ↦ t | inr f ↦ absurd (o f) ]
 
-no_fault : {A E : Type 0} (x : A) (e : E) → Ok x ≡ Err e → ⊥
+pub no_fault : {A E : Type 0} (x : A) (e : E) → Ok x ≡ Err e → ⊥
 no_fault x e h = cc
 
 declaration_at : (i : List Declaration) (n : ℕ) → n < length i → (d : Declaration) × (slice_get i n ≡ Some d)

@@ -1,7 +1,7 @@
 pub mod Ascii
 pub mod Filled
 mod Fronts
-mod Heads
+pub mod Heads
 mod OneCut
 mod Runs
 mod Spans

@@ -40,15 +40,12 @@ use Rattle.access_events.specs.Changing.{Moves, OnlyAsks, Tells}
 use Rattle.access_events.specs.Runs.{WorldState, Moment, EventStep, journal_in, journal_at, last_version, has_seen}
 use Rattle.access_events.specs.Runs.{newest_known}
 use Rattle.access_events.proofs.Moving.{moves, not_accepted}
+use Rattle.access_events.proofs.Changes.{accepted_change}
 use Rattle.seat_receipts.specs.declared.receipt.SlotReceipt.{SlotReceipt}
 use Rattle.history_merge.specs.OneList.{asked_of, Tells as TellsEntry}
 use Rattle.history_laws.specs.CallsInTurn.{asked_by, IsPolicyCall, IsSlotCall}
 
 -- ---- policy commands
-
-accepted_change : (change : Option Change) (entries : List Entry) → IsAccepted (reply_of_change change entries)
-accepted_change None entries = tt
-accepted_change (Some change) entries = tt
 
 -- the call by which the seat adds the policy entry
 abbrev pub policy_moment : (seat : ℕ) → Entry → WorldState → Moment

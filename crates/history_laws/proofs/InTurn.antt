@@ -28,10 +28,11 @@ use Rattle.history_merge.specs.declared.order.Rank.TheVariants as rank
 use Rattle.history_merge.specs.ToldCalls.{ToldCall, Publishes, Commands, of_policy, of_seat, of_slot}
 use Rattle.history_merge.specs.OneList.{Tell, Tells, HasParts, AreOfOneList}
 use Rattle.history_merge.specs.Order.{part_at, version_at, InOrder}
+use Rattle.history_merge.proofs.Going.{at_past}
 use Rattle.history_laws.specs.CallsInTurn.{IsCallOf, AreOfOneRun}
 use Rattle.history_laws.proofs.Accepted.{IsNext, policy_moment, policy_step, policy_call, slot_moment, slot_step}
 use Rattle.history_laws.proofs.Accepted.{slot_call, slot_after}
-use Rattle.history_laws.proofs.Parts.{StandsAt, at_past, stands_at, behind, same_journals, set_within, all_zero}
+use Rattle.history_laws.proofs.Parts.{StandsAt, stands_at, behind, same_journals, set_within, all_zero}
 
 -- where nothing is kept, the first is not, and neither are the others
 none_kept : {A : Type 0} (b : Bool) (x : A) (xs : List A) → (if b then x ∷ xs else xs) ≡ [] → (b ≡ false) × (xs ≡ [])

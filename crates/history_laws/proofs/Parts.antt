@@ -7,11 +7,7 @@ use Rattle.reactor_core.specs.declared.entry.SlotEntry.{SlotEntry}
 use Rattle.access_core.specs.SlotState.{SlotState}
 use Rattle.access_events.proofs.Placing.{journal_of}
 use Rattle.history_merge.specs.Order.{part_at}
-
--- a number over the last has no list
-pub at_past : {A : Type 0} (lists : List (List A)) (number : ℕ) → length lists ≤ number
-    → part_at lists number ≡ []
-at_past lists number past = ap (λ found. unwrap_or found []) (slice_get_past lists number past)
+use Rattle.history_merge.proofs.Going.{at_past}
 
 -- an item stands at each place inside
 pub record StandsAt {A : Type 0} (xs : List A) (place : ℕ) : Type 0 where

@@ -1,6 +1,6 @@
 mod Leasts
 mod Exact
-mod Going
+pub mod Going
 mod Ending
 mod Risings
 mod Standing

@@ -13,6 +13,7 @@ use Rattle.est_meaning.specs.declared.status.Status.{Status}
 use Rattle.est_meaning.specs.declared.status.Status.TheVariants.{Unknown}
 use Rattle.est_cells.specs.Tables.{Below, Cells, CellsBelow, Sheet}
 use Rattle.est_cells.specs.Whole.{table_meaning}
+use Rattle.est_cells.proofs.NextState.{same_bool}
 use Rattle.est_net.specs.Cells.{cell_at}
 use Rattle.est_net.specs.Owners.{owners, statements}
 use Rattle.est_net.specs.OwnerValues.{own_value, value_at, value_in}
@@ -28,11 +29,6 @@ both_below : (v w : Status) → IsBelow v w → IsBelow w v → v ≡ w
 both_below v w (inr e) h = e
 both_below v w (inl e) (inr f) = sym f
 both_below v w (inl e) (inl f) = e ∙ sym f
-
-same_bool : (x y : Bool) → (x ≡ true → y ≡ true) → (y ≡ true → x ≡ true) → x ≡ y
-same_bool true y f g = sym (f refl)
-same_bool false true f g = g refl
-same_bool false false f g = refl
 
 own_same : (c d : Cells) (v w : Status) → CellsBelow c d → CellsBelow d c → v ≡ w → (kind : CellKind)
     → own_value c v kind ≡ own_value d w kind

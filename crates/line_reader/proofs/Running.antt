@@ -2,7 +2,7 @@
 use Rattle.std.proofs.Common.{◌≡◌, ◌∙◌, List, ℕ, [], ◌∷◌, ◌++◌, Option, append_assoc, append-nil, refl, sym, subst, ap}
 use Rattle.std.proofs.Common.{inl, inr, Some, None}
 use Rattle.std.specs.Io.KnownBytes.{Appends, prepend_known}
-use Rattle.std.proofs.KnownBytes.{Appends-nil, Appends-trans}
+use Rattle.std.proofs.KnownBytes.{Appends-nil, Appends-trans, prepend_known-nil}
 use Rattle.line_reader.specs.declared.serving.Why.{Why}
 use Rattle.line_reader.specs.declared.serving.Why.TheVariants as why
 use Rattle.line_reader.specs.Writing.{WritesUpTo, WritesFront}
@@ -153,10 +153,6 @@ cut_short tells fails refusal before y desk a b c w left n s k =
       puts = (k.0, part);
     }
 
-none_held : (known : Option (List ℕ)) → prepend_known [] known ≡ known
-none_held None = refl
-none_held (Some bytes) = refl
-
 -- where a writing failed, what is left says nothing
 any_left : {A : Type 0} (tells : A → List ℕ → List ℕ → A → Type 0) (fails : A → List ℕ → A → Type 0)
     (refusal : List ℕ) (before : BetweenLines A) (desk : A) (a b : Option (List ℕ)) (w left rest : List ℕ)
@@ -173,7 +169,7 @@ pub from_nothing : {A : Type 0} (tells : A → List ℕ → List ℕ → A → T
     (record { ahead = prepend_known held ahead; desk = start }) y desk a b w left
     → Serves tells fails refusal (record { ahead = ahead; desk = start }) y desk a b [] left
 from_nothing {A} tells fails refusal held ahead start y desk a b w left e f s =
-    let same : prepend_known held ahead ≡ ahead = ap (λ (h : List ℕ). prepend_known h ahead) e ∙ none_held ahead in
+    let same : prepend_known held ahead ≡ ahead = ap (λ (h : List ℕ). prepend_known h ahead) e ∙ prepend_known-nil ahead in
     subst (λ (x : Option (List ℕ)). Serves tells fails refusal (record { ahead = x; desk = start }) y desk a b [] left)
     same
     (subst (λ (x : List ℕ). Serves tells fails refusal

@@ -16,7 +16,7 @@ use Rattle.policy_board.specs.contracts.publisher.Publisher as publisher
 journal_sends : IsSend journal.the_row
 journal_sends = search (sendable, crosses, maps.crosses) depth 60 fits 20000
 
-option_sends : (R : RattleType) → IsSend R → IsSend (option.the_field R).row
+pub option_sends : (R : RattleType) → IsSend R → IsSend (option.the_field R).row
 option_sends R sends = search sendable depth 12
 
 module _ (B : RattleType) (g : Ghosts B.Denot) (sends : IsSend (publisher.the_row B g)) where

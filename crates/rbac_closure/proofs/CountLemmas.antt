@@ -19,12 +19,12 @@ no_places : (set : ℕ) → length (places_before zero set) ≡ 0
 unfolding places_before
 no_places set = refl
 
-one_more : (n set : ℕ) → Has set n → places_before (suc n) set ≡ n ∷ places_before n set
+pub one_more : (n set : ℕ) → Has set n → places_before (suc n) set ≡ n ∷ places_before n set
 unfolding places_before
 one_more n set has = ap (λ b. cond b (n ∷ places_before n set) (places_before n set))
     ((Decides-eqb (bit_at set n) 1).1 has)
 
-no_more : (n set : ℕ) → (Has set n → ⊥) → places_before (suc n) set ≡ places_before n set
+pub no_more : (n set : ℕ) → (Has set n → ⊥) → places_before (suc n) set ≡ places_before n set
 unfolding places_before
 no_more n set none = by_test (bit_at set n == 1) refl where
   by_test : (b : Bool) → (bit_at set n == 1) ≡ b → cond (bit_at set n == 1) (n ∷ places_before n set)

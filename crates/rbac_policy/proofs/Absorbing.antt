@@ -6,6 +6,7 @@ use Rattle.std.specs.List.{list_any}
 use Rattle.std.proofs.lemmas.Bool.{false≢true}
 use Rattle.std.proofs.lemmas.List.{length_push, length-set}
 use Rattle.std.proofs.lemmas.Option.{slice_get_within}
+use Rattle.std.proofs.lemmas.Map.Keys.{any_passes_from_place}
 use Rattle.rbac_policy.specs.declared.objects.Operation.{Operation}
 use Rattle.rbac_policy.specs.declared.objects.Object.{Object}
 use Rattle.rbac_policy.specs.declared.commands.AdminCommand.{AdminCommand}
@@ -45,7 +46,7 @@ use Rattle.rbac_policy.proofs.Adding.{adding}
 use Rattle.rbac_policy.proofs.Assigning.{assigning}
 use Rattle.rbac_policy.proofs.Naming.{added_mask, added_named, added_role, unique_added, renamed_users, renamed_grants}
 use Rattle.rbac_policy.proofs.Naming.{renamed_sessions}
-use Rattle.rbac_policy.proofs.Granting.{granting, passes_any}
+use Rattle.rbac_policy.proofs.Granting.{granting}
 use Rattle.rbac_policy.proofs.Revoking.{revoking}
 use Rattle.rbac_policy.proofs.Deassigning.{deassigning, removing, ended_unswept}
 use Rattle.rbac_policy.proofs.Inheriting.{inheriting, disinheriting}
@@ -172,7 +173,7 @@ row_or_room p L op ob st few = by_test (list_any (grant_is op ob) p.grants) refl
       (keeps_grants p.roles p.grants L st.grants) st.grants.places (few (λ g.
       let h = st.grants.only_pairs g.0 op ob g.1 in
       false≢true
-      (sym e ∙ passes_any (grant_is op ob) p.grants h.at (Some h.value) h.there
+      (sym e ∙ any_passes_from_place (grant_is op ob) p.grants h.at (Some h.value) h.there
       ((both _ _ _ _ (operations h.value.operation op) (objects h.value.object ob)).1 h.fact)))))
 
 grant : (p : Policy) (L : List Entry) (s : Option ℕ) (role : NameText) (op : Operation) (ob : Object) → StandsFor p L

@@ -30,8 +30,9 @@ use Rattle.std.specs.List.{list_any}
 use Rattle.std.proofs.lemmas.Slice.Eq.{bytes_eq-Decides}
 use Rattle.std.proofs.lemmas.Option.{slice_get-get_or}
 use Rattle.std.proofs.lemmas.List.Quantifiers.{position-Some}
+use Rattle.std.proofs.lemmas.Map.Keys.{any_passes_from_place}
 use Rattle.rbac_policy.specs.declared.rows.User.{User}
-use Rattle.rbac_policy.proofs.Granting.{some_passes, passes_any}
+use Rattle.rbac_policy.proofs.Granting.{some_passes}
 use Rattle.rbac_policy.proofs.Listed.{placed}
 
 -- the first value that passes, with its place
@@ -192,7 +193,7 @@ module _ (p : Policy) (L : List Entry) (st : StandsFor p L) where
       (st.users.exist u).1 (held f.at f.value f.there f.test))
       (λ t h. let k = (st.users.exist u).0 h in
       false≢true
-      (sym t ∙ is ∙ passes_any (user_is u) p.users k.at (Some k.value) k.there
+      (sym t ∙ is ∙ any_passes_from_place (user_is u) p.users k.at (Some k.value) k.there
       ((bytes_eq-Decides k.value.name u).1 k.fact))) where
         held : (at : ℕ) (o : Option User) → slice_get p.users at ≡ Some o → user_is u o ≡ true
             → Holds (λ (x : User). x.name ≡ u) p.users

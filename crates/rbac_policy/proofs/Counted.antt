@@ -9,6 +9,7 @@ use Rattle.std.proofs.lemmas.Bool.Decides.{Decides-eqb}
 use Rattle.std.proofs.lemmas.List.Kept.{AllPairs-cons}
 use Rattle.std.proofs.lemmas.Option.{slice_get_within, get_or_from_slice_get}
 use Rattle.rbac_closure.specs.Sets.{Has, places_before, places_of}
+use Rattle.rbac_closure.proofs.CountLemmas.{one_more, no_more}
 use Rattle.rbac_policy.specs.declared.sizes.TheConstants.{ROLES}
 use Rattle.rbac_policy.specs.Names.{NameText}
 use Rattle.rbac_policy.specs.Counting.{HasAtLeast}
@@ -16,20 +17,6 @@ use Rattle.rbac_policy.specs.Tables.{At}
 use Rattle.rbac_policy.specs.StandsFor.{InMask, IsNamed}
 use Rattle.rbac_policy.proofs.Order.{one_role}
 use Rattle.rbac_policy.proofs.Room.{pigeons}
-
--- the places before one more, where that is one of them or not
-more_places : (n set : ℕ) → Has set n → places_before (suc n) set ≡ n ∷ places_before n set
-unfolding places_before
-more_places n set has = ap (λ b. cond b (n ∷ places_before n set) (places_before n set))
-    ((Decides-eqb (bit_at set n) 1).1 has)
-
-no_more_places : (n set : ℕ) → (Has set n → ⊥) → places_before (suc n) set ≡ places_before n set
-unfolding places_before
-no_more_places n set none = by_test (bit_at set n == 1) refl where
-  by_test : (b : Bool) → (bit_at set n == 1) ≡ b → cond (bit_at set n == 1) (n ∷ places_before n set)
-      (places_before n set) ≡ places_before n set
-  by_test true e = absurd (none ((Decides-eqb (bit_at set n) 1).0 e))
-  by_test false e = ap (λ b. cond b (n ∷ places_before n set) (places_before n set)) e
 
 no_places : (set : ℕ) → places_before zero set ≡ []
 unfolding places_before
@@ -39,12 +26,12 @@ no_places set = refl
 listed_place : (n set p : ℕ) → p < n → Has set p → (at : ℕ) × (slice_get (places_before n set) at ≡ Some p)
 listed_place zero set p low has = absurd (omega (arith, low))
 listed_place (suc n) set p low has = elim (cases_eq p n) [
-  | inl e ↦ (0, ap (λ xs. slice_get xs 0) (more_places n set (subst (Has set) e has)) ∙ ap Some (sym e))
+  | inl e ↦ (0, ap (λ xs. slice_get xs 0) (one_more n set (subst (Has set) e has)) ∙ ap Some (sym e))
   | inr d ↦
       let rest = listed_place n set p (omega (arith, low, d)) has in
       elim (cases_eq (bit_at set n) 1) [
-        | inl here ↦ (suc rest.0, ap (λ xs. slice_get xs (suc rest.0)) (more_places n set here) ∙ rest.1)
-        | inr none ↦ (rest.0, ap (λ xs. slice_get xs rest.0) (no_more_places n set none) ∙ rest.1)
+        | inl here ↦ (suc rest.0, ap (λ xs. slice_get xs (suc rest.0)) (one_more n set here) ∙ rest.1)
+        | inr none ↦ (rest.0, ap (λ xs. slice_get xs rest.0) (no_more n set none) ∙ rest.1)
       ]
 ]
 
@@ -100,13 +87,13 @@ module _ (roles : List (Option NameText)) (unique : (p q : ℕ) (r : NameText) �
                   rest.distinct;
               have = first n r.0 rest.values (record { place = n; there = r.1; bit = here; low = omega arith })
                   (wider n rest.values rest.have);
-              enough = ap suc rest.enough ∙ sym (ap length (more_places n set here));
+              enough = ap suc rest.enough ∙ sym (ap length (one_more n set here));
             }
         | inr none ↦ record {
           values = rest.values;
           distinct = rest.distinct;
           have = wider n rest.values rest.have;
-          enough = rest.enough ∙ sym (ap length (no_more_places n set none));
+          enough = rest.enough ∙ sym (ap length (no_more n set none));
         }
       ] where
         first : (n : ℕ) (x : NameText) (xs : List NameText) → IsBefore (suc n) x → All (IsBefore (suc n)) xs

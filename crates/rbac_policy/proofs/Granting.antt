@@ -6,6 +6,7 @@ use Rattle.std.specs.List.{list_any}
 use Rattle.std.proofs.lemmas.Bool.{false≢true}
 use Rattle.std.proofs.lemmas.Option.{same_Some}
 use Rattle.std.proofs.lemmas.List.{length-map, length-set}
+use Rattle.std.proofs.lemmas.Map.Keys.{any_passes_from_place}
 use Rattle.rbac_closure.proofs.SetLemmas.{with_same}
 use Rattle.rbac_policy.specs.declared.sizes.TheConstants.{ROLES}
 use Rattle.rbac_closure.specs.Sets.{Has}
@@ -50,16 +51,6 @@ some_passes {X = X} p (x ∷ xs) h = here (λ k. some_passes p xs k) (p x) refl 
   here rest true e = record { at = 0; value = x; there = refl; test = e }
   here rest false e = let r = rest (sym (ap (λ b. b || list_any p xs) e) ∙ h) in
       record { at = suc r.at; value = r.value; there = r.there; test = r.test }
-
-pub passes_any : {X : Type 0} (p : X → Bool) (xs : List X) (at : ℕ) (x : X) → slice_get xs at ≡ Some x → p x ≡ true
-    → list_any p xs ≡ true
-passes_any p [] at x there t = cc
-passes_any p (y ∷ ys) zero x there t = ap (λ z. p z || list_any p ys) (same_Some y x there)
-    ∙ ap (λ b. b || list_any p ys) t
-passes_any p (y ∷ ys) (suc at) x there t = ap (λ b. p y || b) (passes_any p ys at x there t) ∙ or_true (p y) where
-  or_true : (b : Bool) → (b || true) ≡ true
-  or_true true = refl
-  or_true false = refl
 
 module _ (roles : List (Option NameText)) (unique : (p q : ℕ) (r : NameText) → At roles p r → At roles q r → p ≡ q)
     (p0 : ℕ) (r0 : NameText) (role_there : At roles p0 r0) (low : p0 < ROLES)
@@ -210,7 +201,7 @@ module _ (roles : List (Option NameText)) (unique : (p q : ℕ) (r : NameText) �
       let new : Grant = record { operation = op; object = ob; roles = with_bit 0 p0 } in
       let no_pair : (at : ℕ) (x : Grant) → At grants at x → x.operation ≡ op → x.object ≡ ob → ⊥ = λ at x there a b.
       false≢true
-      (sym none ∙ passes_any (grant_is op ob) grants at (Some x) there
+      (sym none ∙ any_passes_from_place (grant_is op ob) grants at (Some x) there
       ((both _ _ _ _ (operations x.operation op) (objects x.object ob)).1 (a, b))) in
       let fresh : (r : NameText) → IsGranted (L ++ the_grant ∷ []) r op ob ↔ InMask roles (with_bit 0 p0) r =
       λ r. through (granted_push r op ob) (through

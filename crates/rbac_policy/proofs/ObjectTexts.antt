@@ -96,7 +96,7 @@ guard : {A : Type 0} (b : Bool) (x : A) (y : A) → cond b (Some x) None ≡ Som
 guard true x y h = (refl, same_Some _ _ h)
 guard false x y h = cc
 
-passed : {A : Type 0} (b : Bool) (o : Option A) (y : A) → cond b o None ≡ Some y → (b ≡ true) × (o ≡ Some y)
+pub passed : {A : Type 0} (b : Bool) (o : Option A) (y : A) → cond b o None ≡ Some y → (b ≡ true) × (o ≡ Some y)
 passed true o y h = (refl, h)
 passed false o y h = cc
 
@@ -105,7 +105,7 @@ either : {A : Type 0} (b : Bool) (o p : Option A) (y : A) → cond b o p ≡ Som
 either true o p y h = inl (refl, h)
 either false o p y h = inr h
 
-chained : {A B : Type 0} (f : A → Option B) (o : Option A) (y : B) → option_and_then f o ≡ Some y
+pub chained : {A B : Type 0} (f : A → Option B) (o : Option A) (y : B) → option_and_then f o ≡ Some y
     → (x : A) × (o ≡ Some x) × (f x ≡ Some y)
 chained f None y h = cc
 chained f (Some x) y h = (x, refl, h)
@@ -183,7 +183,7 @@ object_of_is text o h =
 
 -- from an object to its text and back
 
-object_of-object_text : (o : Object) → IsObject o → object_of (object_text o) ≡ Some o
+pub object_of-object_text : (o : Object) → IsObject o → object_of (object_text o) ≡ Some o
 unfolding object_of
 object_of-object_text object.Policy is = refl
 object_of-object_text (object.Slot k) is = slot_alone k is
@@ -215,7 +215,7 @@ operation_of_is text o h =
     pick text operation.Load _ o h
     (λ h. pick text operation.Administer _ o h (λ h. pick text operation.Audit _ o h (λ h. cc))))))
 
-operation_of-operation_text : (o : Operation) → operation_of (operation_text o) ≡ Some o
+pub operation_of-operation_text : (o : Operation) → operation_of (operation_text o) ≡ Some o
 unfolding operation_of
 operation_of-operation_text operation.Offer = refl
 operation_of-operation_text operation.Observe = refl

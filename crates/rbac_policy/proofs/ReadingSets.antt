@@ -7,6 +7,7 @@ use Rattle.std.proofs.lemmas.Bool.{false≢true}
 use Rattle.std.proofs.lemmas.Bool.Decides.{Decides-eqb}
 use Rattle.std.proofs.lemmas.Slice.Eq.{bytes_eq-Decides}
 use Rattle.std.proofs.lemmas.Option.{same_Some}
+use Rattle.std.proofs.lemmas.Map.Keys.{any_passes_from_place}
 use Rattle.rbac_policy.specs.declared.commands.Entry.{Entry}
 use Rattle.rbac_policy.specs.declared.rows.DsdSet.{DsdSet}
 use Rattle.rbac_policy.specs.declared.policy.Policy.{Policy}
@@ -18,7 +19,7 @@ use Rattle.rbac_policy.specs.SetTables.{set_is, set_with, place_of_row, first_se
 use Rattle.rbac_policy.specs.Tables.{At, place_of}
 use Rattle.rbac_policy.specs.StandsFor.{StandsFor}
 use Rattle.rbac_policy.proofs.Asking.{reflects, no_role}
-use Rattle.rbac_policy.proofs.Granting.{some_passes, passes_any}
+use Rattle.rbac_policy.proofs.Granting.{some_passes}
 use Rattle.rbac_policy.proofs.ReadingRoles.{in_mask, mask_role}
 use Rattle.rbac_policy.proofs.Least.{Judged, Stands, judged}
 
@@ -54,7 +55,7 @@ module _ (p : Policy) (L : List Entry) (st : StandsFor p L) where
       (λ t. let f = some_passes (set_is s) p.sets (sym is ∙ t) in made f.at f.value f.there f.test)
       (λ t h. let k = st.sets.listed h.place s h.count h.roles h.is_set in
       false≢true
-      (sym t ∙ is ∙ passes_any (set_is s) p.sets k.at (Some k.value) k.there
+      (sym t ∙ is ∙ any_passes_from_place (set_is s) p.sets k.at (Some k.value) k.there
       ((bytes_eq-Decides k.value.name s).1 k.fact.name))) where
         made : (at : ℕ) (o : Option DsdSet) → slice_get p.sets at ≡ Some o → set_is s o ≡ true → IsSetName L s
         made at None there t = absurd (false≢true t)

@@ -6,6 +6,7 @@ use Rattle.est_kernel.specs.Term.{Term}
 use Rattle.est_relations.specs.Keeping.{AreLawful}
 use Rattle.est_relations.specs.Offers.{PendingInputs, Adds, IsFirstImplied, offer_rules as pending_rules}
 use Rattle.est_relations.specs.declared.refusal.Refusal.{Refusal as PendingRefusal}
+use Rattle.est_relations.proofs.OffersKeep.{no_fault}
 use Rattle.refusal_rules.specs.Rules.{Rules, ◌▸▸◌, Answers}
 use Rattle.refusal_rules.proofs.RuleLemmas.{refuse, pass, answered}
 use Rattle.reactor_core.specs.declared.entry.Stamp.{Stamp}
@@ -22,7 +23,7 @@ use Rattle.reactor_core.specs.Instants.{SettledInstant, AddsInstant, CommitAnswe
 use Rattle.reactor_core.specs.Meaning.{Running, RunsAfter, pending_of, entry}
 use Rattle.reactor_core.specs.Standing.{pending_inputs, JoinsAs, RefusesName, RefusesInstant}
 use Rattle.reactor_core.proofs.Converting.{convert}
-use Rattle.reactor_core.proofs.Joining.{no_err, no_ok, same_err}
+use Rattle.reactor_core.proofs.Joining.{no_ok, same_err}
 
 full_has_no_room : (journal : List SlotEntry) → IsFull journal → HasRoom journal → ⊥
 full_has_no_room journal full room = omega arith
@@ -92,7 +93,7 @@ module _ (journal : List SlotEntry) (m : Module) (r : Running) (runs : RunsAfter
         (convert refusal_of_pending (pending_rules (pending_inputs m r.pending) name) (entry_rules journal)
         (Refused (Ok (record {})) (pending_inputs m after)) (Accepted name (Ok (record {})) (pending_inputs m after))
         (Told answer w) (Done stamp name answer w)
-        (λ refusal told. absurd (no_err (record {}) refusal told.0))
+        (λ refusal told. absurd (no_fault (record {}) refusal told.0))
         (λ accepted. goes) h.answer);
   }
 

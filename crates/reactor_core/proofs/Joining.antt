@@ -6,13 +6,11 @@ use Rattle.est_relations.specs.Keeping.{AreLawful}
 use Rattle.est_relations.specs.Offers.{PendingInputs, KeepsExclusions, Adds, OfferAnswer as PendingAnswer, ReadyAnswer}
 use Rattle.est_relations.specs.Offers.{offer_rules as pending_rules}
 use Rattle.est_relations.specs.declared.refusal.Refusal.{Refusal as PendingRefusal}
+use Rattle.est_relations.proofs.OffersKeep.{no_fault}
 use Rattle.refusal_rules.proofs.RuleLemmas.{all_passed, answered}
 use Rattle.reactor_core.specs.declared.loaded.Module.{Module}
 use Rattle.reactor_core.specs.Faults.{refusal_of_pending}
 use Rattle.reactor_core.specs.Standing.{pending_inputs, JoinsAs, RefusesName, RefusesInstant}
-
-pub no_err : {A E : Type 0} (x : A) (e : E) → Ok x ≡ Err e → ⊥
-no_err x e h = cc
 
 pub no_ok : {A E : Type 0} (x : A) (e : E) → Err e ≡ Ok x → ⊥
 no_ok x e h = cc
@@ -26,7 +24,7 @@ pub adds_where : (p : PendingInputs) (name : List ℕ) (after : PendingInputs)
 adds_where p name after h =
     (all_passed (pending_rules p name) (λ refusal. (Ok (record {}) ≡ Err refusal) × (after ≡ p))
     ((Ok (record {}) ≡ Ok (record {})) × Adds p name after)
-    (λ refusal told. no_err (record {}) refusal told.0) h).1.1
+    (λ refusal told. no_fault (record {}) refusal told.0) h).1.1
 
 -- a refused one leaves what is pending
 stays_where : (p : PendingInputs) (name : List ℕ) (e : PendingRefusal) (after : PendingInputs)
@@ -69,7 +67,7 @@ refuses m pending name before after e is h =
 
 -- an instant may take pending inputs that are ready
 lawful_where : (p : PendingInputs) → ReadyAnswer p (Ok (record {})) → AreLawful p.relations (bits p.mask)
-lawful_where p (inl refused) = absurd (no_err (record {}) refused.refusal refused.answered)
+lawful_where p (inl refused) = absurd (no_fault (record {}) refused.refusal refused.answered)
 lawful_where p (inr passes) = passes.next.1
 
 pub takes : (m : Module) (pending : ℕ) (before : PendingInputs) → before ≡ pending_inputs m pending

@@ -2,7 +2,7 @@
 use Rattle.std.proofs.Common.{◌≡◌, ◌⊎◌, ◌↔◌, ◌∙◌, ℕ, ◌^◌, Bool, true, false, List, [], ◌∷◌, ◌++◌, Option, Some, None}
 use Rattle.std.proofs.Common.{refl, ap, sym, subst, inl, inr, ◌||◌}
 use Rattle.std.specs.List.{AllByRecursion}
-use Rattle.std.proofs.lemmas.Bool.{eq-eqb}
+use Rattle.std.proofs.lemmas.Bool.{eq-eqb, or_right}
 use Rattle.est_kernel.specs.Bits.{bits}
 use Rattle.est_kernel.specs.declared.interface.Declaration.{Declaration}
 use Rattle.est_kernel.proofs.Masks.{bits_or, bits_pow}
@@ -148,12 +148,8 @@ still_there : (mask place : ℕ) (at : Option ℕ) → bits mask place ≡ true 
 still_there mask place None h = h
 still_there mask place (Some k) h = bits_or mask (2 ^ k) place ∙ rw h refl
 
-or_true : (a b : Bool) → b ≡ true → (a || b) ≡ true
-or_true true b h = refl
-or_true false b h = h
-
 now_there : (mask place : ℕ) → bits (with_signal mask (Some place)) place ≡ true
-now_there mask place = bits_or mask (2 ^ place) place ∙ or_true (bits mask place) _
+now_there mask place = bits_or mask (2 ^ place) place ∙ or_right (bits mask place) _
     (bits_pow place place ∙ eq-eqb place place refl)
 
 in_mask : (interface : List Declaration) (names : List (List ℕ)) (place : ℕ) (name : List ℕ)

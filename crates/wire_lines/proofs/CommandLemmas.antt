@@ -27,9 +27,10 @@ use Rattle.rbac_policy.specs.Names.{is_name}
 use Rattle.rbac_policy.specs.Texts.{operation_text, operation_of, object_text, object_of, IsObject}
 use Rattle.rbac_policy.specs.declared.objects.Operation.{Operation}
 use Rattle.rbac_policy.specs.declared.objects.Object.{Object}
-use Rattle.rbac_policy.proofs.ObjectTexts.{operation_of-exact, object_of-exact}
+use Rattle.rbac_policy.proofs.ObjectTexts.{operation_of-exact, object_of-exact, chained, object_of-object_text}
+use Rattle.rbac_policy.proofs.ObjectTexts.{operation_of-operation_text}
 use Rattle.access_core.specs.declared.command.SlotCommand.TheVariants.{Load, Offer, Discard, Step, Unload, Look, Audit}
-use Rattle.wire_lines.proofs.MemberLemmas.{mapped, chained, same_text, brace_is, end_is, last_is, IsMember}
+use Rattle.wire_lines.proofs.MemberLemmas.{mapped, same_text, brace_is, end_is, last_is, IsMember}
 use Rattle.wire_lines.proofs.MemberLemmas.{text_is, text_member_is, tested_is, object_is, operation_is}
 use Rattle.wire_lines.proofs.MemberLemmas.{number_member_is, number_back, roles_are, roles_back}
 use Rattle.wire_lines.specs.Requests as said
@@ -411,12 +412,6 @@ said_has_no_float (said.roles_user roles user) = rw (texts_have_no_float roles)
 said_has_no_float (said.count_name_roles count set roles) = rw (texts_have_no_float roles)
 said_has_no_float _ = refl
 
-object_back : (on : Object) → IsObject on → object_of (object_text on) ≡ Some on
-object_back on f = (object_of-exact (object_text on) on).1 (f, refl)
-
-operation_back : (operation : Operation) → operation_of (operation_text operation) ≡ Some operation
-operation_back operation = (operation_of-exact (operation_text operation) operation).1 refl
-
 -- the tokens that are written for members
 abbrev written : Members → List Token
 written members = json_tokens (outline (object members))
@@ -431,9 +426,9 @@ request_back (Policy (DeleteRole role)) f = rw f refl
 request_back (Policy (AssignUser user role)) f = rw (f.0, f.1) refl
 request_back (Policy (DeassignUser user role)) f = rw (f.0, f.1) refl
 request_back (Policy (GrantPermission role operation on)) f =
-    rw (object_back on f.0, operation_back operation, f.1) refl
+    rw (object_of-object_text on f.0, operation_of-operation_text operation, f.1) refl
 request_back (Policy (RevokePermission role operation on)) f =
-    rw (object_back on f.0, operation_back operation, f.1) refl
+    rw (object_of-object_text on f.0, operation_of-operation_text operation, f.1) refl
 request_back (Policy (AddInheritance senior junior)) f = rw (f.0, f.1) refl
 request_back (Policy (DeleteInheritance senior junior)) f = rw (f.0, f.1) refl
 request_back (Policy (CreateDsdSet set count roles)) f =
@@ -451,7 +446,7 @@ request_back (Slot slot Step) f = rw (number_back slot f) refl
 request_back (Slot slot Unload) f = rw (number_back slot f) refl
 request_back (Slot slot (Look instant)) f = rw (number_back instant f.0, number_back slot f.1) refl
 request_back (Slot slot Audit) f = rw (number_back slot f) refl
-request_back (Check operation on) f = rw (object_back on f, operation_back operation) refl
+request_back (Check operation on) f = rw (object_of-object_text on f, operation_of-operation_text operation) refl
 
 -- a text that has the members of a request in order is read as that request
 pub in_order_back : (text : List ℕ) (r : Request) → Fits r → IsInOrder text (object (members_of r))

@@ -24,7 +24,7 @@ use Rattle.rbac_policy.specs.Names.{is_name}
 use Rattle.rbac_policy.specs.Texts.{operation_text, operation_of, object_text, object_of, IsObject}
 use Rattle.rbac_policy.specs.declared.objects.Operation.{Operation}
 use Rattle.rbac_policy.specs.declared.objects.Object.{Object}
-use Rattle.rbac_policy.proofs.ObjectTexts.{operation_of-exact, object_of-exact}
+use Rattle.rbac_policy.proofs.ObjectTexts.{operation_of-exact, object_of-exact, passed, chained}
 use Rattle.wire_lines.specs.Requests.{IsName, IsNumber, AreListed}
 use Rattle.wire_lines.specs.Inner.Members.{whole_of, after_key, front_text, front_number, begins_array, begins_object}
 use Rattle.wire_lines.specs.Inner.Members.{text_after, number_after, parsed_after, names_in}
@@ -32,19 +32,10 @@ use Rattle.wire_lines.specs.Inner.Members.{roles_after, no_more, ends, last}
 
 -- ---- tools
 
-pub guard : {A : Type 0} (b : Bool) (o : Option A) (y : A) → cond b o None ≡ Some y → (b ≡ true) × (o ≡ Some y)
-guard true o y h = (refl, h)
-guard false o y h = cc
-
 pub mapped : {A B : Type 0} (f : A → B) (o : Option A) (y : B) → option_map f o ≡ Some y → (x : A) × (o ≡ Some x)
     × (f x ≡ y)
 mapped f None y h = cc
 mapped f (Some x) y h = (x, refl, same_Some _ _ h)
-
-pub chained : {A B : Type 0} (f : A → Option B) (o : Option A) (y : B) → option_and_then f o ≡ Some y → (x : A)
-    × (o ≡ Some x) × (f x ≡ Some y)
-chained f None y h = cc
-chained f (Some x) y h = (x, refl, h)
 
 pub same_text : (a b : List ℕ) → bytes_eq a b ≡ true → a ≡ b
 same_text a b h = (bytes_eq-Decides a b).0 h
@@ -54,7 +45,7 @@ same_text a b h = (bytes_eq-Decides a b).0 h
 key_is : (name : List ℕ) (ts left : List Token) → after_key name ts ≡ Some left → ts ≡ token.key name ∷ left
 unfolding after_key
 key_is name (token.key found ∷ rest) left h =
-    let g = guard (bytes_eq found name) (Some rest) left h in
+    let g = passed (bytes_eq found name) (Some rest) left h in
     ap (λ (s : List ℕ). token.key s ∷ rest) (same_text found name g.0)
     ∙ ap (λ (l : List Token). token.key name ∷ l) (same_Some _ _ g.1)
 key_is name _ left h = cc
@@ -143,7 +134,7 @@ pub tested_is : (test : List ℕ → Bool) (name : List ℕ) (ts : List Token) (
     → IsMember name ts (string x) left × IsTrue (test x)
 tested_is test name ts x left h =
     let p = parsed_is (λ (text : List ℕ). cond (test text) (Some text) None) name ts x left h in
-    let g = guard (test p.0) (Some p.0) x p.2 in
+    let g = passed (test p.0) (Some p.0) x p.2 in
     let e : p.0 ≡ x = same_Some _ _ g.1 in (
       record {
         json = json.string x;
@@ -266,7 +257,7 @@ names_are (token.end_array ∷ rest) found h =
     (same_Some _ _ h) (refl, tt)
 names_are (token.string text ∷ rest) found h =
     let p = chained _ _ found h in
-    let g = guard (is_name text) _ p.0 p.1 in
+    let g = passed (is_name text) _ p.0 p.1 in
     let e : text ≡ p.0 = same_Some _ _ g.1 in
     let m = mapped _ _ found p.2 in
     let r = names_are rest m.0 m.1 in
@@ -299,7 +290,7 @@ pub roles_are : (ts : List Token) (roles : List (List ℕ)) (left : List Token) 
 unfolding roles_after
 roles_are ts roles left h =
     let p = chained _ _ (roles, left) h in
-    let g = guard (nat_le (length p.0.0) LISTED_ROLES) (Some p.0) (roles, left) p.2 in
+    let g = passed (nat_le (length p.0.0) LISTED_ROLES) (Some p.0) (roles, left) p.2 in
     let e : p.0 ≡ (roles, left) = same_Some _ _ g.1 in
     let q = chained _ _ p.0 p.1 in
     let s = chained _ _ q.0 q.1 in

@@ -7,11 +7,10 @@ use Rattle.est_syntax.specs.declared.tree.Renaming.{Renaming}
 use Rattle.est_modules.specs.NameSets.{has}
 use Rattle.est_modules.specs.declared.name_set.NameSet.{NameSet}
 use Rattle.est_modules.proofs.Lists.{count_map}
-use Rattle.est_modules.proofs.Testing.{not_false}
-use Rattle.est_checks.proofs.Noting.{of_not}
 use Rattle.est_checks.proofs.Twice.{named_again, named_new, named_once}
 use Rattle.est_checks.proofs.bad_renamings.renamed_twice.Goals as goal
 use Rattle.est_checks.proofs.bad_renamings.renamed_twice.Goals.{then-not-branch+in_ok-insert-2, else-not-branch}
+use Rattle.est_order.proofs.SearchLemmas.{not_false as of_not, is_true}
 
 pub loop-renaming-preserved : goal.loop-renaming-preserved
 loop-renaming-preserved c =
@@ -31,7 +30,7 @@ loop-renaming-preserved c =
             ∙ ap (λ b. b || bytes_eq r.inner s) (c.loop-renaming.invariant.twice s)
             ∙ named_again rs k r s at room
             (sym (c.loop-renaming.invariant.once r.inner)
-            ∙ not_false (has c.loop-renaming.once r.inner) (sym c.in_ok-insert.ensures.added ∙ w.if-not-branch.true)))
+            ∙ is_true (has c.loop-renaming.once r.inner) (sym c.in_ok-insert.ensures.added ∙ w.if-not-branch.true)))
         | else-not-branch w ↦ (λ s.
             ap (λ (t : NameSet). has t s) w.twice-is
             ∙ c.loop-renaming.invariant.twice s

@@ -1,6 +1,7 @@
 use Rattle.std.proofs.Common.{◌≡◌, ◌∙◌, ◌&&◌, false, ℕ, List, map, not, ap, sym, subst}
 use Rattle.std.proofs.lemmas.List.{take_all}
 use Rattle.std.specs.Str.{bytes_eq}
+use Rattle.std.proofs.lemmas.Bool.{and_from}
 use Rattle.est_syntax.specs.Views.{renaming_view}
 use Rattle.est_syntax.specs.declared.tree.Renaming.{Renaming}
 use Rattle.est_modules.specs.Modules.{is_declared, program_of}
@@ -9,7 +10,6 @@ use Rattle.est_modules.specs.Renamings.{renamed}
 use Rattle.est_modules.specs.Visible.{is_local}
 use Rattle.est_modules.specs.declared.number_set.NumberSet.{NumberSet}
 use Rattle.est_modules.proofs.TellingNumbers.{adds_none, adds_same, adds_both}
-use Rattle.est_modules.proofs.Testing.{and_both}
 use Rattle.est_checks.specs.Emissions.{emitted_of}
 use Rattle.est_checks.specs.Inner.Noted.{sends, sends_renamed}
 use Rattle.est_checks.proofs.Leaving.{and_false}
@@ -45,7 +45,7 @@ loop-renaming-preserved c bs is tells =
           adds_same t (λ s. not (is_local bs s) && bytes_eq w.callers_name.result s) here now c.if-declares.noted
           (λ s. ap (λ (m : List ℕ). not (is_local bs s) && bytes_eq m s) name
           ∙ sent_is bs n s (sends em q (renaming_view r))
-          (and_both declared (em q.name r.inner) (sym c.declares.ensures ∙ w.if-declares.true)
+          (and_from declared (em q.name r.inner) (sym c.declares.ensures ∙ w.if-declares.true)
           (sym w.emits.ensures ∙ w.if-emits.true)))
           (subst (λ (v : NumberSet). Adds t (λ s. not (is_local bs s) && bytes_eq w.callers_name.result s) now v)
           (sym w.noted-is) (w.in_ok-note_name.ensures bs is tells))

@@ -1,4 +1,5 @@
 use Rattle.std.proofs.Common.{rules, ◌≡◌, Bool, true, false, ◌||◌, refl, ap, sym, ◌∙◌}
+use Rattle.std.proofs.lemmas.Bool.{or_right, or_left}
 use Rattle.est_kernel.specs.CodeViews.{code_of}
 use Rattle.est_kernel.specs.declared.statement.Statement.TheFolds.{the_lemmas}
 use Rattle.est_meaning.proofs.SteppingLemmas.{ready, stays_dead, second_dead}
@@ -6,13 +7,6 @@ use Rattle.est_rounds.proofs.Resuming.{code_is, code_is_not, ready_to_resume, mo
 use Rattle.est_rounds.proofs.Resuming.{seq_waits, seq_second_resumes, seq_stuck, seq_moves, loop_stuck, loop_races}
 use Rattle.est_rounds.proofs.Resuming.{loop_moves, held_moves, ended_side, moved_side, par_moves, par_sleeps}
 use Rattle.est_rounds.proofs.resume_step.+resume.Goals as goal
-
-first_live : (x y : Bool) → x ≡ true → (x || y) ≡ true
-first_live x y e = rw e refl
-
-second_live : (x y : Bool) → y ≡ true → (x || y) ≡ true
-second_live true y e = refl
-second_live false y e = e
 
 -- `present`
 
@@ -170,7 +164,7 @@ resume_par-returns-in-Moved-resume_step-clause-resumed t c = λ x y.
     c.resume_step-in-Asleep.ensures.others in
     let first = ended_side c.args.p.now _ _ _ _ _ h.asleep dead c.quiet.ensures.signals
     (ap code_of c.quiet.ensures.completion) in
-    par_moves c.quiet.result c.in-Moved-resume_step.right first (moved_side g) (second_live _ _ g.live)
+    par_moves c.quiet.result c.in-Moved-resume_step.right first (moved_side g) (or_right _ _ g.live)
     c.both.ensures.signals c.both.ensures.code c.both.ensures.kept c.both.ensures.left_ended c.both.ensures.right_ended
 
 pub resume_par-returns-in-Asleep-resume_step-2-clause-resumed :
@@ -183,7 +177,7 @@ resume_par-returns-in-Asleep-resume_step-2-clause-resumed t c = λ x y.
     h in
     let second = ended_side c.args.q.now _ _ _ _ _ g.asleep g.still c.quiet-in-Asleep-resume_step-2.ensures.signals
     (ap code_of c.quiet-in-Asleep-resume_step-2.ensures.completion) in
-    par_moves c.in-Moved.left c.quiet-in-Asleep-resume_step-2.result (moved_side first) second (first_live _ _ h.live)
+    par_moves c.in-Moved.left c.quiet-in-Asleep-resume_step-2.result (moved_side first) second (or_left _ _ h.live)
     c.both-in-Asleep-resume_step-2.ensures.signals c.both-in-Asleep-resume_step-2.ensures.code
     c.both-in-Asleep-resume_step-2.ensures.kept c.both-in-Asleep-resume_step-2.ensures.left_ended
     c.both-in-Asleep-resume_step-2.ensures.right_ended
@@ -196,7 +190,7 @@ resume_par-returns-in-Moved-resume_step-2-clause-resumed t c = λ x y.
     let first =
     moved_still c.args.p.now c.args.q.now _ _ _ _ _ _ refl c.requires.distinct c.resume_step-in-Moved.ensures.others
     h in
-    par_moves c.in-Moved.left c.in-Moved-resume_step-2.right (moved_side first) (moved_side g) (first_live _ _ h.live)
+    par_moves c.in-Moved.left c.in-Moved-resume_step-2.right (moved_side first) (moved_side g) (or_left _ _ h.live)
     c.both-in-Moved-resume_step-2.ensures.signals c.both-in-Moved-resume_step-2.ensures.code
     c.both-in-Moved-resume_step-2.ensures.kept c.both-in-Moved-resume_step-2.ensures.left_ended
     c.both-in-Moved-resume_step-2.ensures.right_ended
