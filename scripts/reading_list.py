@@ -20,7 +20,7 @@ DOCUMENT = ROOT / "docs/generated/READING.md"
 BEGIN = "<!-- reading list, written by scripts/reading_list.py -->\n"
 END = "<!-- end of the reading list -->\n"
 ROOTS = [
-    ("access_events/src/laws.rt", "fn headline"),
+    ("history_events/src/laws.rt", "fn headline"),
     ("client_loop/src/desk.rt", "impl Desk for Single"),
     ("client_loop/src/serving.rt", "fn serve"),
     ("program_run/src/run.rt", "fn run"),

@@ -11,7 +11,7 @@ import pathlib
 import re
 
 ROOT = pathlib.Path(__file__).resolve().parent.parent
-PROGRAM = "crates/command_line/src/words.rt"
+PROGRAM = "crates/program_words/src/words.rt"
 LAB = "crates/lab_run/src/order.rt"
 PROTOCOLS = [(PROGRAM, r"protocol version (\d+)"), ("docs/PROTOCOL.md", r"This is version (\d+) of the protocol")]
 

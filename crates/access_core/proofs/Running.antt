@@ -20,7 +20,8 @@ use Rattle.access_core.specs.SlotStep.{no_instant, Looks}
 pub not_loaded : (journal : List SlotEntry) → is_loaded journal ≡ false → is_loaded journal ≡ true → ⊥
 not_loaded journal none runs = cc
 
-pub instant_within : (journal : List SlotEntry) (n : ℕ) (i : PastInstant) → IsInstant journal n i → HasNoInstant journal n
+pub instant_within : (journal : List SlotEntry) (n : ℕ) (i : PastInstant) → IsInstant journal n i
+    → HasNoInstant journal n
     → ⊥
 instant_within journal n i there (inl zero) = let some = there.counted in omega arith
 instant_within journal n i there (inr past) =

@@ -1,9 +1,9 @@
 -- A connection over states of one kind is one over states of another that they stand for.
 use Rattle.std.proofs.Common.{ℕ, List, [], ◌∷◌, Option, ap, inl, inr}
-use Rattle.line_reader.specs.declared.serving.Why.{Why}
-use Rattle.line_reader.specs.declared.serving.Why.TheVariants.{Closed, TooLong, ReadFault, WriteFault, Memory}
-use Rattle.line_reader.specs.Serving.{BetweenLines, between, Exchange, Runs, Ends, IsSilent, RefusesLine, FindsNoMemory}
-use Rattle.line_reader.specs.Serving.{Serves}
+use Rattle.wire_reader.specs.declared.serving.Why.{Why}
+use Rattle.wire_reader.specs.declared.serving.Why.TheVariants.{Closed, TooLong, ReadFault, WriteFault, Memory}
+use Rattle.wire_reader.specs.Serving.{BetweenLines, between, Exchange, Runs, Ends, IsSilent, RefusesLine, FindsNoMemory}
+use Rattle.wire_reader.specs.Serving.{Serves}
 
 abbrev lifted : {A B : Type 0} (f : A → B) → BetweenLines A → BetweenLines B
 lifted f b = between b.ahead (f b.desk)

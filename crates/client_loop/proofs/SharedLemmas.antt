@@ -32,7 +32,7 @@ use Rattle.policy_board.specs.declared.seat.Receipt.{Receipt}
 use Rattle.policy_board.specs.PolicyCommands as board_step
 use Rattle.policy_board.specs.PolicyCommands.{IsPublished, session_made}
 use Rattle.policy_board.specs.SeatState.{SeatState}
-use Rattle.seat_receipts.specs.declared.receipt.Kept.TheVariants.{Admin}
+use Rattle.history_receipts.specs.declared.receipt.Kept.TheVariants.{Admin}
 use Rattle.slot_table.specs.Conversions.{of_board}
 use Rattle.client_loop.specs.SharedAnswers.{KeepsAdded, desk_with}
 

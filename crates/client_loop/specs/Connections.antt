@@ -1,6 +1,6 @@
 -- Connections that a worker serves over its desk, one after another (this project's own form).
 use Rattle.std.specs.Prelude.{◌≡◌, ℕ, List, Option, Some, None, Bool}
-use Rattle.line_reader.specs.declared.serving.Why.{Why}
+use Rattle.wire_reader.specs.declared.serving.Why.{Why}
 use Rattle.access_core.specs.declared.reply.Reply.{Reply}
 use Rattle.client_loop.specs.declared.login.Logout.{Logout}
 use Rattle.client_loop.specs.Asking.{Ask}

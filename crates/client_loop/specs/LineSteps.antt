@@ -8,7 +8,7 @@ use Rattle.access_core.specs.declared.refusal.Refusal.TheVariants as fault
 use Rattle.access_core.specs.declared.reply.Reply.{Reply}
 use Rattle.access_core.specs.declared.reply.Reply.TheVariants as reply
 use Rattle.access_core.specs.Answering.{IsRefused}
-use Rattle.line_reader.specs.declared.lines.TheConstants.{LINE_BYTES}
+use Rattle.wire_reader.specs.declared.lines.TheConstants.{LINE_BYTES}
 use Rattle.wire_lines.specs.declared.request.Request.{Request}
 use Rattle.wire_lines.specs.declared.request.Request.TheVariants.{Policy, Slot, Check}
 use Rattle.wire_lines.specs.Requests.{IsReadAs, IsRequest}

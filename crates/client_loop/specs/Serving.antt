@@ -4,9 +4,9 @@ use Rattle.std.specs.Io.KnownBytes.{Keeps}
 use Rattle.access_core.specs.declared.refusal.Refusal.TheVariants as refusal
 use Rattle.access_core.specs.declared.reply.Reply.{Reply}
 use Rattle.access_core.specs.declared.reply.Reply.TheVariants.{Refused}
-use Rattle.line_reader.specs.Serving.{between, Serves}
-use Rattle.line_reader.specs.declared.serving.Why.{Why}
-use Rattle.line_reader.specs.declared.serving.Why.TheVariants.{Memory}
+use Rattle.wire_reader.specs.Serving.{between, Serves}
+use Rattle.wire_reader.specs.declared.serving.Why.{Why}
+use Rattle.wire_reader.specs.declared.serving.Why.TheVariants.{Memory}
 use Rattle.wire_lines.specs.Replies.{line_of}
 use Rattle.client_loop.specs.Asking.{Ask}
 use Rattle.client_loop.specs.LineSteps.{DeskAndLogin, with_login, Tells, TellsNothing}

@@ -15,7 +15,7 @@ use Rattle.access_core.specs.SlotState.{SlotState}
 use Rattle.policy_board.specs.declared.refusal.Refusal.{Refusal}
 use Rattle.policy_board.specs.Reads.{AnswersFor}
 use Rattle.policy_board.specs.SeatState.{SeatState}
-use Rattle.seat_receipts.specs.declared.receipt.Kept.TheVariants.{Admin}
+use Rattle.history_receipts.specs.declared.receipt.Kept.TheVariants.{Admin}
 use Rattle.slot_table.specs.Conversions.{of_board}
 use Rattle.slot_table.specs.SlotCommands.{TableCommand}
 use Rattle.client_loop.specs.Asking.{Ask, to_policy, to_slot, to_check}

@@ -1,8 +1,8 @@
 -- What becomes of a worker's seat (this project's own form).
 use Rattle.std.specs.Prelude.{◌≡◌, ℕ, List, Option, true}
 use Rattle.policy_board.specs.SeatState.{SeatState}
-use Rattle.line_reader.specs.Meters.{IsStopped, has_failed}
-use Rattle.line_reader.specs.declared.serving.Why.TheVariants.{ReadFault, WriteFault}
+use Rattle.wire_reader.specs.Meters.{IsStopped, has_failed}
+use Rattle.wire_reader.specs.declared.serving.Why.TheVariants.{ReadFault, WriteFault}
 use Rattle.client_loop.specs.declared.source.Connection.{Connection}
 use Rattle.client_loop.specs.declared.source.Served.{Served}
 use Rattle.client_loop.specs.Connections.{ServesConnection}

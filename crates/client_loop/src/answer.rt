@@ -12,7 +12,7 @@ use crate::login::{Login, held_session, log_in};
 use access_core::command::SlotCommand;
 use access_core::refusal::Refusal;
 use access_core::reply::Reply;
-use line_reader::lines::LINE_BYTES;
+use wire_reader::lines::LINE_BYTES;
 use rbac_admin::refusals::Refusal as PolicyRefusal;
 use rbac_policy::commands::{AdminCommand, SessionId};
 use rbac_policy::names::{Name, RoleNames};
@@ -152,7 +152,7 @@ pub(crate) fn respond<D: Desk>(
     ensures { LineStep D.answers line.now (with_login desk.old (session_of login))
         result.reply (with_login desk.new (session_of result.login)) }
 {
-    // `line_reader` gives no such line. The branch is here so that the line step says an answer for
+    // `wire_reader` gives no such line. The branch is here so that the line step says an answer for
     // every line.
     if line.len() > LINE_BYTES {
         let reply = Reply::Refused(Refusal::TooLong);

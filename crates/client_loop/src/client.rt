@@ -6,7 +6,7 @@ use crate::answer::{Turn, respond};
 use crate::desk::Desk;
 use crate::gate::Gate;
 use crate::login::{Login, hold};
-use line_reader::serving::{Answerer, Text};
+use wire_reader::serving::{Answerer, Text};
 use std::alloc::{AllocError, Global};
 use wire_lines::reading::RequestReader;
 use wire_lines::reply::reply_text;

@@ -1,7 +1,7 @@
 //! A connection of a source, served to its end.
 ghost use Rattle.std.specs.Prelude.{◌≡◌, true};
-ghost use Rattle.line_reader.specs.Meters.{IsStopped, has_failed};
-ghost use Rattle.line_reader.specs.declared.serving.Why.TheVariants as why;
+ghost use Rattle.wire_reader.specs.Meters.{IsStopped, has_failed};
+ghost use Rattle.wire_reader.specs.declared.serving.Why.TheVariants as why;
 ghost use Rattle.client_loop.specs.Connections.{LogsOutLeft, ServesConnection};
 ghost use Rattle.client_loop.specs.Logins.{session_of};
 
@@ -10,7 +10,7 @@ use crate::gate::Gate;
 use crate::login::Login;
 use crate::serving::{End, serve_gated};
 use crate::source::{Connection, Served};
-use line_reader::meter::{MeteredMemory, MeteredReader, MeteredWriter};
+use wire_reader::meter::{MeteredMemory, MeteredReader, MeteredWriter};
 use std::alloc::Global;
 use std::io::{Read, Write};
 use std::sync::Wait;

@@ -1,7 +1,7 @@
 //! Serves a connection to its end, over any reader and writer, and any desk that is lent.
 ghost use Rattle.std.specs.Prelude.{◌≡◌, true};
-ghost use Rattle.line_reader.specs.Meters.{IsStopped, has_failed};
-ghost use Rattle.line_reader.specs.declared.serving.Why.TheVariants as why;
+ghost use Rattle.wire_reader.specs.Meters.{IsStopped, has_failed};
+ghost use Rattle.wire_reader.specs.declared.serving.Why.TheVariants as why;
 ghost use Rattle.client_loop.specs.LineSteps.{with_login};
 ghost use Rattle.client_loop.specs.Logins.{session_of, Leaves};
 ghost use Rattle.client_loop.specs.Serving.{too_long_text, ServesLines, ServesDesk};
@@ -10,9 +10,9 @@ use crate::client::Client;
 use crate::desk::Desk;
 use crate::gate::{Gate, OpenGate};
 use crate::login::Login;
-use line_reader::meter::{MeteredMemory, MeteredReader, MeteredWriter};
-use line_reader::serving;
-use line_reader::serving::Why;
+use wire_reader::meter::{MeteredMemory, MeteredReader, MeteredWriter};
+use wire_reader::serving;
+use wire_reader::serving::Why;
 use std::io::{Read, Write};
 use wire_lines::reading::RequestReader;
 

@@ -3,8 +3,8 @@ ghost use Rattle.std.specs.Prelude.{ℕ, IfSome};
 ghost use Rattle.client_loop.specs.declared.source.Connection.{Connection};
 ghost use Rattle.client_loop.specs.declared.source.Served.{Served};
 
-use line_reader::meter::{MeteredMemory, MeteredReader, MeteredWriter};
-use line_reader::serving::Why;
+use wire_reader::meter::{MeteredMemory, MeteredReader, MeteredWriter};
+use wire_reader::serving::Why;
 use std::io::{Read, Write};
 
 /// A connection: what its client writes is read here, and what is written here its client reads.

@@ -3,7 +3,7 @@ ghost use denote.Param.{param};
 ghost use denote.Param.Send.{IsSend};
 ghost use Rattle.std.specs.Prelude.{◌≡◌, IfOk, MatchResult};
 ghost use Rattle.access_core.specs.declared.refusal.Refusal.TheVariants.{Memory};
-ghost use Rattle.worker_threads.specs.Turns.{AreBack};
+ghost use Rattle.server_threads.specs.Turns.{AreBack};
 ghost use Rattle.client_loop.specs.Workers.{ServesNext};
 
 use crate::connections::serve_connection;
@@ -21,7 +21,7 @@ use std::alloc::{AllocError, Global};
 use std::marker::PhantomData;
 use std::sync::Wait;
 use std::thread::Threads;
-use worker_threads::workers::{Back, Turn, Work, run_each};
+use server_threads::workers::{Back, Turn, Work, run_each};
 
 /// Lends workers a value of type T. By itself the prover doesn't find that threads may share a
 /// board, or a table of sixteen slots. So `Service` and `run_over` are generic over what lends it,

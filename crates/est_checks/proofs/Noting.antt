@@ -118,7 +118,8 @@ sent_whole em q rs s h =
           let is_s : d.name ≡ s = same_bytes d.name s at.1 in
           let keeps : renamed rs d.name ≡ d.name = keeps_name rs d.name
           (subst (λ n. is_renamed rs n ≡ false) (sym is_s) (not_false (is_renamed rs s) parts.0)) in
-          any_passes_from_place (λ (e : Declared). em q.name e.name && bytes_eq (renamed rs e.name) s) q.interface f.0 d f.2
+          any_passes_from_place (λ (e : Declared). em q.name e.name && bytes_eq (renamed rs e.name) s) q.interface f.0 d
+              f.2
           (and_from (em q.name d.name) (bytes_eq (renamed rs d.name) s) at.0
           (subst (λ n. bytes_eq n s ≡ true) (sym keeps) at.1))
       | inr other ↦
@@ -132,7 +133,8 @@ sent_whole em q rs s h =
           let f = any_found (λ (d : Declared). bytes_eq d.name r.inner) q.interface sends.0 in
           let d : Declared = f.1 in
           let same : r.inner ≡ d.name = sym (same_bytes d.name r.inner f.3) in
-          any_passes_from_place (λ (e : Declared). em q.name e.name && bytes_eq (renamed rs e.name) s) q.interface f.0 d f.2
+          any_passes_from_place (λ (e : Declared). em q.name e.name && bytes_eq (renamed rs e.name) s) q.interface f.0 d
+              f.2
           (and_from (em q.name d.name) (bytes_eq (renamed rs d.name) s) (subst (λ n. em q.name n ≡ true) same sends.1)
           (subst (λ n. bytes_eq (renamed rs n) s ≡ true) same parts.1))
     ]

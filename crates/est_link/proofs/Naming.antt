@@ -203,7 +203,8 @@ run_sent ps em p bs m rs q found fine i d there sent =
     (renamed_accepted em p bs rs m d.name allowed (ap (λ n. em n d.name) (sym same) ∙ sent))
     (λ h. fine.sent (renamed rs d.name) h
     (ap (emits_in_run em (renamed rs d.name) rs) found
-    ∙ any_passes_from_place (λ (e : Declared). em q.name e.name && bytes_eq (renamed rs e.name) (renamed rs d.name)) q.interface i d
+    ∙ any_passes_from_place (λ (e : Declared). em q.name e.name && bytes_eq (renamed rs e.name) (renamed rs d.name))
+    q.interface i d
     there (and_from (em q.name d.name) _ sent (equal_bytes (renamed rs d.name)))))
 
 bound_at : (p : Program) (bs : List Binder) (rs : List RenamingTree) (ds : List Declared) (i : ℕ) → i < length ds

@@ -49,7 +49,8 @@ is_exclusive (Seq' a p b q) f h = let rest = and_second _ _ h in (
   no_both (is_live p f) (is_live q f) (and_second (are_exclusive q f) _ rest),
 )
 is_exclusive (Loop' a p) f h = is_exclusive p f h
-is_exclusive (Par' a p b q) f h = (is_exclusive p f (and_first _ _ h), is_exclusive q f (and_second (are_exclusive p f) _ h))
+is_exclusive (Par' a p b q) f h =
+    (is_exclusive p f (and_first _ _ h), is_exclusive q f (and_second (are_exclusive p f) _ h))
 is_exclusive (Trap' a p) f h = is_exclusive p f h
 is_exclusive (Binder' s a p) f h = is_exclusive p f h
 

@@ -5,7 +5,7 @@
 #![tactic(auto)]
 
 use lab_run::run::run;
-use line_reader::meter::{MeteredMemory, MeteredReader, MeteredWriter};
+use wire_reader::meter::{MeteredMemory, MeteredReader, MeteredWriter};
 use std::process::ExitCode;
 use std::{env, io};
 

@@ -5,7 +5,7 @@
 //! program is the contract of `run`. That `main` calls it with these is not proved: read it.
 #![tactic(auto)]
 
-use line_reader::meter::{MeteredMemory, MeteredReader, MeteredWriter};
+use wire_reader::meter::{MeteredMemory, MeteredReader, MeteredWriter};
 use program_run::fault::{Fault, taking_fault, tell};
 use program_run::run::run;
 use std::env;

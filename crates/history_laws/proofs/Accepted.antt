@@ -34,14 +34,14 @@ use Rattle.access_core.specs.Journals.{command_of, last_version as version_of_la
 use Rattle.access_core.specs.Needs.{IsAccepted, permission_of}
 use Rattle.access_core.specs.SlotState.{SlotState}
 use Rattle.access_core.specs.SlotStep.{SlotStep, slot_rules, access_rules, journal_rules, Does}
-use Rattle.access_events.specs.declared.event.TheConstants.{SEATS}
-use Rattle.access_events.specs.declared.event.Event.TheVariants as event
-use Rattle.access_events.specs.Changing.{Moves, OnlyAsks, Tells}
-use Rattle.access_events.specs.Runs.{WorldState, Moment, EventStep, journal_in, journal_at, last_version, has_seen}
-use Rattle.access_events.specs.Runs.{newest_known}
-use Rattle.access_events.proofs.Moving.{moves, not_accepted}
-use Rattle.access_events.proofs.Changes.{accepted_change}
-use Rattle.seat_receipts.specs.declared.receipt.SlotReceipt.{SlotReceipt}
+use Rattle.history_events.specs.declared.event.TheConstants.{SEATS}
+use Rattle.history_events.specs.declared.event.Event.TheVariants as event
+use Rattle.history_events.specs.Changing.{Moves, OnlyAsks, Tells}
+use Rattle.history_events.specs.Runs.{WorldState, Moment, EventStep, journal_in, journal_at, last_version, has_seen}
+use Rattle.history_events.specs.Runs.{newest_known}
+use Rattle.history_events.proofs.Moving.{moves, not_accepted}
+use Rattle.history_events.proofs.Changes.{accepted_change}
+use Rattle.history_receipts.specs.declared.receipt.SlotReceipt.{SlotReceipt}
 use Rattle.history_merge.specs.OneList.{asked_of, Tells as TellsEntry}
 use Rattle.history_laws.specs.CallsInTurn.{asked_by, IsPolicyCall, IsSlotCall}
 

@@ -17,11 +17,11 @@ use Rattle.rbac_admin.specs.PolicyLists.{IsPolicyList, IsAccepted as MayFollow}
 use Rattle.reactor_core.specs.declared.entry.SlotEntry.{SlotEntry}
 use Rattle.access_core.specs.Journals.{IsLegal, IsLegalEntry}
 use Rattle.access_core.specs.SlotState.{SlotState}
-use Rattle.access_events.specs.declared.event.TheConstants.{SEATS}
-use Rattle.access_events.specs.Runs.{WorldState, opening_world, Moment, Follow, world_after, journal_in, journal_at}
-use Rattle.access_events.proofs.Placing.{opening_journal}
-use Rattle.seat_receipts.specs.declared.receipt.SlotReceipt.{SlotReceipt}
-use Rattle.seat_receipts.specs.declared.receipt.Kept.{Kept}
+use Rattle.history_events.specs.declared.event.TheConstants.{SEATS}
+use Rattle.history_events.specs.Runs.{WorldState, opening_world, Moment, Follow, world_after, journal_in, journal_at}
+use Rattle.history_events.proofs.Placing.{opening_journal}
+use Rattle.history_receipts.specs.declared.receipt.SlotReceipt.{SlotReceipt}
+use Rattle.history_receipts.specs.declared.receipt.Kept.{Kept}
 use Rattle.rbac_policy.specs.declared.sizes.TheConstants.{OPENING_ENTRIES}
 use Rattle.history_merge.specs.declared.order.Rank.{Rank}
 use Rattle.history_merge.specs.declared.order.Rank.TheVariants as rank

@@ -8,8 +8,8 @@ use Rattle.access_core.specs.declared.reply.Reply.TheVariants.{Refused, Login, C
 use Rattle.access_core.specs.declared.reply.Reply.TheVariants.{Offer as Offered, Discard as Discarded, Step as Stepped}
 use Rattle.access_core.specs.declared.reply.Reply.TheVariants.{Unload as Unloaded, Look as Shown, Audit as Audited}
 use Rattle.access_core.specs.Needs.{IsAccepted}
-use Rattle.access_events.specs.OneRun.{OneEnd}
-use Rattle.access_events.specs.Runs.{Moment, wants_memory}
+use Rattle.history_events.specs.OneRun.{OneEnd}
+use Rattle.history_events.specs.Runs.{Moment, wants_memory}
 use Rattle.history_merge.specs.ToldCalls.{ToldCall, Publishes, Commands}
 use Rattle.history_laws.specs.CallsInTurn.{IsCallOf, AreOfWorld, CallsEndSo}
 

@@ -5,7 +5,7 @@ use Rattle.std.specs.Prelude.{slice_get, unwrap_or}
 use Rattle.std.proofs.lemmas.Option.{slice_get_past}
 use Rattle.reactor_core.specs.declared.entry.SlotEntry.{SlotEntry}
 use Rattle.access_core.specs.SlotState.{SlotState}
-use Rattle.access_events.proofs.Placing.{journal_of}
+use Rattle.history_events.proofs.Placing.{journal_of}
 use Rattle.history_merge.specs.Order.{part_at}
 use Rattle.history_merge.proofs.Going.{at_past}
 

@@ -9,15 +9,15 @@ use Rattle.access_core.specs.declared.reply.Reply.{Reply}
 use Rattle.access_core.specs.Desk.{accepted_reply}
 use Rattle.access_core.specs.Needs.{IsAccepted}
 use Rattle.access_core.specs.SlotState.{SlotState}
-use Rattle.access_events.specs.declared.event.TheConstants.{SEATS}
-use Rattle.access_events.specs.declared.event.Event.TheVariants as event
-use Rattle.access_events.specs.Changing.{Tells}
-use Rattle.access_events.specs.OneRun.{events_of}
-use Rattle.access_events.specs.Runs.{WorldState, Moment, IsRun, EndsIn, world_after, opening_world, journal_at}
-use Rattle.seat_receipts.specs.declared.receipt.Asked.{Asked}
-use Rattle.seat_receipts.specs.declared.receipt.Asked.TheVariants as asked
-use Rattle.seat_receipts.specs.declared.receipt.SlotReceipt.{SlotReceipt}
-use Rattle.seat_receipts.specs.declared.receipt.Kept.{Kept}
+use Rattle.history_events.specs.declared.event.TheConstants.{SEATS}
+use Rattle.history_events.specs.declared.event.Event.TheVariants as event
+use Rattle.history_events.specs.Changing.{Tells}
+use Rattle.history_events.specs.OneRun.{events_of}
+use Rattle.history_events.specs.Runs.{WorldState, Moment, IsRun, EndsIn, world_after, opening_world, journal_at}
+use Rattle.history_receipts.specs.declared.receipt.Asked.{Asked}
+use Rattle.history_receipts.specs.declared.receipt.Asked.TheVariants as asked
+use Rattle.history_receipts.specs.declared.receipt.SlotReceipt.{SlotReceipt}
+use Rattle.history_receipts.specs.declared.receipt.Kept.{Kept}
 use Rattle.history_merge.specs.ToldCalls.{ToldCall, Publishes, Commands}
 use Rattle.history_merge.specs.OneList.{HasParts}
 

@@ -6,13 +6,13 @@ ghost use Rattle.rbac_policy.specs.declared.objects.TheConstants.{SLOTS};
 ghost use Rattle.rbac_admin.specs.PolicyLists.{IsPolicyList};
 ghost use Rattle.reactor_core.specs.declared.entry.SlotEntry.{SlotEntry};
 ghost use Rattle.access_core.specs.Journals.{IsLegal};
-ghost use Rattle.access_events.specs.declared.event.TheConstants.{SEATS};
-ghost use Rattle.seat_receipts.specs.declared.receipt.Kept.{Kept};
+ghost use Rattle.history_events.specs.declared.event.TheConstants.{SEATS};
+ghost use Rattle.history_receipts.specs.declared.receipt.Kept.{Kept};
 ghost use Rattle.history_merge.specs.Order.{part_at};
 ghost use Rattle.history_merge.specs.OneList.{AreOfOneList};
 ghost use Rattle.history_laws.specs.CallsInTurn.{AreOfOneRun, CallsEndSo};
 
-use access_events::laws::one_run;
+use history_events::laws::one_run;
 
 /// Suppose that the list is a policy list, the journal of each slot is legal over it, and one list
 /// of events has the journals and the receipts of the seats as its parts. Then these are the

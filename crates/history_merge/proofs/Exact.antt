@@ -6,8 +6,8 @@ use Rattle.std.proofs.Math.ListN.{drop_of_length-le}
 use Rattle.std.proofs.lemmas.Option.{slice_get_within}
 use Rattle.rbac_policy.specs.declared.commands.Entry.{Entry}
 use Rattle.reactor_core.specs.declared.entry.SlotEntry.{SlotEntry}
-use Rattle.seat_receipts.specs.declared.receipt.SlotReceipt.{SlotReceipt}
-use Rattle.seat_receipts.specs.declared.receipt.Kept.TheVariants.{Slot}
+use Rattle.history_receipts.specs.declared.receipt.SlotReceipt.{SlotReceipt}
+use Rattle.history_receipts.specs.declared.receipt.Kept.TheVariants.{Slot}
 use Rattle.history_merge.specs.declared.order.Rank.{Rank}
 use Rattle.history_merge.specs.declared.order.Rank.TheVariants as rank
 use Rattle.history_merge.specs.ToldCalls.{ToldCall, Publishes, Commands, kept_of, of_policy}

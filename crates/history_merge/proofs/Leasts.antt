@@ -3,7 +3,7 @@ use Rattle.std.proofs.Common.{◌≡◌, inl, inr, ℕ, zero, suc, ◌+◌, ◌<
 use Rattle.std.proofs.Common.{Some, None, arith}
 use Rattle.std.specs.Prelude.{Option, option_map}
 use native.Mathlib.Decide.{dec_lt}
-use Rattle.seat_receipts.specs.declared.receipt.Kept.{Kept}
+use Rattle.history_receipts.specs.declared.receipt.Kept.{Kept}
 use Rattle.history_merge.specs.declared.order.Rank.{Rank}
 use Rattle.history_merge.specs.declared.order.Rank.TheVariants.{Entry, Command}
 use Rattle.history_merge.specs.Order.{part_at, rank_of, Precedes}

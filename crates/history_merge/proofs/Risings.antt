@@ -3,7 +3,7 @@ use Rattle.std.proofs.Common.{◌≡◌, ℕ, zero, suc, ◌+◌, ◌<◌, get_o
 use Rattle.std.proofs.Common.{◌∙◌, subst, Some, None, arith, append-nil, append_assoc}
 use Rattle.std.specs.Prelude.{Option, slice_get}
 use Rattle.std.proofs.lemmas.Option.{slice_get_within}
-use Rattle.seat_receipts.specs.declared.receipt.Kept.{Kept}
+use Rattle.history_receipts.specs.declared.receipt.Kept.{Kept}
 use Rattle.history_merge.specs.Order.{Rises}
 use Rattle.history_merge.specs.Mismatches.{Breaks}
 

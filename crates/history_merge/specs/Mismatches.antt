@@ -4,12 +4,12 @@ use Rattle.std.specs.Prelude.{slice_get, take, length, flat_map}
 use Rattle.rbac_policy.specs.declared.commands.Entry.{Entry}
 use Rattle.rbac_policy.specs.declared.objects.TheConstants.{SLOTS}
 use Rattle.reactor_core.specs.declared.entry.SlotEntry.{SlotEntry}
-use Rattle.seat_receipts.specs.declared.mismatch.TheConstants.{POLICY_LIST}
-use Rattle.seat_receipts.specs.declared.mismatch.Mismatch.{Mismatch}
-use Rattle.seat_receipts.specs.declared.mismatch.Mismatch.TheVariants.{Count, Receipt}
-use Rattle.seat_receipts.specs.declared.receipt.SlotReceipt.{SlotReceipt}
-use Rattle.seat_receipts.specs.declared.receipt.Kept.{Kept}
-use Rattle.seat_receipts.specs.declared.receipt.Kept.TheVariants.{Admin, Slot}
+use Rattle.history_receipts.specs.declared.mismatch.TheConstants.{POLICY_LIST}
+use Rattle.history_receipts.specs.declared.mismatch.Mismatch.{Mismatch}
+use Rattle.history_receipts.specs.declared.mismatch.Mismatch.TheVariants.{Count, Receipt}
+use Rattle.history_receipts.specs.declared.receipt.SlotReceipt.{SlotReceipt}
+use Rattle.history_receipts.specs.declared.receipt.Kept.{Kept}
+use Rattle.history_receipts.specs.declared.receipt.Kept.TheVariants.{Admin, Slot}
 use Rattle.rbac_policy.specs.declared.sizes.TheConstants.{OPENING_ENTRIES}
 use Rattle.history_merge.specs.Order.{part_at, Rises}
 use Rattle.history_merge.specs.OneList.{Tells}

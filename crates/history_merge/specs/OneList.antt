@@ -5,10 +5,10 @@ use Rattle.rbac_policy.specs.declared.commands.Entry.{Entry}
 use Rattle.reactor_core.specs.declared.entry.Action.{Action}
 use Rattle.reactor_core.specs.declared.entry.Action.TheVariants as action
 use Rattle.reactor_core.specs.declared.entry.SlotEntry.{SlotEntry}
-use Rattle.seat_receipts.specs.declared.receipt.Asked.{Asked}
-use Rattle.seat_receipts.specs.declared.receipt.Asked.TheVariants.{Load, Offer, Discard, Step, Unload}
-use Rattle.seat_receipts.specs.declared.receipt.SlotReceipt.{SlotReceipt}
-use Rattle.seat_receipts.specs.declared.receipt.Kept.{Kept}
+use Rattle.history_receipts.specs.declared.receipt.Asked.{Asked}
+use Rattle.history_receipts.specs.declared.receipt.Asked.TheVariants.{Load, Offer, Discard, Step, Unload}
+use Rattle.history_receipts.specs.declared.receipt.SlotReceipt.{SlotReceipt}
+use Rattle.history_receipts.specs.declared.receipt.Kept.{Kept}
 use Rattle.rbac_policy.specs.declared.sizes.TheConstants.{OPENING_ENTRIES}
 use Rattle.history_merge.specs.declared.order.Rank.TheVariants as rank
 use Rattle.history_merge.specs.Order.{part_at, IsOver, InOrder}

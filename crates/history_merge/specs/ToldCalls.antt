@@ -2,9 +2,9 @@
 -- policy's (this project's own form).
 use Rattle.std.specs.Prelude.{ℕ, ◌==◌, List, [], ◌∷◌, if◌then◌else◌}
 use Rattle.rbac_policy.specs.declared.commands.Entry.{Entry}
-use Rattle.seat_receipts.specs.declared.receipt.SlotReceipt.{SlotReceipt}
-use Rattle.seat_receipts.specs.declared.receipt.Kept.{Kept}
-use Rattle.seat_receipts.specs.declared.receipt.Kept.TheVariants.{Admin, Slot}
+use Rattle.history_receipts.specs.declared.receipt.SlotReceipt.{SlotReceipt}
+use Rattle.history_receipts.specs.declared.receipt.Kept.{Kept}
+use Rattle.history_receipts.specs.declared.receipt.Kept.TheVariants.{Admin, Slot}
 
 -- a call of this seat that added an entry: to the policy list, which then had this version, or to the journal of a slot
 pub data ToldCall : Type 0 where

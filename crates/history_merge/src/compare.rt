@@ -4,16 +4,16 @@ ghost use Rattle.history_merge.specs.OneList.{AreOfOneList};
 ghost use Rattle.history_merge.specs.Order.{part_at, Rises};
 ghost use Rattle.history_merge.specs.Mismatches.{mismatch_of, IsMismatch};
 ghost use Rattle.history_merge.specs.Inner.Taking.{IsBroken, AreCounted, CountsDiffer};
-ghost use Rattle.seat_receipts.specs.declared.receipt_list.TheConstants.{SEATS};
+ghost use Rattle.history_receipts.specs.declared.receipt_list.TheConstants.{SEATS};
 
 use crate::merge::{Taken, next, take};
 use crate::order::first_break;
 use rbac_policy::commands::Entry;
 use rbac_policy::objects::SLOTS;
 use reactor_core::journal::Journal;
-use seat_receipts::mismatch::{Mismatch, POLICY_LIST};
-use seat_receipts::receipt::Kept;
-use seat_receipts::receipt_list::Receipts;
+use history_receipts::mismatch::{Mismatch, POLICY_LIST};
+use history_receipts::receipt::Kept;
+use history_receipts::receipt_list::Receipts;
 
 /// The mismatch of a receipt that this seat keeps.
 fn name_mismatch(seat: usize, kept: &Kept) -> Mismatch

@@ -3,7 +3,7 @@ ghost use Rattle.std.specs.Prelude.{◌≡◌, ◌≤◌, List, length};
 ghost use Rattle.rbac_policy.specs.declared.commands.Entry.{Entry};
 ghost use Rattle.rbac_policy.specs.declared.objects.TheConstants.{SLOTS};
 ghost use Rattle.reactor_core.specs.declared.entry.SlotEntry.{SlotEntry};
-ghost use Rattle.seat_receipts.specs.declared.receipt.Kept.{Kept};
+ghost use Rattle.history_receipts.specs.declared.receipt.Kept.{Kept};
 ghost use Rattle.rbac_policy.specs.declared.sizes.TheConstants.{OPENING_ENTRIES};
 ghost use Rattle.history_merge.specs.OneList.{AreOfOneList};
 ghost use Rattle.history_merge.specs.Once.{EachOnce};

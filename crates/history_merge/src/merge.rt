@@ -4,7 +4,7 @@ ghost use Rattle.std.specs.Prelude.{◌≡◌, ◌<◌, ◌≤◌, ◌+◌, ◌^
 ghost use Rattle.std.specs.Prelude.{slice_index};
 ghost use Rattle.std.specs.Bool.{Decides, MatchBool};
 ghost use Rattle.rbac_policy.specs.declared.objects.TheConstants.{SLOTS};
-ghost use Rattle.seat_receipts.specs.declared.receipt_list.TheConstants.{SEATS};
+ghost use Rattle.history_receipts.specs.declared.receipt_list.TheConstants.{SEATS};
 ghost use Rattle.history_merge.specs.Inner.Taking.{none_taken, Lesser, LeastOf, taken_entry};
 ghost use Rattle.history_merge.specs.Inner.Taking.{taken_command, IsInLine, HasRoom, Takes};
 ghost use Rattle.history_merge.specs.Inner.Taking.{Refuses, head, AreAllRead, IsLeast};
@@ -16,8 +16,8 @@ use rbac_policy::commands::Entry;
 use rbac_policy::objects::SLOTS;
 use rbac_policy::sizes::OPENING_ENTRIES;
 use reactor_core::journal::Journal;
-use seat_receipts::receipt::{Kept, SlotReceipt};
-use seat_receipts::receipt_list::{Receipts, SEATS};
+use history_receipts::receipt::{Kept, SlotReceipt};
+use history_receipts::receipt_list::{Receipts, SEATS};
 
 /// Which receipts were taken so far.
 #[derive(Clone, Copy)]

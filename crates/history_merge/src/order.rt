@@ -4,7 +4,7 @@ ghost use Rattle.std.specs.Bool.{Decides};
 ghost use Rattle.history_merge.specs.Order.{rank_of, Precedes, IsOver, Rises};
 ghost use Rattle.history_merge.specs.Mismatches.{Breaks};
 
-use seat_receipts::receipt::Kept;
+use history_receipts::receipt::Kept;
 
 /// Where a receipt stands in the order of all: by version, first the policy entry that made it, and
 /// then the slot commands by number, and those of one number by slot.

@@ -2,7 +2,7 @@
 ghost use Rattle.std.specs.Prelude.{◌≡◌, ◌<◌, ◌-◌, Some, option_map, slice_get};
 ghost use Rattle.std.specs.Bool.{Decides};
 ghost use Rattle.rbac_policy.specs.declared.objects.TheConstants.{SLOTS};
-ghost use Rattle.seat_receipts.specs.declared.receipt.Kept.TheVariants.{Slot};
+ghost use Rattle.history_receipts.specs.declared.receipt.Kept.TheVariants.{Slot};
 ghost use Rattle.rbac_policy.specs.declared.sizes.TheConstants.{OPENING_ENTRIES};
 ghost use Rattle.history_merge.specs.Order.{part_at};
 ghost use Rattle.history_merge.specs.OneList.{asked_of, Tells};
@@ -14,7 +14,7 @@ use rbac_policy::objects::SLOTS;
 use rbac_policy::sizes::OPENING_ENTRIES;
 use reactor_core::entry::{Action, SlotEntry};
 use reactor_core::journal::Journal;
-use seat_receipts::receipt::{Asked, Kept, SlotReceipt};
+use history_receipts::receipt::{Asked, Kept, SlotReceipt};
 
 /// Whether what the receipt says was asked for is what this action does.
 fn asks(asked: &Asked, action: &Action) -> bool

@@ -4,9 +4,9 @@ use Rattle.std.specs.Io.KnownBytes.{Appends}
 use Rattle.access_core.specs.declared.refusal.Refusal.TheVariants as refusal
 use Rattle.access_core.specs.declared.reply.Reply.TheVariants as reply
 use Rattle.wire_lines.specs.Replies.{line_of}
-use Rattle.line_reader.specs.Serving.{Serves as ServesBy, between}
-use Rattle.line_reader.specs.declared.serving.Why.{Why}
-use Rattle.line_reader.specs.declared.serving.Why.TheVariants.{Closed, TooLong, ReadFault, WriteFault, Memory}
+use Rattle.wire_reader.specs.Serving.{Serves as ServesBy, between}
+use Rattle.wire_reader.specs.declared.serving.Why.{Why}
+use Rattle.wire_reader.specs.declared.serving.Why.TheVariants.{Closed, TooLong, ReadFault, WriteFault, Memory}
 use Rattle.lab_run.specs.Lines.{HasNoText, IsAnswer, IsTextOf}
 use Rattle.lab_run.specs.Proving.{TellsOfText}
 use Rattle.lab_run.specs.Statuses.{status_of}

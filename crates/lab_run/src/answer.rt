@@ -10,7 +10,7 @@ use crate::lab::{Lab, Told};
 use access_core::refusal::Refusal;
 use access_core::reply::Reply;
 use lab_lines::reading::request_of;
-use line_reader::serving::{Answerer, Text};
+use wire_reader::serving::{Answerer, Text};
 use serde_json::Value;
 use serde_json::error::Category;
 use std::alloc::{AllocError, Global};

@@ -3,7 +3,7 @@ use Rattle.std.proofs.Common.{◌≡◌, ◌↔◌, ℕ, List, [], refl, sym, ap
 use Rattle.std.specs.Prelude.{Bool, IsTrue, Option, Some, unwrap_or}
 use Rattle.rbac_policy.specs.declared.commands.Entry.{Entry}
 use Rattle.rbac_admin.specs.PolicyLists.{Begins}
-use Rattle.seat_receipts.specs.declared.receipt.Kept.{Kept}
+use Rattle.history_receipts.specs.declared.receipt.Kept.{Kept}
 use Rattle.policy_board.specs.Reads.{HasRead, HasAsked}
 use Rattle.policy_board.specs.SeatState.{SeatState}
 use Rattle.policy_board.specs.Inner.Reading.{IsRead}

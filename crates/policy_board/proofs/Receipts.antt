@@ -11,7 +11,7 @@ use Rattle.rbac_admin.specs.Room.{list_full}
 use Rattle.policy_board.specs.SeatState.{SeatState}
 use Rattle.policy_board.specs.PolicyCommands.{BoardStep, IsPublished, IsRefused, SeatAfter, admin_receipt, seat_after}
 use Rattle.policy_board.specs.Inner.Keeping.{KeepsAnswer}
-use Rattle.seat_receipts.specs.declared.receipt.Kept.{Kept}
+use Rattle.history_receipts.specs.declared.receipt.Kept.{Kept}
 use Rattle.policy_board.specs.declared.refusal.Refusal.{Refusal}
 use Rattle.policy_board.specs.declared.refusal.Refusal.TheVariants.{Policy, JournalFull, Memory}
 use Rattle.policy_board.specs.declared.seat.Receipt.{Receipt}

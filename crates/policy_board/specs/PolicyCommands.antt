@@ -5,8 +5,8 @@ use Rattle.rbac_policy.specs.declared.commands.AdminCommand.{AdminCommand}
 use Rattle.rbac_policy.specs.declared.commands.Entry.{Entry}
 use Rattle.rbac_policy.specs.Entries.{is_login, logins}
 use Rattle.rbac_admin.specs.AdminSteps.{ListRefusals, StepsOnList}
-use Rattle.seat_receipts.specs.declared.receipt.Kept.{Kept}
-use Rattle.seat_receipts.specs.declared.receipt.Kept.TheVariants.{Admin}
+use Rattle.history_receipts.specs.declared.receipt.Kept.{Kept}
+use Rattle.history_receipts.specs.declared.receipt.Kept.TheVariants.{Admin}
 use Rattle.policy_board.specs.SeatState.{SeatState}
 use Rattle.policy_board.specs.declared.refusal.Refusal.{Refusal}
 use Rattle.policy_board.specs.declared.refusal.Refusal.TheVariants.{Policy, JournalFull, Memory}

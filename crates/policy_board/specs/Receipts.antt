@@ -1,8 +1,8 @@
 -- How the receipts of a seat are kept (this project's own form).
 use Rattle.std.specs.Prelude.{◌≡◌, ◌<◌, ◌≤◌, ℕ, [], ◌∷◌, ◌++◌, length}
-use Rattle.seat_receipts.specs.declared.receipt.Kept.{Kept}
-use Rattle.seat_receipts.specs.declared.receipt.Kept.TheVariants.{Slot}
-use Rattle.seat_receipts.specs.declared.receipt.SlotReceipt.{SlotReceipt}
+use Rattle.history_receipts.specs.declared.receipt.Kept.{Kept}
+use Rattle.history_receipts.specs.declared.receipt.Kept.TheVariants.{Slot}
+use Rattle.history_receipts.specs.declared.receipt.SlotReceipt.{SlotReceipt}
 use Rattle.policy_board.specs.SeatState.{SeatState}
 
 -- the seat has memory for one receipt more

@@ -2,7 +2,7 @@
 use Rattle.std.specs.Prelude.{◌≡◌, ℕ, List, []}
 use Rattle.rbac_policy.specs.declared.commands.Entry.{Entry}
 use Rattle.rbac_policy.specs.Opening.{opening_entries}
-use Rattle.seat_receipts.specs.declared.receipt.Kept.{Kept}
+use Rattle.history_receipts.specs.declared.receipt.Kept.{Kept}
 
 -- known: the longest policy list that the seat has read or was told of. read: the list that its own reader has read
 -- last. seen: its seen number, the greatest version that it has seen. kept: the receipts of its calls, the oldest

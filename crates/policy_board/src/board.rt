@@ -6,8 +6,8 @@ ghost use Rattle.rbac_admin.specs.PolicyLists.{Begins, IsPolicyList};
 ghost use Rattle.policy_board.specs.PolicyCommands.{BoardStep, SeatAfter};
 ghost use Rattle.policy_board.specs.Reads.{AnswersFor};
 ghost use Rattle.policy_board.specs.Receipts.{HasRoom, IsCounted};
-ghost use Rattle.seat_receipts.specs.declared.mismatch.TheConstants.{POLICY_LIST};
-ghost use Rattle.seat_receipts.specs.declared.mismatch.Mismatch.TheVariants.{Count};
+ghost use Rattle.history_receipts.specs.declared.mismatch.TheConstants.{POLICY_LIST};
+ghost use Rattle.history_receipts.specs.declared.mismatch.Mismatch.TheVariants.{Count};
 
 use crate::history::BoardName;
 use crate::locked_policy::LockedPolicy;
@@ -17,8 +17,8 @@ use crate::seat::{Receipt, Seat};
 use rbac_policy::commands::{AdminCommand, SessionId};
 use rbac_policy::journal::PolicyJournal;
 use rbac_policy::objects::{Object, Operation};
-use seat_receipts::mismatch::Mismatch;
-use seat_receipts::receipt::{Kept, SlotReceipt};
+use history_receipts::mismatch::Mismatch;
+use history_receipts::receipt::{Kept, SlotReceipt};
 use std::snapshot::Snapshot;
 use std::sync::{Mutex, MutexGuard, Wait};
 

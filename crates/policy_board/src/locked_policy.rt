@@ -8,8 +8,8 @@ ghost use Rattle.rbac_admin.specs.PolicyLists.{Begins, IsAccepted, IsPolicyList}
 ghost use Rattle.policy_board.specs.PolicyCommands.{BoardStep, IsPublished, IsRefused, SeatAfter};
 ghost use Rattle.policy_board.specs.PolicyCommands.{session_made};
 ghost use Rattle.policy_board.specs.Inner.Keeping.{KeepsAnswer};
-ghost use Rattle.seat_receipts.specs.declared.mismatch.TheConstants.{POLICY_LIST};
-ghost use Rattle.seat_receipts.specs.declared.mismatch.Mismatch.TheVariants.{Count};
+ghost use Rattle.history_receipts.specs.declared.mismatch.TheConstants.{POLICY_LIST};
+ghost use Rattle.history_receipts.specs.declared.mismatch.Mismatch.TheVariants.{Count};
 
 use crate::history::BoardName;
 use crate::publisher::Publisher;
@@ -21,8 +21,8 @@ use rbac_admin::room::has_room;
 use rbac_policy::commands::{AdminCommand, Entry, SessionId};
 use rbac_policy::journal::PolicyJournal;
 use rbac_policy::policy::Policy;
-use seat_receipts::mismatch::{Mismatch, POLICY_LIST};
-use seat_receipts::receipt::Kept;
+use history_receipts::mismatch::{Mismatch, POLICY_LIST};
+use history_receipts::receipt::Kept;
 use std::alloc::AllocError;
 use std::marker::Model;
 use std::sync::Wait;

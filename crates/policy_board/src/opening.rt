@@ -3,7 +3,7 @@ ghost use Rattle.std.specs.Prelude.{◌≡◌, ◌≤◌, [], drop, replicate, v
 ghost use Rattle.std.specs.Prelude.{IfSome};
 ghost use Rattle.rbac_policy.specs.Opening.{opening_entries};
 ghost use Rattle.rbac_policy.specs.declared.objects.TheConstants.{SLOTS};
-ghost use Rattle.seat_receipts.specs.declared.receipt_list.TheConstants.{SEATS};
+ghost use Rattle.history_receipts.specs.declared.receipt_list.TheConstants.{SEATS};
 ghost use Rattle.policy_board.specs.SeatState.{new_seat};
 ghost use Rattle.policy_board.specs.Inner.Publishing.{IsPublishing};
 ghost use Rattle.policy_board.specs.declared.refusal.Refusal.TheVariants.{Memory};
@@ -19,7 +19,7 @@ use crate::shown::{PolicyWriter, Shown};
 use rbac_policy::journal::PolicyJournal;
 use rbac_policy::objects::SLOTS;
 use rbac_policy::policy::Policy;
-use seat_receipts::receipt_list::SEATS;
+use history_receipts::receipt_list::SEATS;
 use std::alloc::{AllocError, Global};
 use std::sync::Wait;
 

@@ -15,8 +15,8 @@ use crate::reader::{Reading, SlotReader};
 use crate::refusal::Refusal;
 use rbac_policy::commands::{Entry, SessionId};
 use rbac_policy::objects::{Object, Operation};
-use seat_receipts::receipt::Kept;
-use seat_receipts::receipt_list::Receipts;
+use history_receipts::receipt::Kept;
+use history_receipts::receipt_list::Receipts;
 use std::alloc::Global;
 use std::marker::Model;
 

@@ -9,7 +9,7 @@ use Rattle.rbac_policy.specs.declared.objects.TheConstants.{SLOTS}
 use Rattle.rbac_admin.specs.PolicyLists.{IsPolicyList}
 use Rattle.reactor_core.specs.declared.entry.SlotEntry.{SlotEntry}
 use Rattle.access_core.specs.Journals.{IsLegal}
-use Rattle.worker_threads.specs.Turns.{AreBack, AreBackFrom}
+use Rattle.server_threads.specs.Turns.{AreBack, AreBackFrom}
 use Rattle.slot_table.specs.Closing.{AreLegal}
 use Rattle.audit_report.specs.Findings.{HaveNoFinding}
 

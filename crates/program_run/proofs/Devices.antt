@@ -1,8 +1,8 @@
 -- A writer that failed in a connection or after it.
 use Rattle.std.proofs.Common.{◌≡◌, ℕ, true, refl, sym, subst}
-use Rattle.line_reader.specs.Meters.{has_failed}
-use Rattle.line_reader.specs.declared.serving.Why.{Why}
-use Rattle.line_reader.specs.declared.serving.Why.TheVariants as why
+use Rattle.wire_reader.specs.Meters.{has_failed}
+use Rattle.wire_reader.specs.declared.serving.Why.{Why}
+use Rattle.wire_reader.specs.declared.serving.Why.TheVariants as why
 use Rattle.program_run.specs.Runs.{CannotWrite}
 
 -- where a fault of its writer ended the connection, the writer failed in it; else it failed after it

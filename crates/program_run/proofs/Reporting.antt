@@ -2,7 +2,7 @@
 use Rattle.std.proofs.Common.{◌∙◌, ℕ, List, ◌++◌, Option, append_assoc, sym, ap, subst}
 use Rattle.std.specs.Io.KnownBytes.{Appends}
 use Rattle.std.proofs.KnownBytes.{Appends-trans}
-use Rattle.line_reader.specs.Writing.{WritesUpTo, WritesFront}
+use Rattle.wire_reader.specs.Writing.{WritesUpTo, WritesFront}
 
 -- all that was left of the text is written
 pub rest_written : (a b c : Option (List ℕ)) (text left : List ℕ) → WritesUpTo a b text left → Appends b c left

@@ -5,10 +5,10 @@ use Rattle.std.specs.declared.io.ErrorKind.{ErrorKind}
 use Rattle.std.specs.declared.io.ErrorKind.TheVariants.{OutOfMemory}
 use Rattle.program_run.specs.declared.fault.Fault.{Fault}
 use Rattle.program_run.specs.declared.fault.Fault.TheVariants as fault
-use Rattle.command_line.specs.declared.fault.WordFault.{WordFault}
-use Rattle.command_line.specs.declared.fault.WordFault.TheVariants as words
-use Rattle.line_reader.specs.declared.serving.Why.{Why}
-use Rattle.line_reader.specs.declared.serving.Why.TheVariants as why
+use Rattle.program_words.specs.declared.fault.WordFault.{WordFault}
+use Rattle.program_words.specs.declared.fault.WordFault.TheVariants as words
+use Rattle.wire_reader.specs.declared.serving.Why.{Why}
+use Rattle.wire_reader.specs.declared.serving.Why.TheVariants as why
 
 -- the status of a fault: 2 for the words, and else 1
 abbrev pub status_of : Fault → ℕ

@@ -3,7 +3,7 @@ use Rattle.std.specs.Prelude.{◌≡◌, ℕ, List, Option, Result, Ok, Err, ⊤
 use Rattle.std.specs.Io.KnownBytes.{Appends, Keeps}
 use Rattle.rbac_policy.specs.declared.commands.Entry.{Entry}
 use Rattle.reactor_core.specs.declared.entry.SlotEntry.{SlotEntry}
-use Rattle.line_reader.specs.Writing.{WritesFront}
+use Rattle.wire_reader.specs.Writing.{WritesFront}
 use Rattle.audit_report.specs.declared.finding.Finding.{Finding}
 use Rattle.audit_report.specs.Findings.{IsVerdict}
 use Rattle.audit_report.specs.ReportText.{report_text}

@@ -3,9 +3,9 @@ use Rattle.std.specs.Prelude.{◌≡◌, ℕ, List, ◌⊎◌, Option, Result, O
 use Rattle.std.specs.Io.KnownBytes.{Keeps}
 use Rattle.access_core.specs.Desk.{DeskState, opening_desk}
 use Rattle.access_core.specs.SlotState.{SlotState}
-use Rattle.line_reader.specs.Meters.{IsStopped, has_failed}
-use Rattle.line_reader.specs.declared.serving.Why.{Why}
-use Rattle.line_reader.specs.declared.serving.Why.TheVariants as why
+use Rattle.wire_reader.specs.Meters.{IsStopped, has_failed}
+use Rattle.wire_reader.specs.declared.serving.Why.{Why}
+use Rattle.wire_reader.specs.declared.serving.Why.TheVariants as why
 use Rattle.client_loop.specs.Asking.{DeskAnswers}
 use Rattle.client_loop.specs.Connections.{ServesConnection}
 use Rattle.program_run.specs.declared.fault.Fault.{Fault}
@@ -13,10 +13,10 @@ use Rattle.program_run.specs.declared.fault.Fault.TheVariants as fault
 use Rattle.program_run.specs.Reports.{Reports}
 use Rattle.program_run.specs.Faults.{status_of, IsOfWords, IsOutcome}
 use Rattle.program_run.specs.Serving.{ServesSource, ServesOverSocket}
-use Rattle.command_line.specs.Words.{IsOrder, IsRefused}
-use Rattle.command_line.specs.declared.fault.WordFault.{WordFault}
-use Rattle.command_line.specs.declared.order.Order.{Order}
-use Rattle.command_line.specs.declared.order.Order.TheVariants.{Script, Serve}
+use Rattle.program_words.specs.Words.{IsOrder, IsRefused}
+use Rattle.program_words.specs.declared.fault.WordFault.{WordFault}
+use Rattle.program_words.specs.declared.order.Order.{Order}
+use Rattle.program_words.specs.declared.order.Order.TheVariants.{Script, Serve}
 use Rattle.clap.specs.Words.{Text}
 
 -- one connection is served over a new desk, it ends for this reason, and none of its logins is held any more

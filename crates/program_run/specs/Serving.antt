@@ -4,12 +4,12 @@ use Rattle.std.specs.Io.KnownBytes.{Keeps}
 use Rattle.std.specs.declared.net.unix.UnixStream.{UnixStream}
 use Rattle.rbac_policy.specs.declared.commands.Entry.{Entry}
 use Rattle.reactor_core.specs.declared.entry.SlotEntry.{SlotEntry}
-use Rattle.seat_receipts.specs.declared.mismatch.Mismatch.{Mismatch}
+use Rattle.history_receipts.specs.declared.mismatch.Mismatch.{Mismatch}
 use Rattle.history_merge.specs.OneList.{AreOfOneList}
 use Rattle.history_laws.specs.CallsInTurn.{AreOfOneRun}
 use Rattle.policy_board.specs.SeatState.{SeatState, new_seat}
 use Rattle.slot_table.specs.Closing.{AllRise, IsJustified, kept_of}
-use Rattle.worker_threads.specs.Turns.{AreBack}
+use Rattle.server_threads.specs.Turns.{AreBack}
 use Rattle.client_loop.specs.Workers.{ServesNext}
 use Rattle.audit_report.specs.Findings.{HaveNoFinding}
 use Rattle.program_run.specs.declared.fault.Fault.{Fault}

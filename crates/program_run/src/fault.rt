@@ -4,8 +4,8 @@ ghost use Rattle.std.specs.IoError.{error_kind};
 ghost use Rattle.program_run.specs.Faults.{status_of, fault_of_taking, IsOfWords, IsTold};
 ghost use Rattle.program_run.specs.Faults.{IsOutcome};
 
-use command_line::fault::WordFault;
-use line_reader::serving::Why;
+use program_words::fault::WordFault;
+use wire_reader::serving::Why;
 use std::io;
 use std::io::{ErrorKind, Write};
 use thiserror::Error;

@@ -2,7 +2,7 @@
 //!
 //! With `script`, standard input and standard output are one connection, which `client_loop`
 //! serves. With `serve`, `server` serves the connections of a socket (`socket`). `run` is both.
-//! `command_line` reads the words, `reports` writes the report of an audit, and `fault` says how
+//! `program_words` reads the words, `reports` writes the report of an audit, and `fault` says how
 //! the program ends.
 //!
 //! It is a library, so that the prover has less to read for each of its wrong bodies than it has

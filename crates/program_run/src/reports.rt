@@ -1,13 +1,13 @@
 //! Writes the report of an audit, after all that was written before.
 ghost use Rattle.std.specs.Prelude.{◌≡◌, Err, true};
-ghost use Rattle.line_reader.specs.Meters.{has_failed};
+ghost use Rattle.wire_reader.specs.Meters.{has_failed};
 ghost use Rattle.program_run.specs.declared.fault.Fault.TheVariants as fault;
 ghost use Rattle.program_run.specs.Reports.{Reports};
 
 use crate::fault::Fault;
 use audit_report::reports::report;
-use line_reader::meter::{MeteredMemory, MeteredWriter};
-use line_reader::replies::Replies;
+use wire_reader::meter::{MeteredMemory, MeteredWriter};
+use wire_reader::replies::Replies;
 use rbac_policy::journal::PolicyJournal;
 use rbac_policy::objects::SLOTS;
 use reactor_core::journal::Journal;

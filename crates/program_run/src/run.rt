@@ -1,7 +1,7 @@
 //! A run of the program, over any words and streams.
 ghost use Rattle.std.specs.Prelude.{◌≡◌, Err, map, string_bytes};
-ghost use Rattle.line_reader.specs.Meters.{has_failed};
-ghost use Rattle.line_reader.specs.declared.serving.Why.TheVariants.{ReadFault, WriteFault};
+ghost use Rattle.wire_reader.specs.Meters.{has_failed};
+ghost use Rattle.wire_reader.specs.declared.serving.Why.TheVariants.{ReadFault, WriteFault};
 ghost use Rattle.program_run.specs.declared.fault.Fault.TheVariants as fault;
 ghost use Rattle.program_run.specs.Runs.{EndsSo, CannotWrite, RunsScript, Obeys, NamesDevices};
 ghost use Rattle.program_run.specs.Runs.{Runs};
@@ -12,9 +12,9 @@ use crate::server::serve as serve_socket;
 use access_core::single::Single;
 use client_loop::connections::log_out_left;
 use client_loop::serving::{End, serve};
-use command_line::order::Order;
-use line_reader::meter::{MeteredMemory, MeteredReader, MeteredWriter};
-use line_reader::serving::Why;
+use program_words::order::Order;
+use wire_reader::meter::{MeteredMemory, MeteredReader, MeteredWriter};
+use wire_reader::serving::Why;
 use log::sink::Writer;
 use log::{Level, Logged, info};
 use std::alloc::Global;

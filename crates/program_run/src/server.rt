@@ -1,7 +1,7 @@
 //! The connections of a socket, served side by side over one policy and one table of slots.
 ghost use Rattle.std.specs.Prelude.{◌≡◌, ◌≤◌, Err, true, vec_len};
-ghost use Rattle.seat_receipts.specs.declared.receipt_list.TheConstants.{SEATS};
-ghost use Rattle.line_reader.specs.Meters.{has_failed};
+ghost use Rattle.history_receipts.specs.declared.receipt_list.TheConstants.{SEATS};
+ghost use Rattle.wire_reader.specs.Meters.{has_failed};
 ghost use Rattle.program_run.specs.declared.fault.Fault.TheVariants as fault;
 ghost use Rattle.client_loop.specs.Workers.{ServesNext};
 ghost use Rattle.program_run.specs.Serving.{ClosesSo, ServesSource, ServesOverSocket};
@@ -11,8 +11,8 @@ use crate::reports::write_report;
 use crate::socket::{ClosableSource, Socket, SocketSource};
 use client_loop::gate::OpenGate;
 use client_loop::workers::run_workers;
-use command_line::order::{Service, WorkerCount};
-use line_reader::meter::MeteredWriter;
+use program_words::order::{Service, WorkerCount};
+use wire_reader::meter::MeteredWriter;
 use policy_board::board::Board;
 use policy_board::history::{BoardName, Fresh};
 use policy_board::opening::Opened;

@@ -2,8 +2,8 @@
 use access_core::single::Single;
 use client_loop::connections::log_out_left;
 use client_loop::serving::{End, serve};
-use line_reader::meter::{MeteredMemory, MeteredReader, MeteredWriter, READS};
-use line_reader::serving::Why;
+use wire_reader::meter::{MeteredMemory, MeteredReader, MeteredWriter, READS};
+use wire_reader::serving::Why;
 use std::io;
 use std::io::{Read, Write};
 use std::test::Fail;

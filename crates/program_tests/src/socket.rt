@@ -1,5 +1,5 @@
 //! The opening script over a socket, sent from within the process that serves it.
-use line_reader::meter::{MeteredMemory, MeteredReader, MeteredWriter};
+use wire_reader::meter::{MeteredMemory, MeteredReader, MeteredWriter};
 use program_run::run::run;
 use std::alloc::{AllocError, Global};
 use std::fs::Files;

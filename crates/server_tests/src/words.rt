@@ -1,6 +1,6 @@
 //! Orders and faults, word by word.
-use command_line::fault::WordFault;
-use command_line::order::{Order, WorkerCount};
+use program_words::fault::WordFault;
+use program_words::order::{Order, WorkerCount};
 use std::alloc::{AllocError, Global};
 use std::process::Abort;
 use std::test::Fail;

@@ -5,9 +5,9 @@ use Rattle.rbac_policy.specs.declared.commands.Entry.{Entry}
 use Rattle.rbac_policy.specs.declared.objects.TheConstants.{SLOTS}
 use Rattle.rbac_admin.specs.PolicyLists.{Begins}
 use Rattle.reactor_core.specs.declared.entry.SlotEntry.{SlotEntry}
-use Rattle.seat_receipts.specs.declared.mismatch.TheConstants.{POLICY_LIST}
-use Rattle.seat_receipts.specs.declared.mismatch.Mismatch.{Mismatch}
-use Rattle.seat_receipts.specs.declared.mismatch.Mismatch.TheVariants.{Count}
+use Rattle.history_receipts.specs.declared.mismatch.TheConstants.{POLICY_LIST}
+use Rattle.history_receipts.specs.declared.mismatch.Mismatch.{Mismatch}
+use Rattle.history_receipts.specs.declared.mismatch.Mismatch.TheVariants.{Count}
 use Rattle.history_merge.specs.Order.{part_at}
 use Rattle.access_core.specs.Journals.{IsLegal}
 use Rattle.access_core.proofs.Legality.{still_legal}

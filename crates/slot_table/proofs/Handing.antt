@@ -5,8 +5,8 @@ use Rattle.std.specs.Prelude.{slice_set}
 use Rattle.std.proofs.Math.ListN.{replicate}
 use Rattle.std.proofs.Math.Seq.{set-append_seam, take-append_seam}
 use Rattle.std.proofs.lemmas.List.{append-nil, length-map, length-replicate, replicate-append-replicate, replicate_more}
-use Rattle.seat_receipts.specs.declared.receipt.Kept.{Kept}
-use Rattle.seat_receipts.specs.declared.receipt_list.TheConstants.{SEATS}
+use Rattle.history_receipts.specs.declared.receipt.Kept.{Kept}
+use Rattle.history_receipts.specs.declared.receipt_list.TheConstants.{SEATS}
 use Rattle.policy_board.specs.SeatState.{SeatState}
 use Rattle.slot_table.specs.Closing.{kept_of}
 

@@ -4,10 +4,10 @@ use Rattle.rbac_policy.specs.declared.commands.Entry.{Entry}
 use Rattle.rbac_policy.specs.declared.objects.TheConstants.{SLOTS}
 use Rattle.rbac_admin.specs.PolicyLists.{IsPolicyList}
 use Rattle.reactor_core.specs.declared.entry.SlotEntry.{SlotEntry}
-use Rattle.seat_receipts.specs.declared.mismatch.TheConstants.{POLICY_LIST}
-use Rattle.seat_receipts.specs.declared.mismatch.Mismatch.{Mismatch}
-use Rattle.seat_receipts.specs.declared.mismatch.Mismatch.TheVariants.{Count}
-use Rattle.seat_receipts.specs.declared.receipt.Kept.{Kept}
+use Rattle.history_receipts.specs.declared.mismatch.TheConstants.{POLICY_LIST}
+use Rattle.history_receipts.specs.declared.mismatch.Mismatch.{Mismatch}
+use Rattle.history_receipts.specs.declared.mismatch.Mismatch.TheVariants.{Count}
+use Rattle.history_receipts.specs.declared.receipt.Kept.{Kept}
 use Rattle.history_merge.specs.Order.{part_at, Rises}
 use Rattle.history_merge.specs.Mismatches.{IsMismatch}
 use Rattle.policy_board.specs.SeatState.{SeatState}

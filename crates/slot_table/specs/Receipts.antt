@@ -1,8 +1,8 @@
 -- What a seat keeps of its commands on slots (this project's own form).
 use Rattle.std.specs.Prelude.{◌≡◌, ℕ, List, [], ◌∷◌, ◌++◌, Option, Some, None, MatchOption}
-use Rattle.seat_receipts.specs.declared.receipt.Asked.{Asked}
-use Rattle.seat_receipts.specs.declared.receipt.Kept.{Kept}
-use Rattle.seat_receipts.specs.declared.receipt.Kept.TheVariants.{Slot}
+use Rattle.history_receipts.specs.declared.receipt.Asked.{Asked}
+use Rattle.history_receipts.specs.declared.receipt.Kept.{Kept}
+use Rattle.history_receipts.specs.declared.receipt.Kept.TheVariants.{Slot}
 use Rattle.access_core.specs.declared.reply.Reply.{Reply}
 use Rattle.access_core.specs.declared.reply.Reply.TheVariants.{Refused, Login, Changed, Check, Load as Loaded}
 use Rattle.access_core.specs.declared.reply.Reply.TheVariants.{Offer as Offered, Discard as Discarded, Step as Stepped}

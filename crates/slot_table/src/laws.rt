@@ -5,7 +5,7 @@ ghost use Rattle.rbac_policy.specs.declared.commands.Entry.{Entry};
 ghost use Rattle.rbac_policy.specs.declared.objects.TheConstants.{SLOTS};
 ghost use Rattle.rbac_admin.specs.PolicyLists.{Begins, IsPolicyList};
 ghost use Rattle.reactor_core.specs.declared.entry.SlotEntry.{SlotEntry};
-ghost use Rattle.seat_receipts.specs.declared.receipt.Kept.{Kept};
+ghost use Rattle.history_receipts.specs.declared.receipt.Kept.{Kept};
 ghost use Rattle.history_merge.specs.OneList.{AreOfOneList};
 ghost use Rattle.history_merge.specs.Once.{EachOnce};
 ghost use Rattle.policy_board.specs.SeatState.{SeatState};

@@ -9,7 +9,7 @@ use policy_board::board::Board;
 use policy_board::history::BoardName;
 use policy_board::seat::Seat;
 use rbac_policy::commands::SessionId;
-use seat_receipts::receipt::{Asked, SlotReceipt};
+use history_receipts::receipt::{Asked, SlotReceipt};
 use std::sync::Wait;
 
 /// What a receipt keeps of this command; None of a command that adds no entry.

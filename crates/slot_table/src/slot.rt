@@ -3,8 +3,8 @@ ghost use Rattle.std.specs.Prelude.{◌≡◌, ◌<◌, [], length, MatchResult}
 ghost use Rattle.rbac_policy.specs.declared.objects.TheConstants.{SLOTS};
 ghost use Rattle.access_core.specs.Journals.{IsLegal};
 ghost use Rattle.access_core.specs.SlotStep.{SlotStep};
-ghost use Rattle.seat_receipts.specs.declared.mismatch.TheConstants.{POLICY_LIST};
-ghost use Rattle.seat_receipts.specs.declared.mismatch.Mismatch.TheVariants.{Count};
+ghost use Rattle.history_receipts.specs.declared.mismatch.TheConstants.{POLICY_LIST};
+ghost use Rattle.history_receipts.specs.declared.mismatch.Mismatch.TheVariants.{Count};
 ghost use Rattle.slot_table.specs.SlotCommands.{LockedCommand};
 
 use crate::receipts::{asked_by, keep};
@@ -19,7 +19,7 @@ use policy_board::seat::Seat;
 use rbac_policy::commands::SessionId;
 use rbac_policy::objects::SlotNumber;
 use reactor_core::journal::Journal;
-use seat_receipts::mismatch::Mismatch;
+use history_receipts::mismatch::Mismatch;
 use std::alloc::Global;
 use std::marker::Model;
 use std::sync::Wait;

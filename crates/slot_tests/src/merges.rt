@@ -7,9 +7,9 @@ use rbac_policy::names::Name;
 use rbac_policy::opening::opening_entries;
 use reactor_core::entry::Action;
 use reactor_core::journal::Journal;
-use seat_receipts::mismatch::{Mismatch, POLICY_LIST};
-use seat_receipts::receipt::{Asked, Kept, SlotReceipt};
-use seat_receipts::receipt_list::Receipts;
+use history_receipts::mismatch::{Mismatch, POLICY_LIST};
+use history_receipts::receipt::{Asked, Kept, SlotReceipt};
+use history_receipts::receipt_list::Receipts;
 use std::alloc::Global;
 use std::process::Abort;
 

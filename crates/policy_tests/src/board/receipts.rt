@@ -7,7 +7,7 @@ use policy_board::board::Board;
 use policy_board::history::{BoardName, Fresh};
 use policy_board::seat::Seat;
 use rbac_policy::commands::AdminCommand;
-use seat_receipts::receipt::{Asked, Kept, SlotReceipt};
+use history_receipts::receipt::{Asked, Kept, SlotReceipt};
 use std::alloc::Global;
 use std::marker::Brand;
 use std::process::Abort;

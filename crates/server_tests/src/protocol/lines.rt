@@ -2,11 +2,11 @@
 ghost use Rattle.std.specs.Prelude.{⊤};
 
 use crate::protocol::devices::{AMPLE, Sink, TwoParts};
-use line_reader::exchange::next_line;
-use line_reader::lines::{LINE_BYTES, Line, LineFault, LineReader};
-use line_reader::meter::{MeteredMemory, MeteredReader, MeteredWriter, READS};
-use line_reader::replies::{Replies, WriteFault};
-use line_reader::serving::{Answerer, Text, Why, answer_connection};
+use wire_reader::exchange::next_line;
+use wire_reader::lines::{LINE_BYTES, Line, LineFault, LineReader};
+use wire_reader::meter::{MeteredMemory, MeteredReader, MeteredWriter, READS};
+use wire_reader::replies::{Replies, WriteFault};
+use wire_reader::serving::{Answerer, Text, Why, answer_connection};
 use std::alloc::{AllocError, Global};
 use std::borrow::CowSlice;
 use std::io;

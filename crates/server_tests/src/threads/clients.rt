@@ -2,7 +2,7 @@
 ghost use Rattle.std.specs.Prelude.{⊤};
 
 use client_loop::source::{Connection, Served, Source};
-use line_reader::serving::Why;
+use wire_reader::serving::Why;
 use std::io;
 use std::io::{Read, Write};
 use std::sync::atomic::{AtomicBool, AtomicU64, Ordering};

@@ -1,6 +1,6 @@
 //! Many threads, over all slots.
 ghost use Rattle.std.specs.Prelude.{◌≡◌};
-ghost use Rattle.worker_threads.specs.Turns.{IsTurn};
+ghost use Rattle.server_threads.specs.Turns.{IsTurn};
 
 use crate::threads::asking::{begin, enter, grant, revoke, root};
 use crate::threads::lending::{Lends, may_cross};
@@ -22,7 +22,7 @@ use std::process::Abort;
 use std::sync::Wait;
 use std::test::Fail;
 use std::thread::Threads;
-use worker_threads::workers::{Turn, Work, run_each};
+use server_threads::workers::{Turn, Work, run_each};
 
 /// How many threads there are: the first changes the policy, and each other gives slot commands.
 const THREADS: usize = 9;

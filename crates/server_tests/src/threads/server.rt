@@ -5,7 +5,7 @@ use policy_board::board::Board;
 use policy_board::history::{BoardName, Fresh};
 use policy_board::opening::Opened;
 use policy_board::seat::Seat;
-use seat_receipts::receipt_list::SEATS;
+use history_receipts::receipt_list::SEATS;
 use slot_table::table::SlotTable;
 use std::alloc::Global;
 use std::process::Abort;

@@ -4,7 +4,7 @@ ghost use Rattle.std.specs.Prelude.{◌≤◌};
 use std::sync::Wait;
 use std::sync::atomic::{AtomicU64, Ordering};
 use std::test::Fail;
-use worker_threads::workers::{Turn, Work, run_each};
+use server_threads::workers::{Turn, Work, run_each};
 
 /// How many turns all workers of a test take together.
 const TURNS: u64 = 100;

@@ -1,8 +1,8 @@
 //! Stories of a run: who gives what by which seat, and what is told, so that a story is a table.
 use crate::lines::{asked, expect_told, giver};
 use access_core::reply::Reply;
-use access_events::event::{Event, SeatNumber};
-use access_events::run::{World, run_events};
+use history_events::event::{Event, SeatNumber};
+use history_events::run::{World, run_events};
 use rbac_policy::commands::SessionId;
 use std::alloc::Global;
 use std::process::Abort;

@@ -2,7 +2,7 @@
 use crate::lines::{DISCARD, GRANT_LOAD, GRANT_STEP, LOGIN, STEP};
 use crate::table::server::{Line, entries, play};
 use policy_board::history::Fresh;
-use seat_receipts::mismatch::Mismatch;
+use history_receipts::mismatch::Mismatch;
 use slot_table::closing::Histories;
 use std::marker::Brand;
 use std::process::Abort;

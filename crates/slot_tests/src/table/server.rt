@@ -1,6 +1,6 @@
 //! A board with its seats and its slots, and stories of it.
 ghost use Rattle.std.specs.Prelude.{◌≡◌, ◌≤◌};
-ghost use Rattle.seat_receipts.specs.declared.receipt_list.TheConstants.{SEATS};
+ghost use Rattle.history_receipts.specs.declared.receipt_list.TheConstants.{SEATS};
 
 use crate::lines::{asked, expect_told};
 use policy_board::board::Board;
@@ -8,9 +8,9 @@ use policy_board::history::{BoardName, Fresh};
 use policy_board::opening::Opened;
 use policy_board::seat::Seat;
 use rbac_policy::commands::{AdminCommand, SessionId};
-use seat_receipts::mismatch::Mismatch;
-use seat_receipts::receipt::{Asked, Kept};
-use seat_receipts::receipt_list::SEATS;
+use history_receipts::mismatch::Mismatch;
+use history_receipts::receipt::{Asked, Kept};
+use history_receipts::receipt_list::SEATS;
 use slot_table::closing::Histories;
 use slot_table::table::SlotTable;
 use std::alloc::Global;

@@ -1,5 +1,5 @@
 use Rattle.std.proofs.Common.{◌≡◌, ◌∙◌, ◌++◌, string_bytes}
-use Rattle.line_reader.specs.Replies.{waiting_bytes}
+use Rattle.wire_reader.specs.Replies.{waiting_bytes}
 use Rattle.program_run.proofs.Reporting.{rest_written, rest_begun}
 use Rattle.program_run.proofs.reports.write_report.Goals as goal
 

@@ -1,8 +1,8 @@
 use Rattle.std.proofs.Common.{rules, ◌≡◌, ◌≤◌, inl, inr, length, refl, replicate, subst, true}
 use Rattle.std.proofs.KnownBytes.{Keeps-refl}
-use Rattle.seat_receipts.specs.declared.receipt_list.TheConstants.{SEATS}
+use Rattle.history_receipts.specs.declared.receipt_list.TheConstants.{SEATS}
 use Rattle.policy_board.specs.SeatState.{new_seat}
-use Rattle.worker_threads.specs.Turns.{AreBack}
+use Rattle.server_threads.specs.Turns.{AreBack}
 use Rattle.client_loop.specs.Workers.{ServesNext}
 use Rattle.program_run.specs.Serving.{Turn, quota_of}
 use Rattle.program_run.proofs.Closing.{as_many}

@@ -1,6 +1,6 @@
 use Rattle.std.proofs.Common.{rules, ℕ, List, []}
-use Rattle.seat_receipts.specs.declared.receipt.Kept.{Kept}
-use Rattle.seat_receipts.specs.declared.receipt_list.TheConstants.{SEATS}
+use Rattle.history_receipts.specs.declared.receipt.Kept.{Kept}
+use Rattle.history_receipts.specs.declared.receipt_list.TheConstants.{SEATS}
 use Rattle.access_core.proofs.Places.{by_places}
 use Rattle.slot_table.proofs.closing.no_receipts.Goals as goal
 

@@ -1,5 +1,5 @@
 use Rattle.std.proofs.Common.{rules, ◌≡◌, ℕ, List, length, sym, subst, [], ◌∷◌, ◌++◌, slice_set}
-use Rattle.seat_receipts.specs.declared.receipt.Kept.{Kept}
+use Rattle.history_receipts.specs.declared.receipt.Kept.{Kept}
 use Rattle.policy_board.specs.SeatState.{SeatState}
 use Rattle.slot_table.proofs.Handing.{AreHanded, none_handed, one_handed}
 use Rattle.slot_table.proofs.closing.receipts_of.Goals as goal

@@ -2,9 +2,9 @@ use Rattle.std.proofs.Common.{◌≡◌, ◌∙◌, ◌<◌, List, length, Match
 use Rattle.std.specs.Prelude.{IsNone, Result}
 use Rattle.rbac_policy.specs.declared.commands.Entry.{Entry}
 use Rattle.reactor_core.specs.declared.entry.SlotEntry.{SlotEntry}
-use Rattle.seat_receipts.specs.declared.mismatch.TheConstants.{POLICY_LIST}
-use Rattle.seat_receipts.specs.declared.mismatch.Mismatch.{Mismatch}
-use Rattle.seat_receipts.specs.declared.mismatch.Mismatch.TheVariants.{Count}
+use Rattle.history_receipts.specs.declared.mismatch.TheConstants.{POLICY_LIST}
+use Rattle.history_receipts.specs.declared.mismatch.Mismatch.{Mismatch}
+use Rattle.history_receipts.specs.declared.mismatch.Mismatch.TheVariants.{Count}
 use Rattle.access_core.specs.Journals.{IsLegal}
 use Rattle.slot_table.specs.Closing.{ClosingState, IsReadersFault}
 use Rattle.slot_table.proofs.closing.Closing.end.Goals as goal

@@ -2,8 +2,8 @@ use Rattle.std.proofs.Common.{◌≡◌, ◌<◌, List, [], length, MatchResult,
 use Rattle.std.specs.Prelude.{Option, unwrap_or}
 use Rattle.rbac_policy.specs.declared.commands.Entry.{Entry}
 use Rattle.access_core.specs.Journals.{IsLegal}
-use Rattle.seat_receipts.specs.declared.mismatch.TheConstants.{POLICY_LIST}
-use Rattle.seat_receipts.specs.declared.mismatch.Mismatch.TheVariants.{Count}
+use Rattle.history_receipts.specs.declared.mismatch.TheConstants.{POLICY_LIST}
+use Rattle.history_receipts.specs.declared.mismatch.Mismatch.TheVariants.{Count}
 use Rattle.slot_table.specs.LockedState.{LockedState}
 use Rattle.slot_table.proofs.Ending.{handed_legal}
 use Rattle.slot_table.proofs.slot.LockedSlot.end.Goals as goal

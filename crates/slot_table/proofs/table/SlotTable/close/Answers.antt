@@ -5,7 +5,7 @@ use Rattle.std.proofs.lemmas.Result.{IfOk-weaker, err_from_is_err_and}
 use Rattle.rbac_policy.specs.declared.commands.Entry.{Entry}
 use Rattle.rbac_policy.specs.declared.objects.TheConstants.{SLOTS}
 use Rattle.rbac_admin.specs.PolicyLists.{IsPolicyList}
-use Rattle.seat_receipts.specs.declared.receipt_list.TheConstants.{SEATS}
+use Rattle.history_receipts.specs.declared.receipt_list.TheConstants.{SEATS}
 use Rattle.policy_board.specs.SeatState.{SeatState}
 use Rattle.history_merge.specs.OneList.{AreOfOneList}
 use Rattle.history_laws.specs.CallsInTurn.{AreOfOneRun}

@@ -1,5 +1,0 @@
-use Rattle.access_events.proofs.Enterings.{enters}
-use Rattle.access_events.proofs.laws.signals_enter_where_offered.Goals as goal
-
-pub returns : goal.returns
-returns c = λ past m comes slot name is. enters c.one_module.ensures past m slot name comes is

@@ -1,7 +1,0 @@
-use Rattle.std.proofs.Common.{refl}
-use Rattle.clap.proofs.OnLiterals.{clap_on_literals}
-use Rattle.command_line.proofs.laws.serve_reads_its_numbers.Goals as goal
-
-pub returns : goal.returns
-unfolding clap_on_literals
-returns c path at = (refl, (_, refl, record { path = at; workers = refl; connections = refl }))

@@ -1,5 +1,0 @@
-use Rattle.line_reader.proofs.Places.{first_found}
-use Rattle.line_reader.proofs.lines.first_end.Goals as goal
-
-pub returns : goal.returns
-returns c = first_found c.args.bytes.now c.memchr.result c.memchr.ensures

@@ -1,6 +1,0 @@
-use Rattle.std.proofs.Common.{arith}
-use Rattle.worker_threads.specs.Turns.{none_yet}
-use Rattle.worker_threads.proofs.workers.begin.Goals as goal
-
-pub returns-else-deref : goal.returns-else-deref
-returns-else-deref g c = record { taken = none_yet _; most = omega arith }

@@ -1,8 +1,0 @@
-use Rattle.worker_threads.specs.Turns.{none_yet, one_more}
-use Rattle.worker_threads.proofs.workers.work_on.Goals as goal
-
-pub loop-taken-init : goal.loop-taken-init
-loop-taken-init g c = none_yet _
-
-pub loop-taken-preserved : goal.loop-taken-preserved
-loop-taken-preserved g c = one_more _ _ _ _ c.loop-taken.invariant c.in-Taken.ensures
