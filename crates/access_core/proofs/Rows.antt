@@ -1,8 +1,8 @@
 -- The table of refusals, read backwards.
 use Rattle.std.proofs.Common.{◌≡◌, ◌∙◌, ℕ, refl, ap}
 use Rattle.std.specs.Prelude.{◌==◌, Option, Some, None, option_map, if◌then◌else◌}
-use Rattle.refusal_tables.specs.Rows.{Fields, TellsApart}
-use Rattle.refusal_tables.proofs.TellingApart.{first, second, number_in, texts_in, read_back}
+use Rattle.refusal_rules.specs.Rows.{Fields, TellsApart}
+use Rattle.refusal_rules.proofs.TellingApart.{first, second, number_in, texts_in, read_back}
 use Rattle.est_relations.specs.declared.refusal.Refusal.TheVariants.{UnknownSignal, NotInput, AlreadyOffered, Excluded}
 use Rattle.est_relations.specs.declared.refusal.Refusal.TheVariants.{Implied}
 use Rattle.rbac_admin.specs.declared.refusals.Refusal.{Refusal as PolicyRefusal}

@@ -1,7 +1,7 @@
 -- The refusals of a line: what each tells (this project's own table). Those of the policy and of a module have their
 -- own tables.
 use Rattle.std.specs.Prelude.{◌≡◌, ℕ, List, [], ◌∷◌, codes}
-use Rattle.refusal_tables.specs.Rows.{Row, tells, Number, Texts}
+use Rattle.refusal_rules.specs.Rows.{Row, tells, Number, Texts}
 use Rattle.rbac_policy.specs.Texts.{IsObject}
 use Rattle.rbac_policy.specs.declared.objects.Object.{Object}
 use Rattle.rbac_policy.specs.declared.objects.Operation.{Operation}

@@ -16,7 +16,7 @@ ghost use Rattle.access_core.specs.Journals.{command_of, IsLegal, HasEnded};
 ghost use Rattle.rbac_admin.specs.PolicyLists.{Begins};
 ghost use Rattle.access_core.specs.declared.reply.Reply.TheVariants.{Refused};
 ghost use Rattle.access_core.specs.Refusals.{row_of, NamesObjects};
-ghost use Rattle.refusal_tables.specs.Rows.{TellsApart};
+ghost use Rattle.refusal_rules.specs.Rows.{TellsApart};
 
 use rbac_policy::laws::ended_sessions_stay_ended;
 use reactor_core::laws::{one_load, one_module};

@@ -2,8 +2,8 @@
 use Rattle.std.proofs.Common.{◌≡◌, ◌∙◌, ℕ, List, refl, ap}
 use Rattle.std.specs.Prelude.{◌==◌, codes, Option, Some, None, option_map, option_and_then, if◌then◌else◌}
 use Rattle.std.specs.Str.{bytes_eq}
-use Rattle.refusal_tables.specs.Rows.{Fields, TellsApart}
-use Rattle.refusal_tables.proofs.TellingApart.{first, second, text_in, number_in, read_back}
+use Rattle.refusal_rules.specs.Rows.{Fields, TellsApart}
+use Rattle.refusal_rules.proofs.TellingApart.{first, second, text_in, number_in, read_back}
 use Rattle.rbac_policy.specs.Texts.{IsObject, operation_of, object_of, operation_text, object_text}
 use Rattle.rbac_policy.proofs.ObjectTexts.{operation_of-exact, object_of-exact}
 use Rattle.rbac_policy.specs.declared.commands.Table.{Table}

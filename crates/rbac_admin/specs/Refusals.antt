@@ -1,6 +1,6 @@
 -- The refusals of a policy command: what each tells (this project's own table).
 use Rattle.std.specs.Prelude.{◌≡◌, ℕ, List, [], ◌∷◌, codes}
-use Rattle.refusal_tables.specs.Rows.{Row, tells, Number, Text}
+use Rattle.refusal_rules.specs.Rows.{Row, tells, Number, Text}
 use Rattle.rbac_policy.specs.Texts.{IsObject, operation_text, object_text}
 use Rattle.rbac_policy.specs.declared.commands.Table.{Table}
 use Rattle.rbac_policy.specs.declared.commands.Table.TheVariants.{Users, Roles, Permissions, Sessions, Sets}

@@ -17,7 +17,7 @@ ghost use Rattle.rbac_admin.specs.PolicyStep.{PolicyStep, policy_rules, entry_of
 ghost use Rattle.rbac_admin.specs.PolicyLists.{IsAccepted, IsPolicyList};
 ghost use Rattle.rbac_admin.specs.Refusals.{row_of, NamesObjects};
 ghost use Rattle.rbac_admin.specs.Room.{most_entries};
-ghost use Rattle.refusal_tables.specs.Rows.{TellsApart};
+ghost use Rattle.refusal_rules.specs.Rows.{TellsApart};
 
 /// The policy step gives one answer at most.
 pub fn one_answer()

@@ -2,8 +2,8 @@
 use Rattle.std.proofs.Common.{◌≡◌, ℕ, List, [], ◌∷◌, refl, ap}
 use Rattle.std.specs.Prelude.{◌==◌, codes, Option, Some, None, if◌then◌else◌}
 use Rattle.std.specs.Str.{bytes_eq}
-use Rattle.refusal_tables.specs.Rows.{Fields, TellsApart}
-use Rattle.refusal_tables.proofs.TellingApart.{first, second, text_in, number_in, read_back}
+use Rattle.refusal_rules.specs.Rows.{Fields, TellsApart}
+use Rattle.refusal_rules.proofs.TellingApart.{first, second, text_in, number_in, read_back}
 use Rattle.est_relations.specs.declared.refusal.Refusal.TheVariants.{UnknownSignal, NotInput, AlreadyOffered, Excluded}
 use Rattle.est_relations.specs.declared.refusal.Refusal.TheVariants.{Implied}
 use Rattle.est_text.specs.declared.place.Place.{Place}

@@ -1,6 +1,6 @@
 -- The refusals of a module: what each tells (this project's own table).
 use Rattle.std.specs.Prelude.{ℕ, List, [], ◌∷◌, codes}
-use Rattle.refusal_tables.specs.Rows.{Row, tells, Number, Text}
+use Rattle.refusal_rules.specs.Rows.{Row, tells, Number, Text}
 use Rattle.est_relations.specs.declared.refusal.Refusal.TheVariants.{UnknownSignal, NotInput, AlreadyOffered, Excluded}
 use Rattle.est_relations.specs.declared.refusal.Refusal.TheVariants.{Implied}
 use Rattle.reactor_core.specs.declared.refusal.Limit.{Limit}

@@ -15,7 +15,7 @@ ghost use Rattle.reactor_core.specs.Instants.{IsOutcome, HasNoOutcome, AddsInsta
 ghost use Rattle.reactor_core.specs.Instants.{KeepsRelations};
 ghost use Rattle.reactor_core.specs.Offers.{IsOfferedAt, TakesOffers};
 ghost use Rattle.reactor_core.specs.Refusals.{row_of};
-ghost use Rattle.refusal_tables.specs.Rows.{TellsApart};
+ghost use Rattle.refusal_rules.specs.Rows.{TellsApart};
 
 use est_link::laws::one_flat;
 use est_text::laws::{one_cut, one_fault};

@@ -5,7 +5,7 @@ use Rattle.std.specs.Ordering.{nat_cmp, is_gt}
 use Rattle.serde_json.specs.Data.{Data, boolean, string, array, object, item, no_items, Members, member, no_members}
 use Rattle.serde_json.specs.View.{items_of}
 use Rattle.serde_json.specs.Written.{compact_text}
-use Rattle.refusal_tables.specs.Rows.{Row, Field, Fields, Number, Text, Texts}
+use Rattle.refusal_rules.specs.Rows.{Row, Field, Fields, Number, Text, Texts}
 use Rattle.access_core.specs.declared.refusal.Refusal.{Refusal}
 use Rattle.access_core.specs.declared.reply.Reply.{Reply}
 use Rattle.access_core.specs.declared.reply.Reply.TheVariants.{Refused, Login, Changed, Load, Offer, Discard, Step}

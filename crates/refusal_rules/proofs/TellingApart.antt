@@ -1,7 +1,7 @@
 -- A table that can be read backwards tells its refusals apart.
 use Rattle.std.proofs.Common.{◌≡◌, ◌∙◌, ℕ, List, [], ◌∷◌, sym, ap}
 use Rattle.std.specs.Prelude.{Option, Some}
-use Rattle.refusal_tables.specs.Rows.{Row, Field, Fields, Number, Text, Texts, TellsApart}
+use Rattle.refusal_rules.specs.Rows.{Row, Field, Fields, Number, Text, Texts, TellsApart}
 
 -- the number of a field; zero where it is none
 abbrev pub number_in : Field → ℕ
