@@ -11,6 +11,4 @@ pub mod Libraries
 pub mod UniqueTests
 pub mod Unique
 pub mod Folding
-pub mod Drawings
 pub mod OneFault
-pub mod DrawnParts

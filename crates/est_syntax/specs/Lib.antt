@@ -8,4 +8,3 @@ pub mod Frames
 pub mod Modules
 pub mod ParseFaults
 pub mod Views
-pub mod Drawing

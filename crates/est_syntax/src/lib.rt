@@ -4,14 +4,12 @@
 //! being the beginning of a library. The definitions in `specs/` say which tokens a library is
 //! spelt with (`Grammar`) and which token is the first with which the tokens so far begin no
 //! library, or opens one unit too many (`Faults`). `laws` says that the grammar is unambiguous, and
-//! that there is one first fault. `draw` draws a place as compilers do: its line, and a caret under
-//! it.
+//! that there is one first fault.
 #![tactic(auto)]
 
 mod closings;
 mod cursor;
 mod declarations;
-pub mod draw;
 mod expressions;
 mod fault;
 pub mod laws;

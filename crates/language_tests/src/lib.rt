@@ -10,8 +10,6 @@
 #![tactic(auto)]
 
 #[cfg(test)]
-mod drawings;
-#[cfg(test)]
 mod kernels;
 #[cfg(test)]
 mod linking;
