@@ -12,7 +12,7 @@ use Rattle.rbac_policy.specs.Fits.{Fits, AllFit}
 use Rattle.rbac_policy.specs.Leaving.{LeavesRoom}
 use Rattle.rbac_policy.specs.Opening.{opening_entries}
 use Rattle.rbac_policy.specs.StandsFor.{StandsFor}
-use Rattle.rbac_policy.proofs.EndingLemmas.{leaves_room}
+use Rattle.rbac_policy.proofs.OfSessions.EndingLemmas.{leaves_room}
 use Rattle.rbac_policy.proofs.Growing.{fit_push, opening_fits, opening_stands, stands_whole, stands_front}
 use Rattle.rbac_admin.specs.PolicyLists.{Begins, IsAccepted, IsPolicyList}
 use Rattle.rbac_admin.specs.Room.{most_entries}

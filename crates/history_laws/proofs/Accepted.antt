@@ -19,7 +19,7 @@ use Rattle.rbac_policy.specs.declared.objects.Object.{Object}
 use Rattle.rbac_policy.specs.declared.objects.Operation.{Operation}
 use Rattle.rbac_policy.specs.declared.objects.TheConstants.{SLOTS}
 use Rattle.rbac_policy.specs.Facts.{IsLive}
-use Rattle.rbac_policy.proofs.Slots.{get_set_same}
+use Rattle.rbac_policy.proofs.OfSlots.Slots.{get_set_same}
 use Rattle.rbac_admin.specs.PolicyLists.{IsAccepted as MayFollow}
 use Rattle.reactor_core.specs.declared.entry.Action.{Action}
 use Rattle.reactor_core.specs.declared.entry.Action.TheVariants as action

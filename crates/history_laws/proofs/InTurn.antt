@@ -12,7 +12,7 @@ use native.Mathlib.Decide.{ℕ_discrete, dec_le}
 use Rattle.rbac_policy.specs.declared.commands.Entry.{Entry}
 use Rattle.rbac_policy.specs.declared.objects.TheConstants.{SLOTS}
 use Rattle.rbac_policy.specs.Opening.{opening_entries}
-use Rattle.rbac_policy.proofs.Slots.{get_set_other}
+use Rattle.rbac_policy.proofs.OfSlots.Slots.{get_set_other}
 use Rattle.rbac_admin.specs.PolicyLists.{IsPolicyList, IsAccepted as MayFollow}
 use Rattle.reactor_core.specs.declared.entry.SlotEntry.{SlotEntry}
 use Rattle.access_core.specs.Journals.{IsLegal, IsLegalEntry}

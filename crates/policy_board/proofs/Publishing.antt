@@ -9,7 +9,7 @@ use Rattle.rbac_policy.specs.declared.sizes.TheConstants.{LAST_VERSION}
 use Rattle.rbac_policy.specs.Change.{absorbed}
 use Rattle.rbac_policy.specs.Opening.{opening_entries}
 use Rattle.rbac_policy.specs.StandsFor.{StandsFor}
-use Rattle.rbac_policy.proofs.EndingLemmas.{leaves_room}
+use Rattle.rbac_policy.proofs.OfSessions.EndingLemmas.{leaves_room}
 use Rattle.rbac_admin.specs.PolicyLists.{Begins, IsAccepted, IsPolicyList}
 use Rattle.rbac_admin.proofs.Fitting.{accepted_stands}
 use Rattle.rbac_admin.proofs.PolicyListLemmas.{opening_is_list, list_grows, few_entries, still_leaves}

@@ -11,7 +11,7 @@ use Rattle.rbac_policy.specs.Facts.{IsLive}
 use Rattle.rbac_policy.specs.Leaving.{LeavesRoom}
 use Rattle.rbac_policy.specs.Opening.{opening_entries}
 use Rattle.rbac_policy.specs.StandsFor.{StandsFor}
-use Rattle.rbac_policy.proofs.EndingLemmas.{leaves_room, logout_leaves_room, logout_has_room}
+use Rattle.rbac_policy.proofs.OfSessions.EndingLemmas.{leaves_room, logout_leaves_room, logout_has_room}
 use Rattle.rbac_policy.proofs.Steps.{get_push, take_front, take_whole}
 use Rattle.rbac_admin.specs.PolicyStep.{PolicyStep}
 use Rattle.rbac_admin.specs.Room.{most_entries}

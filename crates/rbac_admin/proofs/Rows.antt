@@ -5,7 +5,7 @@ use Rattle.std.specs.Str.{bytes_eq}
 use Rattle.refusal_rules.specs.Rows.{Fields, TellsApart}
 use Rattle.refusal_rules.proofs.TellingApart.{first, second, text_in, number_in, read_back}
 use Rattle.rbac_policy.specs.Texts.{IsObject, operation_of, object_of, operation_text, object_text}
-use Rattle.rbac_policy.proofs.ObjectTexts.{operation_of-exact, object_of-exact}
+use Rattle.rbac_policy.proofs.OfNames.ObjectTexts.{operation_of-exact, object_of-exact}
 use Rattle.rbac_policy.specs.declared.commands.Table.{Table}
 use Rattle.rbac_policy.specs.declared.commands.Table.TheVariants.{Users, Roles, Permissions, Sessions, Sets}
 use Rattle.rbac_policy.specs.declared.objects.Object.{Object}

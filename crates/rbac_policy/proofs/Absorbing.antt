@@ -34,26 +34,26 @@ use Rattle.rbac_policy.specs.Change.{taken_up_at, laid_down_at}
 use Rattle.rbac_policy.specs.Fits.{Fits, FitsCommand, FitsAddUser, FitsAddRole, FitsAssignUser, FitsGrantPermission}
 use Rattle.rbac_policy.specs.Fits.{FitsCreateSession, FitsInheritance, FitsDeleteRole, FitsCreateDsdSet}
 use Rattle.rbac_policy.specs.StandsFor.{StandsFor, UsersStand, RolesStand, GrantsStand, SetsStand}
-use Rattle.rbac_policy.proofs.Ended.{Unswept, swept_stand}
+use Rattle.rbac_policy.proofs.OfSessions.Ended.{Unswept, swept_stand}
 use Rattle.rbac_policy.proofs.Untouched.{untouched_users, untouched_roles, untouched_grants, untouched_sessions}
 use Rattle.rbac_policy.proofs.Untouched.{untouched_sets, logins_push, logins_other}
-use Rattle.rbac_policy.proofs.Slots.{free}
-use Rattle.rbac_policy.proofs.Equality.{operations}
+use Rattle.rbac_policy.proofs.OfSlots.Slots.{free}
+use Rattle.rbac_policy.proofs.OfNames.Equality.{operations}
 use Rattle.rbac_policy.specs.Inner.ObjectLaws.{objects, both}
-use Rattle.rbac_policy.proofs.Room.{room, keeps_users, keeps_roles, keeps_grants, keeps_sessions, keeps_sets, pair_of}
-use Rattle.rbac_policy.proofs.Listed.{Placed, placed}
-use Rattle.rbac_policy.proofs.Adding.{adding}
-use Rattle.rbac_policy.proofs.Assigning.{assigning}
-use Rattle.rbac_policy.proofs.Naming.{added_mask, added_named, added_role, unique_added, renamed_users, renamed_grants}
-use Rattle.rbac_policy.proofs.Naming.{renamed_sessions}
-use Rattle.rbac_policy.proofs.Granting.{granting}
-use Rattle.rbac_policy.proofs.Revoking.{revoking}
-use Rattle.rbac_policy.proofs.Deassigning.{deassigning, removing, ended_unswept}
-use Rattle.rbac_policy.proofs.Inheriting.{inheriting, disinheriting}
-use Rattle.rbac_policy.proofs.Deleting.{before_deletion, users_deleted, roles_deleted, grants_deleted, sets_deleted}
-use Rattle.rbac_policy.proofs.Separating.{renamed_sets, created, removed}
-use Rattle.rbac_policy.proofs.Activating.{take_unswept, drop_unswept}
-use Rattle.rbac_policy.proofs.Sessions.{login_unswept, logout_unswept}
+use Rattle.rbac_policy.proofs.OfSlots.Room.{room, keeps_users, keeps_roles, keeps_grants, keeps_sessions, keeps_sets, pair_of}
+use Rattle.rbac_policy.proofs.OfRoles.Listed.{Placed, placed}
+use Rattle.rbac_policy.proofs.OfUsers.Adding.{adding}
+use Rattle.rbac_policy.proofs.OfUsers.Assigning.{assigning}
+use Rattle.rbac_policy.proofs.OfRoles.Naming.{added_mask, added_named, added_role, unique_added, renamed_users, renamed_grants}
+use Rattle.rbac_policy.proofs.OfRoles.Naming.{renamed_sessions}
+use Rattle.rbac_policy.proofs.OfGrants.Granting.{granting}
+use Rattle.rbac_policy.proofs.OfGrants.Revoking.{revoking}
+use Rattle.rbac_policy.proofs.OfUsers.Deassigning.{deassigning, removing, ended_unswept}
+use Rattle.rbac_policy.proofs.OfRoles.Inheriting.{inheriting, disinheriting}
+use Rattle.rbac_policy.proofs.OfRoles.Deleting.{before_deletion, users_deleted, roles_deleted, grants_deleted, sets_deleted}
+use Rattle.rbac_policy.proofs.OfSeparation.Separating.{renamed_sets, created, removed}
+use Rattle.rbac_policy.proofs.OfSessions.Activating.{take_unswept, drop_unswept}
+use Rattle.rbac_policy.proofs.OfSessions.Sessions.{login_unswept, logout_unswept}
 
 -- the parts of the changed policy, and the sweep, make the whole; the sessions' masks are by the names of the table
 -- before

@@ -19,9 +19,9 @@ use Rattle.rbac_policy.specs.declared.policy.Policy.{Policy}
 use Rattle.rbac_policy.specs.Names.{NameText}
 use Rattle.rbac_policy.specs.Facts.{IsUser, IsRole, IsActive, IsGranted, IsLive, May}
 use Rattle.rbac_policy.specs.StandsFor.{Holds, InMask, StandsFor}
-use Rattle.rbac_policy.proofs.Below.{below_sound, below_all}
-use Rattle.rbac_policy.proofs.Order.{chain_up, chain_down}
-use Rattle.rbac_policy.proofs.Equality.{operations}
+use Rattle.rbac_policy.proofs.OfRoles.Below.{below_sound, below_all}
+use Rattle.rbac_policy.proofs.OfRoles.Order.{chain_up, chain_down}
+use Rattle.rbac_policy.proofs.OfNames.Equality.{operations}
 use Rattle.rbac_policy.specs.Inner.ObjectLaws.{objects, both}
 use Rattle.rbac_policy.specs.Tables.{At, first_of, session_of, grant_of, user_is, role_is, place_of}
 use Rattle.std.proofs.Common.{IsTrue, rules}
@@ -32,8 +32,8 @@ use Rattle.std.proofs.lemmas.Option.{slice_get-get_or}
 use Rattle.std.proofs.lemmas.List.Quantifiers.{position-Some}
 use Rattle.std.proofs.lemmas.Map.Keys.{any_passes_from_place}
 use Rattle.rbac_policy.specs.declared.rows.User.{User}
-use Rattle.rbac_policy.proofs.Granting.{some_passes}
-use Rattle.rbac_policy.proofs.Listed.{placed}
+use Rattle.rbac_policy.proofs.OfGrants.Granting.{some_passes}
+use Rattle.rbac_policy.proofs.OfRoles.Listed.{placed}
 
 -- the first value that passes, with its place
 pub record Found {X : Type 0} (test : X → Bool) (slots : List (Option X)) (o : Option X) : Type 0 where

@@ -1,8 +1,8 @@
 -- A policy that stands for a list decides what may be done there.
 use Rattle.std.proofs.Common.{◌≡◌, ◌↔◌, ℕ, Bool, true, false, IsTrue, List, refl, subst, arith, inl, inr, rules}
 use Rattle.rbac_policy.specs.Names.{NameText}
-use Rattle.rbac_policy.proofs.Below.{below_sound, below_all}
-use Rattle.rbac_policy.proofs.Order.{authorized_below, below_authorized}
+use Rattle.rbac_policy.proofs.OfRoles.Below.{below_sound, below_all}
+use Rattle.rbac_policy.proofs.OfRoles.Order.{authorized_below, below_authorized}
 use Rattle.std.specs.Prelude.{Option, Some, None, is_some}
 use Rattle.std.specs.Int.Bits.{bit_and}
 use Rattle.std.proofs.lemmas.Bool.{cases_eq}

@@ -25,8 +25,8 @@ use Rattle.rbac_policy.specs.Tables.{At}
 use Rattle.rbac_policy.specs.StandsFor.{UsersStand, RolesStand, GrantsStand, SessionsStand, SetsStand}
 use Rattle.rbac_policy.specs.Names.{NameText}
 use Rattle.rbac_policy.proofs.Steps.{in_force_push}
-use Rattle.rbac_policy.proofs.Lives.{Remains}
-use Rattle.rbac_policy.proofs.Ended.{Unswept}
+use Rattle.rbac_policy.proofs.OfSessions.Lives.{Remains}
+use Rattle.rbac_policy.proofs.OfSessions.Ended.{Unswept}
 
 pub through : {A B C : Type 0} → A ↔ B → B ↔ C → A ↔ C
 through f g = (λ a. g.0 (f.0 a), λ c. f.1 (g.1 c))

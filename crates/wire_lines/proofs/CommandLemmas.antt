@@ -27,8 +27,8 @@ use Rattle.rbac_policy.specs.Names.{is_name}
 use Rattle.rbac_policy.specs.Texts.{operation_text, operation_of, object_text, object_of, IsObject}
 use Rattle.rbac_policy.specs.declared.objects.Operation.{Operation}
 use Rattle.rbac_policy.specs.declared.objects.Object.{Object}
-use Rattle.rbac_policy.proofs.ObjectTexts.{operation_of-exact, object_of-exact, chained, object_of-object_text}
-use Rattle.rbac_policy.proofs.ObjectTexts.{operation_of-operation_text}
+use Rattle.rbac_policy.proofs.OfNames.ObjectTexts.{operation_of-exact, object_of-exact, chained, object_of-object_text}
+use Rattle.rbac_policy.proofs.OfNames.ObjectTexts.{operation_of-operation_text}
 use Rattle.access_core.specs.declared.command.SlotCommand.TheVariants.{Load, Offer, Discard, Step, Unload, Look, Audit}
 use Rattle.wire_lines.proofs.MemberLemmas.{mapped, same_text, brace_is, end_is, last_is, IsMember}
 use Rattle.wire_lines.proofs.MemberLemmas.{text_is, text_member_is, tested_is, object_is, operation_is}

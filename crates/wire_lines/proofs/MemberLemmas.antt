@@ -24,7 +24,7 @@ use Rattle.rbac_policy.specs.Names.{is_name}
 use Rattle.rbac_policy.specs.Texts.{operation_text, operation_of, object_text, object_of, IsObject}
 use Rattle.rbac_policy.specs.declared.objects.Operation.{Operation}
 use Rattle.rbac_policy.specs.declared.objects.Object.{Object}
-use Rattle.rbac_policy.proofs.ObjectTexts.{operation_of-exact, object_of-exact, passed, chained}
+use Rattle.rbac_policy.proofs.OfNames.ObjectTexts.{operation_of-exact, object_of-exact, passed, chained}
 use Rattle.wire_lines.specs.Requests.{IsName, IsNumber, AreListed}
 use Rattle.wire_lines.specs.Inner.Members.{whole_of, after_key, front_text, front_number, begins_array, begins_object}
 use Rattle.wire_lines.specs.Inner.Members.{text_after, number_after, parsed_after, names_in}

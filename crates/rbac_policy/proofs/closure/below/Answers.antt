@@ -1,4 +1,4 @@
-use Rattle.rbac_policy.proofs.Below.{found_below}
+use Rattle.rbac_policy.proofs.OfRoles.Below.{found_below}
 use Rattle.rbac_policy.proofs.closure.below.Goals as goal
 
 pub returns-clause-exact : goal.returns-clause-exact

@@ -1,4 +1,4 @@
-use Rattle.rbac_policy.proofs.EndingLemmas.{leaves_room, logout_leaves_room, logout_has_room}
+use Rattle.rbac_policy.proofs.OfSessions.EndingLemmas.{leaves_room, logout_leaves_room, logout_has_room}
 use Rattle.rbac_policy.proofs.laws.logouts_have_room.Goals as goal
 
 pub returns-clause-room : goal.returns-clause-room

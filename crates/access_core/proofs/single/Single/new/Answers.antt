@@ -1,7 +1,7 @@
 use Rattle.std.proofs.Common.{sym, subst, arith}
 use Rattle.rbac_admin.specs.Room.{most_entries}
 use Rattle.rbac_policy.specs.Opening.{opening_entries}
-use Rattle.rbac_policy.proofs.EndingLemmas.{leaves_room}
+use Rattle.rbac_policy.proofs.OfSessions.EndingLemmas.{leaves_room}
 use Rattle.rbac_policy.proofs.Growing.{opening_fits}
 use Rattle.access_core.specs.Desk.{AreSlots}
 use Rattle.access_core.proofs.Desks.{opening_slots}

@@ -1,5 +1,5 @@
 use Rattle.est_text.proofs.Ascii.{text_is_read}
-use Rattle.rbac_policy.proofs.Ascii.{name_is_text}
+use Rattle.rbac_policy.proofs.OfNames.Ascii.{name_is_text}
 use Rattle.rbac_policy.proofs.names.Name.as_str.Goals as goal
 
 pub unwrap-requires : goal.unwrap-requires

@@ -2,7 +2,7 @@ use Rattle.std.proofs.Common.{rules, ◌≡◌, ◌≤◌, IsTrue, true, length,
 use Rattle.std.specs.Prelude.{replicate}
 use Rattle.rbac_policy.specs.Names.{is_name}
 use Rattle.est_text.proofs.Filled.{front, filled}
-use Rattle.rbac_policy.proofs.Filled.{short_name}
+use Rattle.rbac_policy.proofs.OfNames.Filled.{short_name}
 use Rattle.rbac_policy.specs.declared.names.TheConstants.{NAME_BYTES}
 use Rattle.rbac_policy.proofs.names.Name.from_bytes.Goals as goal
 

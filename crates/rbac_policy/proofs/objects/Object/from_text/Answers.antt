@@ -1,4 +1,4 @@
-use Rattle.rbac_policy.proofs.ObjectTexts.{object_of-exact}
+use Rattle.rbac_policy.proofs.OfNames.ObjectTexts.{object_of-exact}
 use Rattle.rbac_policy.proofs.objects.Object.from_text.Goals as goal
 
 pub returns-clause-exact : goal.returns-clause-exact

@@ -1,4 +1,4 @@
-use Rattle.rbac_policy.proofs.ObjectTexts.{operation_of-exact}
+use Rattle.rbac_policy.proofs.OfNames.ObjectTexts.{operation_of-exact}
 use Rattle.rbac_policy.proofs.objects.Operation.from_text.Goals as goal
 
 pub returns-clause-exact : goal.returns-clause-exact

@@ -2,8 +2,8 @@ use Rattle.std.proofs.Common.{◌∙◌, ap, sym}
 use Rattle.std.specs.Prelude.{is_some}
 use Rattle.rbac_policy.specs.declared.sizes.TheConstants.{GRANTS}
 use Rattle.rbac_policy.specs.Facts.{IsPairGranted}
-use Rattle.rbac_policy.proofs.Room.{keeps_grants, pair_of}
-use Rattle.rbac_policy.proofs.Reading.{full_test}
+use Rattle.rbac_policy.proofs.OfSlots.Room.{keeps_grants, pair_of}
+use Rattle.rbac_policy.proofs.OfReaders.Reading.{full_test}
 use Rattle.rbac_policy.proofs.policy.Policy.are_permissions_full.Goals as goal
 
 pub returns : goal.returns

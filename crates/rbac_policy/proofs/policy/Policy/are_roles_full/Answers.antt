@@ -3,8 +3,8 @@ use Rattle.std.specs.Prelude.{is_some}
 use Rattle.rbac_policy.specs.Names.{NameText}
 use Rattle.rbac_policy.specs.declared.sizes.TheConstants.{ROLES}
 use Rattle.rbac_policy.specs.Facts.{IsRole}
-use Rattle.rbac_policy.proofs.Room.{keeps_roles}
-use Rattle.rbac_policy.proofs.Reading.{full_test}
+use Rattle.rbac_policy.proofs.OfSlots.Room.{keeps_roles}
+use Rattle.rbac_policy.proofs.OfReaders.Reading.{full_test}
 use Rattle.rbac_policy.proofs.policy.Policy.are_roles_full.Goals as goal
 
 pub returns : goal.returns

@@ -3,8 +3,8 @@ use Rattle.std.specs.Prelude.{is_some}
 use Rattle.rbac_policy.specs.declared.rows.Session.{Session}
 use Rattle.rbac_policy.specs.declared.sizes.TheConstants.{SESSIONS}
 use Rattle.rbac_policy.specs.Facts.{IsLive}
-use Rattle.rbac_policy.proofs.Room.{keeps_sessions}
-use Rattle.rbac_policy.proofs.Reading.{full_test}
+use Rattle.rbac_policy.proofs.OfSlots.Room.{keeps_sessions}
+use Rattle.rbac_policy.proofs.OfReaders.Reading.{full_test}
 use Rattle.rbac_policy.proofs.policy.Policy.are_sessions_full.Goals as goal
 
 pub returns : goal.returns

@@ -3,8 +3,8 @@ use Rattle.std.specs.Prelude.{is_some}
 use Rattle.rbac_policy.specs.declared.rows.DsdSet.{DsdSet}
 use Rattle.rbac_policy.specs.declared.sizes.TheConstants.{SETS}
 use Rattle.rbac_policy.specs.Facts.{IsSetName}
-use Rattle.rbac_policy.proofs.Room.{keeps_sets}
-use Rattle.rbac_policy.proofs.Reading.{full_test}
+use Rattle.rbac_policy.proofs.OfSlots.Room.{keeps_sets}
+use Rattle.rbac_policy.proofs.OfReaders.Reading.{full_test}
 use Rattle.rbac_policy.proofs.policy.Policy.are_sets_full.Goals as goal
 
 pub returns : goal.returns

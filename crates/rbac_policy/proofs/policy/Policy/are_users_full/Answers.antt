@@ -3,8 +3,8 @@ use Rattle.std.specs.Prelude.{is_some}
 use Rattle.rbac_policy.specs.declared.rows.User.{User}
 use Rattle.rbac_policy.specs.declared.sizes.TheConstants.{USERS}
 use Rattle.rbac_policy.specs.Facts.{IsUser}
-use Rattle.rbac_policy.proofs.Room.{keeps_users}
-use Rattle.rbac_policy.proofs.Reading.{full_test}
+use Rattle.rbac_policy.proofs.OfSlots.Room.{keeps_users}
+use Rattle.rbac_policy.proofs.OfReaders.Reading.{full_test}
 use Rattle.rbac_policy.proofs.policy.Policy.are_users_full.Goals as goal
 
 pub returns : goal.returns

@@ -1,5 +1,5 @@
 use Rattle.std.proofs.Common.{sym, ◌∙◌}
-use Rattle.rbac_policy.proofs.ReadingSets.{first_row, no_row, no_row_of}
+use Rattle.rbac_policy.proofs.OfReaders.ReadingSets.{first_row, no_row, no_row_of}
 use Rattle.rbac_policy.proofs.policy.Policy.first_set_of.Goals as goal
 
 pub returns-in-Some-first_set_with : goal.returns-in-Some-first_set_with

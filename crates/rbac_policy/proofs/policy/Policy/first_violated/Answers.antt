@@ -1,4 +1,4 @@
-use Rattle.rbac_policy.proofs.Separated.{found_violation}
+use Rattle.rbac_policy.proofs.OfSeparation.Separated.{found_violation}
 use Rattle.rbac_policy.proofs.policy.Policy.first_violated.Goals as goal
 
 pub returns : goal.returns

@@ -1,6 +1,6 @@
 use Rattle.std.proofs.Common.{◌∙◌, sym}
 use Rattle.rbac_policy.proofs.Asking.{no_role}
-use Rattle.rbac_policy.proofs.Prospects.{after_edge}
+use Rattle.rbac_policy.proofs.OfSeparation.Prospects.{after_edge}
 use Rattle.rbac_policy.proofs.policy.Policy.first_violated_by_edge.Goals as goal
 
 pub returns-in-Some-place_of : goal.returns-in-Some-place_of

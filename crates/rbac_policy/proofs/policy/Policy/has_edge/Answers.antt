@@ -1,6 +1,6 @@
 use Rattle.std.proofs.Common.{rules, sym, ◌∙◌}
 use Rattle.rbac_policy.proofs.Asking.{no_role}
-use Rattle.rbac_policy.proofs.ReadingOrder.{edge_test, edge_junior}
+use Rattle.rbac_policy.proofs.OfReaders.ReadingOrder.{edge_test, edge_junior}
 use Rattle.rbac_policy.proofs.policy.Policy.has_edge.Goals as goal
 
 pub returns-in-Some-place_of : goal.returns-in-Some-place_of

@@ -1,6 +1,6 @@
 use Rattle.std.proofs.Common.{rules, sym, ◌∙◌}
 use Rattle.rbac_policy.proofs.Asking.{no_role}
-use Rattle.rbac_policy.proofs.ReadingRoles.{active_test, active_mask, mask_role, no_live}
+use Rattle.rbac_policy.proofs.OfReaders.ReadingRoles.{active_test, active_mask, mask_role, no_live}
 use Rattle.rbac_policy.proofs.policy.Policy.is_active.Goals as goal
 
 pub returns-in-Some-place_of : goal.returns-in-Some-place_of

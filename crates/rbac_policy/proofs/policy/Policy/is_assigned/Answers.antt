@@ -1,6 +1,6 @@
 use Rattle.std.proofs.Common.{rules, sym, ◌∙◌}
 use Rattle.rbac_policy.proofs.Asking.{no_role}
-use Rattle.rbac_policy.proofs.ReadingRoles.{assigned_test, assigned_role}
+use Rattle.rbac_policy.proofs.OfReaders.ReadingRoles.{assigned_test, assigned_role}
 use Rattle.rbac_policy.proofs.policy.Policy.is_assigned.Goals as goal
 
 pub returns-in-Some : goal.returns-in-Some

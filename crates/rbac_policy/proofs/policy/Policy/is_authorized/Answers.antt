@@ -1,7 +1,7 @@
 use Rattle.std.proofs.Common.{rules, ◌∙◌, sym, ap}
 use Rattle.rbac_policy.specs.Order.{below}
 use Rattle.rbac_policy.proofs.Asking.{no_role}
-use Rattle.rbac_policy.proofs.Reading.{authorized_test}
+use Rattle.rbac_policy.proofs.OfReaders.Reading.{authorized_test}
 use Rattle.rbac_policy.proofs.policy.Policy.is_authorized.Goals as goal
 
 pub returns-in-Some : goal.returns-in-Some

@@ -1,6 +1,6 @@
 use Rattle.std.proofs.Common.{rules, ◌∙◌, sym, refl}
 use Rattle.rbac_policy.proofs.Asking.{granted_slot, no_role, not_granted_pair}
-use Rattle.rbac_policy.proofs.Reading.{granted_test}
+use Rattle.rbac_policy.proofs.OfReaders.Reading.{granted_test}
 use Rattle.rbac_policy.proofs.policy.Policy.is_granted.Goals as goal
 
 pub returns-in-Some-place_of : goal.returns-in-Some-place_of

@@ -1,6 +1,6 @@
 use Rattle.std.proofs.Common.{◌∙◌, ap}
 use Rattle.std.specs.Prelude.{is_some}
-use Rattle.rbac_policy.proofs.Reading.{pair_test}
+use Rattle.rbac_policy.proofs.OfReaders.Reading.{pair_test}
 use Rattle.rbac_policy.proofs.policy.Policy.is_pair_granted.Goals as goal
 
 pub returns : goal.returns

@@ -1,4 +1,4 @@
-use Rattle.rbac_policy.proofs.ReadingSets.{set_test}
+use Rattle.rbac_policy.proofs.OfReaders.ReadingSets.{set_test}
 use Rattle.rbac_policy.proofs.policy.Policy.is_set.Goals as goal
 
 pub returns : goal.returns

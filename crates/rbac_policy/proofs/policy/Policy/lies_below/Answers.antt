@@ -3,8 +3,8 @@ use Rattle.std.proofs.lemmas.Slice.Eq.{bytes_eq-Decides}
 use Rattle.rbac_policy.specs.Facts.{IsEdge}
 use Rattle.rbac_closure.specs.Edges.{Chain, stay}
 use Rattle.rbac_policy.proofs.Asking.{no_role}
-use Rattle.rbac_policy.proofs.ReadingRoles.{role_is_there}
-use Rattle.rbac_policy.proofs.ReadingOrder.{below_test, below_role, below_none}
+use Rattle.rbac_policy.proofs.OfReaders.ReadingRoles.{role_is_there}
+use Rattle.rbac_policy.proofs.OfReaders.ReadingOrder.{below_test, below_role, below_none}
 use Rattle.rbac_policy.proofs.policy.Policy.lies_below.Goals as goal
 
 pub returns-in-Some-place_of : goal.returns-in-Some-place_of

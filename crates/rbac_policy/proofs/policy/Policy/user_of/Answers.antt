@@ -1,5 +1,5 @@
 use Rattle.std.proofs.Common.{sym, ◌∙◌}
-use Rattle.rbac_policy.proofs.ReadingRoles.{live_user, no_live}
+use Rattle.rbac_policy.proofs.OfReaders.ReadingRoles.{live_user, no_live}
 use Rattle.rbac_policy.proofs.policy.Policy.user_of.Goals as goal
 
 pub returns-in-Some : goal.returns-in-Some

@@ -1,0 +1,4 @@
+pub mod Ascii
+pub mod Filled
+pub mod Equality
+pub mod ObjectTexts

@@ -1,0 +1,4 @@
+pub mod Reading
+pub mod ReadingOrder
+pub mod ReadingRoles
+pub mod ReadingSets

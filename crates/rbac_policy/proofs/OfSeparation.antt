@@ -1,0 +1,7 @@
+pub mod Separating
+pub mod Separated
+pub mod Counted
+pub mod Violating
+pub mod Prospects
+pub mod LoggingIn
+pub mod TakingUp

@@ -1,0 +1,4 @@
+pub mod Slots
+pub mod Mapping
+pub mod Room
+pub mod Least
