@@ -40,17 +40,19 @@ use Rattle.rbac_policy.proofs.Untouched.{untouched_sets, logins_push, logins_oth
 use Rattle.rbac_policy.proofs.OfSlots.Slots.{free}
 use Rattle.rbac_policy.proofs.OfNames.Equality.{operations}
 use Rattle.rbac_policy.specs.Inner.ObjectLaws.{objects, both}
-use Rattle.rbac_policy.proofs.OfSlots.Room.{room, keeps_users, keeps_roles, keeps_grants, keeps_sessions, keeps_sets, pair_of}
+use Rattle.rbac_policy.proofs.OfSlots.Room.{room, keeps_users, keeps_roles, keeps_grants, keeps_sessions, keeps_sets}
+use Rattle.rbac_policy.proofs.OfSlots.Room.{pair_of}
 use Rattle.rbac_policy.proofs.OfRoles.Listed.{Placed, placed}
 use Rattle.rbac_policy.proofs.OfUsers.Adding.{adding}
 use Rattle.rbac_policy.proofs.OfUsers.Assigning.{assigning}
-use Rattle.rbac_policy.proofs.OfRoles.Naming.{added_mask, added_named, added_role, unique_added, renamed_users, renamed_grants}
-use Rattle.rbac_policy.proofs.OfRoles.Naming.{renamed_sessions}
+use Rattle.rbac_policy.proofs.OfRoles.Naming.{added_mask, added_named, added_role, unique_added, renamed_users}
+use Rattle.rbac_policy.proofs.OfRoles.Naming.{renamed_grants, renamed_sessions}
 use Rattle.rbac_policy.proofs.OfGrants.Granting.{granting}
 use Rattle.rbac_policy.proofs.OfGrants.Revoking.{revoking}
 use Rattle.rbac_policy.proofs.OfUsers.Deassigning.{deassigning, removing, ended_unswept}
 use Rattle.rbac_policy.proofs.OfRoles.Inheriting.{inheriting, disinheriting}
-use Rattle.rbac_policy.proofs.OfRoles.Deleting.{before_deletion, users_deleted, roles_deleted, grants_deleted, sets_deleted}
+use Rattle.rbac_policy.proofs.OfRoles.Deleting.{before_deletion, users_deleted, roles_deleted, grants_deleted}
+use Rattle.rbac_policy.proofs.OfRoles.Deleting.{sets_deleted}
 use Rattle.rbac_policy.proofs.OfSeparation.Separating.{renamed_sets, created, removed}
 use Rattle.rbac_policy.proofs.OfSessions.Activating.{take_unswept, drop_unswept}
 use Rattle.rbac_policy.proofs.OfSessions.Sessions.{login_unswept, logout_unswept}

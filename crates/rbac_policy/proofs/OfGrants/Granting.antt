@@ -25,8 +25,8 @@ use Rattle.rbac_policy.proofs.Untouched.{through}
 use Rattle.rbac_policy.proofs.OfSlots.Slots.{get_set_same, get_set_other}
 use Rattle.rbac_policy.proofs.OfNames.Equality.{operations}
 use Rattle.rbac_policy.specs.Inner.ObjectLaws.{objects, both}
-use Rattle.rbac_policy.proofs.OfSlots.Slots.{mapped, map_at, written, Free, free, in_with_bit, named_with_bit, none_in_zero}
-use Rattle.rbac_policy.proofs.OfSlots.Slots.{zero_named}
+use Rattle.rbac_policy.proofs.OfSlots.Slots.{mapped, map_at, written, Free, free, in_with_bit, named_with_bit}
+use Rattle.rbac_policy.proofs.OfSlots.Slots.{none_in_zero, zero_named}
 
 pub flip : {A B : Type 0} → A ↔ B → B ↔ A
 flip f = (f.1, f.0)

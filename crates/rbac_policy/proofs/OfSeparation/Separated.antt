@@ -13,7 +13,8 @@ use Rattle.rbac_policy.specs.Violations.{first_violation}
 use Rattle.rbac_policy.specs.Tables.{At}
 use Rattle.rbac_policy.specs.StandsFor.{RolesStand, StandsFor}
 use Rattle.rbac_policy.proofs.Steps.{get_push, get_front}
-use Rattle.rbac_policy.proofs.OfSeparation.Violating.{SessionRows, SessionParts, SetRows, parts_of, none_violated, first_violated}
+use Rattle.rbac_policy.proofs.OfSeparation.Violating.{SessionRows, SessionParts, SetRows, parts_of, none_violated}
+use Rattle.rbac_policy.proofs.OfSeparation.Violating.{first_violated}
 
 -- a filled slot of those before, with one more slot
 pub front_slot : {X : Type 0} (slots : List (Option X)) (more : Option X) (at : ℕ) (x : X) → At slots at x
