@@ -12,7 +12,6 @@ use crate::login::{Login, held_session, log_in};
 use access_core::command::SlotCommand;
 use access_core::refusal::Refusal;
 use access_core::reply::Reply;
-use wire_reader::lines::LINE_BYTES;
 use rbac_admin::refusals::Refusal as PolicyRefusal;
 use rbac_policy::commands::{AdminCommand, SessionId};
 use rbac_policy::names::{Name, RoleNames};
@@ -20,6 +19,7 @@ use rbac_policy::objects::{Object, Operation};
 use std::alloc::Global;
 use wire_lines::reading::RequestReader;
 use wire_lines::request::Request;
+use wire_reader::lines::LINE_BYTES;
 
 /// What a line is answered, and the login that the connection holds afterwards.
 pub(crate) struct Turn {

@@ -6,10 +6,10 @@ use crate::answer::{Turn, respond};
 use crate::desk::Desk;
 use crate::gate::Gate;
 use crate::login::{Login, hold};
-use wire_reader::serving::{Answerer, Text};
 use std::alloc::{AllocError, Global};
 use wire_lines::reading::RequestReader;
 use wire_lines::reply::reply_text;
+use wire_reader::serving::{Answerer, Text};
 
 /// The server's side of one connection: its login, if it holds one, what reads its lines, and the
 /// worker that answers them through a gate.

@@ -10,10 +10,10 @@ use crate::gate::Gate;
 use crate::login::Login;
 use crate::serving::{End, serve_gated};
 use crate::source::{Connection, Served};
-use wire_reader::meter::{MeteredMemory, MeteredReader, MeteredWriter};
 use std::alloc::Global;
 use std::io::{Read, Write};
 use std::sync::Wait;
+use wire_reader::meter::{MeteredMemory, MeteredReader, MeteredWriter};
 
 /// Logs out the login that a connection left, if it left one. It asks again for as long as memory
 /// is refused.

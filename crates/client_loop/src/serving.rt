@@ -10,11 +10,11 @@ use crate::client::Client;
 use crate::desk::Desk;
 use crate::gate::{Gate, OpenGate};
 use crate::login::Login;
+use std::io::{Read, Write};
+use wire_lines::reading::RequestReader;
 use wire_reader::meter::{MeteredMemory, MeteredReader, MeteredWriter};
 use wire_reader::serving;
 use wire_reader::serving::Why;
-use std::io::{Read, Write};
-use wire_lines::reading::RequestReader;
 
 /// The answer to an over-long line.
 const TOO_LONG: &str = "{\"code\":1,\"fault\":\"TooLong\"}\n";

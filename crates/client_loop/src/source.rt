@@ -3,9 +3,9 @@ ghost use Rattle.std.specs.Prelude.{ℕ, IfSome};
 ghost use Rattle.client_loop.specs.declared.source.Connection.{Connection};
 ghost use Rattle.client_loop.specs.declared.source.Served.{Served};
 
+use std::io::{Read, Write};
 use wire_reader::meter::{MeteredMemory, MeteredReader, MeteredWriter};
 use wire_reader::serving::Why;
-use std::io::{Read, Write};
 
 /// A connection: what its client writes is read here, and what is written here its client reads.
 #[derive(Drop)]

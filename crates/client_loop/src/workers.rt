@@ -16,12 +16,12 @@ use policy_board::history::BoardName;
 use policy_board::reader::SlotReader;
 use policy_board::seat::Seat;
 use policy_board::sharing::boards_are_shared;
+use server_threads::workers::{Back, Turn, Work, run_each};
 use slot_table::table::SlotTable;
 use std::alloc::{AllocError, Global};
 use std::marker::PhantomData;
 use std::sync::Wait;
 use std::thread::Threads;
-use server_threads::workers::{Back, Turn, Work, run_each};
 
 /// Lends workers a value of type T. By itself the prover doesn't find that threads may share a
 /// board, or a table of sixteen slots. So `Service` and `run_over` are generic over what lends it,

@@ -119,7 +119,7 @@ sent_whole em q rs s h =
           let keeps : renamed rs d.name ≡ d.name = keeps_name rs d.name
           (subst (λ n. is_renamed rs n ≡ false) (sym is_s) (not_false (is_renamed rs s) parts.0)) in
           any_passes_from_place (λ (e : Declared). em q.name e.name && bytes_eq (renamed rs e.name) s) q.interface f.0 d
-              f.2
+          f.2
           (and_from (em q.name d.name) (bytes_eq (renamed rs d.name) s) at.0
           (subst (λ n. bytes_eq n s ≡ true) (sym keeps) at.1))
       | inr other ↦
@@ -134,7 +134,7 @@ sent_whole em q rs s h =
           let d : Declared = f.1 in
           let same : r.inner ≡ d.name = sym (same_bytes d.name r.inner f.3) in
           any_passes_from_place (λ (e : Declared). em q.name e.name && bytes_eq (renamed rs e.name) s) q.interface f.0 d
-              f.2
+          f.2
           (and_from (em q.name d.name) (bytes_eq (renamed rs d.name) s) (subst (λ n. em q.name n ≡ true) same sends.1)
           (subst (λ n. bytes_eq (renamed rs n) s ≡ true) same parts.1))
     ]

@@ -62,9 +62,7 @@ impl Depths {
 
 /// How deep loops, traps and local signals are nested. Recursion is as deep as the statement, which
 /// has at most 2,048 nodes.
-#[tactic(auto,
-    using(crate::proofs::Counts::loops_are_statements, crate::proofs::Counts::traps_are_statements,
-    crate::proofs::Counts::locals_are_statements))]
+#[tactic(auto, using(crate::proofs::Counts::loops_are_statements, crate::proofs::Counts::traps_are_statements, crate::proofs::Counts::locals_are_statements))]
 fn nesting_of(s: &Statement) -> Depths
     requires { statement_count (term_of s.now) ≤ MOST_STATEMENTS }
     ensures loops { result.loops ≡ loop_depth (term_of s.now) }

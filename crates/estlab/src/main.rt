@@ -5,9 +5,9 @@
 #![tactic(auto)]
 
 use lab_run::run::run;
-use wire_reader::meter::{MeteredMemory, MeteredReader, MeteredWriter};
 use std::process::ExitCode;
 use std::{env, io};
+use wire_reader::meter::{MeteredMemory, MeteredReader, MeteredWriter};
 
 /// The words of the command line, the program's own name first.
 fn words_of(rt: &HostRuntime) -> io::Result<Vec<String>> {

@@ -5,11 +5,11 @@
 //! program is the contract of `run`. That `main` calls it with these is not proved: read it.
 #![tactic(auto)]
 
-use wire_reader::meter::{MeteredMemory, MeteredReader, MeteredWriter};
 use program_run::fault::{Fault, taking_fault, tell};
 use program_run::run::run;
 use std::env;
 use std::process::ExitCode;
+use wire_reader::meter::{MeteredMemory, MeteredReader, MeteredWriter};
 
 /// The words of the command line, the program's own name first.
 fn words_of(rt: &HostRuntime) -> Result<Vec<String>, Fault> {

@@ -8,12 +8,12 @@ ghost use Rattle.history_receipts.specs.declared.receipt_list.TheConstants.{SEAT
 
 use crate::merge::{Taken, next, take};
 use crate::order::first_break;
-use rbac_policy::commands::Entry;
-use rbac_policy::objects::SLOTS;
-use reactor_core::journal::Journal;
 use history_receipts::mismatch::{Mismatch, POLICY_LIST};
 use history_receipts::receipt::Kept;
 use history_receipts::receipt_list::Receipts;
+use rbac_policy::commands::Entry;
+use rbac_policy::objects::SLOTS;
+use reactor_core::journal::Journal;
 
 /// The mismatch of a receipt that this seat keeps.
 fn name_mismatch(seat: usize, kept: &Kept) -> Mismatch

@@ -12,12 +12,12 @@ ghost use Rattle.history_merge.specs.Order.{rank_of};
 
 use crate::order::{Rank, is_over, precedes, rank_of};
 use crate::places::is_there;
+use history_receipts::receipt::{Kept, SlotReceipt};
+use history_receipts::receipt_list::{Receipts, SEATS};
 use rbac_policy::commands::Entry;
 use rbac_policy::objects::SLOTS;
 use rbac_policy::sizes::OPENING_ENTRIES;
 use reactor_core::journal::Journal;
-use history_receipts::receipt::{Kept, SlotReceipt};
-use history_receipts::receipt_list::{Receipts, SEATS};
 
 /// Which receipts were taken so far.
 #[derive(Clone, Copy)]

@@ -9,12 +9,12 @@ ghost use Rattle.history_merge.specs.OneList.{asked_of, Tells};
 ghost use Rattle.history_merge.specs.Mismatches.{IsThere};
 
 use crate::same::is_same_entry;
+use history_receipts::receipt::{Asked, Kept, SlotReceipt};
 use rbac_policy::commands::Entry;
 use rbac_policy::objects::SLOTS;
 use rbac_policy::sizes::OPENING_ENTRIES;
 use reactor_core::entry::{Action, SlotEntry};
 use reactor_core::journal::Journal;
-use history_receipts::receipt::{Asked, Kept, SlotReceipt};
 
 /// Whether what the receipt says was asked for is what this action does.
 fn asks(asked: &Asked, action: &Action) -> bool

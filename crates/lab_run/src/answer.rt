@@ -10,12 +10,12 @@ use crate::lab::{Lab, Told};
 use access_core::refusal::Refusal;
 use access_core::reply::Reply;
 use lab_lines::reading::request_of;
-use wire_reader::serving::{Answerer, Text};
 use serde_json::Value;
 use serde_json::error::Category;
 use std::alloc::{AllocError, Global};
 use std::borrow::CowSlice;
 use wire_lines::reply::reply_text;
+use wire_reader::serving::{Answerer, Text};
 
 /// The JSON value of a line, or NotJson or Memory.
 fn value_of(alloc: Global, line: &[u8]) -> Result<Value, Refusal>

@@ -16,15 +16,15 @@ use access_core::refusal::Refusal;
 use est_kernel::interface::Interface;
 use est_relations::refusal::Refusal as OfferFault;
 use lab_lines::offers::among;
-use wire_reader::meter::{MeteredMemory, MeteredReader, MeteredWriter};
-use wire_reader::replies::{Replies, WriteFault};
-use wire_reader::serving::{Why, answer_connection};
 use reactor_core::loaded::Module;
 use reactor_core::reading::read_module;
 use std::alloc::{AllocError, Global};
 use std::fs;
 use std::fs::Files;
 use std::io::{Read, Write};
+use wire_reader::meter::{MeteredMemory, MeteredReader, MeteredWriter};
+use wire_reader::replies::{Replies, WriteFault};
+use wire_reader::serving::{Why, answer_connection};
 
 /// The status after the end of the lines.
 fn status_of_end(why: Why) -> u8

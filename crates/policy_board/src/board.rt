@@ -14,11 +14,11 @@ use crate::locked_policy::LockedPolicy;
 use crate::reader::SlotReader;
 use crate::refusal::Refusal;
 use crate::seat::{Receipt, Seat};
+use history_receipts::mismatch::Mismatch;
+use history_receipts::receipt::{Kept, SlotReceipt};
 use rbac_policy::commands::{AdminCommand, SessionId};
 use rbac_policy::journal::PolicyJournal;
 use rbac_policy::objects::{Object, Operation};
-use history_receipts::mismatch::Mismatch;
-use history_receipts::receipt::{Kept, SlotReceipt};
 use std::snapshot::Snapshot;
 use std::sync::{Mutex, MutexGuard, Wait};
 

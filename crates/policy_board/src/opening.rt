@@ -16,10 +16,10 @@ use crate::reader::SlotReader;
 use crate::refusal::Refusal;
 use crate::seat::Seat;
 use crate::shown::{PolicyWriter, Shown};
+use history_receipts::receipt_list::SEATS;
 use rbac_policy::journal::PolicyJournal;
 use rbac_policy::objects::SLOTS;
 use rbac_policy::policy::Policy;
-use history_receipts::receipt_list::SEATS;
 use std::alloc::{AllocError, Global};
 use std::sync::Wait;
 

@@ -13,10 +13,10 @@ ghost use Rattle.policy_board.specs.declared.refusal.Refusal.TheVariants.{Memory
 use crate::history::{BoardName, Front};
 use crate::reader::{Reading, SlotReader};
 use crate::refusal::Refusal;
-use rbac_policy::commands::{Entry, SessionId};
-use rbac_policy::objects::{Object, Operation};
 use history_receipts::receipt::Kept;
 use history_receipts::receipt_list::Receipts;
+use rbac_policy::commands::{Entry, SessionId};
+use rbac_policy::objects::{Object, Operation};
 use std::alloc::Global;
 use std::marker::Model;
 

@@ -5,10 +5,10 @@ ghost use Rattle.program_run.specs.Faults.{status_of, fault_of_taking, IsOfWords
 ghost use Rattle.program_run.specs.Faults.{IsOutcome};
 
 use program_words::fault::WordFault;
-use wire_reader::serving::Why;
 use std::io;
 use std::io::{ErrorKind, Write};
 use thiserror::Error;
+use wire_reader::serving::Why;
 
 /// A fault of the program. Its text goes to standard error.
 #[derive(Debug, Drop, Error)]

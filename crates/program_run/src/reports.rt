@@ -6,13 +6,13 @@ ghost use Rattle.program_run.specs.Reports.{Reports};
 
 use crate::fault::Fault;
 use audit_report::reports::report;
-use wire_reader::meter::{MeteredMemory, MeteredWriter};
-use wire_reader::replies::Replies;
 use rbac_policy::journal::PolicyJournal;
 use rbac_policy::objects::SLOTS;
 use reactor_core::journal::Journal;
 use std::alloc::Global;
 use std::io::Write;
+use wire_reader::meter::{MeteredMemory, MeteredWriter};
+use wire_reader::replies::Replies;
 
 /// Writes the report on these journals.
 ///

@@ -12,17 +12,17 @@ use crate::server::serve as serve_socket;
 use access_core::single::Single;
 use client_loop::connections::log_out_left;
 use client_loop::serving::{End, serve};
-use program_words::order::Order;
-use wire_reader::meter::{MeteredMemory, MeteredReader, MeteredWriter};
-use wire_reader::serving::Why;
 use log::sink::Writer;
 use log::{Level, Logged, info};
+use program_words::order::Order;
 use std::alloc::Global;
 use std::fs::Files;
 use std::io::{Read, Write};
 use std::net::Net;
 use std::sync::Wait;
 use std::thread::Threads;
+use wire_reader::meter::{MeteredMemory, MeteredReader, MeteredWriter};
+use wire_reader::serving::Why;
 
 /// Writes a line on how the connection ended.
 fn log_end<E: Write>(errors: &mut E, why: Why) {

@@ -11,12 +11,11 @@ use crate::reports::write_report;
 use crate::socket::{ClosableSource, Socket, SocketSource};
 use client_loop::gate::OpenGate;
 use client_loop::workers::run_workers;
-use program_words::order::{Service, WorkerCount};
-use wire_reader::meter::MeteredWriter;
 use policy_board::board::Board;
 use policy_board::history::{BoardName, Fresh};
 use policy_board::opening::Opened;
 use policy_board::seat::Seat;
+use program_words::order::{Service, WorkerCount};
 use slot_table::table::SlotTable;
 use std::alloc::Global;
 use std::fs::Files;
@@ -25,6 +24,7 @@ use std::marker::Brand;
 use std::net::Net;
 use std::sync::Wait;
 use std::thread::Threads;
+use wire_reader::meter::MeteredWriter;
 
 /// Closes the server, whose workers have ended and given these seats back, and writes the report on
 /// its journals.

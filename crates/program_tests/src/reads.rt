@@ -2,11 +2,11 @@
 use access_core::single::Single;
 use client_loop::connections::log_out_left;
 use client_loop::serving::{End, serve};
-use wire_reader::meter::{MeteredMemory, MeteredReader, MeteredWriter, READS};
-use wire_reader::serving::Why;
 use std::io;
 use std::io::{Read, Write};
 use std::test::Fail;
+use wire_reader::meter::{MeteredMemory, MeteredReader, MeteredWriter, READS};
+use wire_reader::serving::Why;
 
 /// Gives `x` and LF in turn, one byte a read.
 #[derive(Drop)]

@@ -1,5 +1,4 @@
 //! The opening script over a socket, sent from within the process that serves it.
-use wire_reader::meter::{MeteredMemory, MeteredReader, MeteredWriter};
 use program_run::run::run;
 use std::alloc::{AllocError, Global};
 use std::fs::Files;
@@ -12,6 +11,7 @@ use std::test::Fail;
 use std::thread::{Threads, join};
 use std::time::{Clock, Duration};
 use std::{io, thread};
+use wire_reader::meter::{MeteredMemory, MeteredReader, MeteredWriter};
 
 /// Where the socket is: each test runs in a new folder.
 const PATH: &str = "rows.socket";

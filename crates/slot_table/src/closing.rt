@@ -11,14 +11,14 @@ ghost use Rattle.slot_table.specs.Inner.Ending.{Ends};
 
 use crate::slot::LockedSlot;
 use history_merge::compare::compare;
+use history_receipts::mismatch::Mismatch;
+use history_receipts::receipt_list::{Receipts, SEATS};
 use policy_board::board::{Board, Closed};
 use policy_board::history::BoardName;
 use policy_board::seat::Seat;
 use rbac_policy::journal::PolicyJournal;
 use rbac_policy::objects::SLOTS;
 use reactor_core::journal::Journal;
-use history_receipts::mismatch::Mismatch;
-use history_receipts::receipt_list::{Receipts, SEATS};
 use std::alloc::Global;
 use std::array;
 use std::marker::Model;

@@ -5,11 +5,11 @@ ghost use Rattle.slot_table.specs.Receipts.{place_told, Keeps};
 
 use access_core::command::SlotCommand;
 use access_core::reply::Reply;
+use history_receipts::receipt::{Asked, SlotReceipt};
 use policy_board::board::Board;
 use policy_board::history::BoardName;
 use policy_board::seat::Seat;
 use rbac_policy::commands::SessionId;
-use history_receipts::receipt::{Asked, SlotReceipt};
 use std::sync::Wait;
 
 /// What a receipt keeps of this command; None of a command that adds no entry.

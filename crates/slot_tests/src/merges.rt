@@ -2,14 +2,14 @@
 use crate::audit::journals::{journals_of, stamped, stepped};
 use est_text::identifier::Identifier;
 use history_merge::compare::compare;
+use history_receipts::mismatch::{Mismatch, POLICY_LIST};
+use history_receipts::receipt::{Asked, Kept, SlotReceipt};
+use history_receipts::receipt_list::Receipts;
 use rbac_policy::commands::{AdminCommand, Entry, SessionId};
 use rbac_policy::names::Name;
 use rbac_policy::opening::opening_entries;
 use reactor_core::entry::Action;
 use reactor_core::journal::Journal;
-use history_receipts::mismatch::{Mismatch, POLICY_LIST};
-use history_receipts::receipt::{Asked, Kept, SlotReceipt};
-use history_receipts::receipt_list::Receipts;
 use std::alloc::Global;
 use std::process::Abort;
 

@@ -168,9 +168,7 @@ fn check(reader: &mut Reader<'_>) -> Option<Request>
 
 /// Tries the words on assignments, grants and edges: the relations of the policy, which are not
 /// those of a module. Any other word is no command.
-#[tactic(auto,
-    unfolding(crate::specs::Inner::Commands::request_of,
-    crate::specs::Inner::Commands::relation_rows))]
+#[tactic(auto, unfolding(crate::specs::Inner::Commands::request_of, crate::specs::Inner::Commands::relation_rows))]
 fn relation(reader: &mut Reader<'_>, word: &str) -> Option<AdminCommand>
     ensures { option_map Policy result ≡ request_in relation_rows word.now reader.old }
 {
@@ -212,9 +210,7 @@ fn relation(reader: &mut Reader<'_>, word: &str) -> Option<AdminCommand>
 }
 
 /// Tries the words that add or delete a user or a role, then those of `relation`.
-#[tactic(auto,
-    unfolding(crate::specs::Inner::Commands::request_of,
-    crate::specs::Inner::Commands::user_or_role_rows))]
+#[tactic(auto, unfolding(crate::specs::Inner::Commands::request_of, crate::specs::Inner::Commands::user_or_role_rows))]
 fn user_or_role(reader: &mut Reader<'_>, word: &str) -> Option<AdminCommand>
     ensures { option_map Policy result ≡ request_in user_or_role_rows word.now reader.old }
 {
@@ -240,9 +236,7 @@ fn user_or_role(reader: &mut Reader<'_>, word: &str) -> Option<AdminCommand>
 }
 
 /// Tries `logout`, `activate`, `drop` and `undsd`; then the words of `user_or_role`.
-#[tactic(auto,
-    unfolding(crate::specs::Inner::Commands::request_of,
-    crate::specs::Inner::Commands::plain_rows))]
+#[tactic(auto, unfolding(crate::specs::Inner::Commands::request_of, crate::specs::Inner::Commands::plain_rows))]
 fn plain(reader: &mut Reader<'_>, word: &str) -> Option<AdminCommand>
     ensures { option_map Policy result ≡ request_in plain_rows word.now reader.old }
 {

@@ -170,7 +170,7 @@ pub from_nothing : {A : Type 0} (tells : A → List ℕ → List ℕ → A → T
     → Serves tells fails refusal (record { ahead = ahead; desk = start }) y desk a b [] left
 from_nothing {A} tells fails refusal held ahead start y desk a b w left e f s =
     let same : prepend_known held ahead ≡ ahead = ap (λ (h : List ℕ). prepend_known h ahead) e
-        ∙ prepend_known-nil ahead in
+    ∙ prepend_known-nil ahead in
     subst (λ (x : Option (List ℕ)). Serves tells fails refusal (record { ahead = x; desk = start }) y desk a b [] left)
     same
     (subst (λ (x : List ℕ). Serves tells fails refusal

@@ -3,11 +3,11 @@ use crate::board::playing::{Example, play};
 use crate::board::sharing::{
     enter, first, give, grant, grant_once, login, may_audit, refusal, revoke,
 };
+use history_receipts::receipt::{Asked, Kept, SlotReceipt};
 use policy_board::board::Board;
 use policy_board::history::{BoardName, Fresh};
 use policy_board::seat::Seat;
 use rbac_policy::commands::AdminCommand;
-use history_receipts::receipt::{Asked, Kept, SlotReceipt};
 use std::alloc::Global;
 use std::marker::Brand;
 use std::process::Abort;

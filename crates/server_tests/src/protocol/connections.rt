@@ -3,8 +3,6 @@ use access_core::refusal::Refusal;
 use access_core::reply::Reply;
 use access_core::single::Single;
 use client_loop::serving::{End, serve};
-use wire_reader::meter::{MeteredMemory, MeteredReader, MeteredWriter};
-use wire_reader::serving::Why;
 use rbac_admin::refusals::Refusal as PolicyRefusal;
 use rbac_policy::commands::{AdminCommand, SessionId};
 use rbac_policy::objects::{Object, Operation};
@@ -14,6 +12,8 @@ use std::io::{ErrorKind, Read, Write};
 use std::process::Abort;
 use std::sync::Wait;
 use std::test::Fail;
+use wire_reader::meter::{MeteredMemory, MeteredReader, MeteredWriter};
+use wire_reader::serving::Why;
 
 /// More calls or bytes than any test needs.
 const AMPLE: usize = 1_000_000;

@@ -2,16 +2,16 @@
 ghost use Rattle.std.specs.Prelude.{⊤};
 
 use crate::protocol::devices::{AMPLE, Sink, TwoParts};
-use wire_reader::exchange::next_line;
-use wire_reader::lines::{LINE_BYTES, Line, LineFault, LineReader};
-use wire_reader::meter::{MeteredMemory, MeteredReader, MeteredWriter, READS};
-use wire_reader::replies::{Replies, WriteFault};
-use wire_reader::serving::{Answerer, Text, Why, answer_connection};
 use std::alloc::{AllocError, Global};
 use std::borrow::CowSlice;
 use std::io;
 use std::io::{ErrorKind, Read, Write};
 use std::test::Fail;
+use wire_reader::exchange::next_line;
+use wire_reader::lines::{LINE_BYTES, Line, LineFault, LineReader};
+use wire_reader::meter::{MeteredMemory, MeteredReader, MeteredWriter, READS};
+use wire_reader::replies::{Replies, WriteFault};
+use wire_reader::serving::{Answerer, Text, Why, answer_connection};
 
 /// Gives `x` and LF by turns, one byte at a time, without end.
 #[derive(Drop)]

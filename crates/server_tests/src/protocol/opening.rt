@@ -3,12 +3,12 @@ use crate::protocol::devices::{AMPLE, Sink, TwoParts};
 use access_core::single::Single;
 use client_loop::connections::log_out_left;
 use client_loop::serving::{End, serve};
-use wire_reader::meter::{MeteredMemory, MeteredReader, MeteredWriter};
-use wire_reader::serving::Why;
 use std::alloc::Global;
 use std::process::Abort;
 use std::sync::Wait;
 use std::test::Fail;
+use wire_reader::meter::{MeteredMemory, MeteredReader, MeteredWriter};
+use wire_reader::serving::Why;
 
 /// Root logs in, loads a module, steps it three times and looks at each instant.
 const SCRIPT: &str = "{\"cmd\":\"login\",\"roles\":[\"root\"],\"user\":\"root\"}

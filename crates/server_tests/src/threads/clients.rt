@@ -2,10 +2,10 @@
 ghost use Rattle.std.specs.Prelude.{⊤};
 
 use client_loop::source::{Connection, Served, Source};
-use wire_reader::serving::Why;
 use std::io;
 use std::io::{Read, Write};
 use std::sync::atomic::{AtomicBool, AtomicU64, Ordering};
+use wire_reader::serving::Why;
 
 /// A client: what it sends, whether a worker has its connection, whether that was served to the end
 /// of its lines, and how many answers it got.

@@ -14,6 +14,7 @@ use policy_board::seat::Seat;
 use policy_board::sharing::boards_are_shared;
 use rbac_policy::names::Name;
 use rbac_policy::objects::{Object, Operation, SLOTS, SlotNumber};
+use server_threads::workers::{Turn, Work, run_each};
 use slot_table::closing::Histories;
 use slot_table::table::SlotTable;
 use std::alloc::{AllocError, Global};
@@ -22,7 +23,6 @@ use std::process::Abort;
 use std::sync::Wait;
 use std::test::Fail;
 use std::thread::Threads;
-use server_threads::workers::{Turn, Work, run_each};
 
 /// How many threads there are: the first changes the policy, and each other gives slot commands.
 const THREADS: usize = 9;

@@ -1,11 +1,11 @@
 //! A board with its seats, and its slots.
 ghost use Rattle.std.specs.Prelude.{◌≡◌, ◌≤◌};
 
+use history_receipts::receipt_list::SEATS;
 use policy_board::board::Board;
 use policy_board::history::{BoardName, Fresh};
 use policy_board::opening::Opened;
 use policy_board::seat::Seat;
-use history_receipts::receipt_list::SEATS;
 use slot_table::table::SlotTable;
 use std::alloc::Global;
 use std::process::Abort;

@@ -9,8 +9,6 @@ use client_loop::connections::log_out_left;
 use client_loop::desk::Desk;
 use client_loop::serving::{End, serve};
 use client_loop::shared_desk::SharedDesk;
-use wire_reader::meter::{MeteredMemory, MeteredReader, MeteredWriter};
-use wire_reader::serving::Why;
 use policy_board::board::Board;
 use policy_board::history::{BoardName, Fresh};
 use policy_board::seat::Seat;
@@ -22,6 +20,8 @@ use std::marker::Brand;
 use std::process::Abort;
 use std::sync::Wait;
 use std::test::Fail;
+use wire_reader::meter::{MeteredMemory, MeteredReader, MeteredWriter};
+use wire_reader::serving::Why;
 
 /// The opening script, with checks and refusals between its lines.
 const SCRIPT: &str = "{\"cmd\":\"login\",\"roles\":[\"root\"],\"user\":\"root\"}

@@ -1,10 +1,10 @@
 //! Workers over a count that they share.
 ghost use Rattle.std.specs.Prelude.{◌≤◌};
 
+use server_threads::workers::{Turn, Work, run_each};
 use std::sync::Wait;
 use std::sync::atomic::{AtomicU64, Ordering};
 use std::test::Fail;
-use server_threads::workers::{Turn, Work, run_each};
 
 /// How many turns all workers of a test take together.
 const TURNS: u64 = 100;

@@ -1,8 +1,8 @@
 //! What is left when a server is closed.
 use crate::lines::{DISCARD, GRANT_LOAD, GRANT_STEP, LOGIN, STEP};
 use crate::table::server::{Line, entries, play};
-use policy_board::history::Fresh;
 use history_receipts::mismatch::Mismatch;
+use policy_board::history::Fresh;
 use slot_table::closing::Histories;
 use std::marker::Brand;
 use std::process::Abort;

@@ -3,14 +3,14 @@ ghost use Rattle.std.specs.Prelude.{◌≡◌, ◌≤◌};
 ghost use Rattle.history_receipts.specs.declared.receipt_list.TheConstants.{SEATS};
 
 use crate::lines::{asked, expect_told};
+use history_receipts::mismatch::Mismatch;
+use history_receipts::receipt::{Asked, Kept};
+use history_receipts::receipt_list::SEATS;
 use policy_board::board::Board;
 use policy_board::history::{BoardName, Fresh};
 use policy_board::opening::Opened;
 use policy_board::seat::Seat;
 use rbac_policy::commands::{AdminCommand, SessionId};
-use history_receipts::mismatch::Mismatch;
-use history_receipts::receipt::{Asked, Kept};
-use history_receipts::receipt_list::SEATS;
 use slot_table::closing::Histories;
 use slot_table::table::SlotTable;
 use std::alloc::Global;
