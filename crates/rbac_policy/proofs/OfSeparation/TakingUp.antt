@@ -21,7 +21,7 @@ use Rattle.rbac_policy.proofs.OfSessions.Lives.{lives_after, lives_before}
 use Rattle.rbac_policy.proofs.Asking.{role_at}
 use Rattle.rbac_policy.proofs.OfReaders.ReadingRoles.{LiveSlot, live_slot, one_user}
 use Rattle.rbac_policy.proofs.OfSlots.Mapping.{SessionBecomes}
-use Rattle.rbac_policy.proofs.Activating as activating
+use Rattle.rbac_policy.proofs.OfSessions.Activating as activating
 use Rattle.rbac_policy.proofs.Untouched.{untouched_roles, untouched_sets}
 use Rattle.rbac_policy.proofs.OfSeparation.Violating.{SessionParts}
 use Rattle.rbac_policy.proofs.OfSeparation.Separated.{front_slot, shown_in_parts}
