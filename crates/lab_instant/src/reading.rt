@@ -131,8 +131,8 @@ pub fn all_seen(
     requires { first + length (cells_of owners.now) ≤ length net.now.cells.items }
     ensures { IfOk result (AreAll (cells_of owners.now) (cell_at net.now.cells.items) first) }
 {
-    let mut began = Vec::new(alloc);
-    let mut went_on = Vec::new(alloc);
+    let mut began = Vec::with_capacity(alloc, owners.len())?;
+    let mut went_on = Vec::with_capacity(alloc, owners.len())?;
     let mut locals = Vec::new(alloc);
     let mut cell = first;
     for own in owners {

@@ -10,7 +10,6 @@ ghost use Rattle.lab_lines.specs.Inside.{statements_json, status_json};
 ghost use Rattle.lab_lines.specs.Parts.{members_in};
 ghost use Rattle.lab_lines.specs.Ties.{incarnation_json};
 
-use crate::line::Line;
 use crate::parts::{names, state};
 use crate::ties::{incarnation, incarnation_under, ties};
 use est_kernel::interface::Interface;
@@ -19,22 +18,23 @@ use est_meaning::status::Status;
 use lab_instant::seen::{Incarnation, Instant, Local, Seen};
 use lab_ties::tie::Tie;
 use std::alloc::{AllocError, Global};
+use wire_lines::line_writer::LineWriter;
 
 /// Writes whether it is present.
-fn status(line: &mut Line, status: Status) -> Result<(), AllocError>
+fn status(line: &mut LineWriter, status: Status) -> Result<(), AllocError>
     ensures { OnOk result (line.new
         ≡ line.old ++ value_tokens (codes "present") (status_json status)) }
 {
     line.key("present")?;
     match status {
-        Status::Present => line.boolean(true),
-        Status::Absent => line.boolean(false),
-        Status::Unknown => line.null(),
+        Status::Present => line.boolean_value(true),
+        Status::Absent => line.boolean_value(false),
+        Status::Unknown => line.null_value(),
     }
 }
 
 /// Writes what is said of a local signal.
-fn members(line: &mut Line, local: Local) -> Result<(), AllocError>
+fn members(line: &mut LineWriter, local: Local) -> Result<(), AllocError>
     ensures { OnOk result (line.new ≡ line.old ++ member_tokens (members_in (local_json local))) }
 {
     incarnation_under(line, "at", local.declared)?;
@@ -42,7 +42,7 @@ fn members(line: &mut Line, local: Local) -> Result<(), AllocError>
 }
 
 /// Writes a local signal.
-fn local(line: &mut Line, local: Local) -> Result<(), AllocError>
+fn local(line: &mut LineWriter, local: Local) -> Result<(), AllocError>
     ensures { OnOk result (line.new ≡ line.old ++ item_tokens local_json (local ∷ [])) }
 {
     line.begin_object()?;
@@ -51,7 +51,7 @@ fn local(line: &mut Line, local: Local) -> Result<(), AllocError>
 }
 
 /// Writes local signals as items of a list.
-fn each_local(line: &mut Line, seen: &[Local]) -> Result<(), AllocError>
+fn each_local(line: &mut LineWriter, seen: &[Local]) -> Result<(), AllocError>
     ensures { OnOk result (line.new ≡ line.old ++ item_tokens local_json seen.now) }
 {
     for each in seen {
@@ -61,7 +61,7 @@ fn each_local(line: &mut Line, seen: &[Local]) -> Result<(), AllocError>
 }
 
 /// Writes the list of local signals.
-fn locals(line: &mut Line, seen: &[Local]) -> Result<(), AllocError>
+fn locals(line: &mut LineWriter, seen: &[Local]) -> Result<(), AllocError>
     ensures { OnOk result (line.new
         ≡ line.old ++ value_tokens (codes "locals") (locals_json seen.now)) }
 {
@@ -72,7 +72,7 @@ fn locals(line: &mut Line, seen: &[Local]) -> Result<(), AllocError>
 }
 
 /// Writes statements as items of a list.
-fn each_statement(line: &mut Line, seen: &[Incarnation]) -> Result<(), AllocError>
+fn each_statement(line: &mut LineWriter, seen: &[Incarnation]) -> Result<(), AllocError>
     ensures { OnOk result (line.new ≡ line.old ++ item_tokens incarnation_json seen.now) }
 {
     for at in seen {
@@ -82,7 +82,7 @@ fn each_statement(line: &mut Line, seen: &[Incarnation]) -> Result<(), AllocErro
 }
 
 /// Writes a list of statements under this key.
-fn statements(line: &mut Line, name: &str, seen: &[Incarnation]) -> Result<(), AllocError>
+fn statements(line: &mut LineWriter, name: &str, seen: &[Incarnation]) -> Result<(), AllocError>
     ensures { OnOk result (line.new
         ≡ line.old ++ value_tokens name.now (statements_json seen.now)) }
 {
@@ -103,25 +103,24 @@ fn reaction_line(
         ≡ compact_text (inside_json interface.now (told.Reaction outcome.now seen.now) [])
         ++ 10 ∷ []) }
 {
-    let mut line = Line::begin(alloc)?;
+    let mut line = LineWriter::begin(alloc)?;
     statements(&mut line, "began", seen.began.as_slice())?;
     locals(&mut line, seen.locals.as_slice())?;
     state(alloc, &mut line, "next", &outcome.next)?;
-    line.text_under("ok", "instant")?;
+    line.text("ok", "instant")?;
     names(&mut line, "outputs", interface, outcome.outputs)?;
     statements(&mut line, "went", seen.went_on.as_slice())?;
     line.end()
 }
 
 /// Writes the number and the name of what an instant is that is stuck.
-fn label(line: &mut Line) -> Result<(), AllocError>
+fn label(line: &mut LineWriter) -> Result<(), AllocError>
     ensures { OnOk result
         (line.new ≡ line.old ++ (value_tokens (codes "code") (number (unsigned 50))
         ++ value_tokens (codes "fault") (string (codes "Stuck")))) }
 {
-    line.key("code")?;
-    line.number(50)?;
-    line.text_under("fault", "Stuck")
+    line.number("code", 50)?;
+    line.text("fault", "Stuck")
 }
 
 /// The line of an instant that is stuck.
@@ -136,7 +135,7 @@ fn stuck_line(
         ≡ compact_text (inside_json interface.now (told.Stuck stuck.now seen.now)
         stuck_ties.now) ++ 10 ∷ []) }
 {
-    let mut line = Line::begin(alloc)?;
+    let mut line = LineWriter::begin(alloc)?;
     statements(&mut line, "began", seen.began.as_slice())?;
     label(&mut line)?;
     locals(&mut line, seen.locals.as_slice())?;
@@ -166,8 +165,8 @@ pub fn inside(
 pub fn back(alloc: Global, stands: &State) -> Result<Vec<u8>, AllocError>
     ensures { IfOk result (λ line. line.items ≡ compact_text (back_json stands.now) ++ 10 ∷ []) }
 {
-    let mut line = Line::begin(alloc)?;
+    let mut line = LineWriter::begin(alloc)?;
     state(alloc, &mut line, "next", stands)?;
-    line.text_under("ok", "back")?;
+    line.text("ok", "back")?;
     line.end()
 }

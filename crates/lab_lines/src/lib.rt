@@ -4,15 +4,13 @@
 //! `asked_test` is a test over the signals of a module. `exploring` judges tests over all runs,
 //! `comparing` compares two modules, and `tables` writes the closed table; each answers a JSON
 //! value whose parts `told` writes. `statements` lists the statements of a kernel. `inside` writes
-//! the line of an instant from inside, with the `ties` of one that is stuck, into a `line`, token
-//! by token.
+//! the line of an instant from inside, with the `ties` of one that is stuck, token by token.
 #![tactic(auto)]
 
 pub mod asked_test;
 pub mod comparing;
 pub mod exploring;
 pub mod inside;
-mod line;
 pub mod offers;
 mod parts;
 mod pauses;

@@ -7,18 +7,18 @@ ghost use Rattle.lab_lines.specs.Parts.{names_left};
 ghost use Rattle.lab_lines.specs.Tables.{number_json, state_json};
 ghost use Rattle.lab_lines.specs.Told.{names_from, names_json};
 
-use crate::line::Line;
 use crate::pauses::pause_numbers;
 use est_kernel::interface::Interface;
 use est_kernel::mask;
 use est_kernel::pause_set::PauseSet;
 use est_kernel::state::State;
 use std::alloc::{AllocError, Global};
+use wire_lines::line_writer::LineWriter;
 
 /// Writes the name of the signal at this place as an item of a list, if it is in the set: then
 /// those of later places are left.
 fn name_if(
-    line: &mut Line,
+    line: &mut LineWriter,
     interface: &Interface,
     signals: u64,
     place: usize,
@@ -29,14 +29,14 @@ fn name_if(
 {
     let declarations = interface.declarations();
     if mask::has(signals, place as u8) {
-        line.text(declarations[place].name.as_str())
+        line.text_value(declarations[place].name.as_str())
     } else {
         Ok(())
     }
 }
 
 /// Writes the names of the signals as items of a list, in the order of declaration.
-fn each_name(line: &mut Line, interface: &Interface, signals: u64) -> Result<(), AllocError>
+fn each_name(line: &mut LineWriter, interface: &Interface, signals: u64) -> Result<(), AllocError>
     ensures { OnOk result (line.new
         ≡ line.old ++ item_tokens (λ name. name) (names_from 0 interface.now signals)) }
 {
@@ -48,7 +48,7 @@ fn each_name(line: &mut Line, interface: &Interface, signals: u64) -> Result<(),
 
 /// Writes the list of the names of the signals under this key.
 pub(crate) fn names(
-    line: &mut Line,
+    line: &mut LineWriter,
     name: &str,
     interface: &Interface,
     signals: u64,
@@ -63,17 +63,22 @@ pub(crate) fn names(
 }
 
 /// Writes numbers as items of a list.
-fn each_number(line: &mut Line, numbers: &[u16]) -> Result<(), AllocError>
+fn each_number(line: &mut LineWriter, numbers: &[u16]) -> Result<(), AllocError>
     ensures { OnOk result (line.new ≡ line.old ++ item_tokens number_json numbers.now) }
 {
     for number in numbers {
-        line.number(usize::from(*number))?;
+        line.number_value(u64::from(*number))?;
     }
     Ok(())
 }
 
 /// Writes the list of the numbers of pauses under this key.
-fn pauses(alloc: Global, line: &mut Line, name: &str, paused: &PauseSet) -> Result<(), AllocError>
+fn pauses(
+    alloc: Global,
+    line: &mut LineWriter,
+    name: &str,
+    paused: &PauseSet,
+) -> Result<(), AllocError>
     ensures { OnOk result (line.new
         ≡ line.old ++ value_tokens name.now (state_json (Paused paused.now))) }
 {
@@ -87,15 +92,15 @@ fn pauses(alloc: Global, line: &mut Line, name: &str, paused: &PauseSet) -> Resu
 /// Writes where a module stands under this key.
 pub(crate) fn state(
     alloc: Global,
-    line: &mut Line,
+    line: &mut LineWriter,
     name: &str,
     state: &State,
 ) -> Result<(), AllocError>
     ensures { OnOk result (line.new ≡ line.old ++ value_tokens name.now (state_json state.now)) }
 {
     match state {
-        State::Fresh => line.text_under(name, "start"),
-        State::Done => line.text_under(name, "end"),
+        State::Fresh => line.text(name, "start"),
+        State::Done => line.text(name, "end"),
         State::Paused(paused) => pauses(alloc, line, name, paused),
     }
 }

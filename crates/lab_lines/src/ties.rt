@@ -7,25 +7,25 @@ ghost use Rattle.lab_lines.specs.Parts.{members_in};
 ghost use Rattle.lab_lines.specs.Ties.{incarnation_json, kind_text, signal_json, tie_json};
 ghost use Rattle.lab_lines.specs.Ties.{ties_json};
 
-use crate::line::Line;
 use est_kernel::interface::Interface;
 use lab_instant::seen::Incarnation;
 use lab_ties::tie::{OpenSignal, Tie, TieKind};
 use std::alloc::AllocError;
+use wire_lines::line_writer::LineWriter;
 
 /// Writes a statement in one of its incarnations.
-pub(crate) fn incarnation(line: &mut Line, at: Incarnation) -> Result<(), AllocError>
+pub(crate) fn incarnation(line: &mut LineWriter, at: Incarnation) -> Result<(), AllocError>
     ensures { OnOk result (line.new ≡ line.old ++ item_tokens incarnation_json (at ∷ [])) }
 {
     line.begin_array()?;
-    line.number(at.statement)?;
-    line.number(at.number)?;
+    line.number_value(at.statement as u64)?;
+    line.number_value(at.number as u64)?;
     line.end_array()
 }
 
 /// Writes a statement in one of its incarnations under this key.
 pub(crate) fn incarnation_under(
-    line: &mut Line,
+    line: &mut LineWriter,
     name: &str,
     at: Incarnation,
 ) -> Result<(), AllocError>
@@ -46,20 +46,24 @@ fn kind(kind: TieKind) -> &'static str
 }
 
 /// Writes a signal of the interface: its name.
-fn name_of(line: &mut Line, interface: &Interface, place: usize) -> Result<(), AllocError>
+fn name_of(line: &mut LineWriter, interface: &Interface, place: usize) -> Result<(), AllocError>
     ensures { OnOk result (line.new ≡ line.old
         ++ value_tokens (codes "signal") (signal_json interface.now
         (open_signal.Interface place))) }
 {
     line.key("signal")?;
     match interface.declarations().get(place) {
-        Some(declaration) => line.text(declaration.name.as_str()),
-        None => line.null(),
+        Some(declaration) => line.text_value(declaration.name.as_str()),
+        None => line.null_value(),
     }
 }
 
 /// Writes a signal: the name of one of the interface, or the statement that declares a local one.
-fn signal(line: &mut Line, interface: &Interface, signal: OpenSignal) -> Result<(), AllocError>
+fn signal(
+    line: &mut LineWriter,
+    interface: &Interface,
+    signal: OpenSignal,
+) -> Result<(), AllocError>
     ensures { OnOk result (line.new ≡ line.old
         ++ value_tokens (codes "signal") (signal_json interface.now signal)) }
 {
@@ -70,17 +74,17 @@ fn signal(line: &mut Line, interface: &Interface, signal: OpenSignal) -> Result<
 }
 
 /// Writes what is said of a statement that has to do with a signal that is not decided.
-fn members(line: &mut Line, interface: &Interface, tie: Tie) -> Result<(), AllocError>
+fn members(line: &mut LineWriter, interface: &Interface, tie: Tie) -> Result<(), AllocError>
     ensures { OnOk result (line.new
         ≡ line.old ++ member_tokens (members_in (tie_json interface.now tie))) }
 {
     incarnation_under(line, "at", tie.at)?;
-    line.text_under("kind", kind(tie.kind))?;
+    line.text("kind", kind(tie.kind))?;
     signal(line, interface, tie.signal)
 }
 
 /// Writes a statement that has to do with a signal that is not decided.
-fn tie(line: &mut Line, interface: &Interface, tie: Tie) -> Result<(), AllocError>
+fn tie(line: &mut LineWriter, interface: &Interface, tie: Tie) -> Result<(), AllocError>
     ensures { OnOk result (line.new
         ≡ line.old ++ item_tokens (tie_json interface.now) (tie ∷ [])) }
 {
@@ -90,7 +94,7 @@ fn tie(line: &mut Line, interface: &Interface, tie: Tie) -> Result<(), AllocErro
 }
 
 /// Writes ties as items of a list.
-fn each_tie(line: &mut Line, interface: &Interface, found: &[Tie]) -> Result<(), AllocError>
+fn each_tie(line: &mut LineWriter, interface: &Interface, found: &[Tie]) -> Result<(), AllocError>
     ensures { OnOk result (line.new
         ≡ line.old ++ item_tokens (tie_json interface.now) found.now) }
 {
@@ -101,7 +105,11 @@ fn each_tie(line: &mut Line, interface: &Interface, found: &[Tie]) -> Result<(),
 }
 
 /// Writes the list of the ties of an instant.
-pub(crate) fn ties(line: &mut Line, interface: &Interface, found: &[Tie]) -> Result<(), AllocError>
+pub(crate) fn ties(
+    line: &mut LineWriter,
+    interface: &Interface,
+    found: &[Tie],
+) -> Result<(), AllocError>
     ensures { OnOk result (line.new
         ≡ line.old ++ value_tokens (codes "ties") (ties_json interface.now found.now)) }
 {

@@ -6,12 +6,12 @@
 //! another, token by token.
 //!
 //! `reply` writes a reply. `accepted` joins a reply that has only numbers and a command's word from
-//! constant texts; `line_writer` writes refusals and looks, token by token.
+//! constant texts; refusals and looks are written token by token, with a `line_writer`.
 #![tactic(auto)]
 
 mod accepted;
 mod commands;
-mod line_writer;
+pub mod line_writer;
 mod members;
 pub mod reading;
 pub mod reply;

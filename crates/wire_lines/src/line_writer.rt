@@ -1,6 +1,7 @@
-//! The line of a reply that tells names, while it is written: member by member, token by token.
-ghost use Rattle.std.specs.Prelude.{◌≡◌, ◌++◌, ◌∷◌, [], codes, map, IfOk, OnOk};
-ghost use Rattle.json.specs.Token.{begin_object};
+//! A line while it is written, token by token.
+ghost use Rattle.std.specs.Prelude.{◌≡◌, ◌++◌, ◌∷◌, [], codes, decimal, map, IfOk, OnOk};
+ghost use Rattle.json.specs.Token.{begin_array, begin_object, boolean, end_array, end_object, key};
+ghost use Rattle.json.specs.Token.{null, number as number_token, string as string_token};
 ghost use Rattle.serde_json.specs.Data.{array, number, object, string, unsigned};
 ghost use Rattle.serde_json.specs.Data.{Members, no_members};
 ghost use Rattle.serde_json.specs.View.{items_of};
@@ -15,11 +16,11 @@ use std::alloc::{AllocError, Global};
 use std::marker::Model;
 
 /// The room, in bytes, with which a line begins: most lines are shorter.
-const USUAL_BYTES: usize = 256;
+const USUAL_BYTES: usize = 512;
 
 /// A line that is being written. A contract sees the tokens that it has so far.
 #[derive(Drop)]
-pub(crate) struct LineWriter {
+pub struct LineWriter {
     writer: Writer,
 }
 
@@ -38,7 +39,7 @@ impl Model for LineWriter {
 
 impl LineWriter {
     /// A line that has only the brace with which its object begins.
-    pub(crate) fn begin(alloc: Global) -> Result<LineWriter, AllocError>
+    pub fn begin(alloc: Global) -> Result<LineWriter, AllocError>
         ensures { IfOk result (λ line. line ≡ begin_object ∷ []) }
     {
         let mut writer = Writer::new(Vec::with_capacity(alloc, USUAL_BYTES)?);
@@ -46,21 +47,84 @@ impl LineWriter {
         Ok(LineWriter { writer })
     }
 
-    /// Writes a number under this key.
-    pub(crate) fn number(&mut self, name: &str, value: u64) -> Result<(), AllocError>
-        ensures { OnOk result (self.new
-            ≡ self.old ++ value_tokens name.now (number (unsigned value))) }
+    /// Begins an object.
+    pub fn begin_object(&mut self) -> Result<(), AllocError>
+        ensures { OnOk result (self.new ≡ self.old ++ begin_object ∷ []) }
     {
-        self.writer.key(name)?;
+        self.writer.begin_object()
+    }
+
+    /// Ends an object.
+    pub fn end_object(&mut self) -> Result<(), AllocError>
+        ensures { OnOk result (self.new ≡ self.old ++ end_object ∷ []) }
+    {
+        self.writer.end_object()
+    }
+
+    /// Begins a list.
+    pub fn begin_array(&mut self) -> Result<(), AllocError>
+        ensures { OnOk result (self.new ≡ self.old ++ begin_array ∷ []) }
+    {
+        self.writer.begin_array()
+    }
+
+    /// Ends a list.
+    pub fn end_array(&mut self) -> Result<(), AllocError>
+        ensures { OnOk result (self.new ≡ self.old ++ end_array ∷ []) }
+    {
+        self.writer.end_array()
+    }
+
+    /// Writes the key of a member, whose value is to follow.
+    pub fn key(&mut self, name: &str) -> Result<(), AllocError>
+        ensures { OnOk result (self.new ≡ self.old ++ key name.now ∷ []) }
+    {
+        self.writer.key(name)
+    }
+
+    /// Writes a number as a value.
+    pub fn number_value(&mut self, value: u64) -> Result<(), AllocError>
+        ensures { OnOk result (self.new ≡ self.old ++ number_token (decimal value) ∷ []) }
+    {
         self.writer.u64(value)
     }
 
+    /// Writes a text as a value.
+    pub fn text_value(&mut self, value: &str) -> Result<(), AllocError>
+        ensures { OnOk result (self.new ≡ self.old ++ string_token value.now ∷ []) }
+    {
+        self.writer.string(value)
+    }
+
+    /// Writes whether something is so, as a value.
+    pub fn boolean_value(&mut self, value: bool) -> Result<(), AllocError>
+        ensures { OnOk result (self.new ≡ self.old ++ boolean value ∷ []) }
+    {
+        self.writer.boolean(value)
+    }
+
+    /// Writes that there is nothing, as a value.
+    pub fn null_value(&mut self) -> Result<(), AllocError>
+        ensures { OnOk result (self.new ≡ self.old ++ null ∷ []) }
+    {
+        self.writer.null()
+    }
+
+    /// Writes a number under this key.
+    pub fn number(&mut self, name: &str, value: u64) -> Result<(), AllocError>
+        ensures { OnOk result (self.new
+            ≡ self.old ++ value_tokens name.now (number (unsigned value))) }
+    {
+        self.key(name)?;
+        self.number_value(value)
+    }
+
     /// Writes a text under this key.
-    pub(crate) fn text(&mut self, name: &str, value: &str) -> Result<(), AllocError>
+    pub fn text(&mut self, name: &str, value: &str) -> Result<(), AllocError>
         ensures { OnOk result (self.new ≡ self.old ++ value_tokens name.now (string value.now)) }
     {
-        self.writer.key(name)?;
-        self.writer.string(value)
+        self.key(name)?;
+        self.text_value(value)
     }
 
     /// Writes a refusal's number and its name.
@@ -77,7 +141,7 @@ impl LineWriter {
         ensures { OnOk result (self.new ≡ self.old ++ item_tokens string names.now) }
     {
         for name in names {
-            self.writer.string(name.as_str())?;
+            self.text_value(name.as_str())?;
         }
         Ok(())
     }
@@ -87,20 +151,20 @@ impl LineWriter {
         ensures { OnOk result (self.new ≡ self.old
             ++ value_tokens name.now (array (items_of (map string names.now)))) }
     {
-        self.writer.key(name)?;
-        self.writer.begin_array()?;
+        self.key(name)?;
+        self.begin_array()?;
         self.each_name(names)?;
-        self.writer.end_array()
+        self.end_array()
     }
 
     /// Writes a signal's name, and whether it is present, as an item of a list.
     fn signal(&mut self, signal: &ShownSignal) -> Result<(), AllocError>
         ensures { OnOk result (self.new ≡ self.old ++ item_tokens shown_json (signal.now ∷ [])) }
     {
-        self.writer.begin_array()?;
-        self.writer.string(signal.name.as_str())?;
-        self.writer.boolean(signal.present)?;
-        self.writer.end_array()
+        self.begin_array()?;
+        self.text_value(signal.name.as_str())?;
+        self.boolean_value(signal.present)?;
+        self.end_array()
     }
 
     /// Writes signals as items of a list.
@@ -118,14 +182,14 @@ impl LineWriter {
         ensures { OnOk result (self.new
             ≡ self.old ++ value_tokens (codes "signals") (signals_json signals.now)) }
     {
-        self.writer.key("signals")?;
-        self.writer.begin_array()?;
+        self.key("signals")?;
+        self.begin_array()?;
         self.each_signal(signals)?;
-        self.writer.end_array()
+        self.end_array()
     }
 
     /// The line, with the brace that ends its object and its LF.
-    pub(crate) fn end(self) -> Result<Vec<u8>, AllocError>
+    pub fn end(self) -> Result<Vec<u8>, AllocError>
         ensures { (members : Members) → self ≡ begin_object ∷ member_tokens members
             → IfOk result (λ line. line.items ≡ compact_text (object members) ++ 10 ∷ []) }
     {

@@ -10,13 +10,13 @@ returns-then-has c =
     let all = c.declarations-declarations.ensures.all in
     let place = c.args.place in
     let within : place < length c.declarations-declarations.result.now = omega (arith, c.requires, ap length all) in
-    subst (λ (ds : List Declaration). OnOk c.text.result
-    (c.text.new.self ++ names_left ds c.args.signals (place + 1)
+    subst (λ (ds : List Declaration). OnOk c.text_value.result
+    (c.text_value.new.self ++ names_left ds c.args.signals (place + 1)
     ≡ c.args.line.now ++ names_left ds c.args.signals place)) all
-    (name_there c.text.result c.declarations-declarations.result.now place c.args.signals
+    (name_there c.text_value.result c.declarations-declarations.result.now place c.args.signals
     c.index-declarations-place.result
-    c.args.line.now c.text.new.self within (sym c.has.ensures ∙ c.if-has.true)
-    (rw c.as_str.ensures.same at c.text.ensures))
+    c.args.line.now c.text_value.new.self within (sym c.has.ensures ∙ c.if-has.true)
+    (rw c.as_str.ensures.same at c.text_value.ensures))
 
 pub returns-else-has : goal.returns-else-has
 returns-else-has c =

@@ -11,6 +11,6 @@ returns c =
     three_members c.signal.result _ _ _ _ (value_tokens (codes "at") (incarnation_json t.at))
     (value_tokens (codes "kind") (string (kind_text t.kind)))
     (value_tokens (codes "signal") (signal_json c.args.interface.now t.signal)) c.in_ok-incarnation_under.ensures
-    (c.in_ok-text_under.ensures
+    (c.in_ok-text.ensures
     ∙ ap (λ (s : List ℕ). c.incarnation_under.new.line ++ value_tokens (codes "kind") (string s)) c.kind.ensures)
     c.signal.ensures

@@ -14,7 +14,7 @@ returns-in-None c =
     let none : slice_get c.args.interface.now place ≡ None =
     ap (λ (ds : List Declaration). slice_get ds place) (sym c.declarations.ensures.all) ∙ past in
     rw none
-    (last c.null.result _ _ _ (key (codes "signal") ∷ []) (null ∷ []) c.in_ok-key.ensures c.null.ensures)
+    (last c.null_value.result _ _ _ (key (codes "signal") ∷ []) (null ∷ []) c.in_ok-key.ensures c.null_value.ensures)
 
 pub returns-in-Some : goal.returns-in-Some
 returns-in-Some c =
@@ -26,5 +26,5 @@ returns-in-Some c =
     let found : slice_get c.args.interface.now place ≡ Some declaration =
     ap (λ (ds : List Declaration). slice_get ds place) (sym c.declarations.ensures.all) ∙ there in
     rw found
-    (last c.text.result _ _ _ (key (codes "signal") ∷ []) (string declaration.name ∷ []) c.in_ok-key.ensures
-    (rw c.as_str.ensures.same at c.text.ensures))
+    (last c.text_value.result _ _ _ (key (codes "signal") ∷ []) (string declaration.name ∷ []) c.in_ok-key.ensures
+    (rw c.as_str.ensures.same at c.text_value.ensures))
