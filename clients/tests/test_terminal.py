@@ -9,6 +9,7 @@ import re
 import select
 import socket
 import struct
+import subprocess
 import sys
 import termios
 import time
@@ -26,6 +27,12 @@ from support import (
 
 SECONDS = 60  # whatever a terminal is to show comes in this time
 LOGIN = '{"ok":"login","session":1,"version":5}'
+# takes the terminal of its standard input as its own, and becomes the command. Not `pty.fork`: a
+# process that has threads may stand still in the child of a fork
+TAKE_TERMINAL = """import fcntl, os, sys, termios
+fcntl.ioctl(0, termios.TIOCSCTTY, 0)
+os.execv(sys.argv[1], sys.argv[1:])
+"""
 # a program that takes its time with its second answer: up to when there is a file `go`
 SLOW = f"""#!/bin/sh
 cd "$(dirname "$0")"
@@ -69,16 +76,22 @@ class Terminal:
 
     def __enter__(self):
         command = [sys.executable, "-B", str(CLIENTS / "estserve.py"), *map(str, self.words)]
-        self.process, self.screen = pty.fork()
-        if self.process == 0:
-            fcntl.ioctl(0, termios.TIOCSWINSZ, struct.pack("HHHH", 50, self.columns, 0, 0))
-            os.execve(command[0], command, self.variables)
+        self.screen, terminal = pty.openpty()
+        fcntl.ioctl(terminal, termios.TIOCSWINSZ, struct.pack("HHHH", 50, self.columns, 0, 0))
+        self.process = subprocess.Popen(
+            [sys.executable, "-c", TAKE_TERMINAL, *command],
+            stdin=terminal,
+            stdout=terminal,
+            stderr=terminal,
+            env=self.variables,
+            start_new_session=True,
+        )
+        os.close(terminal)
         return self
 
     def __exit__(self, *_):
-        if self.process:
-            os.kill(self.process, 9)
-            os.waitpid(self.process, 0)
+        self.process.kill()
+        self.process.wait()
         os.close(self.screen)
 
     def type(self, text):
@@ -105,9 +118,7 @@ class Terminal:
                 self.shown += self.read()
         except OSError:
             pass
-        _, status = os.waitpid(self.process, 0)
-        self.process = None
-        return self.shown, os.WEXITSTATUS(status)
+        return self.shown, self.process.wait(SECONDS)
 
 
 class InATerminal(InAFolder):
