@@ -6,7 +6,7 @@ use Rattle.refusal_rules.proofs.TellingApart.{first, second, number_in, texts_in
 use Rattle.est_relations.specs.declared.refusal.Refusal.TheVariants.{UnknownSignal, NotInput, AlreadyOffered, Excluded}
 use Rattle.est_relations.specs.declared.refusal.Refusal.TheVariants.{Implied}
 use Rattle.rbac_admin.specs.declared.refusals.Refusal.{Refusal as PolicyRefusal}
-use Rattle.rbac_admin.proofs.Rows.{policy_back, policy_is, told_apart}
+use Rattle.rbac_admin.proofs.Rows.{policy_back, policy_is}
 use Rattle.reactor_core.specs.declared.refusal.ModuleRefusal.{ModuleRefusal}
 use Rattle.reactor_core.specs.declared.refusal.ModuleRefusal.TheVariants.{Pending}
 use Rattle.reactor_core.specs.Refusals.{row_of as module_row}
@@ -70,3 +70,6 @@ is_back (refusal.Module given) names =
     (not_policy given)
     ∙ ap (λ (found : Option ModuleRefusal). any_of None found row.code row.fields) (module_is given)
 is_back _ names = refl
+
+pub told_apart : (one other : Refusal) → NamesObjects one → NamesObjects other → TellsApart row_of one other
+told_apart one other names here = read_back row_of back one other (is_back one names) (is_back other here)

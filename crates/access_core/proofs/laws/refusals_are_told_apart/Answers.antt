@@ -1,4 +1,4 @@
-use Rattle.rbac_admin.proofs.Rows.{told_apart}
+use Rattle.access_core.proofs.Rows.{told_apart}
 use Rattle.access_core.proofs.laws.refusals_are_told_apart.Goals as goal
 
 pub returns : goal.returns
