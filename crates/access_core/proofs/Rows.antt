@@ -13,7 +13,7 @@ use Rattle.reactor_core.specs.Refusals.{row_of as module_row}
 use Rattle.reactor_core.proofs.Rows.{module_back, module_is}
 use Rattle.access_core.specs.declared.refusal.Refusal.{Refusal}
 use Rattle.access_core.specs.declared.refusal.Refusal.TheVariants as refusal
-use Rattle.access_core.specs.Refusals.{row_of, NamesObjects}
+use Rattle.access_core.specs.Refusals.{row_of as refusal_row, NamesObjects}
 
 abbrev or_else : Option Refusal → Option Refusal → Option Refusal
 or_else (Some given) other = Some given
@@ -58,9 +58,9 @@ not_policy (Pending AlreadyOffered) = refl
 not_policy _ = refl
 
 -- each row reads back as its refusal
-is_back : (given : Refusal) → NamesObjects given → back (row_of given).code (row_of given).fields ≡ Some given
+is_back : (given : Refusal) → NamesObjects given → back (refusal_row given).code (refusal_row given).fields ≡ Some given
 is_back (refusal.Policy given) names =
-    let row = row_of (refusal.Policy given) in
+    let row = refusal_row (refusal.Policy given) in
     ap (λ (found : Option PolicyRefusal). any_of found (module_back row.code row.fields) row.code row.fields)
     (policy_is given
     (λ operation object is. names operation object (ap (λ (r : PolicyRefusal). refusal.Policy r) is)))
@@ -71,5 +71,5 @@ is_back (refusal.Module given) names =
     ∙ ap (λ (found : Option ModuleRefusal). any_of None found row.code row.fields) (module_is given)
 is_back _ names = refl
 
-pub told_apart : (one other : Refusal) → NamesObjects one → NamesObjects other → TellsApart row_of one other
-told_apart one other names here = read_back row_of back one other (is_back one names) (is_back other here)
+pub told_apart : (one other : Refusal) → NamesObjects one → NamesObjects other → TellsApart refusal_row one other
+told_apart one other names here = read_back refusal_row back one other (is_back one names) (is_back other here)
