@@ -10,7 +10,8 @@ none = record { at = record { statement = 0; number = 0 }; traps = 0; declares =
 
 pub loop-own-init : goal.loop-own-init
 loop-own-init c =
-    so_far_none _ c.args.first _ _ _ c.new-began.ensures.items c.new-went_on.ensures.items c.new-locals.ensures.items
+    so_far_none _ c.args.first _ _ _ c.in_ok-began.ensures.items c.in_ok-went_on.ensures.items
+    c.new-locals.ensures.items
 
 pub add_begun-requires : goal.add_begun-requires
 add_begun-requires c =
