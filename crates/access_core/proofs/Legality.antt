@@ -15,20 +15,20 @@ use Rattle.reactor_core.specs.declared.entry.Action.{Action}
 use Rattle.reactor_core.specs.declared.entry.Action.TheVariants as action
 use Rattle.reactor_core.specs.declared.entry.PastInstant.{PastInstant}
 use Rattle.reactor_core.specs.declared.entry.SlotEntry.{SlotEntry}
+use Rattle.reactor_core.specs.declared.entry.Word.TheVariants as word
 use Rattle.reactor_core.specs.declared.refusal.Refusal.{Refusal as ReactorRefusal}
-use Rattle.reactor_core.specs.Meaning.{entry}
+use Rattle.reactor_core.specs.Meaning.{entry, word_of, instant_of}
 use Rattle.reactor_core.specs.Answers.{LoadAnswer, OfferAnswer, AddsLoad, load_of, load_rules, offer_rules}
 use Rattle.access_core.specs.declared.command.SlotCommand.{SlotCommand}
 use Rattle.access_core.specs.declared.command.SlotCommand.TheVariants.{Load, Offer, Discard, Step, Unload, Look, Audit}
 use Rattle.access_core.specs.declared.refusal.Refusal.{Refusal}
 use Rattle.access_core.specs.declared.reply.Reply.{Reply}
-use Rattle.access_core.specs.declared.reply.Reply.TheVariants.{Refused, Load as Loaded, Offer as Offered}
+use Rattle.access_core.specs.declared.reply.Reply.TheVariants.{Refused}
 use Rattle.access_core.specs.Answering.{IsRefused}
 use Rattle.access_core.specs.Refusals.{of_reactor}
 use Rattle.access_core.specs.Needs.{Needs, IsAccepted}
-use Rattle.access_core.specs.Journals.{command_of, instant_of, last_version, Judges, Adds, IsLegalEntry, AreLegal}
-use Rattle.access_core.specs.Journals.{IsLegal}
-use Rattle.access_core.specs.SlotStep.{SlotStep, slot_rules, Does, stamp_of}
+use Rattle.access_core.specs.Journals.{command_of, last_version, Judges, Adds, IsLegalEntry, AreLegal, IsLegal}
+use Rattle.access_core.specs.SlotStep.{SlotStep, slot_rules, Does, stamp_of, tells}
 use Rattle.access_core.proofs.Deciding.{accepted_access, has_needed}
 
 -- ---- entries and their commands
@@ -103,13 +103,14 @@ steps_where action.Unload i e = absurd cc
 
 -- ---- what a slot step adds
 
--- the command is accepted, and an entry that it asks for is added, which bears this stamp
+-- the command is accepted, and an entry that it asks for is added, which bears this stamp; the reply tells so
 pub record IsTaken (stamp : Stamp) (command : SlotCommand) (before : List SlotEntry) (reply : Reply)
     (after : List SlotEntry) : Type 0 where
   pub accepted : IsAccepted reply
   pub done : Action
   pub asked : command_of done ≡ command
   pub added : after ≡ before ++ entry stamp done ∷ []
+  pub told : reply ≡ tells (word_of done) stamp.version after
 
 -- the journal stays, or the command is taken
 abbrev pub AddsOne : Stamp → SlotCommand → (before : List SlotEntry) → Reply → (after : List SlotEntry) → Type 0
@@ -138,7 +139,7 @@ module _ (stamp : Stamp) (before : List SlotEntry) (reply : Reply) (after : List
   loaded : (main text : List ℕ) (answer : Result (List SlotEntry) (ReactorRefusal × List SlotEntry))
       → LoadAnswer before stamp main text answer
       → MatchResult answer
-      (λ journal. (after ≡ journal) × (reply ≡ Loaded (length after) stamp.version))
+      (λ journal. (after ≡ journal) × (reply ≡ tells word.Load stamp.version after))
       (λ refused. IsRefused (of_reactor refused.0) before reply after)
       → Moves stamp (Load main text) before reply after
   loaded main text (Ok journal) given replied =
@@ -152,12 +153,13 @@ module _ (stamp : Stamp) (before : List SlotEntry) (reply : Reply) (after : List
         done = action.Load (load_of main text);
         asked = refl;
         added = replied.0 ∙ same ∙ passed.1.2.added;
+        told = replied.1;
       }))
   loaded main text (Err refusal) given replied = left (Load main text) _ replied
 
   offered : (signal : List ℕ) (answer : Result (Unit {0}) ReactorRefusal) → OfferAnswer before stamp signal answer after
       → MatchResult answer
-      (λ _. reply ≡ Offered (length after) stamp.version)
+      (λ _. reply ≡ tells word.Offer stamp.version after)
       (λ refusal. IsRefused (of_reactor refusal) before reply after)
       → Moves stamp (Offer signal) before reply after
   offered signal (Ok done) given replied =
@@ -168,6 +170,7 @@ module _ (stamp : Stamp) (before : List SlotEntry) (reply : Reply) (after : List
         done = action.Offer signal;
         asked = refl;
         added = passed.1.1;
+        told = replied;
       }))
   offered signal (Err refusal) given replied = left (Offer signal) _ replied
 
@@ -183,6 +186,7 @@ module _ (entries : List Entry) (slot session : ℕ) (before : List SlotEntry) (
         done = action.Discard;
         asked = refl;
         added = h.added;
+        told = h.replied;
       }))
   does Step h =
       inr (inr (record {
@@ -190,6 +194,7 @@ module _ (entries : List Entry) (slot session : ℕ) (before : List SlotEntry) (
         done = action.Step _;
         asked = refl;
         added = h.adds.appended;
+        told = h.replied;
       }))
   does Unload h =
       inr (inr (record {
@@ -197,6 +202,7 @@ module _ (entries : List Entry) (slot session : ℕ) (before : List SlotEntry) (
         done = action.Unload;
         asked = refl;
         added = h.added;
+        told = h.replied;
       }))
   does (Look n) h = inr (inl (record { adds_none = no_look n; stays = h.stays }))
   does Audit h = inr (inl (record { adds_none = no_audit; stays = h.stays }))

@@ -13,25 +13,25 @@ use Rattle.reactor_core.specs.declared.entry.Action.TheVariants as action
 use Rattle.reactor_core.specs.declared.entry.PastInstant.{PastInstant}
 use Rattle.reactor_core.specs.declared.entry.SlotEntry.{SlotEntry}
 use Rattle.reactor_core.specs.declared.entry.Stamp.{Stamp}
+use Rattle.reactor_core.specs.declared.entry.Word.{Word}
+use Rattle.reactor_core.specs.declared.entry.Word.TheVariants as word
 use Rattle.reactor_core.specs.declared.refusal.Refusal.{Refusal as ReactorRefusal}
 use Rattle.reactor_core.specs.declared.refusal.Refusal.TheVariants as reactor
 use Rattle.reactor_core.specs.Answers.{LoadAnswer, load_of, load_rules, offer_rules}
 use Rattle.reactor_core.specs.Loading.{GivenModule, Gives, IsLoadFault}
-use Rattle.reactor_core.specs.Meaning.{entry, instant, instants_of, Running, pending_of}
+use Rattle.reactor_core.specs.Meaning.{entry, instant, Running, pending_of}
 use Rattle.reactor_core.proofs.OneMeaning.{OneModule, same_running, same_outcome, not_both, ready_or_lacking}
 use Rattle.access_core.specs.declared.command.SlotCommand.{SlotCommand}
 use Rattle.access_core.specs.declared.command.SlotCommand.TheVariants.{Load, Offer, Discard, Step, Unload, Look, Audit}
 use Rattle.access_core.specs.declared.refusal.Refusal.{Refusal}
 use Rattle.access_core.specs.declared.refusal.Refusal.TheVariants.{Stuck, Memory}
 use Rattle.access_core.specs.declared.reply.Reply.{Reply}
-use Rattle.access_core.specs.declared.reply.Reply.TheVariants.{Refused, Load as Loaded, Offer as Offered}
-use Rattle.access_core.specs.declared.reply.Reply.TheVariants.{Discard as Discarded, Step as Stepped}
-use Rattle.access_core.specs.declared.reply.Reply.TheVariants.{Unload as Unloaded, Look as Shown}
+use Rattle.access_core.specs.declared.reply.Reply.TheVariants.{Refused, Look as Shown}
 use Rattle.access_core.specs.Answering.{IsRefused}
 use Rattle.access_core.specs.Refusals.{of_reactor}
 use Rattle.access_core.specs.Shown.{Sees, name_at, status_at, names_of, shown_of}
 use Rattle.access_core.specs.SlotStep.{SlotStep, slot_rules, Does, Loads, Offers, Steps, Looks, NamesUndecided}
-use Rattle.access_core.specs.SlotStep.{stamp_of, no_reaction, implied}
+use Rattle.access_core.specs.SlotStep.{stamp_of, no_reaction, implied, tells}
 use Rattle.reactor_core.specs.Instants.{not_ready}
 use Rattle.access_core.proofs.OneNaming.{one_excluded, one_lacking, one_undecided, same_mask, same_sight, same_kept}
 use Rattle.access_core.proofs.Settling.{IsSettled, AllSettled, settled_unless, settled_says, settled_apart}
@@ -79,7 +79,7 @@ no_err x y e = absurd cc
 abbrev LoadDone : Stamp → (main text : List ℕ) → (before : List SlotEntry) → Reply → (after : List SlotEntry) → Type 0
 LoadDone stamp main text before reply after =
     (after ≡ before ++ entry stamp (action.Load (load_of main text)) ∷ [])
-    × (reply ≡ Loaded (length after) stamp.version)
+    × (reply ≡ tells word.Load stamp.version after)
 
 load_by_rules : (stamp : Stamp) (main text : List ℕ) (before : List SlotEntry) (reply : Reply) (after : List SlotEntry)
     → Loads stamp main text before reply after
@@ -89,7 +89,7 @@ load_by_rules stamp main text before reply after h = by_answer h.answer h.given 
   by_answer : (answer : Result (List SlotEntry) (ReactorRefusal × List SlotEntry))
       → LoadAnswer before stamp main text answer
       → MatchResult answer
-      (λ journal. (after ≡ journal) × (reply ≡ Loaded (length after) stamp.version))
+      (λ journal. (after ≡ journal) × (reply ≡ tells word.Load stamp.version after))
       (λ refused. IsRefused (of_reactor refused.0) before reply after)
       → Answers (load_rules before main text) (λ refusal. IsRefused (of_reactor refusal) before reply after)
       (LoadDone stamp main text before reply after)
@@ -107,7 +107,7 @@ load_by_rules stamp main text before reply after h = by_answer h.answer h.given 
 -- what an offer is answered, by its rules
 abbrev OfferDone : Stamp → (signal : List ℕ) → (before : List SlotEntry) → Reply → (after : List SlotEntry) → Type 0
 OfferDone stamp signal before reply after =
-    (after ≡ before ++ entry stamp (action.Offer signal) ∷ []) × (reply ≡ Offered (length after) stamp.version)
+    (after ≡ before ++ entry stamp (action.Offer signal) ∷ []) × (reply ≡ tells word.Offer stamp.version after)
 
 offer_by_rules : (stamp : Stamp) (signal : List ℕ) (before : List SlotEntry) (reply : Reply) (after : List SlotEntry)
     → (h : Offers stamp signal before reply after)
@@ -117,7 +117,7 @@ offer_by_rules stamp signal before reply after h = by_answer h.answer h.given.ru
   by_answer : (answer : Result (Unit {0}) ReactorRefusal) (r : Running)
       → Answers (offer_rules before r signal) (λ refusal. (answer ≡ Err refusal) × (after ≡ before))
       ((answer ≡ Ok (record {})) × (after ≡ before ++ entry stamp (action.Offer signal) ∷ []))
-      → MatchResult answer (λ _. reply ≡ Offered (length after) stamp.version)
+      → MatchResult answer (λ _. reply ≡ tells word.Offer stamp.version after)
       (λ refusal. IsRefused (of_reactor refusal) before reply after)
       → Answers (offer_rules before r signal) (λ refusal. IsRefused (of_reactor refusal) before reply after)
       (OfferDone stamp signal before reply after)
@@ -234,15 +234,15 @@ module _ (modules : OneModule) (one_load : OneLoad) (entries : List Entry) (slot
         → IsRefused (of_reactor refusal) before s b → Same r s a b
     both_refused refusal x y = (x.replied ∙ sym y.replied, x.stays ∙ sym y.stays)
 
-    -- two replies that are told of the same journal afterwards
-    told : (tell : List SlotEntry → Reply) → a ≡ b → r ≡ tell a → s ≡ tell b → Same r s a b
-    told tell same x y = (x ∙ ap tell same ∙ sym y, same)
+    -- two replies that tell of the same journal afterwards
+    told : (asked : Word) (version : ℕ) → a ≡ b → r ≡ tells asked version a → s ≡ tells asked version b → Same r s a b
+    told asked version same x y = (x ∙ ap (tells asked version) same ∙ sym y, same)
 
     loads : (stamp : Stamp) (main text : List ℕ) → Loads stamp main text before r a → Loads stamp main text before s b
         → Same r s a b
     loads stamp main text x y =
         both_answers (load_rules before main text) (load_settled main text) _ _ _ _ here there both_refused
-        (λ did done. told (λ journal. Loaded (length journal) stamp.version) (did.0 ∙ sym done.0) did.1 done.1)
+        (λ did done. told word.Load stamp.version (did.0 ∙ sym done.0) did.1 done.1)
         (load_by_rules stamp main text before r a x) (load_by_rules stamp main text before s b y)
 
     offers : (stamp : Stamp) (signal : List ℕ) → Offers stamp signal before r a → Offers stamp signal before s b
@@ -252,7 +252,7 @@ module _ (modules : OneModule) (one_load : OneLoad) (entries : List Entry) (slot
         same_running modules before x.given.running y.given.running x.given.runs y.given.runs in
         both_answers (offer_rules before x.given.running signal)
         (offer_settled x.given.running signal) _ _ _ _ here there both_refused
-        (λ did done. told (λ journal. Offered (length journal) stamp.version) (did.0 ∙ sym done.0) did.1 done.1)
+        (λ did done. told word.Offer stamp.version (did.0 ∙ sym done.0) did.1 done.1)
         (offer_by_rules stamp signal before r a x)
         (subst (λ (q : Running). Answers (offer_rules before q signal)
         (λ refusal. IsRefused (of_reactor refusal) before s b)
@@ -269,7 +269,7 @@ module _ (modules : OneModule) (one_load : OneLoad) (entries : List Entry) (slot
         let inputs : o.running.pending ≡ p.running.pending = ap (λ (q : Running). q.pending) run in
         let added : (inputs outputs : ℕ) → List SlotEntry =
         λ inputs outputs. before ++ entry stamp (action.Step (instant inputs outputs)) ∷ [] in
-        told (λ journal. Stepped (length (instants_of journal)) (length journal) stamp.version)
+        told word.Step stamp.version
         (x.adds.appended ∙ ap (λ i. added i x.outputs) inputs ∙ ap (added p.running.pending) outputs
         ∙ sym y.adds.appended) x.replied y.replied
 
@@ -295,11 +295,9 @@ module _ (modules : OneModule) (one_load : OneLoad) (entries : List Entry) (slot
         → Does entries slot session command before s b → Same r s a b
     does (Load main text) x y = loads (stamp_of entries session) main text x y
     does (Offer signal) x y = offers (stamp_of entries session) signal x y
-    does Discard x y = told (λ journal. Discarded (length journal) (length entries))
-        (x.added ∙ sym y.added) x.replied y.replied
+    does Discard x y = told word.Discard (length entries) (x.added ∙ sym y.added) x.replied y.replied
     does Step x y = steps (stamp_of entries session) x y
-    does Unload x y = told (λ journal. Unloaded (length journal) (length entries))
-        (x.added ∙ sym y.added) x.replied y.replied
+    does Unload x y = told word.Unload (length entries) (x.added ∙ sym y.added) x.replied y.replied
     does (Look n) x y = looks n x y
     does Audit x y = (x.replied ∙ sym y.replied, x.stays ∙ sym y.stays)
 

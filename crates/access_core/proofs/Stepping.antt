@@ -1,5 +1,5 @@
 -- The reply to a step, from the moves of its instant.
-use Rattle.std.proofs.Common.{◌≡◌, ◌⊎◌, ◌∙◌, ℕ, true, List, length, refl, ap, subst, inl, inr}
+use Rattle.std.proofs.Common.{◌≡◌, ◌⊎◌, ◌∙◌, ℕ, true, List, refl, ap, subst, inl, inr}
 use Rattle.std.specs.Prelude.{Result, Ok, Err}
 use Rattle.refusal_rules.specs.Rules.{MayRefuse, accept, ◌▸◌, Answers}
 use Rattle.refusal_rules.proofs.RuleLemmas.{refuse, pass}
@@ -10,9 +10,10 @@ use Rattle.rbac_policy.specs.declared.objects.Object.TheVariants.{Slot}
 use Rattle.rbac_policy.specs.Facts.{IsLive, May}
 use Rattle.reactor_core.specs.declared.entry.Stamp.{Stamp}
 use Rattle.reactor_core.specs.declared.entry.SlotEntry.{SlotEntry}
+use Rattle.reactor_core.specs.declared.entry.Word.TheVariants as word
 use Rattle.reactor_core.specs.declared.refusal.Refusal.{Refusal as ReactorRefusal}
 use Rattle.reactor_core.specs.declared.refusal.Refusal.TheVariants as reactor
-use Rattle.reactor_core.specs.Meaning.{is_loaded, instants_of}
+use Rattle.reactor_core.specs.Meaning.{is_loaded}
 use Rattle.reactor_core.specs.Instants.{IsOutcome, AddsInstant, SettledInstant, CommitAnswer, OpenAnswer}
 use Rattle.reactor_core.specs.Instants.{KeepsRelations}
 use Rattle.reactor_core.proofs.OneMeaning.{OneModule, is_loaded_where, not_both, ready_or_lacking}
@@ -22,11 +23,11 @@ use Rattle.access_core.specs.declared.command.SlotCommand.TheVariants.{Step}
 use Rattle.access_core.specs.declared.refusal.Refusal.{Refusal}
 use Rattle.access_core.specs.declared.refusal.Refusal.TheVariants.{Stuck, JournalFull, Memory}
 use Rattle.access_core.specs.declared.reply.Reply.{Reply}
-use Rattle.access_core.specs.declared.reply.Reply.TheVariants.{Refused, Step as Stepped}
+use Rattle.access_core.specs.declared.reply.Reply.TheVariants.{Refused}
 use Rattle.access_core.specs.Refusals.{of_reactor}
 use Rattle.access_core.specs.Answering.{ByRules, no_memory}
 use Rattle.access_core.specs.SlotStep.{SlotStep, no_permission, empty, NamesUndecided, no_reaction, journal_full}
-use Rattle.access_core.specs.SlotStep.{settle_rules, step_rules, implied, Steps, stamp_of}
+use Rattle.access_core.specs.SlotStep.{settle_rules, step_rules, implied, Steps, stamp_of, tells}
 use Rattle.access_core.specs.StuckSteps.{ReachesReactor, IsStuckExactly}
 use Rattle.est_relations.proofs.OffersKeep.{no_fault}
 
@@ -66,19 +67,11 @@ module _ (stamp : Stamp) (settled : SettledInstant) (refused : ReactorRefusal ×
   commit_refused (inr room) = no_entry room.next
 
 -- the instant is added
-pub commit_accepted : (stamp : Stamp) (before journal after : List SlotEntry) (o : ℕ) (t : Term) (instant place : ℕ)
-    → AddsInstant before o t stamp after
-    → instant ≡ length (instants_of after) → journal ≡ after → place ≡ length journal
-    → ByRules (no_memory ▸ journal_full before ▸ accept) (Steps stamp) before
-    (Stepped instant place stamp.version) after
-commit_accepted stamp before journal after o t instant place adds counts same counted =
-    pass (record {}) (pass adds.room (record {
-      outputs = o;
-      next = t;
-      adds = adds;
-      replied = ap (λ n. Stepped n place stamp.version) counts
-          ∙ ap (λ n. Stepped (length (instants_of after)) n stamp.version) (counted ∙ ap length same);
-    }))
+pub commit_accepted : (stamp : Stamp) (before after : List SlotEntry) (o : ℕ) (t : Term) (reply : Reply)
+    → AddsInstant before o t stamp after → reply ≡ tells word.Step stamp.version after
+    → ByRules (no_memory ▸ journal_full before ▸ accept) (Steps stamp) before reply after
+commit_accepted stamp before after o t reply adds replied =
+    pass (record {}) (pass adds.room (record { outputs = o; next = t; adds = adds; replied = replied }))
 
 -- an instant that is settled
 pub step_settled : (entries : List Entry) (slot session : ℕ) (stamp : Stamp) (before : List SlotEntry) (o : ℕ)

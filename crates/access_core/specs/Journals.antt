@@ -6,10 +6,9 @@ use Rattle.rbac_policy.specs.Entries.{logins}
 use Rattle.rbac_policy.specs.Facts.{IsLive}
 use Rattle.reactor_core.specs.declared.entry.Action.{Action}
 use Rattle.reactor_core.specs.declared.entry.Action.TheVariants as action
-use Rattle.reactor_core.specs.declared.entry.PastInstant.{PastInstant}
 use Rattle.reactor_core.specs.declared.entry.SlotEntry.{SlotEntry}
 use Rattle.access_core.specs.declared.command.SlotCommand.{SlotCommand}
-use Rattle.access_core.specs.declared.command.SlotCommand.TheVariants.{Load, Offer, Discard, Step, Unload}
+use Rattle.access_core.specs.declared.command.SlotCommand.TheVariants.{Load, Offer, Discard, Step, Unload, Look, Audit}
 use Rattle.access_core.specs.declared.reply.Reply.{Reply}
 use Rattle.access_core.specs.Needs.{IsAccepted}
 use Rattle.access_core.specs.SlotStep.{SlotStep}
@@ -22,10 +21,15 @@ command_of action.Discard = Discard
 command_of (action.Step i) = Step
 command_of action.Unload = Unload
 
--- the instant that an action keeps, if it is a step
-abbrev pub instant_of : Action → Option PastInstant
-instant_of (action.Step i) = Some i
-instant_of _ = None
+-- the signal that a command offers
+abbrev pub signal_asked : SlotCommand → Option (List ℕ)
+signal_asked (Load main text) = None
+signal_asked (Offer signal) = Some signal
+signal_asked Discard = None
+signal_asked Step = None
+signal_asked Unload = None
+signal_asked (Look n) = None
+signal_asked Audit = None
 
 -- the version of the last of these entries, 0 where there is none
 abbrev pub last_version : List SlotEntry → ℕ

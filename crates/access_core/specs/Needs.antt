@@ -10,9 +10,8 @@ use Rattle.rbac_policy.specs.Facts.{IsLive, May}
 use Rattle.access_core.specs.declared.command.SlotCommand.{SlotCommand}
 use Rattle.access_core.specs.declared.command.SlotCommand.TheVariants.{Load, Offer, Discard, Step, Unload, Look, Audit}
 use Rattle.access_core.specs.declared.reply.Reply.{Reply}
-use Rattle.access_core.specs.declared.reply.Reply.TheVariants.{Refused, Login, Changed, Check, Load as Loaded}
-use Rattle.access_core.specs.declared.reply.Reply.TheVariants.{Offer as Offered, Discard as Discarded, Step as Stepped}
-use Rattle.access_core.specs.declared.reply.Reply.TheVariants.{Unload as Unloaded, Look as Shown, Audit as Audited}
+use Rattle.access_core.specs.declared.reply.Reply.TheVariants.{Refused, Login, Changed, Added, Look as Shown}
+use Rattle.access_core.specs.declared.reply.Reply.TheVariants.{Audit as Audited, Check}
 
 -- the permission that a command on the slot needs: `load` on the slot for a load and an unload, `step` on it for a step
 -- and a discard, `offer` on the signal for an offer, `audit` on the policy for an audit, and none for a look (this
@@ -40,11 +39,7 @@ abbrev pub IsAccepted : Reply → Type 0
 IsAccepted (Refused refusal) = ⊥
 IsAccepted (Login session version) = Unit {0}
 IsAccepted (Changed change version) = Unit {0}
-IsAccepted (Loaded place version) = Unit {0}
-IsAccepted (Offered place version) = Unit {0}
-IsAccepted (Discarded place version) = Unit {0}
-IsAccepted (Stepped instant place version) = Unit {0}
-IsAccepted (Unloaded place version) = Unit {0}
+IsAccepted (Added added) = Unit {0}
 IsAccepted (Shown instant signals version) = Unit {0}
 IsAccepted (Audited entries instants version) = Unit {0}
 IsAccepted (Check allowed) = Unit {0}

@@ -17,9 +17,11 @@ use Rattle.reactor_core.specs.declared.entry.PastInstant.{PastInstant}
 use Rattle.reactor_core.specs.declared.entry.Action.{Action}
 use Rattle.reactor_core.specs.declared.entry.Action.TheVariants as action
 use Rattle.reactor_core.specs.declared.entry.SlotEntry.{SlotEntry}
+use Rattle.reactor_core.specs.declared.entry.Word.{Word}
+use Rattle.reactor_core.specs.declared.entry.Word.TheVariants as word
 use Rattle.reactor_core.specs.declared.refusal.Refusal.{Refusal as ReactorRefusal}
 use Rattle.reactor_core.specs.declared.refusal.ModuleRefusal.TheVariants.{Pending, NoInstant}
-use Rattle.reactor_core.specs.Meaning.{entry, is_loaded, instants_of, Running, RunsAfter}
+use Rattle.reactor_core.specs.Meaning.{entry, is_loaded, instants_of, word_of, Running, RunsAfter}
 use Rattle.reactor_core.specs.Answers.{LoadAnswer, OfferAnswer, HasRoom, IsInstant, HasNoInstant}
 use Rattle.reactor_core.specs.Instants.{IsOutcome, HasNoOutcome, AddsInstant, not_ready}
 use Rattle.access_core.specs.declared.command.SlotCommand.{SlotCommand}
@@ -27,9 +29,7 @@ use Rattle.access_core.specs.declared.command.SlotCommand.TheVariants.{Load, Off
 use Rattle.access_core.specs.declared.refusal.Refusal.{Refusal}
 use Rattle.access_core.specs.declared.refusal.Refusal.TheVariants.{Policy, Module, Stuck, Occupied, Empty, JournalFull}
 use Rattle.access_core.specs.declared.reply.Reply.{Reply}
-use Rattle.access_core.specs.declared.reply.Reply.TheVariants.{Load as Loaded, Offer as Offered, Discard as Discarded}
-use Rattle.access_core.specs.declared.reply.Reply.TheVariants.{Step as Stepped, Unload as Unloaded, Look as Shown}
-use Rattle.access_core.specs.declared.reply.Reply.TheVariants.{Audit as Audited}
+use Rattle.access_core.specs.declared.reply.Reply.TheVariants.{Added, Look as Shown, Audit as Audited}
 use Rattle.access_core.specs.Answering.{IsRefused, ByRules, no_memory}
 use Rattle.access_core.specs.Needs.{permission_of}
 use Rattle.access_core.specs.Refusals.{of_reactor}
@@ -64,6 +64,15 @@ implied relation missing = Module (Pending (Implied relation missing))
 abbrev pub stamp_of : List Entry → (session : ℕ) → Stamp
 stamp_of entries session = record { version = length entries; session = session }
 
+-- the reply to the command of this word, which was judged at this version and added the last entry of this journal
+abbrev pub tells : Word → (version : ℕ) → (after : List SlotEntry) → Reply
+tells asked version after = Added (record {
+  word = asked;
+  place = length after;
+  version = version;
+  instants = length (instants_of after);
+})
+
 -- the reactor's answer to a load: its entry is appended, or the load is refused by the text, the journal's limit or for
 -- memory
 pub record Loads (stamp : Stamp) (main text : List ℕ) (before : List SlotEntry) (reply : Reply)
@@ -71,7 +80,7 @@ pub record Loads (stamp : Stamp) (main text : List ℕ) (before : List SlotEntry
   pub answer : Result (List SlotEntry) (ReactorRefusal × List SlotEntry)
   pub given : LoadAnswer before stamp main text answer
   pub replied : MatchResult answer
-      (λ journal. (after ≡ journal) × (reply ≡ Loaded (length after) stamp.version))
+      (λ journal. (after ≡ journal) × (reply ≡ tells word.Load stamp.version after))
       (λ refused. IsRefused (of_reactor refused.0) before reply after)
 
 -- the reactor's answer to an offer: its entry is appended, or it is refused by the signal, a relation, the journal's
@@ -81,14 +90,14 @@ pub record Offers (stamp : Stamp) (signal : List ℕ) (before : List SlotEntry) 
   pub answer : Result (Unit {0}) ReactorRefusal
   pub given : OfferAnswer before stamp signal answer after
   pub replied : MatchResult answer
-      (λ _. reply ≡ Offered (length after) stamp.version)
+      (λ _. reply ≡ tells word.Offer stamp.version after)
       (λ refusal. IsRefused (of_reactor refusal) before reply after)
 
--- the entry of the action is appended, and the reply tells its place and the version
-pub record AddsEntry (action : Action) (told : (place version : ℕ) → Reply) (stamp : Stamp) (before : List SlotEntry)
-    (reply : Reply) (after : List SlotEntry) : Type 0 where
+-- the entry of the action is appended, and the reply tells so
+pub record AddsEntry (action : Action) (stamp : Stamp) (before : List SlotEntry) (reply : Reply)
+    (after : List SlotEntry) : Type 0 where
   pub added : after ≡ before ++ entry stamp action ∷ []
-  pub replied : reply ≡ told (length after) stamp.version
+  pub replied : reply ≡ tells (word_of action) stamp.version after
 
 -- the next instant has no outcome: its pending inputs have no constructive reaction, and the refusal names those of the
 -- undecided outputs and inputoutputs that the session may observe
@@ -118,7 +127,7 @@ pub record Steps (stamp : Stamp) (before : List SlotEntry) (reply : Reply) (afte
   pub outputs : ℕ
   pub next : Term
   pub adds : AddsInstant before outputs next stamp after
-  pub replied : reply ≡ Stepped (length (instants_of after)) (length after) stamp.version
+  pub replied : reply ≡ tells word.Step stamp.version after
 
 -- the n-th instant since the load is shown: each signal that the session may observe, and whether it was present
 pub record Looks (entries : List Entry) (slot session n : ℕ) (before : List SlotEntry) (reply : Reply)
@@ -193,9 +202,9 @@ abbrev pub Does : List Entry → (slot session : ℕ) → SlotCommand → (befor
     → (after : List SlotEntry) → Type 0
 Does entries slot session (Load main text) = Loads (stamp_of entries session) main text
 Does entries slot session (Offer signal) = Offers (stamp_of entries session) signal
-Does entries slot session Discard = AddsEntry action.Discard Discarded (stamp_of entries session)
+Does entries slot session Discard = AddsEntry action.Discard (stamp_of entries session)
 Does entries slot session Step = Steps (stamp_of entries session)
-Does entries slot session Unload = AddsEntry action.Unload Unloaded (stamp_of entries session)
+Does entries slot session Unload = AddsEntry action.Unload (stamp_of entries session)
 Does entries slot session (Look n) = Looks entries slot session n
 Does entries slot session Audit = Audits entries
 

@@ -1,6 +1,6 @@
 //! Commands on slots.
 ghost use Rattle.std.specs.Prelude.{◌≡◌, IfOk};
-ghost use Rattle.access_core.specs.Journals.{command_of};
+ghost use Rattle.access_core.specs.Journals.{command_of, signal_asked};
 
 use est_text::identifier::Identifier;
 use reactor_core::entry::Action;
@@ -43,6 +43,21 @@ impl SlotCommand {
             Action::Discard => Ok(SlotCommand::Discard),
             Action::Step(_) => Ok(SlotCommand::Step),
             Action::Unload => Ok(SlotCommand::Unload),
+        }
+    }
+
+    /// The signal that it offers.
+    pub fn signal(&self) -> Option<Identifier>
+        ensures { result ≡ signal_asked self.now }
+    {
+        match self {
+            SlotCommand::Offer { signal } => Some(*signal),
+            SlotCommand::Load { .. }
+            | SlotCommand::Discard
+            | SlotCommand::Step
+            | SlotCommand::Unload
+            | SlotCommand::Look { .. }
+            | SlotCommand::Audit => None,
         }
     }
 

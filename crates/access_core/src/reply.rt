@@ -5,6 +5,7 @@ ghost use Rattle.access_core.specs.Replies.{word_of};
 use crate::refusal::Refusal;
 use est_text::identifier::Identifier;
 use rbac_policy::commands::SessionId;
+use reactor_core::entry::Word;
 use std::alloc::{AllocError, Global};
 use std::marker::Model;
 
@@ -144,6 +145,19 @@ impl Change {
     }
 }
 
+/// What is told of the entry that a command on a slot added to the slot's journal.
+#[derive(Clone, Copy)]
+pub struct Added {
+    /// The command's word.
+    pub word: Word,
+    /// The place of the entry.
+    pub place: u64,
+    /// The version at which the command was judged.
+    pub version: u64,
+    /// How many instants there were since the load; a step's own is the last of them.
+    pub instants: u64,
+}
+
 /// The answer to a request. Versions are lengths of the policy list; places in a journal and
 /// instants are counted from 1.
 #[derive(Drop)]
@@ -160,33 +174,8 @@ pub enum Reply {
         change: Change,
         version: u64,
     },
-    /// A module was loaded, at this place of the slot's journal, judged at this version.
-    Load {
-        place: u64,
-        version: u64,
-    },
-    /// A signal was offered, at this place of the slot's journal, judged at this version.
-    Offer {
-        place: u64,
-        version: u64,
-    },
-    /// The pending inputs were taken away, at this place of the slot's journal, judged at this
-    /// version.
-    Discard {
-        place: u64,
-        version: u64,
-    },
-    /// This instant was run, at this place of the slot's journal, judged at this version.
-    Step {
-        instant: u64,
-        place: u64,
-        version: u64,
-    },
-    /// The module was taken out, at this place of the slot's journal, judged at this version.
-    Unload {
-        place: u64,
-        version: u64,
-    },
+    /// A command on a slot added its entry.
+    Added(Added),
     /// What may be seen of this instant, judged at this version.
     Look {
         instant: u64,

@@ -1,5 +1,5 @@
 //! One slot, and the answer to a command on it.
-ghost use Rattle.std.specs.Prelude.{◌≡◌, ◌⊎◌, ℕ, [], List, true, false, MatchOption};
+ghost use Rattle.std.specs.Prelude.{◌≡◌, ◌⊎◌, ℕ, List, true, false, MatchOption};
 ghost use Rattle.est_kernel.specs.Term.{Term};
 ghost use Rattle.rbac_policy.specs.declared.commands.Entry.{Entry};
 ghost use Rattle.rbac_policy.specs.StandsFor.{StandsFor};
@@ -8,19 +8,17 @@ ghost use Rattle.access_core.specs.Answering.{ByRules, no_memory};
 ghost use Rattle.access_core.specs.SlotStep.{SlotStep, access_rules, IsAdmitted, no_instant};
 ghost use Rattle.access_core.specs.SlotStep.{NamesUndecided, settle_rules, step_rules, entry_rules};
 ghost use Rattle.access_core.specs.SlotStep.{journal_full, stamp_of, Offers, AddsEntry, Steps};
-ghost use Rattle.access_core.specs.SlotStep.{Looks, Audits, Loads};
+ghost use Rattle.access_core.specs.SlotStep.{Looks, Audits, Loads, tells};
 ghost use Rattle.reactor_core.specs.Meaning.{is_loaded};
 ghost use Rattle.reactor_core.specs.declared.entry.Action.TheVariants as action;
 ghost use Rattle.reactor_core.specs.Instants.{IsOutcome, HasNoOutcome};
 ghost use Rattle.access_core.specs.Needs.{permission_of};
 ghost use Rattle.access_core.specs.declared.command.SlotCommand.TheVariants.{Load};
 ghost use Rattle.access_core.specs.Holding.{journal_of, IsHeldRight};
-ghost use Rattle.access_core.specs.declared.reply.Reply.TheVariants.{Discard as Discarded};
-ghost use Rattle.access_core.specs.declared.reply.Reply.TheVariants.{Unload as Unloaded};
 
 use crate::command::SlotCommand;
 use crate::refusal::Refusal;
-use crate::reply::Reply;
+use crate::reply::{Added, Reply};
 use crate::shown::{find_observed, keep_seen, list_names, list_statuses};
 use est_kernel::state::Stuck;
 use est_text::identifier::Identifier;
@@ -28,7 +26,7 @@ use rbac_admin::refusals::Refusal as PolicyRefusal;
 use rbac_policy::commands::SessionId;
 use rbac_policy::objects::{Object, Operation, SlotNumber};
 use rbac_policy::policy::Policy;
-use reactor_core::entry::Stamp;
+use reactor_core::entry::{Stamp, Word};
 use reactor_core::journal::Journal;
 use reactor_core::reactor::Reactor;
 use reactor_core::reactor::instant::{Instant, Settled};
@@ -134,6 +132,18 @@ fn refuse_stuck(
     }
 }
 
+/// The reply to the command of this word, which added the last entry of the reactor's journal.
+fn added_to(reactor: &Reactor, word: Word, stamp: Stamp) -> Reply
+    ensures { result ≡ tells word stamp.version reactor.now }
+{
+    Reply::Added(Added {
+        word,
+        place: reactor.journal().len() as u64,
+        version: stamp.version,
+        instants: reactor.instants(),
+    })
+}
+
 /// Loads a module: the reply, and what the slot holds afterwards.
 fn load_module(
     alloc: Global,
@@ -148,10 +158,7 @@ fn load_module(
 {
     match Reactor::load(alloc, journal, stamp, main, text) {
         Ok(reactor) => {
-            let reply = Reply::Load {
-                place: reactor.journal().len() as u64,
-                version: stamp.version,
-            };
+            let reply = added_to(&reactor, Word::Load, stamp);
             (reply, Content::Loaded(reactor))
         }
         Err((refusal, journal)) => (
@@ -167,10 +174,7 @@ fn offer_signal(reactor: &mut Reactor, stamp: Stamp, signal: &Identifier) -> Rep
     ensures step { Offers stamp signal.now reactor.old result reactor.new }
 {
     match reactor.offer(stamp, signal) {
-        Ok(()) => Reply::Offer {
-            place: reactor.journal().len() as u64,
-            version: stamp.version,
-        },
+        Ok(()) => added_to(reactor, Word::Offer, stamp),
         Err(refusal) => Reply::Refused(Refusal::from(refusal)),
     }
 }
@@ -178,14 +182,11 @@ fn offer_signal(reactor: &mut Reactor, stamp: Stamp, signal: &Identifier) -> Rep
 /// Takes the reactor's pending inputs away.
 fn discard_inputs(reactor: &mut Reactor, stamp: Stamp) -> Reply
     ensures loaded { is_loaded reactor.new ≡ true }
-    ensures step { ByRules (entry_rules reactor.old) (AddsEntry action.Discard Discarded stamp)
+    ensures step { ByRules (entry_rules reactor.old) (AddsEntry action.Discard stamp)
         reactor.old result reactor.new }
 {
     match reactor.discard(stamp) {
-        Ok(()) => Reply::Discard {
-            place: reactor.journal().len() as u64,
-            version: stamp.version,
-        },
+        Ok(()) => added_to(reactor, Word::Discard, stamp),
         Err(refusal) => Reply::Refused(Refusal::from(refusal)),
     }
 }
@@ -194,15 +195,17 @@ fn discard_inputs(reactor: &mut Reactor, stamp: Stamp) -> Reply
 fn unload_module(reactor: Reactor, stamp: Stamp) -> (Reply, Content)
     requires { is_loaded reactor ≡ true }
     ensures held { IsHeldRight result.1 }
-    ensures step { ByRules (entry_rules reactor) (AddsEntry action.Unload Unloaded stamp) reactor
+    ensures step { ByRules (entry_rules reactor) (AddsEntry action.Unload stamp) reactor
         result.0 (journal_of result.1) }
 {
     match reactor.unload(stamp) {
         Ok(journal) => {
-            let reply = Reply::Unload {
+            let reply = Reply::Added(Added {
+                word: Word::Unload,
                 place: journal.len() as u64,
                 version: stamp.version,
-            };
+                instants: 0,
+            });
             (reply, Content::Empty(journal))
         }
         Err((refusal, reactor)) => (
@@ -221,11 +224,7 @@ fn commit_step(settled: Settled, stamp: Stamp) -> (Reply, Reactor)
 {
     match settled.commit(stamp) {
         Ok(reactor) => {
-            let reply = Reply::Step {
-                instant: reactor.instants(),
-                place: reactor.journal().len() as u64,
-                version: stamp.version,
-            };
+            let reply = added_to(&reactor, Word::Step, stamp);
             (reply, reactor)
         }
         Err((refusal, reactor)) => (Reply::Refused(Refusal::from(refusal)), reactor),
@@ -389,7 +388,7 @@ impl Slot {
     fn discard(&mut self, stamp: Stamp) -> Reply
         ensures number { self.new.number ≡ self.old.number }
         ensures step { ByRules (empty self.old.journal ▸ entry_rules self.old.journal)
-            (AddsEntry action.Discard Discarded stamp)
+            (AddsEntry action.Discard stamp)
             self.old.journal result self.new.journal }
     {
         if let Content::Loaded(reactor) = &mut self.content {
@@ -401,7 +400,7 @@ impl Slot {
     fn unload(&mut self, stamp: Stamp) -> Reply
         ensures number { self.new.number ≡ self.old.number }
         ensures step { ByRules (empty self.old.journal ▸ entry_rules self.old.journal)
-            (AddsEntry action.Unload Unloaded stamp)
+            (AddsEntry action.Unload stamp)
             self.old.journal result self.new.journal }
     {
         // The content is moved out; each arm puts it back.

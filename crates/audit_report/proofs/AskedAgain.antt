@@ -25,7 +25,7 @@ use Rattle.reactor_core.specs.declared.entry.PastInstant.{PastInstant}
 use Rattle.reactor_core.specs.declared.entry.SlotEntry.{SlotEntry}
 use Rattle.reactor_core.specs.Loading.{GivenModule}
 use Rattle.reactor_core.specs.Meaning.{instant, entry, is_loaded, last_load, load_after, ModuleOf, Running}
-use Rattle.reactor_core.specs.Meaning.{RunsAfter, Leaves}
+use Rattle.reactor_core.specs.Meaning.{RunsAfter, Leaves, instant_of}
 use Rattle.reactor_core.specs.Left.{IsKernelOf, IsLeftOf}
 use Rattle.reactor_core.specs.Reacting.{ReactsWith, IsStuck}
 use Rattle.reactor_core.specs.Instants.{IsOutcome, HasNoOutcome}
@@ -36,7 +36,7 @@ use Rattle.access_core.specs.declared.reply.Reply.{Reply}
 use Rattle.access_core.specs.declared.reply.Reply.TheVariants.{Refused}
 use Rattle.access_core.specs.Answering.{IsRefused}
 use Rattle.access_core.specs.SlotStep.{SlotStep, slot_rules, Does, stamp_of}
-use Rattle.access_core.specs.Journals.{command_of, instant_of}
+use Rattle.access_core.specs.Journals.{command_of}
 use Rattle.access_core.proofs.Legality.{steps_where}
 use Rattle.access_core.proofs.OneNaming.{same_mask}
 use Rattle.audit_report.specs.Inner.Asking.{Predicts, LeavesOther, Thinks, ThinksOfStep, Fails}

@@ -10,15 +10,14 @@ use Rattle.reactor_core.specs.declared.entry.Action.TheVariants as action
 use Rattle.reactor_core.specs.declared.entry.PastInstant.{PastInstant}
 use Rattle.reactor_core.specs.declared.entry.SlotEntry.{SlotEntry}
 use Rattle.reactor_core.specs.declared.entry.Stamp.{Stamp}
-use Rattle.reactor_core.specs.Meaning.{entry}
+use Rattle.reactor_core.specs.Meaning.{entry, instant_of}
 use Rattle.access_core.specs.declared.command.SlotCommand.{SlotCommand}
 use Rattle.access_core.specs.declared.refusal.Refusal.{Refusal}
 use Rattle.access_core.specs.declared.refusal.Refusal.TheVariants as refusal
 use Rattle.access_core.specs.declared.reply.Reply.{Reply}
 use Rattle.access_core.specs.declared.reply.Reply.TheVariants.{Refused}
-use Rattle.access_core.specs.Needs.{IsAccepted}
 use Rattle.access_core.specs.SlotStep.{SlotStep, stamp_of}
-use Rattle.access_core.specs.Journals.{command_of, instant_of, Judges, Adds}
+use Rattle.access_core.specs.Journals.{command_of, Judges, Adds}
 use Rattle.audit_report.specs.Findings.{ReactsOtherwise}
 use Rattle.audit_report.specs.Inner.Faults.{instant_in, last_instant, KeepsInstant, fault_of, IsFaultOf}
 use Rattle.access_core.proofs.Legality.{Moves, IsTaken, moves, refused_stays, same_action}

@@ -8,7 +8,6 @@ ghost use Rattle.est_kernel.specs.declared.kernel.Kernel.{Kernel as KernelValue}
 ghost use Rattle.est_meaning.specs.States.{state_term};
 ghost use Rattle.reactor_core.specs.Instants.{HasNoOutcome, IsOutcome};
 ghost use Rattle.reactor_core.specs.Left.{IsLeftOf};
-ghost use Rattle.access_core.specs.Journals.{instant_of};
 ghost use Rattle.audit_report.specs.Inner.Asking.{ThinksOfStep, Thinks, LeavesSame};
 ghost use Rattle.audit_report.specs.Inner.Asking.{LeavesOther, Holds, Fails};
 
@@ -18,7 +17,7 @@ use est_kernel::state::{Inputs, Outcome, State};
 use est_left::order::is_in_order;
 use est_left::states::is_same_state;
 use est_rounds::engine::Engine;
-use reactor_core::entry::{Action, PastInstant};
+use reactor_core::entry::Action;
 use reactor_core::laws::one_module;
 use reactor_core::nesting::nests_locals;
 use reactor_core::reactor::Reactor;
@@ -91,16 +90,6 @@ fn opinion_of_step<E: Engine>(engine: &mut E, reactor: &Reactor, outputs: u64) -
     }
 }
 
-/// The instant that an action keeps, if it is a step.
-pub(crate) fn instant_of(action: &Action) -> Option<PastInstant>
-    ensures { result ≡ instant_of action.now }
-{
-    match action {
-        Action::Step(instant) => Some(*instant),
-        Action::Load(_) | Action::Offer(_) | Action::Discard | Action::Unload => None,
-    }
-}
-
 /// What this engine says of an action, if it is a step of what runs in the slot.
 pub(crate) fn opinion_of<E: Engine>(engine: &mut E, slot: &Slot, action: &Action) -> Opinion
     requires { (e : E) (kernel : KernelValue) → E.is_for e kernel }
@@ -109,7 +98,7 @@ pub(crate) fn opinion_of<E: Engine>(engine: &mut E, slot: &Slot, action: &Action
     let Some(reactor) = slot.reactor() else {
         return Opinion::NotAsked;
     };
-    match instant_of(action) {
+    match action.instant() {
         Some(stored) => opinion_of_step(engine, reactor, stored.outputs),
         None => Opinion::NotAsked,
     }

@@ -10,7 +10,7 @@ ghost use Rattle.audit_report.specs.Findings.{IsFirstOfSlot};
 ghost use Rattle.audit_report.specs.Inner.Faults.{last_instant, KeepsInstant, fault_of, Replays};
 ghost use Rattle.audit_report.specs.Inner.Faults.{finding_of};
 
-use crate::asked_again::{instant_of, opinion_of};
+use crate::asked_again::opinion_of;
 use crate::finding::Finding;
 use access_core::command::SlotCommand;
 use access_core::refusal::Refusal;
@@ -40,7 +40,7 @@ fn last_instant(entries: &[SlotEntry]) -> Option<PastInstant>
     ensures { result ≡ last_instant entries.now }
 {
     match entries.last() {
-        Some(entry) => instant_of(&entry.action),
+        Some(entry) => entry.action.instant(),
         None => None,
     }
 }
@@ -49,7 +49,7 @@ fn last_instant(entries: &[SlotEntry]) -> Option<PastInstant>
 fn keeps_instant(entries: &[SlotEntry], action: &Action) -> bool
     ensures { IsTrue result ↔ KeepsInstant entries.now action.now }
 {
-    match instant_of(action) {
+    match action.instant() {
         Some(stored) => last_instant(entries) == Some(stored),
         None => true,
     }

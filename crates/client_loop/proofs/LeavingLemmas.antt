@@ -13,11 +13,7 @@ none_left : (done : Logout) (given : Reply) (session : ℕ) → Says done given 
 none_left Ended (reply.Refused refusal) session says = absurd says
 none_left Ended (reply.Login number version) session says = refl
 none_left Ended (reply.Changed change version) session says = refl
-none_left Ended (reply.Load place version) session says = refl
-none_left Ended (reply.Offer place version) session says = refl
-none_left Ended (reply.Discard place version) session says = refl
-none_left Ended (reply.Step instant place version) session says = refl
-none_left Ended (reply.Unload place version) session says = refl
+none_left Ended (reply.Added added) session says = refl
 none_left Ended (reply.Look instant signals version) session says = refl
 none_left Ended (reply.Audit entries instants version) session says = refl
 none_left Ended (reply.Check allowed) session says = refl

@@ -1,5 +1,5 @@
 -- Where an offer or a step is accepted.
-use Rattle.std.proofs.Common.{◌≡◌, ◌↔◌, ℕ, zero, suc, ◌<◌, true, false, List, [], ◌∷◌, length, take, refl, sym, ◌∙◌, ap}
+use Rattle.std.proofs.Common.{◌≡◌, ◌↔◌, ℕ, ◌<◌, false, List, length, take, refl, sym, ◌∙◌, ap}
 use Rattle.std.proofs.Common.{inl, inr, subst, arith, ⊎_elim}
 use Rattle.std.specs.Prelude.{Option, Some, None, Result, Ok, Err, MatchResult, slice_get}
 use Rattle.std.proofs.Math.ListN.{length-set}
@@ -12,6 +12,7 @@ use Rattle.rbac_policy.specs.declared.objects.Operation.TheVariants.{Offer as To
 use Rattle.rbac_policy.specs.declared.objects.Object.TheVariants.{Slot, Signal}
 use Rattle.rbac_policy.specs.Facts.{IsLive, May}
 use Rattle.reactor_core.specs.declared.entry.SlotEntry.{SlotEntry}
+use Rattle.reactor_core.specs.declared.entry.Word.TheVariants as word
 use Rattle.reactor_core.specs.declared.refusal.Refusal.{Refusal as ReactorRefusal}
 use Rattle.reactor_core.specs.Meaning.{last_load, Running, RunsAfter}
 use Rattle.reactor_core.specs.Answers.{OfferAnswer}
@@ -21,13 +22,13 @@ use Rattle.access_core.specs.declared.command.SlotCommand.{SlotCommand}
 use Rattle.access_core.specs.declared.command.SlotCommand.TheVariants.{Offer, Step}
 use Rattle.access_core.specs.declared.refusal.Refusal.{Refusal}
 use Rattle.access_core.specs.declared.reply.Reply.{Reply}
-use Rattle.access_core.specs.declared.reply.Reply.TheVariants.{Refused, Offer as Offered}
+use Rattle.access_core.specs.declared.reply.Reply.TheVariants.{Refused}
 use Rattle.access_core.specs.Answering.{IsRefused, ByRules}
 use Rattle.access_core.specs.Refusals.{of_reactor}
 use Rattle.access_core.specs.Desk.{desk_at, no_slot, InSlot}
 use Rattle.access_core.specs.Needs.{IsAccepted}
 use Rattle.access_core.specs.SlotState.{SlotState}
-use Rattle.access_core.specs.SlotStep.{SlotStep, no_session, stamp_of, Offers}
+use Rattle.access_core.specs.SlotStep.{SlotStep, no_session, stamp_of, tells, Offers}
 use Rattle.history_events.specs.declared.event.Event.{Event}
 use Rattle.history_events.specs.declared.event.Event.TheVariants.{Admin, OnSlot}
 use Rattle.history_events.specs.Accepting.{MeetsNoLimit, IsInputName, IsExcluded, CanOffer, HasReaction}
@@ -85,7 +86,7 @@ module _ (modules : OneModule) (entries : List Entry) (slot session : ℕ) (befo
   offer_taken name can h = by_answer h.answer h.given h.replied where
     by_answer : (answer : Result (Unit {0}) ReactorRefusal)
         → OfferAnswer before (stamp_of entries session) name answer after
-        → MatchResult answer (λ _. reply ≡ Offered (length after) (length entries))
+        → MatchResult answer (λ _. reply ≡ tells word.Offer (length entries) after)
         (λ refusal. IsRefused (of_reactor refusal) before reply after)
         → IsAccepted reply
     by_answer (Ok done) given replied = subst IsAccepted (sym replied) tt

@@ -1,10 +1,10 @@
 -- What an event changes, and that it is allowed.
-use Rattle.std.proofs.Common.{◌≡◌, ℕ, zero, suc, ◌≤◌, List, [], ◌∷◌, ◌++◌, length, take, refl, sym, ◌∙◌, ap, inl, inr}
+use Rattle.std.proofs.Common.{◌≡◌, ℕ, ◌≤◌, List, [], ◌∷◌, ◌++◌, length, take, refl, sym, ◌∙◌, ap, inl, inr}
 use Rattle.std.proofs.Common.{subst, ⊎_elim}
-use Rattle.std.specs.Prelude.{Option, Some, None, Result, Ok, Err, MatchResult, slice_get, slice_set}
+use Rattle.std.specs.Prelude.{Option, Some, None, Result, Ok, Err, MatchResult, slice_set}
 use Rattle.std.proofs.lemmas.List.{length-take-le}
 use Rattle.refusal_rules.specs.Rules.{accept, ◌▸◌}
-use Rattle.refusal_rules.proofs.RuleLemmas.{all_passed, first_or_none}
+use Rattle.refusal_rules.proofs.RuleLemmas.{first_or_none}
 use Rattle.rbac_policy.specs.declared.commands.AdminCommand.{AdminCommand}
 use Rattle.rbac_policy.specs.declared.commands.AdminCommand.TheVariants.{AddUser, DeleteUser, AddRole, DeleteRole}
 use Rattle.rbac_policy.specs.declared.commands.AdminCommand.TheVariants.{AssignUser, DeassignUser, GrantPermission}
@@ -14,25 +14,23 @@ use Rattle.rbac_policy.specs.declared.commands.AdminCommand.TheVariants.{CreateS
 use Rattle.rbac_policy.specs.declared.commands.AdminCommand.TheVariants.{DropActiveRole}
 use Rattle.rbac_policy.specs.declared.commands.Entry.{Entry}
 use Rattle.rbac_admin.specs.declared.refusals.Refusal.{Refusal as PolicyRefusal}
-use Rattle.rbac_admin.specs.PolicyStep.{PolicyStep, entry_of, policy_rules}
+use Rattle.rbac_admin.specs.PolicyStep.{PolicyStep, entry_of}
 use Rattle.rbac_admin.specs.Room.{HasRoomFor}
 use Rattle.rbac_admin.proofs.Accepted.{accepted_administers, accepted_entry}
-use Rattle.reactor_core.specs.Meaning.{entry}
+use Rattle.reactor_core.specs.Meaning.{entry, word_of}
 use Rattle.access_core.specs.declared.command.SlotCommand.{SlotCommand}
 use Rattle.access_core.specs.declared.refusal.Refusal.{Refusal}
 use Rattle.access_core.specs.declared.refusal.Refusal.TheVariants.{Policy}
 use Rattle.access_core.specs.declared.reply.Change.{Change}
 use Rattle.access_core.specs.Answering.{IsRefused, ByRules, no_memory}
 use Rattle.access_core.specs.Needs.{IsAccepted}
-use Rattle.access_core.specs.SlotState.{SlotState}
-use Rattle.access_core.specs.SlotStep.{no_session}
+use Rattle.access_core.specs.SlotStep.{no_session, tells}
 use Rattle.access_core.specs.Desk.{DeskState, desk_at, AdminStep, InSlot, Appends, list_full, no_slot, accepted_reply}
 use Rattle.access_core.specs.Desk.{reply_of_change, change_of}
 use Rattle.access_core.proofs.Unchanged.{accepted_is_allowed, same_place}
 use Rattle.history_events.specs.declared.event.Event.{Event}
 use Rattle.history_events.specs.declared.event.Event.TheVariants.{Admin, OnSlot}
 use Rattle.history_events.specs.Changes.{Changes}
-use Rattle.history_events.specs.Changing.{Tells}
 use Rattle.history_events.specs.Runs.{WorldState, Moment, EventStep, Comes, desk_of, version_rules, Judged}
 use Rattle.history_events.proofs.Following.{reached}
 use Rattle.history_events.proofs.Moving.{moves, not_accepted}
@@ -93,8 +91,8 @@ module _ (m : Moment) where
                 is = a.is;
                 room = a.room;
                 added = slots ∙ ap (λ j. slice_set m.before.slots slot (record i.slot { journal = j })) added;
-                told = subst (λ j. Tells command version j m.reply) added
-                    (subst (λ v. Tells command v i.journal m.reply) long a.told);
+                told = a.told ∙ ap (λ v. tells (word_of a.does) v i.journal) long
+                    ∙ ap (tells (word_of a.does) version) added;
                 entries = h.entries;
               },
             )

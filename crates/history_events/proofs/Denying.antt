@@ -10,6 +10,7 @@ use Rattle.rbac_admin.specs.declared.refusals.Refusal.{Refusal as PolicyRefusal}
 use Rattle.rbac_admin.specs.PolicyStep.{PolicyStep, policy_rules, entry_of}
 use Rattle.reactor_core.specs.declared.entry.Action.{Action}
 use Rattle.reactor_core.specs.declared.entry.SlotEntry.{SlotEntry}
+use Rattle.reactor_core.specs.declared.entry.Word.TheVariants as word
 use Rattle.reactor_core.specs.declared.refusal.Refusal.{Refusal as ReactorRefusal}
 use Rattle.reactor_core.specs.Answers.{LoadAnswer, OfferAnswer, AddsLoad, load_rules, entry_rules, gives_module}
 use Rattle.est_relations.specs.Offers.{offer_rules as pending_rules}
@@ -21,12 +22,12 @@ use Rattle.access_core.specs.declared.command.SlotCommand.TheVariants.{Load, Off
 use Rattle.access_core.specs.declared.refusal.Refusal.{Refusal}
 use Rattle.access_core.specs.declared.refusal.Refusal.TheVariants.{Policy, JournalFull, Memory}
 use Rattle.access_core.specs.declared.reply.Reply.{Reply}
-use Rattle.access_core.specs.declared.reply.Reply.TheVariants.{Refused, Load as Loaded, Offer as Offered}
+use Rattle.access_core.specs.declared.reply.Reply.TheVariants.{Refused}
 use Rattle.access_core.specs.Answering.{IsRefused, ByRules, no_memory}
 use Rattle.access_core.specs.Refusals.{of_reactor}
 use Rattle.access_core.specs.Desk.{desk_at, AdminStep, DeskStep, InSlot, Appends, list_full, change_of}
 use Rattle.access_core.specs.Needs.{IsAccepted}
-use Rattle.access_core.specs.SlotStep.{SlotStep, Loads, Offers, AddsEntry, Audits, stamp_of, journal_full}
+use Rattle.access_core.specs.SlotStep.{SlotStep, Loads, Offers, AddsEntry, Audits, stamp_of, journal_full, tells}
 use Rattle.access_core.specs.SlotStep.{entry_rules as slot_entry_rules}
 use Rattle.access_core.proofs.OneSlotStep.{mapped, same_err, no_ok, no_err}
 use Rattle.history_events.specs.declared.event.Event.{Event}
@@ -107,7 +108,7 @@ module _ (entries : List Entry) (slot session : ℕ) (before : List SlotEntry) (
     by_answer : (answer : Result (List SlotEntry) (ReactorRefusal × List SlotEntry))
         → LoadAnswer before (stamp_of entries session) main text answer
         → MatchResult answer
-        (λ journal. (after ≡ journal) × (reply ≡ Loaded (length after) (length entries)))
+        (λ journal. (after ≡ journal) × (reply ≡ tells word.Load (length entries) after))
         (λ refused. IsRefused (of_reactor refused.0) before reply after)
         → Named (told_as of_reactor (gives_module main text) ▸ journal_full before ▸ accept) reply
     by_answer (Ok journal) given replied =
@@ -133,7 +134,7 @@ module _ (entries : List Entry) (slot session : ℕ) (before : List SlotEntry) (
   offers signal h = by_answer h.answer h.given h.replied where
     by_answer : (answer : Result (Unit {0}) ReactorRefusal)
         → OfferAnswer before (stamp_of entries session) signal answer after
-        → MatchResult answer (λ _. reply ≡ Offered (length after) (length entries))
+        → MatchResult answer (λ _. reply ≡ tells word.Offer (length entries) after)
         (λ refusal. IsRefused (of_reactor refusal) before reply after)
         → Named (bad_offer before signal ▸ journal_full before ▸ accept) reply
     by_answer (Ok done) given replied =
@@ -152,12 +153,10 @@ module _ (entries : List Entry) (slot session : ℕ) (before : List SlotEntry) (
         (first_or_none rules _ _ (split rules (entry_rules before) _ _ given.given))
 
   -- an entry that has room is added, where no memory is refused
-  adds_named : {action : Action} {told : (place version : ℕ) → Reply}
-      → ((place version : ℕ) → IsAccepted (told place version))
-      → Answers (slot_entry_rules before) (λ refusal. IsRefused refusal before reply after)
-      (AddsEntry action told (stamp_of entries session) before reply after)
+  adds_named : {action : Action} → Answers (slot_entry_rules before) (λ refusal. IsRefused refusal before reply after)
+      (AddsEntry action (stamp_of entries session) before reply after)
       → Named (journal_full before ▸ accept) reply
-  adds_named accepts = on (λ _ h. let adds = unmoved h in subst IsAccepted (sym adds.replied) (accepts _ _))
+  adds_named = on (λ _ h. let adds = unmoved h in subst IsAccepted (sym adds.replied) tt)
 
   -- what the slot answers to a command of a session that lives
   slot_named : (command : SlotCommand) → IsLive entries session
@@ -168,14 +167,14 @@ module _ (entries : List Entry) (slot session : ℕ) (before : List SlotEntry) (
   slot_named (Offer signal) live =
       ⊎_elim (λ r. absurd (r.given.1 live)) (λ p. on (λ _. on (λ _ h. offers signal h)) p.next)
   slot_named Discard live =
-      ⊎_elim (λ r. absurd (r.given.1 live)) (λ p. on (λ _. on (λ _. adds_named (λ place version. tt))) p.next)
+      ⊎_elim (λ r. absurd (r.given.1 live)) (λ p. on (λ _. on (λ _. adds_named)) p.next)
   slot_named Step live =
       ⊎_elim (λ r. absurd (r.given.1 live))
       (λ p. on
       (λ _. on (λ _. on (λ _ h. on (λ _. on (λ _ steps. subst IsAccepted (sym steps.replied) tt)) (unmoved h))))
       p.next)
   slot_named Unload live =
-      ⊎_elim (λ r. absurd (r.given.1 live)) (λ p. on (λ _. on (λ _. adds_named (λ place version. tt))) p.next)
+      ⊎_elim (λ r. absurd (r.given.1 live)) (λ p. on (λ _. on (λ _. adds_named)) p.next)
   slot_named (Look n) live =
       ⊎_elim (λ r. absurd (r.given.1 live))
       (λ p. on (λ _. on (λ _ h. let looks = unmoved h in subst IsAccepted (sym looks.replied) tt)) p.next)

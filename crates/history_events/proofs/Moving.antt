@@ -4,20 +4,22 @@ use Rattle.std.specs.Prelude.{Result, Ok, Err, MatchResult}
 use Rattle.refusal_rules.specs.Rules.{AllPass}
 use Rattle.refusal_rules.proofs.RuleLemmas.{all_passed, first_or_none}
 use Rattle.rbac_policy.specs.declared.commands.Entry.{Entry}
+use Rattle.reactor_core.specs.declared.entry.Action.TheVariants as action
 use Rattle.reactor_core.specs.declared.entry.SlotEntry.{SlotEntry}
+use Rattle.reactor_core.specs.declared.entry.Word.TheVariants as word
 use Rattle.reactor_core.specs.declared.refusal.Refusal.{Refusal as ReactorRefusal}
-use Rattle.reactor_core.specs.Meaning.{is_loaded}
-use Rattle.reactor_core.specs.Answers.{HasRoom, LoadAnswer, OfferAnswer, AddsLoad, load_rules, offer_rules}
+use Rattle.reactor_core.specs.Meaning.{instant, is_loaded}
+use Rattle.reactor_core.specs.Answers.{HasRoom, LoadAnswer, OfferAnswer, AddsLoad, load_of, load_rules, offer_rules}
 use Rattle.reactor_core.specs.Instants.{KeepsRelations}
 use Rattle.access_core.specs.declared.command.SlotCommand.{SlotCommand}
 use Rattle.access_core.specs.declared.command.SlotCommand.TheVariants.{Load, Offer, Discard, Step, Unload, Look, Audit}
 use Rattle.access_core.specs.declared.refusal.Refusal.{Refusal}
 use Rattle.access_core.specs.declared.reply.Reply.{Reply}
-use Rattle.access_core.specs.declared.reply.Reply.TheVariants.{Refused, Load as Loaded, Offer as Offered}
+use Rattle.access_core.specs.declared.reply.Reply.TheVariants.{Refused}
 use Rattle.access_core.specs.Answering.{IsRefused}
 use Rattle.access_core.specs.Refusals.{of_reactor}
 use Rattle.access_core.specs.Needs.{IsAccepted}
-use Rattle.access_core.specs.SlotStep.{SlotStep, slot_rules, Does, Loads, Offers, Steps, stamp_of}
+use Rattle.access_core.specs.SlotStep.{SlotStep, slot_rules, Does, Loads, Offers, Steps, stamp_of, tells}
 use Rattle.history_events.specs.Changing.{Moves}
 
 -- a refusal accepts nothing
@@ -37,7 +39,7 @@ module _ (entries : List Entry) (slot session : ℕ) (before : List SlotEntry) (
     by_answer : (answer : Result (List SlotEntry) (ReactorRefusal × List SlotEntry))
         → LoadAnswer before (stamp_of entries session) main text answer
         → MatchResult answer
-        (λ journal. (after ≡ journal) × (reply ≡ Loaded (length after) (length entries)))
+        (λ journal. (after ≡ journal) × (reply ≡ tells word.Load (length entries) after))
         (λ refused. IsRefused (of_reactor refused.0) before reply after)
         → Moves entries session (Load main text) before reply after
     by_answer (Ok journal) given replied =
@@ -50,7 +52,7 @@ module _ (entries : List Entry) (slot session : ℕ) (before : List SlotEntry) (
         let same : journal ≡ longer = cc in
         inl (record {
           accepted = subst IsAccepted (sym replied.1) tt;
-          does = _;
+          does = action.Load (load_of main text);
           is = record { empty = none; given = adds.given; gives = adds.gives; is = refl };
           room = passed.0.1.0;
           added = replied.0 ∙ same ∙ adds.added;
@@ -64,7 +66,7 @@ module _ (entries : List Entry) (slot session : ℕ) (before : List SlotEntry) (
     by_answer : (answer : Result (Unit {0}) ReactorRefusal)
         → OfferAnswer before (stamp_of entries session) signal answer after
         → MatchResult answer
-        (λ _. reply ≡ Offered (length after) (length entries))
+        (λ _. reply ≡ tells word.Offer (length entries) after)
         (λ refusal. IsRefused (of_reactor refusal) before reply after)
         → Moves entries session (Offer signal) before reply after
     by_answer (Ok done) given replied =
@@ -72,7 +74,7 @@ module _ (entries : List Entry) (slot session : ℕ) (before : List SlotEntry) (
         (λ refusal e. let no = e.0 in cc) given.given in
         inl (record {
           accepted = subst IsAccepted (sym replied) tt;
-          does = _;
+          does = action.Offer signal;
           is = record {
             running = given.running;
             runs = given.runs;
@@ -94,7 +96,7 @@ module _ (entries : List Entry) (slot session : ℕ) (before : List SlotEntry) (
       → Moves entries session Step before reply after
   steps lawful room h = inl (record {
     accepted = subst IsAccepted (sym h.replied) tt;
-    does = _;
+    does = action.Step (instant h.adds.outcome.running.pending h.outputs);
     is = record { lawful = lawful; outputs = h.outputs; next = h.next; outcome = h.adds.outcome; is = refl };
     room = room;
     added = h.adds.appended;
@@ -109,7 +111,7 @@ module _ (entries : List Entry) (slot session : ℕ) (before : List SlotEntry) (
   does (Offer signal) all h = offers signal h
   does Discard all h = inl (record {
     accepted = subst IsAccepted (sym h.replied) tt;
-    does = _;
+    does = action.Discard;
     is = record { loaded = all.1.1.0; is = refl };
     room = all.1.1.1.0;
     added = h.added;
@@ -118,7 +120,7 @@ module _ (entries : List Entry) (slot session : ℕ) (before : List SlotEntry) (
   does Step all h = steps all.1.1.1.0 all.1.1.1.1.1.1.0 h
   does Unload all h = inl (record {
     accepted = subst IsAccepted (sym h.replied) tt;
-    does = _;
+    does = action.Unload;
     is = record { loaded = all.1.1.0; is = refl };
     room = all.1.1.1.0;
     added = h.added;

@@ -15,22 +15,24 @@ use Rattle.reactor_core.specs.declared.entry.Load.{Load as LoadEntry}
 use Rattle.reactor_core.specs.declared.entry.PastInstant.{PastInstant}
 use Rattle.reactor_core.specs.declared.entry.Stamp.{Stamp}
 use Rattle.reactor_core.specs.declared.entry.SlotEntry.{SlotEntry}
+use Rattle.reactor_core.specs.declared.entry.Word.TheVariants as word
 use Rattle.reactor_core.specs.Meaning.{entry, instant, is_loaded, last_load, load_after, instants_of, instants_after}
 use Rattle.reactor_core.specs.Meaning.{offers_of, mask_of, ModuleOf, Running, RunsAfter, Leaves, loaded, offered}
-use Rattle.reactor_core.specs.Meaning.{discarded, stepped}
+use Rattle.reactor_core.specs.Meaning.{discarded, stepped, word_of}
 use Rattle.reactor_core.specs.Reacting.{ReactsWith}
 use Rattle.reactor_core.proofs.OneMeaning.{OneModule, one_term, same_running}
 use Rattle.reactor_core.proofs.Steps.{after_snoc}
 use Rattle.access_core.specs.declared.command.SlotCommand.{SlotCommand}
 use Rattle.access_core.specs.declared.command.SlotCommand.TheVariants.{Load, Offer, Discard, Step, Unload, Look, Audit}
-use Rattle.access_core.specs.declared.reply.Reply.TheVariants.{Look as Shown, Step as Stepped}
+use Rattle.access_core.specs.declared.reply.Reply.{Reply}
+use Rattle.access_core.specs.declared.reply.Reply.TheVariants.{Added, Look as Shown}
 use Rattle.access_core.specs.Answering.{IsRefused}
 use Rattle.access_core.specs.Desk.{desk_at, InSlot}
 use Rattle.access_core.specs.Needs.{IsAccepted}
 use Rattle.access_core.specs.Shown.{shown_of}
-use Rattle.access_core.specs.SlotStep.{SlotStep, stamp_of, Looks}
+use Rattle.access_core.specs.SlotStep.{SlotStep, stamp_of, tells, Looks}
 use Rattle.history_events.specs.declared.event.Event.TheVariants.{OnSlot}
-use Rattle.history_events.specs.Changing.{AddsAction, IsActionOf, Tells}
+use Rattle.history_events.specs.Changing.{AddsAction, IsActionOf}
 use Rattle.history_events.specs.Entering.{Accepts, IsOn, IsStep, IsLoad, StandsIn, WasOffered}
 use Rattle.history_events.specs.Runs.{Moment, EventStep, Comes, desk_of, version_rules, Judged, journal_in, journal_at}
 use Rattle.history_events.specs.Showing.{Reactions, starts, goes_on, WasStep, ShowsReaction}
@@ -136,6 +138,15 @@ module _ (modules : OneModule) (past : List Moment) (m : Moment) (seat version s
   instants_then : (does : Action) → a.does ≡ does → instants_of after ≡ instants_after (instants_of before) does
   instants_then does same = ap instants_of (added does same) ∙ after_snoc instants_after [] before (entry stamp does)
 
+  -- the reply to a step, with this number of its instant
+  abbrev step_told : ℕ → Reply
+  step_told n = Added (record {
+    word = word.Step;
+    place = length after;
+    version = length (take version m.before.entries);
+    instants = n;
+  })
+
   -- what ran before, where the load is the same
   abbrev ran : Running → Running
   ran r = record {
@@ -207,7 +218,7 @@ module _ (modules : OneModule) (past : List Moment) (m : Moment) (seat version s
       }
 
   steps : command ≡ Step → (h : IsActionOf Step before a.does)
-      → Tells Step (length (take version m.before.entries)) after m.reply
+      → m.reply ≡ tells (word_of a.does) (length (take version m.before.entries)) after
       → KnownSlot (past ++ m ∷ []) slot after
   steps e h told r runs =
       let o = h.outcome in
@@ -241,8 +252,8 @@ module _ (modules : OneModule) (past : List Moment) (m : Moment) (seat version s
                     accepted = (subst (IsOn slot IsStep) (sym is) (refl, e), a.accepted);
                     place = _;
                     version = _;
-                    numbered = told ∙ ap (λ n. Stepped n (length after) (length (take version m.before.entries)))
-                        number;
+                    numbered = told ∙ ap (λ d. tells (word_of d) (length (take version m.before.entries)) after) h.is
+                        ∙ ap step_told number;
                     running = o.running;
                     declares = declares;
                     adds = record {
@@ -256,7 +267,7 @@ module _ (modules : OneModule) (past : List Moment) (m : Moment) (seat version s
       }
 
   by_command : (c : SlotCommand) → command ≡ c → IsActionOf c before a.does
-      → Tells c (length (take version m.before.entries)) after m.reply
+      → m.reply ≡ tells (word_of a.does) (length (take version m.before.entries)) after
       → KnownSlot (past ++ m ∷ []) slot after
   by_command (Load main text) e h told = loads main text h
   by_command (Offer signal) e h told =

@@ -9,14 +9,15 @@ use Rattle.rbac_admin.specs.PolicyStep.{PolicyStep, entry_of}
 use Rattle.rbac_admin.specs.Room.{HasRoomFor}
 use Rattle.reactor_core.specs.declared.entry.Action.{Action}
 use Rattle.reactor_core.specs.Answers.{HasRoom}
-use Rattle.reactor_core.specs.Meaning.{entry}
+use Rattle.reactor_core.specs.Meaning.{entry, word_of}
 use Rattle.access_core.specs.declared.command.SlotCommand.{SlotCommand}
 use Rattle.access_core.specs.Desk.{accepted_reply}
 use Rattle.access_core.specs.Needs.{Needs, IsAccepted}
 use Rattle.access_core.specs.SlotState.{SlotState}
+use Rattle.access_core.specs.SlotStep.{tells}
 use Rattle.history_events.specs.declared.event.Event.{Event}
 use Rattle.history_events.specs.declared.event.Event.TheVariants.{Admin, OnSlot}
-use Rattle.history_events.specs.Changing.{IsActionOf, OnlyAsks, Tells}
+use Rattle.history_events.specs.Changing.{IsActionOf, OnlyAsks}
 use Rattle.history_events.specs.Runs.{Moment}
 
 -- one entry is added to the policy list, which has room for it: that of the command, with the session that gave it,
@@ -45,8 +46,8 @@ pub record AddsSlotEntry (version slot session : ℕ) (command : SlotCommand) (m
   pub added : let new : SlotState =
       record old { journal = old.journal ++ entry (record { version = version; session = session }) does ∷ [] } in
       m.after.slots ≡ slice_set m.before.slots slot new
-  pub told : Tells command version (old.journal ++ entry (record { version = version; session = session }) does ∷ [])
-      m.reply
+  pub told : m.reply ≡ tells (word_of does) version
+      (old.journal ++ entry (record { version = version; session = session }) does ∷ [])
   pub entries : m.after.entries ≡ m.before.entries
 
 -- no list is changed

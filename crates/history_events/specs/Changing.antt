@@ -6,16 +6,14 @@ use Rattle.reactor_core.specs.declared.entry.Action.{Action}
 use Rattle.reactor_core.specs.declared.entry.Action.TheVariants as action
 use Rattle.reactor_core.specs.declared.entry.SlotEntry.{SlotEntry}
 use Rattle.reactor_core.specs.Loading.{GivenModule, Gives}
-use Rattle.reactor_core.specs.Meaning.{entry, instant, Running, RunsAfter, is_loaded, instants_of}
+use Rattle.reactor_core.specs.Meaning.{entry, word_of, instant, Running, RunsAfter, is_loaded}
 use Rattle.reactor_core.specs.Answers.{HasRoom, load_of}
 use Rattle.reactor_core.specs.Instants.{IsOutcome, KeepsRelations}
 use Rattle.access_core.specs.declared.command.SlotCommand.{SlotCommand}
 use Rattle.access_core.specs.declared.command.SlotCommand.TheVariants.{Load, Offer, Discard, Step, Unload, Look, Audit}
 use Rattle.access_core.specs.declared.reply.Reply.{Reply}
-use Rattle.access_core.specs.declared.reply.Reply.TheVariants.{Load as Loaded, Offer as Offered, Discard as Discarded}
-use Rattle.access_core.specs.declared.reply.Reply.TheVariants.{Step as Stepped, Unload as Unloaded}
 use Rattle.access_core.specs.Needs.{IsAccepted}
-use Rattle.access_core.specs.SlotStep.{stamp_of}
+use Rattle.access_core.specs.SlotStep.{stamp_of, tells}
 use Rattle.history_events.specs.Accepting.{CanOffer}
 
 -- a load of the text's module, where no module runs
@@ -60,17 +58,7 @@ IsActionOf Unload before a = UnloadsModule before a
 IsActionOf (Look n) before a = ⊥
 IsActionOf Audit before a = ⊥
 
--- the reply tells the place of the entry, the version, and of a step the number of the instant since the load
-abbrev pub Tells : SlotCommand → (version : ℕ) → (after : List SlotEntry) → Reply → Type 0
-Tells (Load main text) version after reply = reply ≡ Loaded (length after) version
-Tells (Offer signal) version after reply = reply ≡ Offered (length after) version
-Tells Discard version after reply = reply ≡ Discarded (length after) version
-Tells Step version after reply = reply ≡ Stepped (length (instants_of after)) (length after) version
-Tells Unload version after reply = reply ≡ Unloaded (length after) version
-Tells (Look n) version after reply = ⊥
-Tells Audit version after reply = ⊥
-
--- the command is accepted, and one entry of what it asks for is added, for which there is room
+-- the command is accepted, one entry of what it asks for is added, for which there is room, and the reply tells so
 pub record AddsAction (entries : List Entry) (session : ℕ) (command : SlotCommand) (before : List SlotEntry)
     (reply : Reply) (after : List SlotEntry) : Type 0 where
   pub accepted : IsAccepted reply
@@ -78,7 +66,7 @@ pub record AddsAction (entries : List Entry) (session : ℕ) (command : SlotComm
   pub is : IsActionOf command before does
   pub room : HasRoom before
   pub added : after ≡ before ++ entry (stamp_of entries session) does ∷ []
-  pub told : Tells command (length entries) after reply
+  pub told : reply ≡ tells (word_of does) (length entries) after
 
 -- the command only asks: it is a look or an audit
 abbrev pub OnlyAsks : SlotCommand → Type 0

@@ -3,9 +3,10 @@ use Rattle.std.specs.Prelude.{◌≡◌, ◌↔◌, ℕ, ◌-◌, Bool, List, []
 use Rattle.est_kernel.specs.Term.{Term}
 use Rattle.est_kernel.specs.declared.interface.Declaration.{Declaration}
 use Rattle.reactor_core.specs.declared.entry.PastInstant.{PastInstant}
+use Rattle.reactor_core.specs.declared.entry.Word.TheVariants as word
 use Rattle.reactor_core.specs.Meaning.{instant, Running, RunsAfter}
 use Rattle.reactor_core.specs.Reacting.{ReactsWith}
-use Rattle.access_core.specs.declared.reply.Reply.TheVariants.{Step as Stepped, Look as Shown}
+use Rattle.access_core.specs.declared.reply.Reply.TheVariants.{Added, Look as Shown}
 use Rattle.access_core.specs.Shown.{Sees, shown_of}
 use Rattle.history_events.specs.Entering.{Accepts, IsStep, IsLoad, AddsInstantAt, StandsIn, WasOffered}
 use Rattle.history_events.specs.Runs.{Moment, journal_at}
@@ -25,7 +26,7 @@ pub record WasStep (slot n : ℕ) (interface : List Declaration) (i : PastInstan
   pub accepted : Accepts slot IsStep m
   pub place : ℕ
   pub version : ℕ
-  pub numbered : m.reply ≡ Stepped n place version
+  pub numbered : m.reply ≡ Added (record { word = word.Step; place = place; version = version; instants = n })
   pub running : Running
   pub declares : running.interface ≡ interface
   pub adds : AddsInstantAt m slot running i

@@ -1,19 +1,12 @@
 -- What is lawful is accepted: the call of which a receipt tells, where it comes next.
 use Rattle.std.proofs.Common.{◌≡◌, ◌∙◌, ℕ, ◌+◌, ◌<◌, ◌≤◌, List, [], ◌∷◌, ◌++◌, length, take, refl, sym, ap, subst}
-use Rattle.std.proofs.Common.{arith, inl, inr, Option, Some, None}
+use Rattle.std.proofs.Common.{arith, Option, Some, None, ⊎_elim}
 use Rattle.std.specs.Prelude.{fold, slice_get, slice_set, slice_index_or}
 use Rattle.std.proofs.Math.Seq.{take-length}
-use Rattle.std.proofs.lemmas.List.{length-append}
+use Rattle.std.proofs.lemmas.List.{length-append, append_cancel_left}
 use Rattle.std.proofs.lemmas.Option.{slice_get_within}
 use Rattle.refusal_rules.specs.Rules.{Rules, AllPass, ◌▸▸◌}
 use Rattle.refusal_rules.proofs.RuleLemmas.{all_passed, pass}
-use Rattle.rbac_policy.specs.declared.commands.AdminCommand.{AdminCommand}
-use Rattle.rbac_policy.specs.declared.commands.AdminCommand.TheVariants.{AddUser, DeleteUser, AddRole, DeleteRole}
-use Rattle.rbac_policy.specs.declared.commands.AdminCommand.TheVariants.{AssignUser, DeassignUser, GrantPermission}
-use Rattle.rbac_policy.specs.declared.commands.AdminCommand.TheVariants.{RevokePermission, AddInheritance}
-use Rattle.rbac_policy.specs.declared.commands.AdminCommand.TheVariants.{DeleteInheritance, CreateDsdSet, DeleteDsdSet}
-use Rattle.rbac_policy.specs.declared.commands.AdminCommand.TheVariants.{CreateSession, DeleteSession, AddActiveRole}
-use Rattle.rbac_policy.specs.declared.commands.AdminCommand.TheVariants.{DropActiveRole}
 use Rattle.rbac_policy.specs.declared.commands.Entry.{Entry}
 use Rattle.rbac_policy.specs.declared.objects.Object.{Object}
 use Rattle.rbac_policy.specs.declared.objects.Operation.{Operation}
@@ -21,29 +14,27 @@ use Rattle.rbac_policy.specs.declared.objects.TheConstants.{SLOTS}
 use Rattle.rbac_policy.specs.Facts.{IsLive}
 use Rattle.rbac_policy.proofs.OfSlots.Slots.{get_set_same}
 use Rattle.rbac_admin.specs.PolicyLists.{IsAccepted as MayFollow}
-use Rattle.reactor_core.specs.declared.entry.Action.{Action}
-use Rattle.reactor_core.specs.declared.entry.Action.TheVariants as action
 use Rattle.reactor_core.specs.declared.entry.SlotEntry.{SlotEntry}
+use Rattle.reactor_core.specs.Meaning.{entry, word_of}
 use Rattle.access_core.specs.declared.command.SlotCommand.{SlotCommand}
 use Rattle.access_core.specs.declared.refusal.Refusal.{Refusal}
-use Rattle.access_core.specs.declared.reply.Change.{Change}
 use Rattle.access_core.specs.declared.reply.Reply.{Reply}
 use Rattle.access_core.specs.Answering.{IsRefused}
-use Rattle.access_core.specs.Desk.{accepted_reply, reply_of_change, change_of}
+use Rattle.access_core.specs.Desk.{accepted_reply, change_of}
 use Rattle.access_core.specs.Journals.{command_of, last_version as version_of_last, IsLegalEntry}
-use Rattle.access_core.specs.Needs.{IsAccepted, permission_of}
+use Rattle.access_core.specs.Needs.{permission_of}
 use Rattle.access_core.specs.SlotState.{SlotState}
-use Rattle.access_core.specs.SlotStep.{SlotStep, slot_rules, access_rules, journal_rules, Does}
+use Rattle.access_core.specs.SlotStep.{SlotStep, slot_rules, access_rules, journal_rules, Does, stamp_of, tells}
+use Rattle.access_core.proofs.Legality.{IsTaken, moves}
 use Rattle.history_events.specs.declared.event.TheConstants.{SEATS}
 use Rattle.history_events.specs.declared.event.Event.TheVariants as event
-use Rattle.history_events.specs.Changing.{Moves, OnlyAsks, Tells}
 use Rattle.history_events.specs.Runs.{WorldState, Moment, EventStep, journal_in, journal_at, last_version, has_seen}
 use Rattle.history_events.specs.Runs.{newest_known}
-use Rattle.history_events.proofs.Moving.{moves, not_accepted}
+use Rattle.history_events.proofs.Moving.{not_accepted}
 use Rattle.history_events.proofs.Changes.{accepted_change}
 use Rattle.history_receipts.specs.declared.receipt.SlotReceipt.{SlotReceipt}
-use Rattle.history_merge.specs.OneList.{asked_of, Tells as TellsEntry}
-use Rattle.history_laws.specs.CallsInTurn.{asked_by, IsPolicyCall, IsSlotCall}
+use Rattle.history_merge.specs.OneList.{Tells as TellsEntry}
+use Rattle.history_laws.specs.CallsInTurn.{IsPolicyCall, IsSlotCall}
 
 -- ---- policy commands
 
@@ -98,27 +89,6 @@ lives : (entries : List Entry) (session : ℕ) (needed : Option (Operation × Ob
     → AllPass (access_rules entries session needed ▸▸ later) → IsLive entries session
 lives entries session None later all = all.0
 lives entries session (Some permission) later all = all.0
-
--- the command that an entry was asked for by doesn't only ask
-asks_more : (a : Action) → OnlyAsks (command_of a) → ⊥
-asks_more (action.Load l) (inl look) = let no = look.1 in absurd cc
-asks_more (action.Load l) (inr audit) = absurd cc
-asks_more (action.Offer signal) (inl look) = let no = look.1 in absurd cc
-asks_more (action.Offer signal) (inr audit) = absurd cc
-asks_more action.Discard (inl look) = let no = look.1 in absurd cc
-asks_more action.Discard (inr audit) = absurd cc
-asks_more (action.Step i) (inl look) = let no = look.1 in absurd cc
-asks_more (action.Step i) (inr audit) = absurd cc
-asks_more action.Unload (inl look) = let no = look.1 in absurd cc
-asks_more action.Unload (inr audit) = absurd cc
-
--- what its receipt keeps of that command
-asked_same : (a : Action) → asked_by (command_of a) ≡ Some (asked_of a)
-asked_same (action.Load l) = refl
-asked_same (action.Offer signal) = refl
-asked_same action.Discard = refl
-asked_same (action.Step i) = refl
-asked_same action.Unload = refl
 
 -- the receipt's entry comes next: it is legal after what stands in the slot, at the version that the world has
 pub record IsNext (policy : List Entry) (seat : ℕ) (r : SlotReceipt) (e : SlotEntry) (slot : SlotState)
@@ -211,24 +181,32 @@ module _ (policy : List Entry) (seat : ℕ) (r : SlotReceipt) (e : SlotEntry) (s
   pub slot_after : journal_at Given.after r.slot ≡ slot.journal ++ e ∷ []
   slot_after = ap journal_in (get_set_same world.slots r.slot _ (slice_get_within world.slots r.slot slot next.there))
 
-  told : Moves (take r.version world.entries) r.session (command_of e.action) slot.journal reply
-      (slot.journal ++ e ∷ [])
-      → Tells (command_of e.action) r.version (journal_at Given.after r.slot) reply
-  told (inl a) =
-      let long : length (take r.version world.entries) ≡ r.version =
+  -- the slot step adds one entry that the command asks for, and the reply tells so
+  told : reply ≡ tells (word_of e.action) r.version (journal_at Given.after r.slot)
+  told =
+      let list : List Entry = take r.version world.entries in
+      let after : List SlotEntry = slot.journal ++ e ∷ [] in
+      let command : SlotCommand = command_of e.action in
+      let taken : IsTaken (stamp_of list r.session) command slot.journal reply after =
+      ⊎_elim (λ left. absurd (not_accepted reply left.refusal left.is.replied next.legal.added.accepted))
+      (⊎_elim (λ asks. absurd (asks.adds_none e.action refl)) (λ taken. taken))
+      (moves list r.slot r.session slot.journal reply after command steps) in
+      let last : entry (stamp_of list r.session) taken.done ∷ [] ≡ e ∷ [] =
+      append_cancel_left slot.journal _ _ (sym taken.added) in
+      let same : entry (stamp_of list r.session) taken.done ≡ e = cc in
+      let long : length list ≡ r.version =
       ap length (ap (λ n. take n world.entries) next.now ∙ take-length world.entries) ∙ sym next.now in
-      subst (λ n. Tells (command_of e.action) n (journal_at Given.after r.slot) reply) long
-      (subst (λ j. Tells (command_of e.action) (length (take r.version world.entries)) j reply) (sym slot_after) a.told)
-  told (inr n) = absurd (asks_more e.action (n.no_more next.legal.added.accepted))
+      taken.told ∙ ap (λ (x : SlotEntry). tells (word_of x.action) (length list) after) same
+      ∙ ap (λ n. tells (word_of e.action) n after) long ∙ ap (tells (word_of e.action) r.version) (sym slot_after)
 
   pub slot_call : seat < SEATS → IsSlotCall seat r Given
   slot_call seated = record {
     seated = seated;
-    command = command_of e.action;
-    asked = asked_same e.action ∙ ap Some (sym next.tells.asked);
+    action = e.action;
+    word = sym next.tells.word;
+    signal = sym next.tells.signal;
     is = refl;
     accepted = next.legal.added.accepted;
-    told = told (moves (take r.version world.entries) r.slot r.session slot.journal reply (slot.journal ++ e ∷ [])
-        (command_of e.action) steps);
+    told = told ∙ ap (λ w. tells w r.version (journal_at Given.after r.slot)) (sym next.tells.word);
     place = ap length slot_after ∙ length-append slot.journal (e ∷ []) ∙ sym next.place;
   }

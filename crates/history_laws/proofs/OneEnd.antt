@@ -4,9 +4,8 @@ use Rattle.std.specs.Prelude.{slice_get}
 use Rattle.std.specs.List.{AllZip}
 use Rattle.std.proofs.lemmas.Option.{same_Some}
 use Rattle.access_core.specs.declared.reply.Reply.{Reply}
-use Rattle.access_core.specs.declared.reply.Reply.TheVariants.{Refused, Login, Changed, Check, Load as Loaded}
-use Rattle.access_core.specs.declared.reply.Reply.TheVariants.{Offer as Offered, Discard as Discarded, Step as Stepped}
-use Rattle.access_core.specs.declared.reply.Reply.TheVariants.{Unload as Unloaded, Look as Shown, Audit as Audited}
+use Rattle.access_core.specs.declared.reply.Reply.TheVariants.{Refused, Login, Changed, Added, Look as Shown}
+use Rattle.access_core.specs.declared.reply.Reply.TheVariants.{Audit as Audited, Check}
 use Rattle.access_core.specs.Needs.{IsAccepted}
 use Rattle.history_events.specs.OneRun.{OneEnd}
 use Rattle.history_events.specs.Runs.{Moment, wants_memory}
@@ -18,11 +17,7 @@ ample : (reply : Reply) → IsAccepted reply → wants_memory reply ≡ false
 ample (Refused refusal) accepted = absurd accepted
 ample (Login session version) accepted = refl
 ample (Changed change version) accepted = refl
-ample (Loaded place version) accepted = refl
-ample (Offered place version) accepted = refl
-ample (Discarded place version) accepted = refl
-ample (Stepped instant place version) accepted = refl
-ample (Unloaded place version) accepted = refl
+ample (Added added) accepted = refl
 ample (Shown instant signals version) accepted = refl
 ample (Audited entries instants version) accepted = refl
 ample (Check allowed) accepted = refl

@@ -1,35 +1,24 @@
 -- The calls of which receipts tell, one at a time: the run of one list of events (this project's own form).
-use Rattle.std.specs.Prelude.{◌≡◌, ◌<◌, ℕ, List, ◌∷◌, [], ◌++◌, Option, Some, None, length, map}
+use Rattle.std.specs.Prelude.{◌≡◌, ◌<◌, ℕ, List, ◌∷◌, [], ◌++◌, length, map}
 use Rattle.std.specs.List.{AllZip}
 use Rattle.rbac_policy.specs.declared.commands.Entry.{Entry}
+use Rattle.reactor_core.specs.declared.entry.Action.{Action}
 use Rattle.reactor_core.specs.declared.entry.SlotEntry.{SlotEntry}
-use Rattle.access_core.specs.declared.command.SlotCommand.{SlotCommand}
-use Rattle.access_core.specs.declared.command.SlotCommand.TheVariants.{Load, Offer, Discard, Step, Unload, Look, Audit}
+use Rattle.reactor_core.specs.Meaning.{word_of, signal_of}
 use Rattle.access_core.specs.declared.reply.Reply.{Reply}
 use Rattle.access_core.specs.Desk.{accepted_reply}
+use Rattle.access_core.specs.Journals.{command_of}
 use Rattle.access_core.specs.Needs.{IsAccepted}
 use Rattle.access_core.specs.SlotState.{SlotState}
+use Rattle.access_core.specs.SlotStep.{tells}
 use Rattle.history_events.specs.declared.event.TheConstants.{SEATS}
 use Rattle.history_events.specs.declared.event.Event.TheVariants as event
-use Rattle.history_events.specs.Changing.{Tells}
 use Rattle.history_events.specs.OneRun.{events_of}
 use Rattle.history_events.specs.Runs.{WorldState, Moment, IsRun, EndsIn, world_after, opening_world, journal_at}
-use Rattle.history_receipts.specs.declared.receipt.Asked.{Asked}
-use Rattle.history_receipts.specs.declared.receipt.Asked.TheVariants as asked
 use Rattle.history_receipts.specs.declared.receipt.SlotReceipt.{SlotReceipt}
 use Rattle.history_receipts.specs.declared.receipt.Kept.{Kept}
 use Rattle.history_merge.specs.ToldCalls.{ToldCall, Publishes, Commands}
 use Rattle.history_merge.specs.OneList.{HasParts}
-
--- what a receipt keeps of the command, of a load neither name nor text; a look and an audit have no receipt
-abbrev pub asked_by : SlotCommand → Option Asked
-asked_by (Load main text) = Some asked.Load
-asked_by (Offer signal) = Some (asked.Offer signal)
-asked_by Discard = Some asked.Discard
-asked_by Step = Some asked.Step
-asked_by Unload = Some asked.Unload
-asked_by (Look n) = None
-asked_by Audit = None
 
 -- the moment is the call of which this seat keeps the receipt of this entry: the entry's command, which the entry's
 -- session gives through the seat, is accepted and adds the entry to the policy list, which then has this version; and
@@ -42,16 +31,17 @@ pub record IsPolicyCall (seat version : ℕ) (entry : Entry) (m : Moment) : Type
   pub added : m.after.entries ≡ m.before.entries ++ entry ∷ []
   pub makes : length m.after.entries ≡ version
 
--- the moment is the call of which this seat keeps this receipt: through the seat, the receipt's session gave a command
--- on its slot, of which the receipt keeps this, at its version. The command was accepted, the slot's journal then ends
--- at the receipt's place, and the reply tells place and version
+-- the moment is the call of which this seat keeps this receipt: through the seat, the receipt's session gave on its
+-- slot, at its version, the command of an action of its word and its signal. The command was accepted, the slot's
+-- journal then ends at the receipt's place, and the reply tells so
 pub record IsSlotCall (seat : ℕ) (r : SlotReceipt) (m : Moment) : Type 0 where
   pub seated : seat < SEATS
-  pub command : SlotCommand
-  pub asked : asked_by command ≡ Some r.asked
-  pub is : m.event ≡ event.OnSlot seat r.version r.slot r.session command
+  pub action : Action
+  pub word : word_of action ≡ r.word
+  pub signal : signal_of action ≡ r.signal
+  pub is : m.event ≡ event.OnSlot seat r.version r.slot r.session (command_of action)
   pub accepted : IsAccepted m.reply
-  pub told : Tells command r.version (journal_at m.after r.slot) m.reply
+  pub told : m.reply ≡ tells r.word r.version (journal_at m.after r.slot)
   pub place : length (journal_at m.after r.slot) ≡ r.place
 
 -- the moment is the call of which the event tells

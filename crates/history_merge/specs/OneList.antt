@@ -2,11 +2,8 @@
 -- project's own form).
 use Rattle.std.specs.Prelude.{◌≡◌, ℕ, ◌+◌, List, [], ◌∷◌, Option, Some, None, drop}
 use Rattle.rbac_policy.specs.declared.commands.Entry.{Entry}
-use Rattle.reactor_core.specs.declared.entry.Action.{Action}
-use Rattle.reactor_core.specs.declared.entry.Action.TheVariants as action
 use Rattle.reactor_core.specs.declared.entry.SlotEntry.{SlotEntry}
-use Rattle.history_receipts.specs.declared.receipt.Asked.{Asked}
-use Rattle.history_receipts.specs.declared.receipt.Asked.TheVariants.{Load, Offer, Discard, Step, Unload}
+use Rattle.reactor_core.specs.Meaning.{word_of, signal_of}
 use Rattle.history_receipts.specs.declared.receipt.SlotReceipt.{SlotReceipt}
 use Rattle.history_receipts.specs.declared.receipt.Kept.{Kept}
 use Rattle.rbac_policy.specs.declared.sizes.TheConstants.{OPENING_ENTRIES}
@@ -14,19 +11,12 @@ use Rattle.history_merge.specs.declared.order.Rank.TheVariants as rank
 use Rattle.history_merge.specs.Order.{part_at, IsOver, InOrder}
 use Rattle.history_merge.specs.ToldCalls.{ToldCall, of_seat, of_policy, of_slot}
 
--- what the action was asked for by
-abbrev pub asked_of : Action → Asked
-asked_of (action.Load l) = Load
-asked_of (action.Offer signal) = Offer signal
-asked_of action.Discard = Discard
-asked_of (action.Step i) = Step
-asked_of action.Unload = Unload
-
--- the receipt is one of this entry: it tells its version, its session and what was asked for
+-- the receipt is one of this entry: it tells its version, its session, its word and the signal of an offer
 pub record Tells (r : SlotReceipt) (e : SlotEntry) : Type 0 where
   pub version : r.version ≡ e.stamp.version
   pub session : r.session ≡ e.stamp.session
-  pub asked : r.asked ≡ asked_of e.action
+  pub word : r.word ≡ word_of e.action
+  pub signal : r.signal ≡ signal_of e.action
 
 -- receipts and entries match one for one: places go up by one from here, and numbers rise
 abbrev pub Tell : (place : ℕ) → (number : Option ℕ) → List SlotReceipt → List SlotEntry → Type 0

@@ -5,40 +5,37 @@ ghost use Rattle.rbac_policy.specs.declared.objects.TheConstants.{SLOTS};
 ghost use Rattle.history_receipts.specs.declared.receipt.Kept.TheVariants.{Slot};
 ghost use Rattle.rbac_policy.specs.declared.sizes.TheConstants.{OPENING_ENTRIES};
 ghost use Rattle.history_merge.specs.Order.{part_at};
-ghost use Rattle.history_merge.specs.OneList.{asked_of, Tells};
+ghost use Rattle.history_merge.specs.OneList.{Tells};
 ghost use Rattle.history_merge.specs.Mismatches.{IsThere};
 
 use crate::same::is_same_entry;
-use history_receipts::receipt::{Asked, Kept, SlotReceipt};
+use est_text::identifier::Identifier;
+use history_receipts::receipt::{Kept, SlotReceipt};
 use rbac_policy::commands::Entry;
 use rbac_policy::objects::SLOTS;
 use rbac_policy::sizes::OPENING_ENTRIES;
-use reactor_core::entry::{Action, SlotEntry};
+use reactor_core::entry::SlotEntry;
 use reactor_core::journal::Journal;
 
-/// Whether what the receipt says was asked for is what this action does.
-fn asks(asked: &Asked, action: &Action) -> bool
-    ensures { Decides result (asked.now ≡ asked_of action.now) }
+/// Whether the two are one signal, or none.
+fn is_same_signal(one: &Option<Identifier>, other: &Option<Identifier>) -> bool
+    ensures { Decides result (one.now ≡ other.now) }
 {
-    match asked {
-        Asked::Load => matches!(action, Action::Load(_)),
-        Asked::Offer(one) => match action {
-            Action::Offer(other) => one.is(other),
-            Action::Load(_) | Action::Discard | Action::Step(_) | Action::Unload => false,
-        },
-        Asked::Discard => matches!(action, Action::Discard),
-        Asked::Step => matches!(action, Action::Step(_)),
-        Asked::Unload => matches!(action, Action::Unload),
+    match (one, other) {
+        (Some(one), Some(other)) => one.is(other),
+        (None, None) => true,
+        (Some(_), None) | (None, Some(_)) => false,
     }
 }
 
-/// Whether the receipt is one of this entry: session, version, and what was asked for.
+/// Whether the receipt is one of this entry: session, version, word, and the signal of an offer.
 fn tells(receipt: &SlotReceipt, entry: &SlotEntry) -> bool
     ensures { Decides result (Tells receipt.now entry.now) }
 {
     receipt.version == entry.stamp.version
         && receipt.session == entry.stamp.session
-        && asks(&receipt.asked, &entry.action)
+        && receipt.word == entry.action.word()
+        && is_same_signal(&receipt.signal, &entry.action.signal())
 }
 
 /// Whether this entry stands in the policy list after the opening ones, at the place of this

@@ -1,19 +1,10 @@
 //! Receipts: each tells which entry a call added.
 use est_text::identifier::Identifier;
 use rbac_policy::commands::Entry;
+use reactor_core::entry::Word;
 
-/// What a slot command that added an entry asked for. Of a load, the main module's name and the
+/// The receipt of a slot command that added an entry. Of a load, the main module's name and the
 /// text are left out.
-#[derive(Clone, Copy)]
-pub enum Asked {
-    Load,
-    Offer(Identifier),
-    Discard,
-    Step,
-    Unload,
-}
-
-/// The receipt of a slot command that added an entry.
 #[derive(Clone, Copy)]
 pub struct SlotReceipt {
     /// The number of the slot.
@@ -26,8 +17,10 @@ pub struct SlotReceipt {
     pub session: u16,
     /// The number of the command among the server's slot commands that added an entry.
     pub number: u64,
-    /// What was asked for.
-    pub asked: Asked,
+    /// The word of the command.
+    pub word: Word,
+    /// The signal that it offered.
+    pub signal: Option<Identifier>,
 }
 
 /// The receipt of a call that added an entry.

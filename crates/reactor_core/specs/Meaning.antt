@@ -1,6 +1,6 @@
 -- What a slot's journal means: which module runs, its pending inputs, its instants, and the term that is left of it
 -- (this project's own form).
-use Rattle.std.specs.Prelude.{◌≡◌, ℕ, Bool, List, [], ◌∷◌, ◌++◌, Option, Some, None, is_some}
+use Rattle.std.specs.Prelude.{◌≡◌, ℕ, Bool, true, false, List, [], ◌∷◌, ◌++◌, Option, Some, None, is_some, codes}
 use Rattle.est_kernel.specs.Term.{Term}
 use Rattle.est_kernel.specs.declared.interface.Declaration.{Declaration}
 use Rattle.reactor_core.specs.declared.entry.Stamp.{Stamp}
@@ -9,6 +9,8 @@ use Rattle.reactor_core.specs.declared.entry.Load.{Load as LoadEntry}
 use Rattle.reactor_core.specs.declared.entry.Action.{Action}
 use Rattle.reactor_core.specs.declared.entry.Action.TheVariants.{Load, Offer, Discard, Step, Unload}
 use Rattle.reactor_core.specs.declared.entry.SlotEntry.{SlotEntry}
+use Rattle.reactor_core.specs.declared.entry.Word.{Word}
+use Rattle.reactor_core.specs.declared.entry.Word.TheVariants as word
 use Rattle.est_relations.specs.Offers.{PendingInputs, place_of, with_place}
 use Rattle.est_relations.specs.declared.relations.Relation.{Relation}
 use Rattle.reactor_core.specs.Loading.{GivenModule, Gives}
@@ -20,6 +22,46 @@ entry stamp action = record { stamp = stamp; action = action }
 
 abbrev pub instant : (inputs outputs : ℕ) → PastInstant
 instant inputs outputs = record { inputs = inputs; outputs = outputs }
+
+-- the word that asks for an action
+abbrev pub word_of : Action → Word
+word_of (Load l) = word.Load
+word_of (Offer name) = word.Offer
+word_of Discard = word.Discard
+word_of (Step i) = word.Step
+word_of Unload = word.Unload
+
+-- a word, as it stands in a line
+abbrev pub word_text : Word → List ℕ
+word_text word.Load = codes "load"
+word_text word.Offer = codes "offer"
+word_text word.Discard = codes "discard"
+word_text word.Step = codes "step"
+word_text word.Unload = codes "unload"
+
+-- the word is that of a step
+abbrev pub is_step : Word → Bool
+is_step word.Load = false
+is_step word.Offer = false
+is_step word.Discard = false
+is_step word.Step = true
+is_step word.Unload = false
+
+-- the signal of an offer
+abbrev pub signal_of : Action → Option (List ℕ)
+signal_of (Load l) = None
+signal_of (Offer name) = Some name
+signal_of Discard = None
+signal_of (Step i) = None
+signal_of Unload = None
+
+-- the instant of a step
+abbrev pub instant_of : Action → Option PastInstant
+instant_of (Load l) = None
+instant_of (Offer name) = None
+instant_of Discard = None
+instant_of (Step i) = Some i
+instant_of Unload = None
 
 -- the value that the actions of the entries make of this one, the oldest first
 abbrev pub after_all : {A : Type 0} → (A → Action → A) → A → List SlotEntry → A

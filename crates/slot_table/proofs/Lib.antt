@@ -1,4 +1,3 @@
 pub mod Legality
-pub mod Asking
 pub mod Ending
 pub mod Handing

@@ -16,14 +16,13 @@ use Rattle.access_core.specs.declared.reply.Reply.TheVariants.{Refused}
 use Rattle.access_core.specs.declared.refusal.Refusal.TheVariants.{Policy, Behind, Memory, NoSlot}
 use Rattle.access_core.specs.SlotStep.{SlotStep}
 use Rattle.slot_table.specs.Conversions.{of_board}
-use Rattle.access_core.specs.Journals.{IsLegal}
+use Rattle.access_core.specs.Journals.{signal_asked, IsLegal}
 use Rattle.slot_table.specs.LockedState.{LockedState}
-use Rattle.history_laws.specs.CallsInTurn.{asked_by}
 use Rattle.slot_table.specs.Receipts.{Keeps}
 
 -- the slot's reader has read a policy list. It begins with all that this reader had seen and all that the seat knew,
 -- and is no shorter than the seat's seen number. The slot step on it gives the reply and the journal. The seat then
--- knows it, and keeps a receipt of a reply that tells a place
+-- knows it, and keeps a receipt of a reply that tells of an entry
 pub record IsJudged (slot session : ℕ) (command : SlotCommand) (old : LockedState) (seat : SeatState) (reply : Reply)
     (new : LockedState) (after : SeatState) : Type 0 where
   pub is_list : IsPolicyList new.list
@@ -32,7 +31,7 @@ pub record IsJudged (slot session : ℕ) (command : SlotCommand) (old : LockedSt
   pub fresh : seat.seen ≤ length new.list
   pub step : SlotStep new.list slot session command old.journal reply new.journal
   pub seat_knows : after ≡ record (seat_after seat new.list) { kept = after.kept; room = after.room }
-  pub keeps : Keeps slot session (asked_by command) reply seat.kept after.kept
+  pub keeps : Keeps slot session (signal_asked command) reply seat.kept after.kept
 
 -- the policy list that the slot's reader has read is shorter than the seat's seen number, and the refusal tells both
 -- lengths. Journal and seat stay, but for the seat's room

@@ -8,7 +8,7 @@
 //! caller's seat had seen. Whenever a lock is free, its journal is legal over the list that its
 //! reader has seen.
 //!
-//! A reply that tells a place leaves its receipt with the seat (`receipts`). When the server is
+//! A reply that tells of an entry leaves its receipt with the seat (`receipts`). When the server is
 //! closed (`closing`), its journals are given out only if they and the receipts of all seats are
 //! the parts of one list of events. No clause says that a wait ends.
 #![tactic(auto)]

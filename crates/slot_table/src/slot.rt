@@ -7,7 +7,7 @@ ghost use Rattle.history_receipts.specs.declared.mismatch.TheConstants.{POLICY_L
 ghost use Rattle.history_receipts.specs.declared.mismatch.Mismatch.TheVariants.{Count};
 ghost use Rattle.slot_table.specs.SlotCommands.{LockedCommand};
 
-use crate::receipts::{asked_by, keep};
+use crate::receipts::keep;
 use access_core::command::SlotCommand;
 use access_core::refusal::Refusal;
 use access_core::reply::Reply;
@@ -69,7 +69,7 @@ fn decide_and_leave<B: BoardName>(
 }
 
 /// Has the slot's reader read the policy, answers the command at what was read, and hands the
-/// reader back. The seat keeps a receipt of a reply that tells a place.
+/// reader back. The seat keeps a receipt of a reply that tells of an entry.
 fn read_and_decide<B: BoardName, const NUMBER: u8, R: Wait>(
     rt: &R,
     board: &Board<B>,
@@ -98,9 +98,9 @@ fn read_and_decide<B: BoardName, const NUMBER: u8, R: Wait>(
         return (Reply::Refused(behind), reading.leave());
     }
     seat.saw_list(reading.front());
-    let asked = asked_by(&command);
+    let signal = command.signal();
     let (reply, reader) = decide_and_leave(reading, slot, session, command);
-    keep(rt, board, seat, NUMBER, session, asked, &reply);
+    keep(rt, board, seat, NUMBER, session, signal, &reply);
     (reply, reader)
 }
 
@@ -117,7 +117,7 @@ impl<B: BoardName, const NUMBER: u8> LockedSlot<B, NUMBER> {
     }
 
     /// Answers a command on the policy as the slot's own reader reads it. The seat keeps a receipt
-    /// of a reply that tells a place.
+    /// of a reply that tells of an entry.
     pub fn command<R: Wait>(
         &mut self,
         rt: &R,

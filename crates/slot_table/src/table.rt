@@ -160,7 +160,7 @@ impl<B: BoardName> SlotTable<B> {
 
     /// Answers a command of this session on the slot of this number, under the slot's lock, for
     /// which it waits. A number that no slot has takes no lock: the seat's own reader tells whether
-    /// the session lives. A reply that tells a place leaves a receipt with the seat.
+    /// the session lives. A reply that tells of an entry leaves a receipt with the seat.
     pub fn command<R: Wait>(
         &self,
         rt: &R,

@@ -3,12 +3,12 @@ use crate::audit::journals::{journals_of, stamped, stepped};
 use est_text::identifier::Identifier;
 use history_merge::compare::compare;
 use history_receipts::mismatch::{Mismatch, POLICY_LIST};
-use history_receipts::receipt::{Asked, Kept, SlotReceipt};
+use history_receipts::receipt::{Kept, SlotReceipt};
 use history_receipts::receipt_list::Receipts;
 use rbac_policy::commands::{AdminCommand, Entry, SessionId};
 use rbac_policy::names::Name;
 use rbac_policy::opening::opening_entries;
-use reactor_core::entry::Action;
+use reactor_core::entry::{Action, Word};
 use reactor_core::journal::Journal;
 use std::alloc::Global;
 use std::process::Abort;
@@ -58,14 +58,20 @@ fn identifier(rt: &impl Abort, text: &str) -> Identifier {
 }
 
 /// The receipt of a command on a slot.
-fn on_slot(slot: u64, (place, version, number): (u64, u64, u64), asked: Asked) -> Kept {
+fn on_slot(
+    slot: u64,
+    (place, version, number): (u64, u64, u64),
+    word: Word,
+    signal: Option<Identifier>,
+) -> Kept {
     Kept::Slot(SlotReceipt {
         slot,
         place,
         version,
         session: 1,
         number,
-        asked,
+        word,
+        signal,
     })
 }
 
@@ -83,9 +89,10 @@ fn kept(rt: &impl Abort, row: Row) -> Kept {
         Row::Offers(signal, place, version, number) => on_slot(
             2,
             (place, version, number),
-            Asked::Offer(identifier(rt, signal)),
+            Word::Offer,
+            Some(identifier(rt, signal)),
         ),
-        Row::Steps(number) => on_slot(3, (1, 6, number), Asked::Step),
+        Row::Steps(number) => on_slot(3, (1, 6, number), Word::Step, None),
     }
 }
 

@@ -1,45 +1,46 @@
 -- The lines that are written as they stand, piece by piece.
-use Rattle.std.proofs.Common.{◌≡◌, ◌∙◌, ℕ, List, ◌++◌, codes, append_assoc, ap, refl, Bool, true, false}
-use Rattle.std.specs.Prelude.{decimal, Result, Ok, Err, IfOk}
+use Rattle.std.proofs.Common.{◌≡◌, ◌∙◌, ℕ, List, ◌++◌, codes, append_assoc, ap, refl, sym, Bool, true, false}
+use Rattle.std.specs.Prelude.{decimal, Result, Ok, Err, IfOk, if◌then◌else◌}
 use Rattle.std.specs.Fmt.{digits}
 use Rattle.serde_json.proofs.OnLiterals.{serde_json_on_literals}
+use Rattle.reactor_core.specs.declared.entry.Word.{Word}
+use Rattle.reactor_core.specs.declared.entry.Word.TheVariants as word
+use Rattle.reactor_core.specs.Meaning.{word_text, is_step}
 use Rattle.access_core.specs.declared.reply.Change.{Change}
 use Rattle.access_core.specs.declared.reply.Change.TheVariants as change
-use Rattle.access_core.specs.declared.reply.Reply.TheVariants.{Load, Offer, Discard, Unload, Step, Changed, Check}
-use Rattle.access_core.specs.declared.reply.Reply.TheVariants.{Login, Audit}
+use Rattle.access_core.specs.declared.reply.Reply.TheVariants.{Added, Changed, Check, Login, Audit}
 use Rattle.access_core.specs.Replies.{word_of}
 use Rattle.wire_lines.specs.Replies.{line_of}
+use Rattle.wire_lines.specs.Inner.Pieces.{added_begin}
 
 -- what stands after a place
 abbrev pub version_end : ℕ → List ℕ
 version_end version = codes ",\"version\":" ++ (decimal version ++ codes "}\n")
 
-pub load_text : (place version : ℕ) → codes "{\"ok\":\"load\",\"place\":" ++ (decimal place ++ version_end version)
-    ≡ line_of (Load place version)
-unfolding serde_json_on_literals digits
-load_text place version = simp append_assoc
+-- how the line of a step begins, and that of another word
+pub step_begins : (asked : Word) (instants : ℕ) → is_step asked ≡ true
+    → (codes "{\"instant\":" ++ decimal instants) ++ codes ",\"ok\":\"" ≡ added_begin asked instants
+step_begins asked instants steps =
+    ap (λ (b : Bool). if b then (codes "{\"instant\":" ++ decimal instants) ++ codes ",\"ok\":\""
+    else codes "{\"ok\":\"") (sym steps)
 
-pub offer_text : (place version : ℕ) → codes "{\"ok\":\"offer\",\"place\":" ++ (decimal place ++ version_end version)
-    ≡ line_of (Offer place version)
-unfolding serde_json_on_literals digits
-offer_text place version = simp append_assoc
+pub plain_begins : (asked : Word) (instants : ℕ) → is_step asked ≡ false
+    → codes "{\"ok\":\"" ≡ added_begin asked instants
+plain_begins asked instants plain =
+    ap (λ (b : Bool). if b then (codes "{\"instant\":" ++ decimal instants) ++ codes ",\"ok\":\""
+    else codes "{\"ok\":\"") (sym plain)
 
-pub discard_text : (place version : ℕ) → codes "{\"ok\":\"discard\",\"place\":" ++
-    (decimal place ++ version_end version)
-    ≡ line_of (Discard place version)
+-- the line of a command that added an entry
+pub added_text : (asked : Word) (instants place version : ℕ)
+    → added_begin asked instants ++ (word_text asked ++ (codes "\",\"place\":" ++
+    (decimal place ++ version_end version)))
+    ≡ line_of (Added (record { word = asked; place = place; version = version; instants = instants }))
 unfolding serde_json_on_literals digits
-discard_text place version = simp append_assoc
-
-pub unload_text : (place version : ℕ) → codes "{\"ok\":\"unload\",\"place\":" ++ (decimal place ++ version_end version)
-    ≡ line_of (Unload place version)
-unfolding serde_json_on_literals digits
-unload_text place version = simp append_assoc
-
-pub step_text : (instant place version : ℕ) → (codes "{\"instant\":" ++ decimal instant) ++
-    (codes ",\"ok\":\"step\",\"place\":" ++ (decimal place ++ version_end version))
-    ≡ line_of (Step instant place version)
-unfolding serde_json_on_literals digits
-step_text instant place version = simp append_assoc
+added_text word.Load instants place version = simp append_assoc
+added_text word.Offer instants place version = simp append_assoc
+added_text word.Discard instants place version = simp append_assoc
+added_text word.Step instants place version = simp append_assoc
+added_text word.Unload instants place version = simp append_assoc
 
 pub login_text : (session version : ℕ)
     → codes "{\"ok\":\"login\",\"session\":" ++ (decimal session ++ version_end version)
@@ -73,9 +74,9 @@ changed_text change.DeleteSession version = simp append_assoc
 changed_text change.AddActiveRole version = simp append_assoc
 changed_text change.DropActiveRole version = simp append_assoc
 
-pub word_text : (c : Change) (word : List ℕ) (version : ℕ) → word ≡ word_of c
-    → codes "{\"ok\":\"" ++ (word ++ (codes "\"" ++ version_end version)) ≡ line_of (Changed c version)
-word_text c word version same =
+pub changed_word : (c : Change) (told : List ℕ) (version : ℕ) → told ≡ word_of c
+    → codes "{\"ok\":\"" ++ (told ++ (codes "\"" ++ version_end version)) ≡ line_of (Changed c version)
+changed_word c told version same =
     ap (λ (w : List ℕ). codes "{\"ok\":\"" ++ (w ++ (codes "\"" ++ version_end version))) same ∙ changed_text c version
 
 pub allowed_text : (allowed : Bool) → allowed ≡ true

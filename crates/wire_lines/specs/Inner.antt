@@ -2,3 +2,4 @@ pub mod Members
 pub mod Commands
 pub mod Ordering
 pub mod ReplyTokens
+pub mod Pieces

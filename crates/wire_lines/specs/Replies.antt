@@ -6,10 +6,11 @@ use Rattle.serde_json.specs.Data.{Data, boolean, string, array, object, item, no
 use Rattle.serde_json.specs.View.{items_of}
 use Rattle.serde_json.specs.Written.{compact_text}
 use Rattle.refusal_rules.specs.Rows.{Row, Field, Fields, Number, Text, Texts}
+use Rattle.reactor_core.specs.declared.entry.Word.{Word}
+use Rattle.reactor_core.specs.Meaning.{word_text, is_step}
 use Rattle.access_core.specs.declared.refusal.Refusal.{Refusal}
 use Rattle.access_core.specs.declared.reply.Reply.{Reply}
-use Rattle.access_core.specs.declared.reply.Reply.TheVariants.{Refused, Login, Changed, Load, Offer, Discard, Step}
-use Rattle.access_core.specs.declared.reply.Reply.TheVariants.{Unload, Look, Audit, Check}
+use Rattle.access_core.specs.declared.reply.Reply.TheVariants.{Refused, Login, Changed, Added, Look, Audit, Check}
 use Rattle.access_core.specs.declared.reply.ShownSignal.{ShownSignal}
 use Rattle.access_core.specs.Refusals.{row_of}
 use Rattle.access_core.specs.Replies.{word_of}
@@ -57,6 +58,10 @@ shown_json s = array (item (string s.name) (item (boolean s.present) no_items))
 abbrev pub signals_json : List ShownSignal → Data
 signals_json signals = array (items_of (map shown_json signals))
 
+-- the member of a step's reply that says the number of its instant, and those after it; of another word those alone
+abbrev pub with_instant : Word → ℕ → Members → Members
+with_instant asked instant others = if is_step asked then number_member (codes "instant") instant others else others
+
 -- the members of a reply, in the order of their keys (this project's own form)
 abbrev pub reply_members : Reply → Members
 reply_members (Refused r) = refusal_members r
@@ -64,18 +69,10 @@ reply_members (Login session version) = text_member (codes "ok") (codes "login")
     (number_member (codes "session") session (number_member (codes "version") version no_members))
 reply_members (Changed change version) = text_member (codes "ok") (word_of change)
     (number_member (codes "version") version no_members)
-reply_members (Load place version) = text_member (codes "ok") (codes "load")
-    (number_member (codes "place") place (number_member (codes "version") version no_members))
-reply_members (Offer place version) = text_member (codes "ok") (codes "offer")
-    (number_member (codes "place") place (number_member (codes "version") version no_members))
-reply_members (Discard place version) = text_member (codes "ok") (codes "discard")
-    (number_member (codes "place") place (number_member (codes "version") version no_members))
-reply_members (Unload place version) = text_member (codes "ok") (codes "unload")
-    (number_member (codes "place") place (number_member (codes "version") version no_members))
-reply_members (Step instant place version) =
-    number_member (codes "instant") instant
-    (text_member (codes "ok") (codes "step")
-    (number_member (codes "place") place (number_member (codes "version") version no_members)))
+reply_members (Added added) =
+    with_instant added.word added.instants
+    (text_member (codes "ok") (word_text added.word)
+    (number_member (codes "place") added.place (number_member (codes "version") added.version no_members)))
 reply_members (Look instant signals version) =
     number_member (codes "instant") instant
     (text_member (codes "ok") (codes "look")

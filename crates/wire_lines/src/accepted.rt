@@ -1,14 +1,15 @@
 //! The lines of accepted commands that have only numbers and a command's word: they are joined from
 //! constant texts.
 ghost use Rattle.std.specs.Prelude.{◌≡◌, ◌++◌, codes, decimal, IfOk, OnOk};
-ghost use Rattle.access_core.specs.declared.reply.Reply.TheVariants.{Load, Offer, Discard};
-ghost use Rattle.access_core.specs.declared.reply.Reply.TheVariants.{Unload, Step, Changed, Check};
-ghost use Rattle.access_core.specs.declared.reply.Reply.TheVariants.{Login, Audit};
+ghost use Rattle.access_core.specs.declared.reply.Reply.TheVariants.{Added as AddedReply};
+ghost use Rattle.access_core.specs.declared.reply.Reply.TheVariants.{Changed, Check, Login, Audit};
 ghost use Rattle.wire_lines.specs.Replies.{line_of};
+ghost use Rattle.wire_lines.specs.Inner.Pieces.{added_begin};
 
-use access_core::reply::Change;
+use access_core::reply::{Added, Change};
 use itoa::Buffer;
 use rbac_policy::commands::SessionId;
+use reactor_core::entry::Word;
 use std::alloc::{AllocError, Global};
 
 /// The room, in bytes, with which a line begins: these lines are shorter.
@@ -40,90 +41,45 @@ fn add_version(line: &mut Vec<u8>, version: u64) -> Result<(), AllocError>
     Ok(())
 }
 
-/// Adds a text, a place or a session after it and a version, and the end of the line.
-fn add_place(line: &mut Vec<u8>, text: &[u8], place: u64, version: u64) -> Result<(), AllocError>
-    ensures { OnOk result (line.new.items ≡ line.old.items
-        ++ (text.now
-        ++ (decimal place ++ (codes ",\"version\":" ++ (decimal version ++ codes "}\n"))))) }
-{
-    add_number(line, text, place)?;
-    add_version(line, version)?;
-    Ok(())
-}
-
-/// A line that begins with this text and tells a place, or a session, and a version.
-fn placed_line(alloc: Global, text: &[u8], place: u64, version: u64) -> Result<Vec<u8>, AllocError>
+/// The beginning of the line of a step, up to its word.
+fn begin_step(alloc: Global, instant: u64) -> Result<Vec<u8>, AllocError>
     ensures { IfOk result (λ line. line.items
-        ≡ text.now ++ (decimal place ++ (codes ",\"version\":" ++
-        (decimal version ++ codes "}\n")))) }
-{
-    let mut line = Vec::with_capacity(alloc, USUAL_BYTES)?;
-    add_place(&mut line, text, place, version)?;
-    Ok(line)
-}
-
-/// A line that tells an instant, and after this text a place and a version.
-fn instant_line(
-    alloc: Global,
-    instant: u64,
-    text: &[u8],
-    place: u64,
-    version: u64,
-) -> Result<Vec<u8>, AllocError>
-    ensures { IfOk result (λ line. line.items ≡ (codes "{\"instant\":" ++ decimal instant)
-        ++ (text.now
-        ++ (decimal place ++ (codes ",\"version\":" ++ (decimal version ++ codes "}\n"))))) }
+        ≡ (codes "{\"instant\":" ++ decimal instant) ++ codes ",\"ok\":\"") }
 {
     let mut line = Vec::with_capacity(alloc, USUAL_BYTES)?;
     add_number(&mut line, b"{\"instant\":", instant)?;
-    add_place(&mut line, text, place, version)?;
+    line.extend_from_slice(b",\"ok\":\"")?;
     Ok(line)
 }
 
-/// The line of a load.
-pub(crate) fn load_line(alloc: Global, place: u64, version: u64) -> Result<Vec<u8>, AllocError>
-    ensures { IfOk result (λ line. line.items ≡ line_of (Load place version)) }
+/// The beginning of a line that has nothing before its word.
+fn begin_plain(alloc: Global) -> Result<Vec<u8>, AllocError>
+    ensures { IfOk result (λ line. line.items ≡ codes "{\"ok\":\"") }
 {
-    placed_line(alloc, b"{\"ok\":\"load\",\"place\":", place, version)
+    let mut line = Vec::with_capacity(alloc, USUAL_BYTES)?;
+    line.extend_from_slice(b"{\"ok\":\"")?;
+    Ok(line)
 }
 
-/// The line of an offer.
-pub(crate) fn offer_line(alloc: Global, place: u64, version: u64) -> Result<Vec<u8>, AllocError>
-    ensures { IfOk result (λ line. line.items ≡ line_of (Offer place version)) }
+/// The beginning of the line of a command that added an entry, up to its word.
+fn begin_line(alloc: Global, word: Word, instants: u64) -> Result<Vec<u8>, AllocError>
+    ensures { IfOk result (λ line. line.items ≡ added_begin word instants) }
 {
-    placed_line(alloc, b"{\"ok\":\"offer\",\"place\":", place, version)
+    if word.is_step() {
+        return begin_step(alloc, instants);
+    }
+    begin_plain(alloc)
 }
 
-/// The line of a discard.
-pub(crate) fn discard_line(alloc: Global, place: u64, version: u64) -> Result<Vec<u8>, AllocError>
-    ensures { IfOk result (λ line. line.items ≡ line_of (Discard place version)) }
+/// The line of a command that added an entry.
+pub(crate) fn added_line(alloc: Global, added: &Added) -> Result<Vec<u8>, AllocError>
+    ensures { IfOk result (λ line. line.items ≡ line_of (AddedReply added.now)) }
 {
-    placed_line(alloc, b"{\"ok\":\"discard\",\"place\":", place, version)
-}
-
-/// The line of an unload.
-pub(crate) fn unload_line(alloc: Global, place: u64, version: u64) -> Result<Vec<u8>, AllocError>
-    ensures { IfOk result (λ line. line.items ≡ line_of (Unload place version)) }
-{
-    placed_line(alloc, b"{\"ok\":\"unload\",\"place\":", place, version)
-}
-
-/// The line of a step.
-pub(crate) fn step_line(
-    alloc: Global,
-    instant: u64,
-    place: u64,
-    version: u64,
-) -> Result<Vec<u8>, AllocError>
-    ensures { IfOk result (λ line. line.items ≡ line_of (Step instant place version)) }
-{
-    instant_line(
-        alloc,
-        instant,
-        b",\"ok\":\"step\",\"place\":",
-        place,
-        version,
-    )
+    let mut line = begin_line(alloc, added.word, added.instants)?;
+    line.extend_from_slice(added.word.text().as_bytes())?;
+    add_number(&mut line, b"\",\"place\":", added.place)?;
+    add_version(&mut line, added.version)?;
+    Ok(line)
 }
 
 /// The line of a login.
@@ -134,8 +90,11 @@ pub(crate) fn login_line(
 ) -> Result<Vec<u8>, AllocError>
     ensures { IfOk result (λ line. line.items ≡ line_of (Login session.now version)) }
 {
+    let mut line = Vec::with_capacity(alloc, USUAL_BYTES)?;
     let session = u64::from(session.number());
-    placed_line(alloc, b"{\"ok\":\"login\",\"session\":", session, version)
+    add_number(&mut line, b"{\"ok\":\"login\",\"session\":", session)?;
+    add_version(&mut line, version)?;
+    Ok(line)
 }
 
 /// The line of an audit.

@@ -1,6 +1,6 @@
 //! Reply lines, as exact bytes.
-ghost use Rattle.std.specs.Prelude.{◌≡◌, ◌≢◌, ◌++◌, ◌∷◌, ℕ, List, codes, decimal, IfOk, OnOk};
-ghost use Rattle.std.specs.Prelude.{OnErr, true};
+ghost use Rattle.std.specs.Prelude.{◌≡◌, ◌≢◌, ◌++◌, ℕ, List, codes, decimal, IfOk, OnOk};
+ghost use Rattle.std.specs.Prelude.{OnErr, true, false};
 ghost use Rattle.std.specs.Cow.{cow_slice_items};
 ghost use Rattle.json.specs.Print.{quoted};
 ghost use Rattle.serde_json.specs.Data.{no_members};
@@ -9,19 +9,18 @@ ghost use Rattle.reactor_core.specs.Refusals.{row_of as module_row};
 ghost use Rattle.wire_lines.specs.Requests.{text_member, number_member};
 ghost use Rattle.wire_lines.specs.Replies.{refusal_members, refused_with, row_members, line_of};
 ghost use Rattle.wire_lines.specs.Inner.ReplyTokens.{member_tokens};
-ghost use Rattle.access_core.specs.declared.reply.Reply.TheVariants.{Refused, Login, Changed, Load};
-ghost use Rattle.access_core.specs.declared.reply.Reply.TheVariants.{Discard, Step, Unload, Audit};
-ghost use Rattle.access_core.specs.declared.reply.Reply.TheVariants.{Check, Look};
+ghost use Rattle.reactor_core.specs.declared.entry.Word.{Word};
+ghost use Rattle.reactor_core.specs.declared.entry.Word.TheVariants as word;
+ghost use Rattle.reactor_core.specs.Meaning.{word_text, is_step};
+ghost use Rattle.access_core.specs.declared.reply.Reply.TheVariants.{Refused, Login, Changed};
+ghost use Rattle.access_core.specs.declared.reply.Reply.TheVariants.{Added, Audit, Check, Look};
 ghost use Rattle.access_core.specs.declared.reply.Change.TheVariants as change;
 ghost use Rattle.access_core.specs.declared.refusal.Refusal.TheVariants as refusal;
 ghost use Rattle.rbac_admin.specs.declared.refusals.Refusal.TheVariants as policy;
 ghost use Rattle.reactor_core.specs.declared.refusal.ModuleRefusal.TheVariants as of_module;
 ghost use Rattle.est_text.specs.declared.place.Place.{Place};
 
-use crate::accepted::{
-    audit_line, changed_line, check_line, discard_line, load_line, login_line, offer_line,
-    step_line, unload_line,
-};
+use crate::accepted::{added_line, audit_line, changed_line, check_line, login_line};
 use crate::line_writer::LineWriter;
 use access_core::refusal::Refusal;
 use access_core::reply::{Reply, ShownSignal};
@@ -220,15 +219,7 @@ pub fn reply_line(alloc: Global, reply: &Reply) -> Result<Vec<u8>, AllocError>
         Reply::Refused(refusal) => refused_line(alloc, refusal),
         Reply::Login { session, version } => login_line(alloc, session, *version),
         Reply::Changed { change, version } => changed_line(alloc, change, *version),
-        Reply::Load { place, version } => load_line(alloc, *place, *version),
-        Reply::Offer { place, version } => offer_line(alloc, *place, *version),
-        Reply::Discard { place, version } => discard_line(alloc, *place, *version),
-        Reply::Step {
-            instant,
-            place,
-            version,
-        } => step_line(alloc, *instant, *place, *version),
-        Reply::Unload { place, version } => unload_line(alloc, *place, *version),
+        Reply::Added(added) => added_line(alloc, added),
         Reply::Look {
             instant,
             signals,
@@ -274,19 +265,32 @@ pub fn reply_lines_are_these()
         ≡ codes "{\"ok\":\"grant\",\"version\":" ++ (decimal version ++ codes "}\n") }
     ensures logout { (version : ℕ) → line_of (Changed change.DeleteSession version)
         ≡ codes "{\"ok\":\"logout\",\"version\":" ++ (decimal version ++ codes "}\n") }
-    ensures load { (place version : ℕ) → line_of (Load place version)
-        ≡ codes "{\"ok\":\"load\",\"place\":" ++ (decimal place ++
+    ensures load { (instants place version : ℕ)
+        → line_of (Added (record {
+          word = word.Load;
+          place = place;
+          version = version;
+          instants = instants;
+        })) ≡ codes "{\"ok\":\"load\",\"place\":" ++ (decimal place ++
         (codes ",\"version\":" ++ (decimal version ++ codes "}\n"))) }
-    ensures step { (instant place version : ℕ) → line_of (Step instant place version)
-        ≡ codes "{\"instant\":" ++ (decimal instant ++
+    ensures step { (instants place version : ℕ)
+        → line_of (Added (record {
+          word = word.Step;
+          place = place;
+          version = version;
+          instants = instants;
+        })) ≡ codes "{\"instant\":" ++ (decimal instants ++
         (codes ",\"ok\":\"step\",\"place\":" ++ (decimal place
         ++ (codes ",\"version\":" ++ (decimal version ++ codes "}\n"))))) }
-    ensures discard { (place version : ℕ) → line_of (Discard place version)
-        ≡ codes "{\"ok\":\"discard\",\"place\":" ++ (decimal place ++
-        (codes ",\"version\":" ++ (decimal version ++ codes "}\n"))) }
-    ensures unload { (place version : ℕ) → line_of (Unload place version)
-        ≡ codes "{\"ok\":\"unload\",\"place\":" ++ (decimal place ++
-        (codes ",\"version\":" ++ (decimal version ++ codes "}\n"))) }
+    ensures added { (asked : Word) (instants place version : ℕ) → is_step asked ≡ false
+        → line_of (Added (record {
+          word = asked;
+          place = place;
+          version = version;
+          instants = instants;
+        })) ≡ codes "{\"ok\":\"" ++ (word_text asked ++
+        (codes "\",\"place\":" ++ (decimal place ++
+        (codes ",\"version\":" ++ (decimal version ++ codes "}\n"))))) }
     ensures audit { (entries instants version : ℕ) → line_of (Audit entries instants version)
         ≡ codes "{\"entries\":" ++ (decimal entries ++ (codes ",\"instants\":" ++ (decimal instants
         ++ (codes ",\"ok\":\"audit\",\"version\":" ++ (decimal version ++ codes "}\n"))))) }

@@ -11,8 +11,7 @@ use Rattle.reactor_core.specs.declared.entry.Action.{Action}
 use Rattle.reactor_core.specs.declared.entry.SlotEntry.{SlotEntry}
 use Rattle.reactor_core.specs.Instants.{IsOutcome}
 use Rattle.reactor_core.specs.Left.{IsKernelOf, IsLeftOf}
-use Rattle.reactor_core.specs.Meaning.{is_loaded}
-use Rattle.access_core.specs.Journals.{instant_of}
+use Rattle.reactor_core.specs.Meaning.{is_loaded, instant_of}
 use Rattle.audit_report.specs.declared.asked_again.Opinion.{Opinion}
 use Rattle.audit_report.specs.declared.asked_again.Opinion.TheVariants.{NotAsked, Other, SameOutputs, Same}
 use Rattle.audit_report.specs.declared.asked_again.TheConstants.{ASKED_LOCALS}

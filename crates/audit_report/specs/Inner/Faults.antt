@@ -5,6 +5,7 @@ use Rattle.rbac_policy.specs.declared.commands.Entry.{Entry}
 use Rattle.reactor_core.specs.declared.entry.PastInstant.{PastInstant}
 use Rattle.reactor_core.specs.declared.entry.Action.{Action}
 use Rattle.reactor_core.specs.declared.entry.SlotEntry.{SlotEntry}
+use Rattle.reactor_core.specs.Meaning.{instant_of}
 use Rattle.access_core.specs.declared.refusal.Refusal.{Refusal}
 use Rattle.access_core.specs.declared.refusal.Refusal.TheVariants as refusal
 use Rattle.access_core.specs.Refusals.{code_of}
@@ -12,7 +13,7 @@ use Rattle.audit_report.specs.declared.finding.Finding.{Finding}
 use Rattle.audit_report.specs.declared.finding.Finding.TheVariants as finding
 use Rattle.audit_report.specs.declared.slot_audit.Fault.{Fault}
 use Rattle.audit_report.specs.declared.slot_audit.Fault.TheVariants.{Refused, Reaction, Memory}
-use Rattle.access_core.specs.Journals.{instant_of, Adds}
+use Rattle.access_core.specs.Journals.{Adds}
 use Rattle.audit_report.specs.Findings.{IsRefusedWith, ReactsOtherwise}
 
 -- the instant that an entry keeps, if there is one and it is a step

@@ -1,13 +1,12 @@
 //! What the seats of a board keep of their calls.
 use crate::board::playing::{Example, play};
-use crate::board::sharing::{
-    enter, first, give, grant, grant_once, login, may_audit, refusal, revoke,
-};
-use history_receipts::receipt::{Asked, Kept, SlotReceipt};
+use crate::board::sharing::{enter, grant, grant_once, login, may_audit, refusal, revoke};
+use history_receipts::receipt::{Kept, SlotReceipt};
 use policy_board::board::Board;
 use policy_board::history::{BoardName, Fresh};
 use policy_board::seat::Seat;
 use rbac_policy::commands::AdminCommand;
+use reactor_core::entry::Word;
 use std::alloc::Global;
 use std::marker::Brand;
 use std::process::Abort;
@@ -38,7 +37,8 @@ fn counted<B: BoardName>(seat: &Seat<B>, place: usize) -> Option<u64> {
                 version: 5,
                 session: 1,
                 number,
-                asked: Asked::Step,
+                word: Word::Step,
+                signal: None,
             },
         ) => Some(*number),
         Kept::Slot(_) | Kept::Admin { .. } => None,
@@ -57,7 +57,8 @@ fn count<B: BoardName, R: Wait + Abort>(rt: &R, board: &Board<B>, seat: &mut Sea
                 version: 5,
                 session: 1,
                 number: 0,
-                asked: Asked::Step,
+                word: Word::Step,
+                signal: None,
             },
         ),
         Err(_) => assert!(rt; false),

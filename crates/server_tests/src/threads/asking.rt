@@ -1,8 +1,7 @@
 //! Commands to a board and to its slots, and what is answered.
-ghost use Rattle.std.specs.Prelude.{◌≡◌};
 
 use access_core::command::SlotCommand;
-use access_core::reply::Reply;
+use access_core::reply::{Added, Reply};
 use est_text::identifier::Identifier;
 use policy_board::board::Board;
 use policy_board::history::BoardName;
@@ -10,6 +9,7 @@ use policy_board::seat::{Receipt, Seat};
 use rbac_policy::commands::{AdminCommand, SessionId};
 use rbac_policy::names::{Name, RoleNames};
 use rbac_policy::objects::{Object, Operation, SlotNumber};
+use reactor_core::entry::Word;
 use reactor_core::text::Text;
 use slot_table::table::SlotTable;
 use std::alloc::{AllocError, Global};
@@ -119,5 +119,14 @@ pub(crate) fn begin<B: BoardName, R: Wait + Abort>(
         text: Text::copied(alloc, ONCE).ok().expect(rt, "room"),
     };
     let reply = table.command(rt, board, seat, root(), u64::from(number), load);
-    assert!(rt; matches!(reply, Reply::Load { place: 1, .. }));
+    assert!(rt;
+        matches!(
+            reply,
+            Reply::Added(Added {
+                word: Word::Load,
+                place: 1,
+                ..
+            })
+        )
+    );
 }

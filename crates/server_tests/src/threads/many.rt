@@ -6,7 +6,7 @@ use crate::threads::asking::{begin, enter, grant, revoke, root};
 use crate::threads::lending::{Lends, may_cross};
 use crate::threads::server::{Server, open};
 use access_core::command::SlotCommand;
-use access_core::reply::Reply;
+use access_core::reply::{Added, Reply};
 use policy_board::board::Board;
 use policy_board::history::{BoardName, Fresh};
 use policy_board::reader::SlotReader;
@@ -14,6 +14,7 @@ use policy_board::seat::Seat;
 use policy_board::sharing::boards_are_shared;
 use rbac_policy::names::Name;
 use rbac_policy::objects::{Object, Operation, SLOTS, SlotNumber};
+use reactor_core::entry::Word;
 use server_threads::workers::{Turn, Work, run_each};
 use slot_table::closing::Histories;
 use slot_table::table::SlotTable;
@@ -97,7 +98,13 @@ fn step<B: BoardName, R: Wait>(
     }
     let slot = (worker.asked % SLOTS as usize) as u64;
     let reply = table.command(rt, board, &mut worker.seat, root(), slot, SlotCommand::Step);
-    worker.asked(matches!(reply, Reply::Step { .. }));
+    worker.asked(matches!(
+        reply,
+        Reply::Added(Added {
+            word: Word::Step,
+            ..
+        })
+    ));
     Turn::Taken(worker)
 }
 

@@ -6,7 +6,7 @@ use crate::threads::lending::{Lends, may_cross};
 use crate::threads::server::{Server, open};
 use access_core::command::SlotCommand;
 use access_core::refusal::Refusal;
-use access_core::reply::Reply;
+use access_core::reply::{Added, Reply};
 use audit_report::audit::check;
 use est_text::identifier::Identifier;
 use policy_board::board::Board;
@@ -18,7 +18,7 @@ use rbac_admin::refusals::Refusal as PolicyRefusal;
 use rbac_policy::commands::{AdminCommand, SessionId};
 use rbac_policy::names::Name;
 use rbac_policy::objects::{Object, Operation, SlotNumber};
-use reactor_core::entry::{Action, SlotEntry};
+use reactor_core::entry::{Action, SlotEntry, Word};
 use slot_table::closing::Histories;
 use slot_table::table::SlotTable;
 use std::alloc::Global;
@@ -119,7 +119,15 @@ fn step_on<B: BoardName, R: Wait + Abort>(
     for _ in 0..COMMANDS {
         let before = seat.seen();
         let reply = table.command(rt, board, &mut seat, root(), 0, SlotCommand::Step);
-        assert!(rt; matches!(reply, Reply::Step { .. }));
+        assert!(rt;
+            matches!(
+                reply,
+                Reply::Added(Added {
+                    word: Word::Step,
+                    ..
+                })
+            )
+        );
         assert!(rt; before <= seat.seen());
     }
     seat
@@ -190,7 +198,11 @@ fn play_round<
     let third = step_on(rt, board, table.lent(), third);
     assert!(rt; may_offer(rt, board, &mut asker));
     let reply = offer(rt, board, table.lent(), &mut asker);
-    assert!(rt; matches!(reply, Reply::Offer { version, .. } if version == told));
+    let added = match reply {
+        Reply::Added(added) => added.word == Word::Offer && added.version == told,
+        _ => false,
+    };
+    assert!(rt; added);
     let seats = Seats {
         giver,
         asker,

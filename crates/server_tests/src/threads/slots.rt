@@ -5,13 +5,14 @@ use crate::threads::asking::{begin, enter, root};
 use crate::threads::lending::{Lends, may_cross};
 use crate::threads::server::{Server, open};
 use access_core::command::SlotCommand;
-use access_core::reply::Reply;
+use access_core::reply::{Added, Reply};
 use policy_board::board::Board;
 use policy_board::history::{BoardName, Fresh};
 use policy_board::reader::SlotReader;
 use policy_board::seat::Seat;
 use policy_board::sharing::boards_are_shared;
 use rbac_policy::names::Name;
+use reactor_core::entry::Word;
 use slot_table::table::SlotTable;
 use std::alloc::Global;
 use std::marker::Brand;
@@ -53,7 +54,14 @@ fn step_often<B: BoardName, R: Wait + Abort>(
             u64::from(slot),
             SlotCommand::Step,
         ) {
-            Reply::Step { place, version, .. } => {
+            Reply::Added(
+                Added {
+                    word: Word::Step,
+                    place,
+                    version,
+                    ..
+                },
+            ) => {
                 assert!(rt; newest <= version);
                 newest = version;
                 places |= bit(place);

@@ -4,7 +4,7 @@ ghost use Rattle.history_receipts.specs.declared.receipt_list.TheConstants.{SEAT
 
 use crate::lines::{asked, expect_told};
 use history_receipts::mismatch::Mismatch;
-use history_receipts::receipt::{Asked, Kept};
+use history_receipts::receipt::{Kept, SlotReceipt};
 use history_receipts::receipt_list::SEATS;
 use policy_board::board::Board;
 use policy_board::history::{BoardName, Fresh};
@@ -111,14 +111,11 @@ fn say<B: BoardName, R: Wait + Abort>(
     }
 }
 
-/// What was asked for, and the signal of an offer.
-fn name_of(asked: &Asked) -> (&'static str, &str) {
-    match asked {
-        Asked::Load => ("load", ""),
-        Asked::Offer(signal) => ("offer", signal.as_str()),
-        Asked::Discard => ("discard", ""),
-        Asked::Step => ("step", ""),
-        Asked::Unload => ("unload", ""),
+/// The signal of an offer, or nothing.
+fn signal_of(receipt: &SlotReceipt) -> &str {
+    match &receipt.signal {
+        Some(signal) => signal.as_str(),
+        None => "",
     }
 }
 
@@ -130,7 +127,7 @@ fn expect_kept(rt: &impl Abort, kept: Option<&Kept>, (word, signal, numbers): To
     }
     .expect(rt, "a slot command");
     let told = [receipt.slot, receipt.place, receipt.version, receipt.number];
-    assert_eq!(rt; name_of(&receipt.asked), (word, signal));
+    assert_eq!(rt; (receipt.word.text(), signal_of(receipt)), (word, signal));
     assert_eq!(rt; told, numbers);
     assert_eq!(rt; receipt.session, 1);
 }

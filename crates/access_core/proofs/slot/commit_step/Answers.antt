@@ -8,9 +8,8 @@ use Rattle.access_core.proofs.slot.commit_step.Goals as goal
 pub returns-in-Ok-clause-step : goal.returns-in-Ok-clause-step
 returns-in-Ok-clause-step c =
     let added = commit_adds c.args.settled c.args.stamp c.in-Ok.reactor c.in-Ok.ensures in
-    commit_accepted c.args.stamp c.args.settled.journal c.journal.result.now c.in-Ok.reactor c.args.settled.outputs
-    added.0
-    c.instants.result c.len.result added.1 c.instants.ensures c.journal.ensures.same c.len.ensures
+    commit_accepted c.args.stamp c.args.settled.journal c.in-Ok.reactor c.args.settled.outputs added.0 _ added.1
+    c.added_to-reply.ensures
 
 pub returns-in-Err-clause-loaded : goal.returns-in-Err-clause-loaded
 returns-in-Err-clause-loaded c =

@@ -1,15 +1,15 @@
-use Rattle.std.proofs.Common.{◌∙◌, refl, ap, length}
+use Rattle.std.proofs.Common.{◌∙◌, refl, ap}
 use Rattle.std.specs.Prelude.{Ok, Err}
 use Rattle.reactor_core.specs.Meaning.{is_loaded}
 use Rattle.reactor_core.proofs.AnswerLemmas.{load_stays}
-use Rattle.access_core.specs.declared.reply.Reply.TheVariants.{Refused, Load as Loaded}
+use Rattle.access_core.specs.declared.reply.Reply.TheVariants.{Refused}
 use Rattle.access_core.proofs.slot.load_module.Goals as goal
 
 pub returns-in-Ok-clause-step : goal.returns-in-Ok-clause-step
 returns-in-Ok-clause-step c = record {
   answer = Ok c.in-Ok.reactor;
   given = c.in-Ok.ensures;
-  replied = (refl, ap (λ n. Loaded n c.args.stamp.version) (c.len.ensures ∙ ap length c.journal.ensures.same));
+  replied = (refl, c.added_to-reply.ensures);
 }
 
 pub returns-in-Err-clause-held : goal.returns-in-Err-clause-held

@@ -7,10 +7,10 @@ use Rattle.audit_report.proofs.asked_again.opinion_of.Goals as goal
 pub returns-in_default : goal.returns-in_default
 returns-in_default g c = nothing_runs c.args.slot.now.journal c.args.action.now c.in_default.ensures
 
-pub returns-in-Some-instant_of : goal.returns-in-Some-instant_of
-returns-in-Some-instant_of g c =
+pub returns-in-Some-instant : goal.returns-in-Some-instant
+returns-in-Some-instant g c =
     let journal = c.args.slot.now.journal in
-    let here : ThinksOfStep journal c.in-Some-instant_of.stored.outputs c.opinion_of_step.result =
-    subst (λ (j : List SlotEntry). ThinksOfStep j c.in-Some-instant_of.stored.outputs c.opinion_of_step.result)
+    let here : ThinksOfStep journal c.in-Some-instant.stored.outputs c.opinion_of_step.result =
+    subst (λ (j : List SlotEntry). ThinksOfStep j c.in-Some-instant.stored.outputs c.opinion_of_step.result)
     c.in-Some.ensures c.opinion_of_step.ensures in
-    thinks_of journal c.args.action.now _ _ c.in-Some-instant_of.ensures (inr here)
+    thinks_of journal c.args.action.now _ _ c.in-Some-instant.ensures (inr here)

@@ -1,7 +1,7 @@
-use Rattle.wire_lines.proofs.ReplyTexts.{word_text, by_text}
+use Rattle.wire_lines.proofs.ReplyTexts.{changed_word, by_text}
 use Rattle.wire_lines.proofs.accepted.changed_line.Goals as goal
 
 pub returns : goal.returns
 returns c =
-    by_text (λ line. line.items) (word_text c.args.change.now c.word.result.now c.args.version c.word.ensures)
+    by_text (λ line. line.items) (changed_word c.args.change.now c.word.result.now c.args.version c.word.ensures)
     c.word_line.result c.word_line.ensures

@@ -1,6 +1,9 @@
-use Rattle.std.proofs.Common.{append_assoc, refl}
+use Rattle.std.proofs.Common.{Bool, ◌∙◌, ◌++◌, codes, append_assoc, ap, refl, sym}
+use Rattle.std.specs.Prelude.{decimal, if◌then◌else◌}
 use Rattle.std.specs.Fmt.{digits}
 use Rattle.serde_json.proofs.OnLiterals.{serde_json_on_literals}
+use Rattle.reactor_core.specs.Meaning.{word_text}
+use Rattle.wire_lines.proofs.ReplyTexts.{added_text, version_end}
 use Rattle.wire_lines.proofs.reply.reply_lines_are_these.Goals as goal
 
 pub returns-clause-login : goal.returns-clause-login
@@ -17,19 +20,17 @@ returns-clause-logout c = λ version. simp append_assoc
 
 pub returns-clause-load : goal.returns-clause-load
 unfolding serde_json_on_literals digits
-returns-clause-load c = λ place version. simp append_assoc
+returns-clause-load c = λ instants place version. simp append_assoc
 
 pub returns-clause-step : goal.returns-clause-step
 unfolding serde_json_on_literals digits
-returns-clause-step c = λ instant place version. simp append_assoc
+returns-clause-step c = λ instants place version. simp append_assoc
 
-pub returns-clause-discard : goal.returns-clause-discard
-unfolding serde_json_on_literals digits
-returns-clause-discard c = λ place version. simp append_assoc
-
-pub returns-clause-unload : goal.returns-clause-unload
-unfolding serde_json_on_literals digits
-returns-clause-unload c = λ place version. simp append_assoc
+pub returns-clause-added : goal.returns-clause-added
+returns-clause-added c = λ asked instants place version plain. sym (added_text asked instants place version)
+    ∙ ap (λ (b : Bool). (if b then (codes "{\"instant\":" ++ decimal instants) ++ codes ",\"ok\":\""
+    else codes "{\"ok\":\"") ++ (word_text asked ++
+    (codes "\",\"place\":" ++ (decimal place ++ version_end version)))) plain
 
 pub returns-clause-audit : goal.returns-clause-audit
 unfolding serde_json_on_literals digits

@@ -1,6 +1,0 @@
-use Rattle.wire_lines.proofs.ReplyTexts.{load_text, by_text}
-use Rattle.wire_lines.proofs.accepted.load_line.Goals as goal
-
-pub returns : goal.returns
-returns c = by_text (λ line. line.items) (load_text c.args.place c.args.version) c.placed_line.result
-    c.placed_line.ensures
