@@ -10,11 +10,11 @@ use Rattle.est_modules.specs.Modules.{Program, program_named, is_declared}
 use Rattle.est_modules.specs.NamedNumbers.{Tells}
 use Rattle.est_modules.specs.NumberSets.{numbers_of}
 use Rattle.est_modules.specs.Visible.{stands_in}
-use Rattle.est_modules.specs.declared.name_table.NameTable.{NameTable}
-use Rattle.est_modules.specs.declared.number_set.NumberSet.{NumberSet}
+use Rattle.est_modules.specs.declared.names.table.NameTable.{NameTable}
+use Rattle.est_modules.specs.declared.names.set.NumberSet.{NumberSet}
 use Rattle.est_modules.specs.Renamings.{renamed}
 use Rattle.est_modules.specs.NameSets.{has}
-use Rattle.est_modules.specs.declared.name_set.NameSet.{NameSet}
+use Rattle.est_modules.specs.declared.names.set.NameSet.{NameSet}
 use Rattle.est_modules.specs.declared.head.Declared.{Declared}
 use Rattle.est_modules.proofs.Lists.{any_map}
 use Rattle.est_modules.proofs.TellingNumbers.{passes_none, passes_same}

@@ -21,8 +21,8 @@ use Rattle.est_modules.specs.Scopes.{act_of}
 use Rattle.est_modules.specs.Visible.{is_local, is_tick}
 use Rattle.est_modules.specs.declared.head.Declared.{Declared}
 use Rattle.est_modules.specs.declared.scope.Act.{Act as ActValue}
-use Rattle.est_modules.specs.declared.name_table.NameTable.{NameTable}
-use Rattle.est_modules.specs.declared.number_set.NumberSet.{NumberSet}
+use Rattle.est_modules.specs.declared.names.table.NameTable.{NameTable}
+use Rattle.est_modules.specs.declared.names.set.NumberSet.{NumberSet}
 use Rattle.est_modules.proofs.Lists.{any_map}
 use Rattle.est_modules.proofs.Numbering.{any_next}
 use Rattle.est_modules.proofs.TellingNumbers.{adds_none, adds_same, adds_number, passes_none, passes_or}

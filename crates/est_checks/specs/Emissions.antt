@@ -15,7 +15,7 @@ use Rattle.est_modules.specs.Renamings.{renamed}
 use Rattle.est_modules.specs.Modules.{is_input}
 use Rattle.est_modules.specs.declared.head.Declared.{Declared}
 use Rattle.est_modules.specs.NameSets.{has}
-use Rattle.est_modules.specs.declared.name_set.NameSet.{NameSet}
+use Rattle.est_modules.specs.declared.names.set.NameSet.{NameSet}
 use Rattle.est_checks.specs.declared.emission.Emissions.{Emissions}
 
 -- the module that is run emits an interface name that means this name of the caller

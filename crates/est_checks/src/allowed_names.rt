@@ -7,10 +7,8 @@ ghost use Rattle.est_modules.specs.NameTables.{IsTable};
 ghost use Rattle.est_modules.specs.Visible.{is_tick};
 
 use est_modules::head::{Declared, Head};
-use est_modules::name_set::NameSet;
-use est_modules::name_table::NameTable;
-use est_modules::named_numbers::numbers_among;
-use est_modules::number_set::NumberSet;
+use est_modules::names::set::{NameSet, NumberSet, numbers_among};
+use est_modules::names::table::NameTable;
 use est_modules::relations::is_input_kind;
 use est_modules::visibility::is_tick;
 use est_text::identifier::Identifier;

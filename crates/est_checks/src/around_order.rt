@@ -18,8 +18,8 @@ use crate::place_check::first_in_bodies;
 use crate::unknown_names::first_unknown;
 use est_modules::head::Head;
 use est_modules::head_tree::Heads;
-use est_modules::kept_names::KeptNames;
-use est_modules::name_table::NameTable;
+use est_modules::names::kept::KeptNames;
+use est_modules::names::table::NameTable;
 use est_text::identifier::Identifier;
 use std::alloc::{AllocError, Global};
 

@@ -9,8 +9,8 @@ ghost use Rattle.est_checks.specs.BadRenamings.{is_renamed_twice, is_misnamed, b
 use crate::place_check::Check;
 use est_modules::head::Head;
 use est_modules::head_tree::Heads;
-use est_modules::name_set::NameSet;
-use est_modules::open_names::OpenNames;
+use est_modules::names::open::OpenNames;
+use est_modules::names::set::NameSet;
 use est_modules::scope::{Act, Scope};
 use est_syntax::tree::Renaming;
 use est_text::identifier::Identifier;

@@ -4,7 +4,7 @@ ghost use Rattle.std.specs.Str.{bytes_eq};
 ghost use Rattle.est_modules.specs.NameSets.{has};
 ghost use Rattle.est_checks.specs.Emissions.{emitted_in, emitted_of};
 
-use est_modules::name_set::NameSet;
+use est_modules::names::set::NameSet;
 use est_text::identifier::Identifier;
 use std::alloc::{AllocError, Global};
 use std::collections::BTreeMap;

@@ -8,7 +8,7 @@ ghost use Rattle.est_checks.specs.Inner.Offers.{is_past};
 ghost use Rattle.est_checks.specs.LawlessRelations.{first_lawless};
 
 use est_modules::head::{Declared, Head};
-use est_modules::name_set::NameSet;
+use est_modules::names::set::NameSet;
 use est_modules::relations::{is_offered_kind, relations_of};
 use est_syntax::tree::Relation;
 use est_text::identifier::Identifier;

@@ -14,10 +14,9 @@ use crate::around_order::{check_before_order, fault_of_emissions, fault_of_names
 use crate::fault::LinkFault;
 use crate::limits::check_limits;
 use crate::module_emissions::emissions_along;
-use est_modules::bound_names::further_names;
 use est_modules::head_tree::Heads;
 use est_modules::module_order::order_heads;
-use est_modules::name_table::{NameTable, numbered};
+use est_modules::names::table::{NameTable, further_names, numbered};
 use est_order::order_fault::OrderFault;
 use est_order::place_order::Order;
 use est_text::identifier::Identifier;

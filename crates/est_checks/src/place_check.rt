@@ -6,9 +6,9 @@ ghost use Rattle.est_modules.specs.NameTables.{IsTable};
 
 use est_modules::head::Head;
 use est_modules::head_tree::Heads;
-use est_modules::kept_names::KeptNames;
-use est_modules::name_table::NameTable;
-use est_modules::open_names::OpenNames;
+use est_modules::names::kept::KeptNames;
+use est_modules::names::open::OpenNames;
+use est_modules::names::table::NameTable;
 use est_modules::scope::{Act, Scope};
 use est_modules::visit::Visitor;
 use est_modules::walk::walk_body;
@@ -21,8 +21,8 @@ pub trait Check {
     ghost use Rattle.est_modules.specs.Modules.{Program, program_of};
     ghost use Rattle.est_modules.specs.Occurrences.{Occurrence};
     ghost use Rattle.est_modules.specs.OpenNames.{IsOpen};
-    ghost use Rattle.est_modules.specs.declared.name_table.NameTable.{NameTable};
-    ghost use Rattle.est_modules.specs.declared.kept_names.Kept.{Kept};
+    ghost use Rattle.est_modules.specs.declared.names.table.NameTable.{NameTable};
+    ghost use Rattle.est_modules.specs.declared.names.kept.Kept.{Kept};
     ghost use Rattle.est_modules.specs.Scopes.{act_of, binders_of};
 
     /// The name of the fault at an occurrence in a module, if it is one.

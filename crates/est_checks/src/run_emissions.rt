@@ -11,9 +11,9 @@ use crate::emission::Emissions;
 use crate::run_names::{Choice, kept_of};
 use est_modules::head::Declared;
 use est_modules::head_tree::Heads;
-use est_modules::kept_names::KeptNames;
-use est_modules::name_set::NameSet;
-use est_modules::name_table::NameTable;
+use est_modules::names::kept::KeptNames;
+use est_modules::names::set::NameSet;
+use est_modules::names::table::NameTable;
 use est_text::identifier::Identifier;
 use std::alloc::{AllocError, Global};
 

@@ -4,10 +4,9 @@ ghost use Rattle.est_modules.specs.FirstPlaces.{AreFirstPlaces};
 ghost use Rattle.est_modules.specs.NameTables.{IsTable};
 ghost use Rattle.est_modules.specs.OpenNames.{AreKept};
 
-use est_modules::first_places::FirstPlaces;
 use est_modules::head_tree::Heads;
-use est_modules::kept_names::{Kept, KeptNames, keep};
-use est_modules::name_table::NameTable;
+use est_modules::names::kept::{Kept, KeptNames, keep};
+use est_modules::names::table::{FirstPlaces, NameTable};
 use est_text::identifier::Identifier;
 use std::alloc::{AllocError, Global};
 

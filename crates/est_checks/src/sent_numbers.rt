@@ -4,7 +4,7 @@ ghost use Rattle.std.specs.Str.{bytes_eq};
 ghost use Rattle.est_modules.specs.NumberSets.{numbers_of};
 ghost use Rattle.est_checks.specs.Inner.SentNumbers.{has_number, sends_number};
 
-use est_modules::number_set::NumberSet;
+use est_modules::names::set::NumberSet;
 use est_text::identifier::Identifier;
 use std::alloc::{AllocError, Global};
 use std::collections::BTreeMap;

@@ -6,7 +6,7 @@ ghost use Rattle.est_modules.specs.FirstPlaces.{AreFirstPlaces};
 ghost use Rattle.est_syntax.specs.Views.{names_view};
 
 use crate::numbers::{small, sum};
-use est_modules::first_places::FirstPlaces;
+use est_modules::names::table::FirstPlaces;
 use est_syntax::tree::Names;
 use est_text::identifier::Identifier;
 use std::alloc::{AllocError, Global};

@@ -8,7 +8,7 @@ use Rattle.std.specs.Prelude.{is_some}
 use Rattle.std.specs.Str.{bytes_eq}
 use Rattle.std.proofs.lemmas.Bool.{or_right, or_left}
 use Rattle.est_modules.specs.NameTables.{number_in, is_numbered, IsTable}
-use Rattle.est_modules.specs.declared.name_table.NameTable.{NameTable}
+use Rattle.est_modules.specs.declared.names.table.NameTable.{NameTable}
 use Rattle.est_modules.proofs.Testing.{same_bytes, equal_bytes, same_or, some_same}
 
 -- ---- what stands at a place of a list

@@ -8,10 +8,10 @@ use Rattle.est_modules.specs.NamedNumbers.{AreNumbers, Tells}
 use Rattle.est_modules.specs.NameTables.{IsTable}
 use Rattle.est_modules.specs.Occurrences.{Binder, signals, a_trap}
 use Rattle.est_modules.specs.OpenNames.{AreKept, IsSame, IsOpen}
-use Rattle.est_modules.specs.declared.name_table.NameTable.{NameTable}
-use Rattle.est_modules.specs.declared.open_names.OpenNames.{OpenNames}
+use Rattle.est_modules.specs.declared.names.table.NameTable.{NameTable}
+use Rattle.est_modules.specs.declared.names.open.OpenNames.{OpenNames}
 use Rattle.est_modules.specs.Visible.{has_signals, is_local}
-use Rattle.est_modules.specs.declared.kept_names.Kept.{Kept}
+use Rattle.est_modules.specs.declared.names.kept.Kept.{Kept}
 use Rattle.est_modules.proofs.Testing.{same_bytes, some_same}
 
 -- ---- local names

@@ -7,7 +7,7 @@ use Rattle.std.specs.Prelude.{is_some}
 use Rattle.std.specs.Option.{option_or, MatchOption}
 use Rattle.std.specs.Str.{bytes_eq}
 use Rattle.est_modules.specs.FirstPlaces.{first_place, AreFirstPlaces}
-use Rattle.est_modules.specs.declared.first_places.FirstPlaces.{FirstPlaces}
+use Rattle.est_modules.specs.declared.names.table.FirstPlaces.{FirstPlaces}
 use Rattle.est_modules.proofs.Positions.{position_cons, position_map}
 use Rattle.est_modules.proofs.Testing.{same_bytes, some_same}
 

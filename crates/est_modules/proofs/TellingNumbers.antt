@@ -10,8 +10,8 @@ use Rattle.est_modules.specs.NamedNumbers.{passes, is_number_of, Tells, Adds, Ar
 use Rattle.est_modules.specs.NameTables.{number_in, is_numbered, IsTable}
 use Rattle.est_modules.specs.NumberSets.{numbers_of}
 use Rattle.est_modules.specs.Visible.{stands_in}
-use Rattle.est_modules.specs.declared.name_table.NameTable.{NameTable}
-use Rattle.est_modules.specs.declared.number_set.NumberSet.{NumberSet}
+use Rattle.est_modules.specs.declared.names.table.NameTable.{NameTable}
+use Rattle.est_modules.specs.declared.names.set.NumberSet.{NumberSet}
 use Rattle.est_modules.proofs.Testing.{same_bytes, equal_bytes, same_or, or_assoc, same_tests, some_same}
 
 -- ---- tests of a name

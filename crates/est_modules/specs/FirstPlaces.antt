@@ -6,7 +6,7 @@ use Rattle.std.specs.Cmp.Lexicographic.{slice_cmp}
 use Rattle.std.specs.List.{position}
 use Rattle.std.specs.Ordering.{nat_cmp}
 use Rattle.std.specs.Str.{bytes_eq}
-use Rattle.est_modules.specs.declared.first_places.FirstPlaces.{FirstPlaces}
+use Rattle.est_modules.specs.declared.names.table.FirstPlaces.{FirstPlaces}
 
 -- the place that is kept for a name
 abbrev pub first_place : FirstPlaces → List ℕ → Option ℕ

@@ -4,7 +4,7 @@ use Rattle.std.specs.Borrow.{Bor}
 use Rattle.std.specs.BTreeSet.{contains_by}
 use Rattle.std.specs.Cmp.Lexicographic.{slice_cmp}
 use Rattle.std.specs.Ordering.{nat_cmp}
-use Rattle.est_modules.specs.declared.name_set.NameSet.{NameSet}
+use Rattle.est_modules.specs.declared.names.set.NameSet.{NameSet}
 
 -- the name is in the set
 abbrev pub has : NameSet → List ℕ → Bool

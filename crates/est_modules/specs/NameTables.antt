@@ -7,7 +7,7 @@ use Rattle.std.specs.List.{list_any, slice_get}
 use Rattle.std.specs.Ordering.{nat_cmp}
 use Rattle.est_modules.specs.Modules.{Program, is_declared}
 use Rattle.est_modules.specs.Visible.{is_tick}
-use Rattle.est_modules.specs.declared.name_table.NameTable.{NameTable}
+use Rattle.est_modules.specs.declared.names.table.NameTable.{NameTable}
 
 -- the number of a name
 abbrev pub number_in : NameTable → List ℕ → Option ℕ

@@ -4,8 +4,8 @@ use Rattle.std.specs.List.{list_all, slice_get}
 use Rattle.est_modules.specs.NameTables.{is_numbered}
 use Rattle.est_modules.specs.NumberSets.{numbers_of}
 use Rattle.est_modules.specs.Visible.{stands_in}
-use Rattle.est_modules.specs.declared.name_table.NameTable.{NameTable}
-use Rattle.est_modules.specs.declared.number_set.NumberSet.{NumberSet}
+use Rattle.est_modules.specs.declared.names.table.NameTable.{NameTable}
+use Rattle.est_modules.specs.declared.names.set.NumberSet.{NumberSet}
 
 -- there is a name, and it passes the test
 abbrev pub passes : (List ℕ → Bool) → Option (List ℕ) → Bool

@@ -5,9 +5,9 @@ use Rattle.est_modules.specs.NamedNumbers.{AreNumbers, Tells}
 use Rattle.est_modules.specs.NameTables.{IsTable}
 use Rattle.est_modules.specs.Occurrences.{Binder}
 use Rattle.est_modules.specs.Visible.{is_local}
-use Rattle.est_modules.specs.declared.name_table.NameTable.{NameTable}
-use Rattle.est_modules.specs.declared.kept_names.Kept.{Kept}
-use Rattle.est_modules.specs.declared.open_names.OpenNames.{OpenNames}
+use Rattle.est_modules.specs.declared.names.table.NameTable.{NameTable}
+use Rattle.est_modules.specs.declared.names.kept.Kept.{Kept}
+use Rattle.est_modules.specs.declared.names.open.OpenNames.{OpenNames}
 
 -- the kept names of each module are these names of it
 abbrev pub AreKept : NameTable → (List ℕ → List (List ℕ)) → List Kept → Type 0

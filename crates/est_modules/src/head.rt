@@ -5,7 +5,7 @@ ghost use Rattle.std.specs.Str.{bytes_eq};
 ghost use Rattle.est_modules.specs.FirstPlaces.{AreFirstPlaces};
 ghost use Rattle.est_modules.specs.Modules.{is_declared};
 
-use crate::first_places::FirstPlaces;
+use crate::names::table::FirstPlaces;
 use est_syntax::tree::{Declaration, Statement};
 use est_text::identifier::Identifier;
 use std::marker::Model;

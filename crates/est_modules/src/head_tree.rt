@@ -5,8 +5,8 @@ ghost use Rattle.std.specs.Str.{bytes_eq};
 ghost use Rattle.est_modules.specs.FirstPlaces.{AreFirstPlaces};
 ghost use Rattle.est_modules.specs.Modules.{Program, program_of, program_named};
 
-use crate::first_places::FirstPlaces;
 use crate::head::Head;
+use crate::names::table::FirstPlaces;
 use est_text::identifier::Identifier;
 use std::marker::Model;
 

@@ -5,9 +5,9 @@ ghost use Rattle.est_modules.specs.FirstPlaces.{AreFirstPlaces};
 ghost use Rattle.est_modules.specs.Modules.{with_kind, declared_by, interface_of, program_of};
 ghost use Rattle.est_modules.specs.Modules.{module_program, programs_of};
 
-use crate::first_places::FirstPlaces;
 use crate::head::{Declared, Head, Interface, Kind};
 use crate::head_tree::Heads;
+use crate::names::table::FirstPlaces;
 use est_syntax::tree::{Declaration, Library, Module, Names};
 use est_text::identifier::Identifier;
 use std::alloc::{AllocError, Global};

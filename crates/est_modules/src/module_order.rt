@@ -8,9 +8,9 @@ ghost use Rattle.est_modules.specs.ModuleOrders.{IsOrderOf, run_rows, places_run
 
 use crate::head::Head;
 use crate::head_tree::Heads;
-use crate::kept_names::KeptNames;
-use crate::name_table::NameTable;
-use crate::open_names::OpenNames;
+use crate::names::kept::KeptNames;
+use crate::names::open::OpenNames;
+use crate::names::table::NameTable;
 use crate::scope::{Act, Scope};
 use crate::visit::Visitor;
 use crate::walk::walk_body;

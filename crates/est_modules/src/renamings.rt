@@ -6,7 +6,7 @@ ghost use Rattle.est_syntax.specs.Views.{renaming_view};
 ghost use Rattle.est_modules.specs.FirstPlaces.{AreFirstPlaces};
 ghost use Rattle.est_modules.specs.Renamings.{renamed, is_renamed};
 
-use crate::first_places::FirstPlaces;
+use crate::names::table::FirstPlaces;
 use est_syntax::tree::Renaming;
 use est_text::identifier::Identifier;
 use std::alloc::{AllocError, Global};

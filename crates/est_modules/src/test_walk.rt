@@ -10,7 +10,7 @@ ghost use Rattle.est_modules.specs.Scopes.{binders_of};
 ghost use Rattle.est_modules.specs.Tests.{literal_names, conjunction_names, expression_names};
 ghost use Rattle.est_modules.specs.Walks.{past_names, past_test};
 
-use crate::open_names::OpenNames;
+use crate::names::open::OpenNames;
 use crate::scope::{Act, Scope};
 use crate::visit::Visitor;
 use est_syntax::tree::{Conjunction, Expression, Literal, Test};

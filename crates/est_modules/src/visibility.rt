@@ -10,7 +10,7 @@ ghost use Rattle.est_modules.specs.Visible.{has_signals};
 ghost use Rattle.est_modules.specs.Visible.{is_tick, is_among, is_local, is_trap, is_visible};
 
 use crate::head::Head;
-use crate::open_names::OpenNames;
+use crate::names::open::OpenNames;
 use crate::scope::Scope;
 use est_syntax::tree::Names;
 use est_text::identifier::Identifier;

@@ -1,7 +1,7 @@
 //! What is done at one place after another.
 ghost use Rattle.std.specs.Prelude.{◌≡◌, List, OnOk};
 
-use crate::open_names::OpenNames;
+use crate::names::open::OpenNames;
 use crate::scope::{Act, Scope};
 use std::alloc::AllocError;
 
@@ -9,8 +9,8 @@ use std::alloc::AllocError;
 pub trait Visitor {
     ghost use Rattle.est_modules.specs.Occurrences.{Occurrence};
     ghost use Rattle.est_modules.specs.OpenNames.{IsOpen};
-    ghost use Rattle.est_modules.specs.declared.name_table.NameTable.{NameTable};
-    ghost use Rattle.est_modules.specs.declared.kept_names.Kept.{Kept};
+    ghost use Rattle.est_modules.specs.declared.names.table.NameTable.{NameTable};
+    ghost use Rattle.est_modules.specs.declared.names.kept.Kept.{Kept};
     ghost use Rattle.est_modules.specs.Scopes.{act_of, binders_of};
 
     /// What has been learned so far.

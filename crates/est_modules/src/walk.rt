@@ -15,9 +15,9 @@ ghost use Rattle.est_modules.specs.OpenNames.{IsOpen};
 ghost use Rattle.est_modules.specs.Scopes.{binders_of};
 ghost use Rattle.est_modules.specs.Walks.{passed, passed_branches, past_test};
 
-use crate::kept_names::KeptNames;
-use crate::name_table::NameTable;
-use crate::open_names::OpenNames;
+use crate::names::kept::KeptNames;
+use crate::names::open::OpenNames;
+use crate::names::table::NameTable;
 use crate::scope::{Act, Scope};
 use crate::test_walk::walk_test;
 use crate::visit::Visitor;

@@ -9,9 +9,8 @@ ghost use Rattle.est_modules.specs.Renamings.{renamed};
 ghost use Rattle.est_syntax.specs.Views.{renaming_view};
 
 use est_checks::module_emissions::emissions_along;
-use est_modules::bound_names::further_names;
 use est_modules::head_tree::Heads;
-use est_modules::name_table::numbered;
+use est_modules::names::table::{further_names, numbered};
 use est_modules::renamings::RunRenamings;
 use est_order::place_order::Order;
 use est_syntax::tree::Renaming;

@@ -5,8 +5,8 @@ use Rattle.est_modules.specs.NamedNumbers.{Tells}
 use Rattle.est_modules.specs.NameSets.{has}
 use Rattle.est_modules.specs.OpenNames.{AreKept}
 use Rattle.est_modules.specs.Visible.{is_tick}
-use Rattle.est_modules.specs.declared.kept_names.Kept.{Kept}
-use Rattle.est_modules.specs.declared.name_table.NameTable.{NameTable}
+use Rattle.est_modules.specs.declared.names.kept.Kept.{Kept}
+use Rattle.est_modules.specs.declared.names.table.NameTable.{NameTable}
 use Rattle.est_checks.specs.Emissions.{emitted_of}
 use Rattle.est_checks.specs.Inner.Emitted.{sent_by}
 use Rattle.est_checks.specs.declared.input_emissions.EmitInput.{EmitInput}

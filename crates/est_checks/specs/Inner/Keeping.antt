@@ -1,8 +1,8 @@
 -- What is known of the tables for what a module emits (this project's own form).
 use Rattle.std.specs.Prelude.{◌≡◌, List, map}
 use Rattle.est_modules.specs.Modules.{program_of}
-use Rattle.est_modules.specs.declared.name_table.NameTable.{NameTable}
-use Rattle.est_modules.specs.declared.kept_names.Kept.{Kept}
+use Rattle.est_modules.specs.declared.names.table.NameTable.{NameTable}
+use Rattle.est_modules.specs.declared.names.kept.Kept.{Kept}
 use Rattle.est_checks.specs.Emissions.{emitted_of}
 use Rattle.est_checks.specs.Inner.SentNumbers.{AreSentNumbers}
 use Rattle.est_checks.specs.declared.module_emissions.Sent.{Sent}

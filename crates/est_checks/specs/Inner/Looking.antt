@@ -4,8 +4,8 @@ use Rattle.est_modules.specs.Modules.{is_declared, program_of}
 use Rattle.est_modules.specs.NamedNumbers.{Tells}
 use Rattle.est_modules.specs.OpenNames.{AreKept}
 use Rattle.est_modules.specs.Visible.{is_tick}
-use Rattle.est_modules.specs.declared.kept_names.Kept.{Kept}
-use Rattle.est_modules.specs.declared.name_table.NameTable.{NameTable}
+use Rattle.est_modules.specs.declared.names.kept.Kept.{Kept}
+use Rattle.est_modules.specs.declared.names.table.NameTable.{NameTable}
 use Rattle.est_checks.specs.Inner.InterfaceNames.{names_of}
 use Rattle.est_checks.specs.declared.unknown_names.UnknownName.{UnknownName}
 

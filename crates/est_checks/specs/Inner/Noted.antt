@@ -8,8 +8,8 @@ use Rattle.est_modules.specs.NamedNumbers.{is_number_of}
 use Rattle.est_modules.specs.NumberSets.{numbers_of}
 use Rattle.est_modules.specs.Occurrences.{Occurrence}
 use Rattle.est_modules.specs.Renamings.{renamed}
-use Rattle.est_modules.specs.declared.name_table.NameTable.{NameTable}
-use Rattle.est_modules.specs.declared.number_set.NumberSet.{NumberSet}
+use Rattle.est_modules.specs.declared.names.table.NameTable.{NameTable}
+use Rattle.est_modules.specs.declared.names.set.NumberSet.{NumberSet}
 use Rattle.est_checks.specs.Emissions.{emits_here}
 
 -- the number of a name, if it has one, is noted

@@ -7,8 +7,8 @@ use Rattle.std.specs.Ordering.{nat_cmp}
 use Rattle.est_modules.specs.Modules.{Program, program_named, is_declared}
 use Rattle.est_modules.specs.NamedNumbers.{is_number_of}
 use Rattle.est_modules.specs.NumberSets.{numbers_of}
-use Rattle.est_modules.specs.declared.name_table.NameTable.{NameTable}
-use Rattle.est_modules.specs.declared.number_set.NumberSet.{NumberSet}
+use Rattle.est_modules.specs.declared.names.table.NameTable.{NameTable}
+use Rattle.est_modules.specs.declared.names.set.NumberSet.{NumberSet}
 use Rattle.est_checks.specs.declared.sent_numbers.SentNumbers.{SentNumbers}
 
 -- a set that was found has the number

@@ -6,7 +6,7 @@ use est_checks::emission::Emissions;
 use est_checks::fault::LinkFault;
 use est_modules::head_tree::Heads;
 use est_modules::library_heads::heads_of;
-use est_modules::name_set::NameSet;
+use est_modules::names::set::NameSet;
 use est_text::identifier::Identifier;
 use link_mistakes::faults::{fault_after_order, fault_before_order};
 use std::alloc::Global;

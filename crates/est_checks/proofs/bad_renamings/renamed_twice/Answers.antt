@@ -5,7 +5,7 @@ use Rattle.est_syntax.specs.Tree.{RenamingTree}
 use Rattle.est_syntax.specs.Views.{renaming_view}
 use Rattle.est_syntax.specs.declared.tree.Renaming.{Renaming}
 use Rattle.est_modules.specs.NameSets.{has}
-use Rattle.est_modules.specs.declared.name_set.NameSet.{NameSet}
+use Rattle.est_modules.specs.declared.names.set.NameSet.{NameSet}
 use Rattle.est_modules.proofs.Lists.{count_map}
 use Rattle.est_checks.proofs.Twice.{named_again, named_new, named_once}
 use Rattle.est_checks.proofs.bad_renamings.renamed_twice.Goals as goal

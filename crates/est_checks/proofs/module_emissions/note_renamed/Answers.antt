@@ -8,7 +8,7 @@ use Rattle.est_modules.specs.Modules.{is_declared, program_of}
 use Rattle.est_modules.specs.NamedNumbers.{Adds}
 use Rattle.est_modules.specs.Renamings.{renamed}
 use Rattle.est_modules.specs.Visible.{is_local}
-use Rattle.est_modules.specs.declared.number_set.NumberSet.{NumberSet}
+use Rattle.est_modules.specs.declared.names.set.NumberSet.{NumberSet}
 use Rattle.est_modules.proofs.TellingNumbers.{adds_none, adds_same, adds_both}
 use Rattle.est_checks.specs.Emissions.{emitted_of}
 use Rattle.est_checks.specs.Inner.Noted.{sends, sends_renamed}

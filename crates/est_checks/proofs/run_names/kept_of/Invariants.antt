@@ -1,7 +1,7 @@
 use Rattle.std.proofs.Common.{map}
 use Rattle.est_modules.specs.FirstPlaces.{AreFirstPlaces}
 use Rattle.est_modules.specs.OpenNames.{AreKept}
-use Rattle.est_modules.specs.declared.kept_names.Kept.{Kept}
+use Rattle.est_modules.specs.declared.names.kept.Kept.{Kept}
 use Rattle.est_checks.proofs.run_names.kept_of.Given as goal
 
 abbrev pub invariant-loop-head : goal.invariant-loop-head
