@@ -216,8 +216,8 @@ impl Single {
         (entries, slots.map(|slot| slot.into_journal()))
     }
 
-    // Adds an entry to the list and takes it into the policy, or refuses it as JournalFull or
-    // Memory.
+    /// Adds an entry to the list and takes it into the policy, or refuses it as JournalFull or
+    /// Memory.
     fn append(&mut self, entry: Entry) -> Reply
         requires { PolicyStep self.old.entries entry.session entry.command (Ok entry) }
         ensures { ByRules (list_full self.old.entries entry ▸ no_memory ▸ accept) (Appends entry)

@@ -74,9 +74,9 @@ impl Login {
         self.session
     }
 
-    // The desk's reply to a logout of this session: it is ended now (`Changed`), or had ended
-    // before (NoSession), or memory was refused. No other reply comes, so the `_` of `end` and
-    // `logout` stand for one reply each.
+    /// The desk's reply to a logout of this session: it is ended now (`Changed`), or had ended
+    /// before (NoSession), or memory was refused. No other reply comes, so the `_` of `end` and
+    /// `logout` stand for one reply each.
     fn ask_end<D: Desk>(&self, desk: &mut D) -> Reply
         ensures asked { EndsSession D.answers self.now.session desk.old result desk.new }
         ensures reply { IsLogoutReply result }

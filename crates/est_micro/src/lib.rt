@@ -5,8 +5,8 @@
 //! there is a reaction, and else exactly the undecided outputs. After an outcome each cell is
 //! decided, with its value in the reaction. A run takes no memory.
 //!
-//! A run goes over the statement in sweeps (`begin`, `resume`), and tells each open cell what
-//! follows from the others. Of a statement that goes on and whose cells are all decided, a later
+//! A run (`sweeps`) goes over the statement in sweeps (`begin`, `resume`), and tells each open cell
+//! what follows from the others. Of a statement that goes on and whose cells are all decided, a later
 //! sweep only reads them (`decided`). A sweep goes in program order, or visits the second side of
 //! each `||` first. After each sweep the run tells the cells of the signals what is emitted
 //! (`outputs`). After a sweep that decided little, passes look again at what reads the signals
@@ -31,5 +31,5 @@ mod pass;
 mod pass_on;
 mod passes;
 mod resume;
-mod run;
+mod sweeps;
 mod waiting;

@@ -18,7 +18,7 @@ ghost use Rattle.est_micro.specs.Runs.{IsSettledBut};
 use crate::cells::{Found, Place};
 use crate::direction::Direction;
 use crate::next::collect;
-use crate::run::{Settled, settle};
+use crate::sweeps::{Settled, settle};
 use est_kernel::completion::Completion;
 use est_kernel::kernel::Kernel;
 use est_kernel::mask;

@@ -8,7 +8,7 @@
 
 use std::alloc::{AllocError, Global};
 
-// A module whose runs are followed: its number, and which of its runs is next.
+/// A module whose runs are followed: its number, and which of its runs is next.
 #[derive(Clone, Copy)]
 struct Visit {
     place: usize,
@@ -16,7 +16,7 @@ struct Visit {
     next: usize,
 }
 
-// The search so far.
+/// The search so far.
 #[derive(Drop)]
 struct Walk {
     // What is known of each place. Before it is met: 0. While it is open: the least number found so
@@ -41,7 +41,7 @@ impl Walk {
         })
     }
 
-    // What is known of a place. A number that is no place counts as complete.
+    /// What is known of a place. A number that is no place counts as complete.
     fn mark(&self, place: usize) -> usize {
         self.marks.get(place).copied().unwrap_or(usize::MAX)
     }
@@ -52,7 +52,7 @@ impl Walk {
         }
     }
 
-    // Meets a module: it is open, and its runs are followed from the first on.
+    /// Meets a module: it is open, and its runs are followed from the first on.
     fn meet(&mut self, place: usize) -> Result<(), AllocError> {
         self.open.push(place)?;
         let number = self.open.len();
@@ -65,7 +65,7 @@ impl Walk {
         Ok(())
     }
 
-    // Follows runs until the path is at its end, for which this many steps are enough.
+    /// Follows runs until the path is at its end, for which this many steps are enough.
     fn follow(&mut self, runs: &[Vec<usize>], steps: usize) -> Result<(), AllocError> {
         for _ in 0..steps {
             let Some(visit) = self.path.pop() else {
@@ -76,8 +76,8 @@ impl Walk {
         Ok(())
     }
 
-    // Follows the next run of a module. It is looked at again when the module that it leads to has
-    // been left. After the last run the module is left.
+    /// Follows the next run of a module. It is looked at again when the module that it leads to has
+    /// been left. After the last run the module is left.
     fn step(&mut self, runs: &[Vec<usize>], visit: Visit) -> Result<(), AllocError> {
         match next_run(runs, visit) {
             None => {
@@ -96,7 +96,7 @@ impl Walk {
         }
     }
 
-    // Passes to the next run of a module, after one to a place with this mark.
+    /// Passes to the next run of a module, after one to a place with this mark.
     fn pass(&mut self, visit: Visit, mark: usize) -> Result<(), AllocError> {
         let least = self.mark(visit.place).min(mark);
         self.set_mark(visit.place, least);
@@ -107,15 +107,15 @@ impl Walk {
         Ok(())
     }
 
-    // Leaves a module. If it leads to no place that was open before it, its component is complete:
-    // itself and what is open since then.
+    /// Leaves a module. If it leads to no place that was open before it, its component is complete:
+    /// itself and what is open since then.
     fn leave(&mut self, visit: Visit) {
         if self.mark(visit.place) == visit.number {
             self.complete(visit.number);
         }
     }
 
-    // Gives the next level to the open places from this number on.
+    /// Gives the next level to the open places from this number on.
     fn complete(&mut self, number: usize) {
         let level = self.level.saturating_add(1);
         self.level = level;
@@ -127,14 +127,14 @@ impl Walk {
     }
 }
 
-// The run that is next, if there is one.
+/// The run that is next, if there is one.
 fn next_run(runs: &[Vec<usize>], visit: Visit) -> Option<usize> {
     let row = runs.get(visit.place)?;
     row.get(visit.next).copied()
 }
 
-// No search takes more steps: one for each run, and for each module one to meet it and one to leave
-// it.
+/// No search takes more steps: one for each run, and for each module one to meet it and one to leave
+/// it.
 fn most_steps(runs: &[Vec<usize>]) -> usize {
     let mut steps: usize = 0;
     for row in runs {

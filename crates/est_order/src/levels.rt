@@ -23,7 +23,7 @@ pub(crate) fn level_of(levels: &[usize], place: usize) -> usize
     levels.get(place).copied().unwrap_or(0)
 }
 
-// Whether the module runs none of a higher level.
+/// Whether the module runs none of a higher level.
 fn runs_no_higher(runs: &[Vec<usize>], levels: &[usize], place: usize) -> bool
     requires { place < length runs.now }
     ensures { result ≡ runs_no_higher (rows_of runs.now) levels.now place }
@@ -35,7 +35,7 @@ fn runs_no_higher(runs: &[Vec<usize>], levels: &[usize], place: usize) -> bool
         .all(|run| *run >= count || level_of(levels, *run) <= level)
 }
 
-// Whether the module runs those of lower levels alone.
+/// Whether the module runs those of lower levels alone.
 fn runs_lower(runs: &[Vec<usize>], levels: &[usize], place: usize) -> bool
     requires { place < length runs.now }
     ensures { result ≡ runs_lower (rows_of runs.now) levels.now place }
@@ -47,7 +47,7 @@ fn runs_lower(runs: &[Vec<usize>], levels: &[usize], place: usize) -> bool
         .all(|run| *run >= count || level_of(levels, *run) < level)
 }
 
-// Whether no module runs one of a higher level.
+/// Whether no module runs one of a higher level.
 fn none_climbs(runs: &[Vec<usize>], levels: &[usize]) -> bool
     ensures { IsTrue result ↔ NoneClimbs (rows_of runs.now) levels.now }
 {
@@ -59,7 +59,7 @@ fn none_climbs(runs: &[Vec<usize>], levels: &[usize]) -> bool
     true
 }
 
-// The first module that runs one whose level isn't lower.
+/// The first module that runs one whose level isn't lower.
 fn first_not_falling(runs: &[Vec<usize>], levels: &[usize]) -> Option<usize>
     ensures { MatchOption result (AllFall (rows_of runs.now) levels.now)
         (λ place. IsFirstNotFalling (rows_of runs.now) levels.now place) }

@@ -50,7 +50,7 @@ pub fn order_modules(alloc: Global, runs: &[Vec<usize>]) -> Result<Order, OrderF
     Ok(Order { places })
 }
 
-// The places, those of lower levels first.
+/// The places, those of lower levels first.
 fn places_by_level(alloc: Global, count: usize, levels: &[usize]) -> Result<Vec<usize>, AllocError>
     ensures each_once { IfOk result
         (λ places. IsPermutation (range_with_len 0 count) places.items) }

@@ -15,7 +15,7 @@ pub(crate) fn row_of(runs: &[Vec<usize>], place: usize) -> &[usize]
     &runs[place]
 }
 
-// Sees the places of a row, and notes those that were not seen.
+/// Sees the places of a row, and notes those that were not seen.
 fn follow(row: &[usize], seen: &mut Vec<bool>, waiting: &mut Vec<usize>) -> Result<(), AllocError>
     ensures { OnOk result (record { seen = seen.new.items; waiting = waiting.new.items }
         ≡ followed (record { seen = seen.old.items; waiting = waiting.old.items }) row.now) }

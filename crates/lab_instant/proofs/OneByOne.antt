@@ -15,7 +15,7 @@ use Rattle.est_net.specs.declared.owners.CellKind.TheVariants.{Go, Code, Status 
 use Rattle.est_net.specs.declared.owners.StatementCell.{StatementCell}
 use Rattle.est_net.proofs.OwnerLists.{own_length, own_there}
 use Rattle.lab_instant.specs.OwnCells.{cells_of, cells_of_one, own_count}
-use Rattle.lab_instant.specs.Reading.{AreAll, AreSoFar, codes_given}
+use Rattle.lab_instant.specs.Inner.Reading.{AreAll, AreSoFar, codes_given}
 use Rattle.lab_instant.specs.Seen.{all_begun, all_locals, all_resumed, begun_at, begun_by_kind, found_below}
 use Rattle.lab_instant.specs.Seen.{listed, local_at, local_by_kind, resumed_at, resumed_by_kind}
 use Rattle.lab_instant.specs.declared.owners.OwnCells.{OwnCells}

@@ -1,6 +1,6 @@
 pub mod Adding
+pub mod Inner
 pub mod Instants
 pub mod Laws
 pub mod OwnCells
-pub mod Reading
 pub mod Seen

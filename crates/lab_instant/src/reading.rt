@@ -5,7 +5,7 @@ ghost use Rattle.est_meaning.specs.declared.status.Status.TheVariants.{Absent};
 ghost use Rattle.est_net.specs.Cells.{cell_at};
 ghost use Rattle.est_net.specs.declared.owners.CellKind.TheVariants.{Code, Go};
 ghost use Rattle.lab_instant.specs.OwnCells.{cells_of, cells_of_one, own_count};
-ghost use Rattle.lab_instant.specs.Reading.{AreAll, codes_given};
+ghost use Rattle.lab_instant.specs.Inner.Reading.{AreAll, codes_given};
 ghost use Rattle.lab_instant.specs.Seen.{all_begun, all_locals, all_resumed, begun_by_kind};
 ghost use Rattle.lab_instant.specs.Seen.{listed, resumed_by_kind};
 

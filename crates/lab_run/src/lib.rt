@@ -1,10 +1,13 @@
-//! The lines of `estlab`: a module is loaded, and then it is asked what all its runs have in
-//! common.
+//! The program `estlab` as a library: a module is loaded, and then each line asks a question about
+//! all its runs, or about one instant, and is answered by one line.
 //!
-//! `lab` does what is asked of what is loaded: `loaded` holds that, makes instants of it and goes
-//! back. `answer` joins it to the reader of lines. `order`
-//! reads the words of the command line, `status` has the status with which the program ends, and
-//! `run` is the program.
+//! It promises that each line is answered as `specs/Lines` says: a verdict is right for every run
+//! of the loaded module, an instant is its reaction, and a line that is refused moves nothing.
+//! Where the program ends by itself, its status is that of `specs/Statuses`.
+//!
+//! `answer` takes a line to its answer. It stands on `lab`, which does what is asked of what is
+//! loaded, and `loaded`, which holds that, makes instants and goes back. `order` reads the words
+//! of the command line, `status` says how the program ends, and `run` is the program.
 #![tactic(auto)]
 
 pub mod answer;

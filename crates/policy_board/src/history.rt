@@ -105,11 +105,11 @@ pub trait BoardName {
     ghost book: { Book };
 }
 
-// A program passes `Brand` where a function wants the name of a new board. The book below is only a
-// placeholder. The function is proved for a board of any book, and the proof of the call picks one:
-// that of the list that was just begun, by `ghosts-serve_source` in proofs/server/serve/Invariants
-// of `program_run`. Without a pick the call would have the book below, and what it requires, that
-// the new list lies in the board's book, could not be proved.
+/// A program passes `Brand` where a function wants the name of a new board. The book below is only a
+/// placeholder. The function is proved for a board of any book, and the proof of the call picks one:
+/// that of the list that was just begun, by `ghosts-serve_source` in proofs/server/serve/Invariants
+/// of `program_run`. Without a pick the call would have the book below, and what it requires, that
+/// the new list lies in the board's book, could not be proved.
 impl BoardName for Brand {
     ghost book = { record { number = 0; log_name = 0; cells_name = 0 } };
 }
@@ -303,7 +303,7 @@ impl<B: BoardName> Front<B> {
     }
 }
 
-// Of two traces of one board one begins the other.
+/// Of two traces of one board one begins the other.
 fn begins(one: &Trace, other: &Trace) -> bool
     requires { other.now.book ≡ one.now.book }
     ensures { MatchBool result
@@ -318,8 +318,8 @@ fn begins(one: &Trace, other: &Trace) -> bool
     true
 }
 
-// Looks how long the list is. Both traces begin it. Where it has as many entries as `one`, that
-// trace is all of it.
+/// Looks how long the list is. Both traces begin it. Where it has as many entries as `one`, that
+/// trace is all of it.
 fn is_whole(one: &Trace, head: &Word<Entry, u64, Law>, other: &Trace) -> bool
     requires head { head.now ≡ head_of one.now.book }
     requires book { other.now.book ≡ one.now.book }

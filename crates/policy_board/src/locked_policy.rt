@@ -44,7 +44,7 @@ impl<B: BoardName> Model for LockedPolicy<B> {
     ghost invariant = { λ d. d.publisher ≡ Some d.journal };
 }
 
-// Puts the value into the place, which is empty.
+/// Puts the value into the place, which is empty.
 fn put_back<T>(place: &mut Option<T>, value: T)
     requires { IsNone place.old }
     ensures { place.new ≡ Some value }
@@ -55,8 +55,8 @@ fn put_back<T>(place: &mut Option<T>, value: T)
     }
 }
 
-// Three copies of the entry: one is published, one goes into the `Receipt` that is answered, and
-// one into the `Kept` that stays with the seat.
+/// Three copies of the entry: one is published, one goes into the `Receipt` that is answered, and
+/// one into the `Kept` that stays with the seat.
 fn copies(entry: &Entry) -> Result<(Entry, Entry, Entry), AllocError>
     ensures { IfOk result (λ all. (all.0 ≡ entry.now) × (all.1 ≡ entry.now) × (all.2 ≡ entry.now)) }
 {
@@ -66,7 +66,7 @@ fn copies(entry: &Entry) -> Result<(Entry, Entry, Entry), AllocError>
     Ok((published, told, kept))
 }
 
-// The session that the entry, which the policy took in last, has made.
+/// The session that the entry, which the policy took in last, has made.
 fn session_made(policy: &Policy, entry: &Entry) -> Option<SessionId>
     ensures { (before : List Entry) → StandsFor policy.now (before ++ entry.now ∷ [])
         → result ≡ session_made before entry.now }
@@ -97,9 +97,9 @@ impl<B: BoardName> LockedPolicy<B> {
         &self.journal
     }
 
-    // Publishes the entry and answers its `Receipt`; the seat keeps a receipt of its own, a `Kept`.
-    // Every refusal but Memory was asked before. All memory is taken first, so that nothing is
-    // refused once the entry is published.
+    /// Publishes the entry and answers its `Receipt`; the seat keeps a receipt of its own, a `Kept`.
+    /// Every refusal but Memory was asked before. All memory is taken first, so that nothing is
+    /// refused once the entry is published.
     fn append<R: Wait>(
         &mut self,
         rt: &R,
@@ -133,8 +133,8 @@ impl<B: BoardName> LockedPolicy<B> {
         Ok(receipt)
     }
 
-    // The answer to a policy command: its entry is decided on the policy that is published, and
-    // appended where there is room.
+    /// The answer to a policy command: its entry is decided on the policy that is published, and
+    /// appended where there is room.
     fn answer<R: Wait>(
         &mut self,
         rt: &R,

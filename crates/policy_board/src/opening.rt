@@ -30,7 +30,7 @@ pub struct Opened<B: BoardName> {
     pub readers: Vec<SlotReader<B>>,
 }
 
-// A writer that shows the opening policy, with room for n readers.
+/// A writer that shows the opening policy, with room for n readers.
 fn open_writer<B: BoardName>(
     alloc: Global,
     opening: &Front<B>,
@@ -54,7 +54,7 @@ fn open_writer<B: BoardName>(
     Ok(writer)
 }
 
-// n readers, in room that was made for them; none if `left_right` has no place for one of them.
+/// n readers, in room that was made for them; none if `left_right` has no place for one of them.
 fn fill_readers<B: BoardName>(
     room: Vec<SlotReader<B>>,
     publisher: &Publisher<B>,
@@ -75,8 +75,8 @@ fn fill_readers<B: BoardName>(
     Some(readers)
 }
 
-// n seats, in room that was made for them; none if `left_right` has no place for the reader of one
-// of them.
+/// n seats, in room that was made for them; none if `left_right` has no place for the reader of one
+/// of them.
 fn fill_seats<B: BoardName>(
     alloc: Global,
     room: Vec<Seat<B>>,
@@ -98,8 +98,8 @@ fn fill_seats<B: BoardName>(
     Some(seats)
 }
 
-// The parts of a new board. What it holds itself gets its room before there is a writer, which only
-// a wait can end. If `left_right` then refuses room or a reader, the writer is ended.
+/// The parts of a new board. What it holds itself gets its room before there is a writer, which only
+/// a wait can end. If `left_right` then refuses room or a reader, the writer is ended.
 fn open_parts<B: BoardName, R: Wait>(
     rt: &R,
     alloc: Global,

@@ -34,8 +34,8 @@ impl<B: BoardName> Model for Publisher<B> {
         p.writer.desk.shown.value.trace (drop p.writer.behind p.writer.log.items) };
 }
 
-// Has the writer take up the operation. If memory is refused, it asks again. `Publisher::new` made
-// the room, so the first turn does it.
+/// Has the writer take up the operation. If memory is refused, it asks again. `Publisher::new` made
+/// the room, so the first turn does it.
 fn append<B: BoardName, R: Wait>(
     rt: &R,
     writer: PolicyWriter<B>,
@@ -56,8 +56,8 @@ fn append<B: BoardName, R: Wait>(
     unreachable!()
 }
 
-// Adds the entry to the board's list, whose entries exist in the proofs alone: what runs raises the
-// list's length by one. No other thread does so meanwhile; so the first turn does it.
+/// Adds the entry to the board's list, whose entries exist in the proofs alone: what runs raises the
+/// list's length by one. No other thread does so meanwhile; so the first turn does it.
 fn add_entry<B: BoardName, R: Wait>(
     rt: &R,
     head: &Head<B>,
@@ -77,7 +77,7 @@ fn add_entry<B: BoardName, R: Wait>(
     unreachable!()
 }
 
-// Shows readers one entry more. It waits for those that still read the other copy.
+/// Shows readers one entry more. It waits for those that still read the other copy.
 fn show<B: BoardName, R: Wait>(
     rt: &R,
     writer: PolicyWriter<B>,

@@ -89,8 +89,8 @@ impl<B: BoardName> Model for Seat<B> {
         × (length s.known ≤ max s.seen (length opening_entries)) };
 }
 
-// Reads. What is read is then known, unless it is older than what was seen. A refused read hands
-// the reader back.
+/// Reads. What is read is then known, unless it is older than what was seen. A refused read hands
+/// the reader back.
 fn read_newer<B: BoardName>(
     reader: SlotReader<B>,
     known: &mut Front<B>,

@@ -6,7 +6,7 @@ ghost use Rattle.policy_board.specs.contracts.board.Board as board;
 use crate::history::BoardName;
 use crate::publisher::Publisher;
 
-// By its bound the proof learns that values of this type may cross threads.
+/// By its bound the proof learns that values of this type may cross threads.
 fn may_cross<T: Send>()
     ensures { IsSend (param 0 T.row) }
 {}

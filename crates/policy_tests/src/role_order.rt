@@ -101,7 +101,7 @@ fn is_chain(rt: &impl Abort, rows: &Rows, last: usize) -> bool {
         && rows.below_some(set(rt, &[60, 62])) == set(rt, &[60, 61, 62, last])
 }
 
-// Each place stands above the next.
+/// Each place stands above the next.
 #[test]
 fn chain_over_all_places(rt: HostRuntime) {
     let mut rows = Rows::new();

@@ -48,7 +48,7 @@ impl Eq for Rows {
     ghost laws = { nat_list_eq_equiv };
 }
 
-// Each place's set has that place alone.
+/// Each place's set has that place alone.
 fn each_alone() -> [RoleSet; ROLES]
     ensures { (role : ℕ) → role < ROLES → slice_index result role ≡ 2 ^ role }
 {
@@ -59,7 +59,7 @@ fn each_alone() -> [RoleSet; ROLES]
     rows
 }
 
-// The rows of these places take in the set.
+/// The rows of these places take in the set.
 fn join(rows: &mut [RoleSet; ROLES], places: RoleSet, more: RoleSet)
     ensures { (role : ℕ) → role < ROLES → (place : ℕ) → Has (slice_index rows.new role) place
         ↔ (Has (slice_index rows.old role) place ⊎ (Has places role × Has more place)) }
@@ -71,7 +71,7 @@ fn join(rows: &mut [RoleSet; ROLES], places: RoleSet, more: RoleSet)
     }
 }
 
-// The place is taken out of each set.
+/// The place is taken out of each set.
 fn take_out(rows: &mut [RoleSet; ROLES], place: usize)
     requires { place < ROLES }
     ensures { rows.new ≡ map (λ row. without_place row place) rows.old }
@@ -153,7 +153,7 @@ impl Rows {
         join(&mut self.above, lower, upper);
     }
 
-    // Adds an edge from the senior to each of these.
+    /// Adds an edge from the senior to each of these.
     fn add_edges(&mut self, senior: usize, juniors: RoleSet)
         requires { senior < ROLES }
         ensures { HasJuniors self.old self.new senior juniors ROLES }
@@ -165,7 +165,7 @@ impl Rows {
         }
     }
 
-    // The rows of these edges.
+    /// The rows of these edges.
     fn rebuild(juniors: &[RoleSet; ROLES]) -> Rows
         requires { IsInTable juniors.now }
         ensures { result ≡ juniors.now }

@@ -7,7 +7,7 @@ use crate::names::Name;
 use crate::objects::{Object, Operation};
 use crate::sizes::OPENING_ENTRIES;
 
-// The command's entry, given by no session.
+/// The command's entry, given by no session.
 fn given_by_none(command: AdminCommand) -> Entry
     ensures session { result.session ≡ None }
     ensures command { result.command ≡ command }

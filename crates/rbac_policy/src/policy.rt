@@ -112,8 +112,8 @@ impl Policy {
         end_sessions_of(&mut self.sessions, user);
     }
 
-    // The role stays active in sessions: `end_unauthorized`, which runs after each entry, finds it
-    // there and ends them.
+    /// The role stays active in sessions: `end_unauthorized`, which runs after each entry, finds it
+    /// there and ends them.
     fn delete_role(&mut self, role: &Name)
         ensures { self.new ≡ role_deleted role.now self.old }
     {
@@ -249,7 +249,7 @@ impl Policy {
         self.take_in(entry);
     }
 
-    // Whether a role that is active in the session, or lies below one, has the grant.
+    /// Whether a role that is active in the session, or lies below one, has the grant.
     fn reaches(&self, session: &Session, grant: &Grant) -> bool
         ensures { IsTrue result ↔ Meets (below self.now.juniors session.now.active)
             grant.now.roles }

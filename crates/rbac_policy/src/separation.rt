@@ -20,7 +20,7 @@ pub struct Violation {
     pub session: SessionId,
 }
 
-// Whether at least `count` of the set's roles are active in the session, or lie below one that is.
+/// Whether at least `count` of the set's roles are active in the session, or lie below one that is.
 fn holds_many(set: &DsdSet, session: &Session, juniors: &Rows) -> bool
     ensures { result ≡ holds_many juniors.now set.now session.now }
 {
@@ -49,7 +49,7 @@ fn lesser(known: Option<SessionId>, found: Option<SessionId>) -> Option<SessionI
     }
 }
 
-// The least session of these that holds too many roles of the set.
+/// The least session of these that holds too many roles of the set.
 #[tactic(auto, unfolding(crate::specs::Violations::least_violator))]
 fn least_violator(set: &DsdSet, sessions: &[Option<Session>], juniors: &Rows) -> Option<SessionId>
     ensures { result ≡ least_violator juniors.now sessions.now set.now }
@@ -61,7 +61,7 @@ fn least_violator(set: &DsdSet, sessions: &[Option<Session>], juniors: &Rows) ->
     least
 }
 
-// The same, with one more session beside those of the table.
+/// The same, with one more session beside those of the table.
 #[tactic(auto, unfolding(crate::specs::Violations::least_violator))]
 fn least_of_all(
     set: &DsdSet,

@@ -241,7 +241,7 @@ pub fn give_grant(
     }
 }
 
-// The row of the pair with these roles, if there are any.
+/// The row of the pair with these roles, if there are any.
 fn grant_with(grant: &Grant, roles: RoleSet) -> Option<Grant>
     ensures { result ≡ grant_with grant.now roles }
 {

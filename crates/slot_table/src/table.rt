@@ -85,7 +85,7 @@ macro_rules! end_slots {
     }};
 }
 
-// An empty slot, with the last of the readers, under its lock.
+/// An empty slot, with the last of the readers, under its lock.
 fn open_slot<B: BoardName, const NUMBER: u8>(
     alloc: Global,
     readers: &mut Vec<SlotReader<B>>,
@@ -98,14 +98,14 @@ fn open_slot<B: BoardName, const NUMBER: u8>(
     Mutex::new(LockedSlot::new(alloc, reader))
 }
 
-// How often a lock that is taken is tried again before the thread sleeps: for about as long as
-// three commands take. To sleep and be woken takes far longer than a command.
+/// How often a lock that is taken is tried again before the thread sleeps: for about as long as
+/// three commands take. To sleep and be woken takes far longer than a command.
 const TRIES: u32 = 64;
 
-// How long a thread waits between two tries.
+/// How long a thread waits between two tries.
 const PAUSES: u32 = 8;
 
-// Takes a lock. If it is taken, tries again a number of times, and then sleeps until it is free.
+/// Takes a lock. If it is taken, tries again a number of times, and then sleeps until it is free.
 fn lock_soon<'a, T, R: Wait>(rt: &R, lock: &'a Mutex<T>) -> MutexGuard<'a, T> {
     for _ in 0..TRIES {
         if let Some(guard) = lock.try_lock() {
@@ -118,7 +118,7 @@ fn lock_soon<'a, T, R: Wait>(rt: &R, lock: &'a Mutex<T>) -> MutexGuard<'a, T> {
     lock.lock(rt)
 }
 
-// Answers a command on the slot under this lock.
+/// Answers a command on the slot under this lock.
 fn answer<B: BoardName, const NUMBER: u8, R: Wait>(
     rt: &R,
     board: &Board<B>,
@@ -136,7 +136,7 @@ fn answer<B: BoardName, const NUMBER: u8, R: Wait>(
     reply
 }
 
-// Answers a command on a number that no slot has.
+/// Answers a command on a number that no slot has.
 fn refuse_number<B: BoardName>(seat: &mut Seat<B>, session: SessionId, slot: u64) -> Reply
     requires { SLOTS ≤ slot }
     ensures { IsNoSlot slot session seat.old result seat.new
@@ -175,7 +175,7 @@ impl<B: BoardName> SlotTable<B> {
         with_slots!(answer_at: self, slot, rt, board, seat, session, command)
     }
 
-    // The journals, by number. Each lock is opened, and its reader handed back.
+    /// The journals, by number. Each lock is opened, and its reader handed back.
     fn end(self, closing: &mut Closing<B>) -> [Journal; SLOTS as usize]
         ensures { EndFrom 0 closing.old result closing.new }
     {

@@ -1,6 +1,6 @@
 use Rattle.std.proofs.Common.{◌≡◌, ◌++◌}
 use Rattle.est_net.specs.Cells.{cell_at}
-use Rattle.lab_instant.specs.Reading.{codes_given}
+use Rattle.lab_instant.specs.Inner.Reading.{codes_given}
 use Rattle.lab_instant.proofs.reading.add_codes.Given as goal
 
 abbrev pub invariant-loop-code : goal.invariant-loop-code

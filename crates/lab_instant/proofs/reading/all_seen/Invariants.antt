@@ -1,7 +1,7 @@
 use Rattle.std.proofs.Common.{take}
 use Rattle.est_net.specs.Cells.{cell_at}
 use Rattle.lab_instant.specs.OwnCells.{cells_of}
-use Rattle.lab_instant.specs.Reading.{AreSoFar}
+use Rattle.lab_instant.specs.Inner.Reading.{AreSoFar}
 use Rattle.lab_instant.proofs.reading.all_seen.Given as goal
 
 abbrev pub invariant-loop-own : goal.invariant-loop-own

@@ -1,5 +1,5 @@
 use Rattle.est_micro.specs.Views.{IsBegun, IsResumed}
-use Rattle.est_micro.proofs.run.sweep.Goals as goal
+use Rattle.est_micro.proofs.sweeps.sweep.Goals as goal
 
 pub returns-in-Fresh-clause-swept : goal.returns-in-Fresh-clause-swept
 unfolding IsBegun

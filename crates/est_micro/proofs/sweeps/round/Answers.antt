@@ -13,7 +13,7 @@ use Rattle.est_micro.specs.Runs.{sheet_swept, IsExchanged, IsRound}
 use Rattle.est_micro.specs.Views.{IsSwept}
 use Rattle.est_micro.specs.declared.direction.Direction.{Direction}
 use Rattle.est_micro.specs.declared.cells.Found.{Found}
-use Rattle.est_micro.proofs.run.round.Goals as goal
+use Rattle.est_micro.proofs.sweeps.round.Goals as goal
 
 round_is : (d : Direction) (k : Kernel) (x : State) (inputs unasked : ℕ) (root : Statement) (outputs : ℕ) (e f : Known)
     (old mid new : List Status) (r : Found)
