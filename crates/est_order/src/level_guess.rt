@@ -133,8 +133,8 @@ fn next_run(runs: &[Vec<usize>], visit: Visit) -> Option<usize> {
     row.get(visit.next).copied()
 }
 
-/// No search takes more steps: one for each run, and for each module one to meet it and one to leave
-/// it.
+/// No search takes more steps: one for each run, and for each module one to meet it and one to
+/// leave it.
 fn most_steps(runs: &[Vec<usize>]) -> usize {
     let mut steps: usize = 0;
     for row in runs {

@@ -97,9 +97,9 @@ impl<B: BoardName> LockedPolicy<B> {
         &self.journal
     }
 
-    /// Publishes the entry and answers its `Receipt`; the seat keeps a receipt of its own, a `Kept`.
-    /// Every refusal but Memory was asked before. All memory is taken first, so that nothing is
-    /// refused once the entry is published.
+    /// Publishes the entry and answers its `Receipt`; the seat keeps a receipt of its own, a
+    /// `Kept`. Every refusal but Memory was asked before. All memory is taken first, so that
+    /// nothing is refused once the entry is published.
     fn append<R: Wait>(
         &mut self,
         rt: &R,

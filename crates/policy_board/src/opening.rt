@@ -98,8 +98,8 @@ fn fill_seats<B: BoardName>(
     Some(seats)
 }
 
-/// The parts of a new board. What it holds itself gets its room before there is a writer, which only
-/// a wait can end. If `left_right` then refuses room or a reader, the writer is ended.
+/// The parts of a new board. What it holds itself gets its room before there is a writer, which
+/// only a wait can end. If `left_right` then refuses room or a reader, the writer is ended.
 fn open_parts<B: BoardName, R: Wait>(
     rt: &R,
     alloc: Global,

@@ -56,8 +56,8 @@ fn append<B: BoardName, R: Wait>(
     unreachable!()
 }
 
-/// Adds the entry to the board's list, whose entries exist in the proofs alone: what runs raises the
-/// list's length by one. No other thread does so meanwhile; so the first turn does it.
+/// Adds the entry to the board's list, whose entries exist in the proofs alone: what runs raises
+/// the list's length by one. No other thread does so meanwhile; so the first turn does it.
 fn add_entry<B: BoardName, R: Wait>(
     rt: &R,
     head: &Head<B>,
