@@ -25,7 +25,7 @@ use Rattle.est_micro.specs.Parts.{AgreeBut, AreInputsAlone, IsClosedBut, known_b
 use Rattle.est_micro.specs.Runs.{IsSettledBut, output_cells, table_of}
 use Rattle.est_micro.specs.Unsettled.{IsLeftOpen}
 use Rattle.est_micro.specs.Waiting.{pauses_from, table_waits_for, waits_for}
-use Rattle.est_micro.specs.declared.sweeps.Settled.{Settled}
+use Rattle.est_micro.specs.declared.settling.Settled.{Settled}
 use Rattle.est_micro.proofs.FullTables.{full_decided}
 use Rattle.est_micro.proofs.OpenTests.{waits_unasked}
 use Rattle.est_micro.proofs.Outcomes.{some_code}

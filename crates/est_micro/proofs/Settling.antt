@@ -38,7 +38,7 @@ use Rattle.est_micro.specs.Parts.{AreInputsAlone, IsClosedBut, known_but}
 use Rattle.est_micro.specs.Runs.{AreOfferedTrue, output_cells, output_gate, IsExchanged, IsRound, IsSettled}
 use Rattle.est_micro.specs.Runs.{IsSettledBut, Ready, table_of}
 use Rattle.est_micro.specs.declared.cells.Found.{Found}
-use Rattle.est_micro.specs.declared.sweeps.Settled.{Settled}
+use Rattle.est_micro.specs.declared.settling.Settled.{Settled}
 use Rattle.est_micro.proofs.Exchanging.{emittable_within}
 use Rattle.est_micro.proofs.Frames.{sheet_same}
 use Rattle.est_micro.proofs.FullTables.{full_closed}

@@ -24,7 +24,7 @@ use Rattle.est_micro.specs.Sweeps.{swept, live_swept}
 use Rattle.est_micro.specs.declared.direction.Direction.{Direction}
 use Rattle.est_micro.specs.Views.{Changes, IsJudged, IsSwept}
 use Rattle.est_micro.specs.declared.cells.Found.{Found}
-use Rattle.est_micro.specs.declared.sweeps.Settled.{Settled}
+use Rattle.est_micro.specs.declared.settling.Settled.{Settled}
 
 -- the sheet of a kernel's statement after a sweep, by its state
 abbrev pub sheet_swept : Direction → (s : Statement) → State → Env → Sheet true s → Sheet true s

@@ -461,7 +461,7 @@ pub fn ends(judged: &Judgement) -> Status
 
 /// What is known of the signals where those of a set are surely emitted: one that was in doubt is
 /// present.
-pub fn told(env: &Env, signals: SignalSet) -> Env
+pub fn with_emitted(env: &Env, signals: SignalSet) -> Env
     ensures { env_of result ≡ told (env_of env.now) (set_of signals) }
 {
     Env {

@@ -5,17 +5,17 @@
 //! there is a reaction, and else exactly the undecided outputs. After an outcome each cell is
 //! decided, with its value in the reaction. A run takes no memory.
 //!
-//! A run (`sweeps`) goes over the statement in sweeps (`begin`, `resume`), and tells each open cell
-//! what follows from the others. Of a statement that goes on and whose cells are all decided, a later
-//! sweep only reads them (`decided`). A sweep goes in program order, or visits the second side of
-//! each `||` first. After each sweep the run tells the cells of the signals what is emitted
-//! (`outputs`). After a sweep that decided little, passes look again at what reads the signals
-//! that were just decided (`passes`). A run ends as soon as every cell is decided, or after a
-//! sweep that decides nothing. That is enough: what a sweep or a pass decides is so, and where a
-//! sweep changes nothing, nothing more follows. The law of `laws` says that then nothing is missed.
+//! A run (`settling`) goes over the statement in sweeps (`sweep_begin`, `sweep_resume`), and tells
+//! each open cell what follows from the others. Of a statement that goes on and whose cells are all
+//! decided, a later sweep only reads them (`decided`). A sweep goes in program order, or visits the
+//! second side of each `||` first. After each sweep the run tells the cells of the signals what is
+//! emitted (`outputs`). After a sweep that decided little, passes look again at what reads the
+//! signals that were just decided (`passes`, by `pass_begin` and `pass_resume`). A run ends as soon
+//! as every cell is decided, or after a sweep that decides nothing. That is enough: what a sweep or
+//! a pass decides is so, and where a sweep changes nothing, nothing more follows. The law of `laws`
+//! says that then nothing is missed.
 #![tactic(auto)]
 
-mod begin;
 mod cells;
 mod decided;
 mod direction;
@@ -27,9 +27,10 @@ pub mod micro;
 mod next;
 mod outputs;
 mod parts;
-mod pass;
-mod pass_on;
+mod pass_begin;
+mod pass_resume;
 mod passes;
-mod resume;
-mod sweeps;
+mod settling;
+mod sweep_begin;
+mod sweep_resume;
 mod waiting;

@@ -18,7 +18,7 @@ ghost use Rattle.est_micro.specs.Runs.{IsSettledBut};
 use crate::cells::{Found, Place};
 use crate::direction::Direction;
 use crate::next::collect;
-use crate::sweeps::{Settled, settle};
+use crate::settling::{Settled, settle};
 use est_kernel::completion::Completion;
 use est_kernel::kernel::Kernel;
 use est_kernel::mask;
@@ -81,7 +81,7 @@ fn outcome(
 }
 
 /// The outcome that the cells tell, where they tell one.
-pub(crate) fn told(
+pub(crate) fn read_outcome(
     net: &Net,
     kernel: &Kernel,
     outputs: usize,
@@ -184,7 +184,7 @@ impl Micro {
     {
         let settled = self.settle_by(kernel, state, inputs.signals, 0);
         let outputs = self.net.outputs();
-        match told(&self.net, kernel, outputs, state, &settled.found) {
+        match read_outcome(&self.net, kernel, outputs, state, &settled.found) {
             Some(outcome) => Ok(outcome),
             None => Err(Stuck {
                 undecided: mask::minus(

@@ -10,7 +10,7 @@ ghost use Rattle.est_rounds.specs.Parts.{not_asked};
 ghost use Rattle.est_micro.specs.Outcomes.{HasNoCode, IsOutcomeOf};
 
 use crate::cells::Found;
-use crate::micro::{Micro, told};
+use crate::micro::{Micro, read_outcome};
 use crate::waiting::first_waited;
 use est_kernel::kernel::Kernel;
 use est_kernel::mask;
@@ -39,7 +39,7 @@ fn told_if_decided(
     if net.steps() < net.cells() {
         return None;
     }
-    told(net, kernel, outputs, state, found)
+    read_outcome(net, kernel, outputs, state, found)
 }
 
 /// The inputs that are not asked.

@@ -1,0 +1,10 @@
+use Rattle.est_rounds.specs.Views.{env_of}
+use Rattle.est_micro.specs.Views.{IsBegun}
+use Rattle.est_micro.proofs.Passing.{sweep_passes}
+use Rattle.est_micro.proofs.pass_begin.visit.Goals as goal
+
+pub returns-clause-passes : goal.returns-clause-passes
+unfolding IsBegun
+returns-clause-passes c =
+    sweep_passes c.args.at.now.direction c.args.at.now.main c.args.s.now c.args.at.now.cell c.args.at.now.traps
+    c.args.gate (env_of c.args.env.now) _ _ c.begin.result c.begin.ensures.swept

@@ -1,0 +1,483 @@
+//! A sweep through the cells of a statement that doesn't go on from its pauses: the gate says
+//! whether it is begun. (The comments below call it a statement that is begun, if at all.)
+//!
+//! What calls itself here does so on a part of the statement that it was given, and goes as deep as
+//! the statement is.
+
+ghost use Rattle.std.specs.Prelude.{◌≡◌, ◌<◌, ◌≤◌, ◌+◌, true, false, length};
+ghost use Rattle.est_kernel.specs.CodeViews.{code_of};
+ghost use Rattle.est_kernel.specs.Limits.{trap_depth};
+ghost use Rattle.est_kernel.specs.Masks.{FitsMasks, HasSignalBit};
+ghost use Rattle.est_kernel.specs.View.{query_of, term_of};
+ghost use Rattle.est_kernel.specs.declared.statement.Statement.TheVariants.{Nothing, Pause, Emit};
+ghost use Rattle.est_kernel.specs.declared.statement.Statement.TheVariants.{Present', Suspend'};
+ghost use Rattle.est_kernel.specs.declared.statement.Statement.TheVariants.{Seq', Loop', Par'};
+ghost use Rattle.est_kernel.specs.declared.statement.Statement.TheVariants.{Trap', Exit};
+ghost use Rattle.est_kernel.specs.declared.statement.Statement.TheVariants.{Local' as Binder'};
+ghost use Rattle.est_meaning.specs.Environments.{status_of};
+ghost use Rattle.est_cells.specs.Tables.{sheet_size};
+ghost use Rattle.est_net.specs.Extents.{HasExtents};
+ghost use Rattle.est_net.specs.Kept.{kept};
+ghost use Rattle.est_net.specs.Owners.{statements};
+ghost use Rattle.est_rounds.specs.Views.{env_of};
+ghost use Rattle.est_micro.specs.Views.{IsBegun};
+ghost use Rattle.est_micro.specs.declared.direction.Direction.TheVariants.{Forwards, Backwards};
+
+use crate::cells::{self, Found, Place};
+use crate::direction::Direction;
+use crate::extents::{number_after, past};
+use crate::idle::past_idle;
+use crate::learning::{learn, make_false};
+use est_kernel::completion::Completion;
+use est_kernel::statement::{LocalSignal, Signal, Statement};
+use est_meaning::status::Status;
+use est_net::net::Net;
+use est_rounds::answer::answer_to;
+use est_rounds::signal_set::{self, Env};
+
+/// Sweeps a statement without parts that gives this code where it is begun.
+#[inline(always)]
+fn begin_leaf(net: &mut Net, at: &Place, completion: Completion, gate: Status) -> Found
+    requires code { code_of completion < 64 }
+    requires within { at.now.cell + at.now.traps + 3 ≤ length net.old.cells.items }
+    requires few { at.now.traps ≤ 62 }
+    ensures nothing { (e : _) → code_of completion ≡ 0
+        → IsBegun Nothing at.now gate e net.old.cells.items net.new.cells.items result }
+    ensures pause { (e n : _) → code_of completion ≡ 1
+        → IsBegun (Pause n) at.now gate e net.old.cells.items net.new.cells.items result }
+    ensures exit { (e k : _) → code_of completion ≡ k.index + 2
+        → IsBegun (Exit k) at.now gate e net.old.cells.items net.new.cells.items result }
+    ensures kept { kept net.new ≡ kept net.old }
+{
+    let go = learn(net, at.cell, gate);
+    let own = cells::leaf(go, completion);
+    cells::leave(net, at, &own, at.cell + at.traps + 3)
+}
+
+/// Sweeps an emission.
+fn begin_emit(net: &mut Net, at: &Place, signal: Signal, gate: Status) -> Found
+    requires bit { HasSignalBit signal }
+    requires within { at.now.cell + at.now.traps + 3 ≤ length net.old.cells.items }
+    requires few { at.now.traps ≤ 62 }
+    ensures swept { (e : _)
+        → IsBegun (Emit signal) at.now gate e net.old.cells.items net.new.cells.items result }
+    ensures kept { kept net.new ≡ kept net.old }
+{
+    let go = learn(net, at.cell, gate);
+    let own = cells::emission(go, signal);
+    cells::leave(net, at, &own, at.cell + at.traps + 3)
+}
+
+/// Sweeps a `present` whose test has this status.
+#[cycle(begin)]
+fn begin_present(
+    net: &mut Net,
+    at: &Place,
+    asked: Status,
+    p: &Statement,
+    q: &Statement,
+    gate: Status,
+    env: &Env,
+) -> Found
+    requires fits { FitsMasks p.now × FitsMasks q.now }
+    requires first_extents { HasExtents net.old.extents.items (at.now.number + 1)
+        at.now.traps p.now }
+    requires second_extents { HasExtents net.old.extents.items
+        (at.now.number + 1 + statements p.now) at.now.traps q.now }
+    requires within { at.now.cell + at.now.traps + 3 + sheet_size at.now.main p.now at.now.traps
+        + sheet_size at.now.main q.now at.now.traps
+        ≤ length net.old.cells.items }
+    requires first_traps { at.now.traps + trap_depth (term_of p.now) ≤ 62 }
+    requires second_traps { at.now.traps + trap_depth (term_of q.now) ≤ 62 }
+    ensures swept { (t a b : _) → asked ≡ status_of (env_of env.now) (query_of t)
+        → IsBegun (Present' t a p.now b q.now) at.now gate env.now net.old.cells.items
+        net.new.cells.items result }
+    ensures kept { kept net.new ≡ kept net.old }
+{
+    let go = learn(net, at.cell, gate);
+    let place = Place {
+        number: at.number + 1,
+        main: at.main,
+        direction: at.direction,
+        cell: at.cell + at.traps + 3,
+        traps: at.traps,
+    };
+    let first = begin(net, &place, p, go.and(asked), env);
+    let place = Place {
+        number: number_after(net, &place, p),
+        main: at.main,
+        direction: at.direction,
+        cell: first.past,
+        traps: at.traps,
+    };
+    let second = begin(net, &place, q, go.and(asked.opposite()), env);
+    let own = cells::either(&first.judged, &second.judged);
+    cells::leave(net, at, &own, second.past)
+}
+
+/// Sweeps a `suspend`.
+#[cycle(begin)]
+fn begin_suspend(net: &mut Net, at: &Place, p: &Statement, gate: Status, env: &Env) -> Found
+    requires fits { FitsMasks p.now }
+    requires extents { HasExtents net.old.extents.items (at.now.number + 1)
+        at.now.traps p.now }
+    requires within { at.now.cell + at.now.traps + 3 + sheet_size at.now.main p.now at.now.traps
+        ≤ length net.old.cells.items }
+    requires traps { at.now.traps + trap_depth (term_of p.now) ≤ 62 }
+    ensures swept { (t a : _)
+        → IsBegun (Suspend' t a p.now) at.now gate env.now net.old.cells.items
+        net.new.cells.items
+        result }
+    ensures kept { kept net.new ≡ kept net.old }
+{
+    let go = learn(net, at.cell, gate);
+    let place = Place {
+        number: at.number + 1,
+        main: at.main,
+        direction: at.direction,
+        cell: at.cell + at.traps + 3,
+        traps: at.traps,
+    };
+    let body = begin(net, &place, p, go, env);
+    cells::leave(net, at, &body.judged, body.past)
+}
+
+/// Sweeps a `;`.
+#[cycle(begin)]
+fn begin_seq(
+    net: &mut Net,
+    at: &Place,
+    p: &Statement,
+    q: &Statement,
+    gate: Status,
+    env: &Env,
+) -> Found
+    requires fits { FitsMasks p.now × FitsMasks q.now }
+    requires first_extents { HasExtents net.old.extents.items (at.now.number + 1)
+        at.now.traps p.now }
+    requires second_extents { HasExtents net.old.extents.items
+        (at.now.number + 1 + statements p.now) at.now.traps q.now }
+    requires within { at.now.cell + at.now.traps + 3 + sheet_size at.now.main p.now at.now.traps
+        + sheet_size at.now.main q.now at.now.traps
+        ≤ length net.old.cells.items }
+    requires first_traps { at.now.traps + trap_depth (term_of p.now) ≤ 62 }
+    requires second_traps { at.now.traps + trap_depth (term_of q.now) ≤ 62 }
+    ensures swept { (a b : _)
+        → IsBegun (Seq' a p.now b q.now) at.now gate env.now net.old.cells.items
+        net.new.cells.items
+        result }
+    ensures kept { kept net.new ≡ kept net.old }
+{
+    let go = learn(net, at.cell, gate);
+    let place = Place {
+        number: at.number + 1,
+        main: at.main,
+        direction: at.direction,
+        cell: at.cell + at.traps + 3,
+        traps: at.traps,
+    };
+    let first = begin(net, &place, p, go, env);
+    let inside = cells::with_emitted(env, first.judged.must.signals);
+    let later = cells::ends(&first.judged);
+    let place = Place {
+        number: number_after(net, &place, p),
+        main: at.main,
+        direction: at.direction,
+        cell: first.past,
+        traps: at.traps,
+    };
+    let second = begin(net, &place, q, later, &inside);
+    let own = cells::followed(&first.judged, &second.judged);
+    cells::leave(net, at, &own, second.past)
+}
+
+/// Sweeps a loop of the incarnation that can go on: its body, and then the cells of its restart.
+#[cycle(begin)]
+fn begin_loop(net: &mut Net, at: &Place, p: &Statement, gate: Status, env: &Env) -> Found
+    requires main { at.now.main ≡ true }
+    requires fits { FitsMasks p.now }
+    requires extents { HasExtents net.old.extents.items (at.now.number + 1)
+        at.now.traps p.now }
+    requires within { at.now.cell + at.now.traps + 3 + sheet_size true p.now at.now.traps
+        + sheet_size false p.now at.now.traps
+        ≤ length net.old.cells.items }
+    requires traps { at.now.traps + trap_depth (term_of p.now) ≤ 62 }
+    ensures swept { (a : _)
+        → IsBegun (Loop' a p.now) at.now gate env.now net.old.cells.items
+        net.new.cells.items result }
+    ensures kept { kept net.new ≡ kept net.old }
+{
+    let go = learn(net, at.cell, gate);
+    let place = Place {
+        number: at.number + 1,
+        main: at.main,
+        direction: at.direction,
+        cell: at.cell + at.traps + 3,
+        traps: at.traps,
+    };
+    let first = begin(net, &place, p, go, env);
+    let place = Place {
+        number: at.number + 1,
+        main: false,
+        direction: at.direction,
+        cell: first.past,
+        traps: at.traps,
+    };
+    let again = begin(net, &place, p, Status::Absent, env);
+    let own = cells::emitting(&first.judged, &again.judged);
+    cells::leave(net, at, &own, again.past)
+}
+
+/// Sweeps a loop inside a restart, which has no cells for a restart of its own.
+#[cycle(begin)]
+fn begin_again(net: &mut Net, at: &Place, p: &Statement, gate: Status, env: &Env) -> Found
+    requires main { at.now.main ≡ false }
+    requires fits { FitsMasks p.now }
+    requires extents { HasExtents net.old.extents.items (at.now.number + 1)
+        at.now.traps p.now }
+    requires within { at.now.cell + at.now.traps + 3 + sheet_size false p.now at.now.traps
+        ≤ length net.old.cells.items }
+    requires traps { at.now.traps + trap_depth (term_of p.now) ≤ 62 }
+    ensures swept { (a : _)
+        → IsBegun (Loop' a p.now) at.now gate env.now net.old.cells.items
+        net.new.cells.items result }
+    ensures kept { kept net.new ≡ kept net.old }
+{
+    let go = learn(net, at.cell, gate);
+    let place = Place {
+        number: at.number + 1,
+        main: at.main,
+        direction: at.direction,
+        cell: at.cell + at.traps + 3,
+        traps: at.traps,
+    };
+    let body = begin(net, &place, p, go, env);
+    cells::leave(net, at, &body.judged, body.past)
+}
+
+/// Sweeps a `||`, the first side before the second.
+#[cycle(begin)]
+fn begin_par(
+    net: &mut Net,
+    at: &Place,
+    p: &Statement,
+    q: &Statement,
+    gate: Status,
+    env: &Env,
+) -> Found
+    requires direction { at.now.direction ≡ Forwards }
+    requires fits { FitsMasks p.now × FitsMasks q.now }
+    requires first_extents { HasExtents net.old.extents.items (at.now.number + 1)
+        at.now.traps p.now }
+    requires second_extents { HasExtents net.old.extents.items
+        (at.now.number + 1 + statements p.now) at.now.traps q.now }
+    requires within { at.now.cell + at.now.traps + 3 + sheet_size at.now.main p.now at.now.traps
+        + sheet_size at.now.main q.now at.now.traps
+        ≤ length net.old.cells.items }
+    requires first_traps { at.now.traps + trap_depth (term_of p.now) ≤ 62 }
+    requires second_traps { at.now.traps + trap_depth (term_of q.now) ≤ 62 }
+    ensures swept { (a b : _)
+        → IsBegun (Par' a p.now b q.now) at.now gate env.now net.old.cells.items
+        net.new.cells.items
+        result }
+    ensures kept { kept net.new ≡ kept net.old }
+{
+    let go = learn(net, at.cell, gate);
+    let place = Place {
+        number: at.number + 1,
+        main: at.main,
+        direction: at.direction,
+        cell: at.cell + at.traps + 3,
+        traps: at.traps,
+    };
+    let first = begin(net, &place, p, go, env);
+    let inside = cells::with_emitted(env, first.judged.must.signals);
+    let place = Place {
+        number: number_after(net, &place, p),
+        main: at.main,
+        direction: at.direction,
+        cell: first.past,
+        traps: at.traps,
+    };
+    let second = begin(net, &place, q, go, &inside);
+    let own = cells::beside(&first.judged, &second.judged);
+    cells::leave(net, at, &own, second.past)
+}
+
+/// Sweeps a `||`, the second side before the first.
+#[cycle(begin)]
+fn begin_par_back(
+    net: &mut Net,
+    at: &Place,
+    p: &Statement,
+    q: &Statement,
+    gate: Status,
+    env: &Env,
+) -> Found
+    requires direction { at.now.direction ≡ Backwards }
+    requires fits { FitsMasks p.now × FitsMasks q.now }
+    requires first_extents { HasExtents net.old.extents.items (at.now.number + 1)
+        at.now.traps p.now }
+    requires second_extents { HasExtents net.old.extents.items
+        (at.now.number + 1 + statements p.now) at.now.traps q.now }
+    requires within { at.now.cell + at.now.traps + 3 + sheet_size at.now.main p.now at.now.traps
+        + sheet_size at.now.main q.now at.now.traps
+        ≤ length net.old.cells.items }
+    requires first_traps { at.now.traps + trap_depth (term_of p.now) ≤ 62 }
+    requires second_traps { at.now.traps + trap_depth (term_of q.now) ≤ 62 }
+    ensures swept { (a b : _)
+        → IsBegun (Par' a p.now b q.now) at.now gate env.now net.old.cells.items
+        net.new.cells.items
+        result }
+    ensures kept { kept net.new ≡ kept net.old }
+{
+    let go = learn(net, at.cell, gate);
+    let place = Place {
+        number: at.number + 1,
+        main: at.main,
+        direction: at.direction,
+        cell: at.cell + at.traps + 3,
+        traps: at.traps,
+    };
+    let later = Place {
+        number: number_after(net, &place, p),
+        main: at.main,
+        direction: at.direction,
+        cell: past(net, &place, p),
+        traps: at.traps,
+    };
+    let second = begin(net, &later, q, go, env);
+    let inside = cells::with_emitted(env, second.judged.must.signals);
+    let first = begin(net, &place, p, go, &inside);
+    let own = cells::beside(&first.judged, &second.judged);
+    cells::leave(net, at, &own, second.past)
+}
+
+/// Sweeps a trap.
+#[cycle(begin)]
+fn begin_trap(net: &mut Net, at: &Place, p: &Statement, gate: Status, env: &Env) -> Found
+    requires fits { FitsMasks p.now }
+    requires extents { HasExtents net.old.extents.items (at.now.number + 1)
+        (at.now.traps + 1) p.now }
+    requires within { at.now.cell + at.now.traps + 3 + sheet_size at.now.main p.now
+        (at.now.traps + 1) ≤ length net.old.cells.items }
+    requires traps { at.now.traps + 1 + trap_depth (term_of p.now) ≤ 62 }
+    ensures swept { (a : _)
+        → IsBegun (Trap' a p.now) at.now gate env.now net.old.cells.items
+        net.new.cells.items result }
+    ensures kept { kept net.new ≡ kept net.old }
+{
+    let go = learn(net, at.cell, gate);
+    let place = Place {
+        number: at.number + 1,
+        main: at.main,
+        direction: at.direction,
+        cell: at.cell + at.traps + 3,
+        traps: at.traps + 1,
+    };
+    let body = begin(net, &place, p, go, env);
+    let own = cells::out_of_trap(&body.judged);
+    cells::leave(net, at, &own, body.past)
+}
+
+/// Sweeps a local signal's binder: its body, and then the cell of its status, by what the body
+/// emits.
+#[cycle(begin)]
+fn begin_local(
+    net: &mut Net,
+    at: &Place,
+    s: LocalSignal,
+    p: &Statement,
+    gate: Status,
+    env: &Env,
+) -> Found
+    requires fits { (s.index < 64) × FitsMasks p.now }
+    requires extents { HasExtents net.old.extents.items (at.now.number + 1)
+        at.now.traps p.now }
+    requires within { at.now.cell + at.now.traps + 4 + sheet_size at.now.main p.now at.now.traps
+        ≤ length net.old.cells.items }
+    requires traps { at.now.traps + trap_depth (term_of p.now) ≤ 62 }
+    ensures swept { (a : _)
+        → IsBegun (Binder' s a p.now) at.now gate env.now net.old.cells.items
+        net.new.cells.items
+        result }
+    ensures kept { kept net.new ≡ kept net.old }
+{
+    let go = learn(net, at.cell, gate);
+    let cell = at.cell + at.traps + 3;
+    let inside = signal_set::set_local(env, s, net.status(cell));
+    let place = Place {
+        number: at.number + 1,
+        main: at.main,
+        direction: at.direction,
+        cell: cell + 1,
+        traps: at.traps,
+    };
+    let body = begin(net, &place, p, go, &inside);
+    learn(net, cell, cells::status_of(&body.judged, s));
+    let own = cells::hiding(&body.judged, s);
+    cells::leave(net, at, &own, body.past)
+}
+
+/// Sweeps the cells of a statement that is begun, if at all, by the gate, one after another.
+#[cycle(begin)]
+fn begin_each(net: &mut Net, at: &Place, s: &Statement, gate: Status, env: &Env) -> Found
+    requires fits { FitsMasks s.now }
+    requires extents { HasExtents net.old.extents.items at.now.number at.now.traps
+        s.now }
+    requires within { at.now.cell + sheet_size at.now.main s.now at.now.traps
+        ≤ length net.old.cells.items }
+    requires traps { at.now.traps + trap_depth (term_of s.now) ≤ 62 }
+    ensures swept { IsBegun s.now at.now gate env.now net.old.cells.items net.new.cells.items
+        result }
+    ensures kept { kept net.new ≡ kept net.old }
+{
+    match s {
+        Statement::Nothing => begin_leaf(net, at, Completion::End, gate),
+        Statement::Pause(_) => begin_leaf(net, at, Completion::Pause, gate),
+        Statement::Exit(k) => begin_leaf(net, at, Completion::Exit(*k), gate),
+        Statement::Emit(signal) => begin_emit(net, at, *signal, gate),
+        Statement::Present(t, p, q) => {
+            let asked = answer_to(env, t);
+            begin_present(net, at, asked, p, q, gate, env)
+        }
+        Statement::Suspend(_, p) => begin_suspend(net, at, p, gate, env),
+        Statement::Seq(p, q) => begin_seq(net, at, p, q, gate, env),
+        Statement::Loop(p) => {
+            if at.main {
+                begin_loop(net, at, p, gate, env)
+            } else {
+                begin_again(net, at, p, gate, env)
+            }
+        }
+        Statement::Par(p, q) => match at.direction {
+            Direction::Forwards => begin_par(net, at, p, q, gate, env),
+            Direction::Backwards => begin_par_back(net, at, p, q, gate, env),
+        },
+        Statement::Trap(p) => begin_trap(net, at, p, gate, env),
+        Statement::Local(s, p) => begin_local(net, at, *s, p, gate, env),
+    }
+}
+
+/// Sweeps the cells of a statement that is begun, if at all, by the gate. Where it is not, and none
+/// of them is true, all of them are false at once.
+#[cycle(begin)]
+pub fn begin(net: &mut Net, at: &Place, s: &Statement, gate: Status, env: &Env) -> Found
+    requires fits { FitsMasks s.now }
+    requires extents { HasExtents net.old.extents.items at.now.number at.now.traps
+        s.now }
+    requires within { at.now.cell + sheet_size at.now.main s.now at.now.traps
+        ≤ length net.old.cells.items }
+    requires traps { at.now.traps + trap_depth (term_of s.now) ≤ 62 }
+    ensures swept { IsBegun s.now at.now gate env.now net.old.cells.items net.new.cells.items
+        result }
+    ensures kept { kept net.new ≡ kept net.old }
+{
+    match past_idle(net, at, s, gate) {
+        Some(past) => {
+            make_false(net, at.cell, past);
+            cells::nothing(past)
+        }
+        None => begin_each(net, at, s, gate, env),
+    }
+}
