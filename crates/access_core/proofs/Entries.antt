@@ -19,7 +19,7 @@ use Rattle.access_core.specs.declared.reply.Reply.{Reply}
 use Rattle.access_core.specs.declared.reply.Reply.TheVariants.{Refused, Added}
 use Rattle.access_core.specs.Answering.{ByRules, no_memory}
 use Rattle.access_core.specs.Refusals.{of_reactor}
-use Rattle.access_core.specs.SlotStep.{entry_rules, AddsEntry, tells}
+use Rattle.access_core.specs.SlotStep.{entry_rules, AddsEntry, tells_added}
 
 module _ {Given : ReactorRefusal → Type 0} {Told : Refusal → Type 0} {Entered Accepted : Type 0} where
   -- memory is refused for the entry, or it is added
@@ -42,7 +42,7 @@ pub entry_answered : (before : List SlotEntry) (action : Action) (stamp : Stamp)
     (answer : Result (Unit {0}) ReactorRefusal) (reply : Reply) (after : List SlotEntry)
     → Answers (reactor_rules before) (λ refusal. (answer ≡ Err refusal) × (after ≡ before))
     ((answer ≡ Ok (record {})) × (after ≡ before ++ entry stamp action ∷ []))
-    → MatchResult answer (λ _. reply ≡ tells (word_of action) stamp.version after)
+    → MatchResult answer (λ _. reply ≡ tells_added (word_of action) stamp.version after)
     (λ refusal. reply ≡ Refused (of_reactor refusal))
     → ByRules (entry_rules before) (AddsEntry action stamp) before reply after
 entry_answered before action stamp (Ok done) reply after h told =
@@ -60,7 +60,7 @@ pub unload_answered : (before : List SlotEntry) (stamp : Stamp)
     (answer : Result (List SlotEntry) (ReactorRefusal × List SlotEntry)) (reply : Reply)
     (after : List SlotEntry) → UnloadAnswer before stamp answer
     → MatchResult answer
-    (λ journal. (after ≡ journal) × (reply ≡ tells word.Unload stamp.version after))
+    (λ journal. (after ≡ journal) × (reply ≡ tells_added word.Unload stamp.version after))
     (λ refused. (after ≡ refused.1) × (reply ≡ Refused (of_reactor refused.0)))
     → ByRules (entry_rules before) (AddsEntry action.Unload stamp) before reply after
 unload_answered before stamp (Ok journal) reply after h told =
@@ -93,7 +93,7 @@ unload_empties before stamp journal h =
 pub unload_told : (version place : ℕ) (journal : List SlotEntry) → place ≡ length journal
     → length (instants_of journal) ≡ 0
     → Added (record { word = word.Unload; place = place; version = version; instants = 0 })
-    ≡ tells word.Unload version journal
+    ≡ tells_added word.Unload version journal
 unload_told version place journal counted none =
     ap (λ p. Added (record { word = word.Unload; place = p; version = version; instants = 0 })) counted
     ∙ ap (λ n. Added (record { word = word.Unload; place = length journal; version = version; instants = n }))

@@ -28,7 +28,7 @@ use Rattle.access_core.specs.Answering.{IsRefused}
 use Rattle.access_core.specs.Refusals.{of_reactor}
 use Rattle.access_core.specs.Needs.{Needs, IsAccepted}
 use Rattle.access_core.specs.Journals.{command_of, last_version, Judges, Adds, IsLegalEntry, AreLegal, IsLegal}
-use Rattle.access_core.specs.SlotStep.{SlotStep, slot_rules, Does, stamp_of, tells}
+use Rattle.access_core.specs.SlotStep.{SlotStep, slot_rules, Does, stamp_of, tells_added}
 use Rattle.access_core.proofs.Deciding.{accepted_access, has_needed}
 
 -- ---- entries and their commands
@@ -110,7 +110,7 @@ pub record IsTaken (stamp : Stamp) (command : SlotCommand) (before : List SlotEn
   pub done : Action
   pub asked : command_of done ≡ command
   pub added : after ≡ before ++ entry stamp done ∷ []
-  pub told : reply ≡ tells (word_of done) stamp.version after
+  pub told : reply ≡ tells_added (word_of done) stamp.version after
 
 -- the journal stays, or the command is taken
 abbrev pub AddsOne : Stamp → SlotCommand → (before : List SlotEntry) → Reply → (after : List SlotEntry) → Type 0
@@ -139,7 +139,7 @@ module _ (stamp : Stamp) (before : List SlotEntry) (reply : Reply) (after : List
   loaded : (main text : List ℕ) (answer : Result (List SlotEntry) (ReactorRefusal × List SlotEntry))
       → LoadAnswer before stamp main text answer
       → MatchResult answer
-      (λ journal. (after ≡ journal) × (reply ≡ tells word.Load stamp.version after))
+      (λ journal. (after ≡ journal) × (reply ≡ tells_added word.Load stamp.version after))
       (λ refused. IsRefused (of_reactor refused.0) before reply after)
       → Moves stamp (Load main text) before reply after
   loaded main text (Ok journal) given replied =
@@ -159,7 +159,7 @@ module _ (stamp : Stamp) (before : List SlotEntry) (reply : Reply) (after : List
 
   offered : (signal : List ℕ) (answer : Result (Unit {0}) ReactorRefusal) → OfferAnswer before stamp signal answer after
       → MatchResult answer
-      (λ _. reply ≡ tells word.Offer stamp.version after)
+      (λ _. reply ≡ tells_added word.Offer stamp.version after)
       (λ refusal. IsRefused (of_reactor refusal) before reply after)
       → Moves stamp (Offer signal) before reply after
   offered signal (Ok done) given replied =

@@ -31,7 +31,7 @@ use Rattle.access_core.specs.Answering.{IsRefused}
 use Rattle.access_core.specs.Refusals.{of_reactor}
 use Rattle.access_core.specs.Shown.{Sees, name_at, status_at, names_of, shown_of}
 use Rattle.access_core.specs.SlotStep.{SlotStep, slot_rules, Does, Loads, Offers, Steps, Looks, NamesUndecided}
-use Rattle.access_core.specs.SlotStep.{stamp_of, no_reaction, implied, tells}
+use Rattle.access_core.specs.SlotStep.{stamp_of, no_reaction, implied, tells_added}
 use Rattle.reactor_core.specs.Instants.{not_ready}
 use Rattle.access_core.proofs.OneNaming.{one_excluded, one_lacking, one_undecided, same_mask, same_sight, same_kept}
 use Rattle.access_core.proofs.Settling.{IsSettled, AllSettled, settled_unless, settled_says, settled_apart}
@@ -79,7 +79,7 @@ no_err x y e = absurd cc
 abbrev LoadDone : Stamp → (main text : List ℕ) → (before : List SlotEntry) → Reply → (after : List SlotEntry) → Type 0
 LoadDone stamp main text before reply after =
     (after ≡ before ++ entry stamp (action.Load (load_of main text)) ∷ [])
-    × (reply ≡ tells word.Load stamp.version after)
+    × (reply ≡ tells_added word.Load stamp.version after)
 
 load_by_rules : (stamp : Stamp) (main text : List ℕ) (before : List SlotEntry) (reply : Reply) (after : List SlotEntry)
     → Loads stamp main text before reply after
@@ -89,7 +89,7 @@ load_by_rules stamp main text before reply after h = by_answer h.answer h.given 
   by_answer : (answer : Result (List SlotEntry) (ReactorRefusal × List SlotEntry))
       → LoadAnswer before stamp main text answer
       → MatchResult answer
-      (λ journal. (after ≡ journal) × (reply ≡ tells word.Load stamp.version after))
+      (λ journal. (after ≡ journal) × (reply ≡ tells_added word.Load stamp.version after))
       (λ refused. IsRefused (of_reactor refused.0) before reply after)
       → Answers (load_rules before main text) (λ refusal. IsRefused (of_reactor refusal) before reply after)
       (LoadDone stamp main text before reply after)
@@ -107,7 +107,7 @@ load_by_rules stamp main text before reply after h = by_answer h.answer h.given 
 -- what an offer is answered, by its rules
 abbrev OfferDone : Stamp → (signal : List ℕ) → (before : List SlotEntry) → Reply → (after : List SlotEntry) → Type 0
 OfferDone stamp signal before reply after =
-    (after ≡ before ++ entry stamp (action.Offer signal) ∷ []) × (reply ≡ tells word.Offer stamp.version after)
+    (after ≡ before ++ entry stamp (action.Offer signal) ∷ []) × (reply ≡ tells_added word.Offer stamp.version after)
 
 offer_by_rules : (stamp : Stamp) (signal : List ℕ) (before : List SlotEntry) (reply : Reply) (after : List SlotEntry)
     → (h : Offers stamp signal before reply after)
@@ -117,7 +117,7 @@ offer_by_rules stamp signal before reply after h = by_answer h.answer h.given.ru
   by_answer : (answer : Result (Unit {0}) ReactorRefusal) (r : Running)
       → Answers (offer_rules before r signal) (λ refusal. (answer ≡ Err refusal) × (after ≡ before))
       ((answer ≡ Ok (record {})) × (after ≡ before ++ entry stamp (action.Offer signal) ∷ []))
-      → MatchResult answer (λ _. reply ≡ tells word.Offer stamp.version after)
+      → MatchResult answer (λ _. reply ≡ tells_added word.Offer stamp.version after)
       (λ refusal. IsRefused (of_reactor refusal) before reply after)
       → Answers (offer_rules before r signal) (λ refusal. IsRefused (of_reactor refusal) before reply after)
       (OfferDone stamp signal before reply after)
@@ -235,8 +235,8 @@ module _ (modules : OneModule) (one_load : OneLoad) (entries : List Entry) (slot
     both_refused refusal x y = (x.replied ∙ sym y.replied, x.stays ∙ sym y.stays)
 
     -- two replies that tell of the same journal afterwards
-    told : (asked : Word) (version : ℕ) → a ≡ b → r ≡ tells asked version a → s ≡ tells asked version b → Same r s a b
-    told asked version same x y = (x ∙ ap (tells asked version) same ∙ sym y, same)
+    told : (asked : Word) (version : ℕ) → a ≡ b → r ≡ tells_added asked version a → s ≡ tells_added asked version b → Same r s a b
+    told asked version same x y = (x ∙ ap (tells_added asked version) same ∙ sym y, same)
 
     loads : (stamp : Stamp) (main text : List ℕ) → Loads stamp main text before r a → Loads stamp main text before s b
         → Same r s a b

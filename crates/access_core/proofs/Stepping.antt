@@ -27,7 +27,7 @@ use Rattle.access_core.specs.declared.reply.Reply.TheVariants.{Refused}
 use Rattle.access_core.specs.Refusals.{of_reactor}
 use Rattle.access_core.specs.Answering.{ByRules, no_memory}
 use Rattle.access_core.specs.SlotStep.{SlotStep, no_permission, empty, NamesUndecided, no_reaction, journal_full}
-use Rattle.access_core.specs.SlotStep.{settle_rules, step_rules, implied, Steps, stamp_of, tells}
+use Rattle.access_core.specs.SlotStep.{settle_rules, step_rules, implied, Steps, stamp_of, tells_added}
 use Rattle.access_core.specs.StuckSteps.{ReachesReactor, IsStuckExactly}
 use Rattle.est_relations.proofs.OffersKeep.{no_fault}
 
@@ -68,7 +68,7 @@ module _ (stamp : Stamp) (settled : SettledInstant) (refused : ReactorRefusal ×
 
 -- the instant is added
 pub commit_accepted : (stamp : Stamp) (before after : List SlotEntry) (o : ℕ) (t : Term) (reply : Reply)
-    → AddsInstant before o t stamp after → reply ≡ tells word.Step stamp.version after
+    → AddsInstant before o t stamp after → reply ≡ tells_added word.Step stamp.version after
     → ByRules (no_memory ▸ journal_full before ▸ accept) (Steps stamp) before reply after
 commit_accepted stamp before after o t reply adds replied =
     pass (record {}) (pass adds.room (record { outputs = o; next = t; adds = adds; replied = replied }))

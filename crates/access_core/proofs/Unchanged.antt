@@ -5,7 +5,7 @@ use Rattle.refusal_rules.specs.Rules.{accept, ◌▸◌}
 use Rattle.refusal_rules.proofs.RuleLemmas.{answered, all_passed}
 use Rattle.rbac_policy.specs.declared.commands.Entry.{Entry}
 use Rattle.rbac_policy.specs.declared.commands.AdminCommand.{AdminCommand}
-use Rattle.rbac_admin.specs.declared.refusals.Refusal.{Refusal as PolicyRefusal}
+use Rattle.rbac_admin.specs.declared.refusal.Refusal.{Refusal as PolicyRefusal}
 use Rattle.reactor_core.specs.declared.entry.SlotEntry.{SlotEntry}
 use Rattle.access_core.specs.declared.command.SlotCommand.{SlotCommand}
 use Rattle.access_core.specs.declared.refusal.Refusal.{Refusal}

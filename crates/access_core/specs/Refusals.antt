@@ -6,7 +6,7 @@ use Rattle.rbac_policy.specs.Texts.{IsObject}
 use Rattle.rbac_policy.specs.declared.objects.Object.{Object}
 use Rattle.rbac_policy.specs.declared.objects.Operation.{Operation}
 use Rattle.rbac_admin.specs.Refusals.{row_of as policy_row}
-use Rattle.rbac_admin.specs.declared.refusals.Refusal.TheVariants as policy
+use Rattle.rbac_admin.specs.declared.refusal.Refusal.TheVariants as policy
 use Rattle.reactor_core.specs.Refusals.{row_of as module_row}
 use Rattle.reactor_core.specs.declared.refusal.Refusal.{Refusal as ReactorRefusal}
 use Rattle.reactor_core.specs.declared.refusal.Refusal.TheVariants as reactor

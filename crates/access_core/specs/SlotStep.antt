@@ -11,7 +11,7 @@ use Rattle.rbac_policy.specs.declared.objects.Object.{Object}
 use Rattle.rbac_policy.specs.declared.objects.Operation.TheVariants.{Load as ToLoad}
 use Rattle.rbac_policy.specs.declared.objects.Object.TheVariants.{Slot}
 use Rattle.rbac_policy.specs.Facts.{IsLive, May}
-use Rattle.rbac_admin.specs.declared.refusals.Refusal.TheVariants as policy
+use Rattle.rbac_admin.specs.declared.refusal.Refusal.TheVariants as policy
 use Rattle.reactor_core.specs.declared.entry.Stamp.{Stamp}
 use Rattle.reactor_core.specs.declared.entry.PastInstant.{PastInstant}
 use Rattle.reactor_core.specs.declared.entry.Action.{Action}
@@ -65,8 +65,8 @@ abbrev pub stamp_of : List Entry → (session : ℕ) → Stamp
 stamp_of entries session = record { version = length entries; session = session }
 
 -- the reply to the command of this word, which was judged at this version and added the last entry of this journal
-abbrev pub tells : Word → (version : ℕ) → (after : List SlotEntry) → Reply
-tells asked version after = Added (record {
+abbrev pub tells_added : Word → (version : ℕ) → (after : List SlotEntry) → Reply
+tells_added asked version after = Added (record {
   word = asked;
   place = length after;
   version = version;
@@ -80,7 +80,7 @@ pub record Loads (stamp : Stamp) (main text : List ℕ) (before : List SlotEntry
   pub answer : Result (List SlotEntry) (ReactorRefusal × List SlotEntry)
   pub given : LoadAnswer before stamp main text answer
   pub replied : MatchResult answer
-      (λ journal. (after ≡ journal) × (reply ≡ tells word.Load stamp.version after))
+      (λ journal. (after ≡ journal) × (reply ≡ tells_added word.Load stamp.version after))
       (λ refused. IsRefused (of_reactor refused.0) before reply after)
 
 -- the reactor's answer to an offer: its entry is appended, or it is refused by the signal, a relation, the journal's
@@ -90,14 +90,14 @@ pub record Offers (stamp : Stamp) (signal : List ℕ) (before : List SlotEntry) 
   pub answer : Result (Unit {0}) ReactorRefusal
   pub given : OfferAnswer before stamp signal answer after
   pub replied : MatchResult answer
-      (λ _. reply ≡ tells word.Offer stamp.version after)
+      (λ _. reply ≡ tells_added word.Offer stamp.version after)
       (λ refusal. IsRefused (of_reactor refusal) before reply after)
 
 -- the entry of the action is appended, and the reply tells so
 pub record AddsEntry (action : Action) (stamp : Stamp) (before : List SlotEntry) (reply : Reply)
     (after : List SlotEntry) : Type 0 where
   pub added : after ≡ before ++ entry stamp action ∷ []
-  pub replied : reply ≡ tells (word_of action) stamp.version after
+  pub replied : reply ≡ tells_added (word_of action) stamp.version after
 
 -- the next instant has no outcome: its pending inputs have no constructive reaction, and the refusal names those of the
 -- undecided outputs and inputoutputs that the session may observe
@@ -127,7 +127,7 @@ pub record Steps (stamp : Stamp) (before : List SlotEntry) (reply : Reply) (afte
   pub outputs : ℕ
   pub next : Term
   pub adds : AddsInstant before outputs next stamp after
-  pub replied : reply ≡ tells word.Step stamp.version after
+  pub replied : reply ≡ tells_added word.Step stamp.version after
 
 -- the n-th instant since the load is shown: each signal that the session may observe, and whether it was present
 pub record Looks (entries : List Entry) (slot session n : ℕ) (before : List SlotEntry) (reply : Reply)
@@ -158,15 +158,15 @@ access_rules entries session (Some permission) =
     no_session entries session ▸ no_permission entries session permission.0 permission.1 ▸ accept
 
 -- the rules of who may load the slot
-abbrev pub load_rules : List Entry → (slot session : ℕ) → Rules Refusal
-load_rules entries slot session = access_rules entries session (Some (ToLoad, Slot slot))
+abbrev pub admit_rules : List Entry → (slot session : ℕ) → Rules Refusal
+admit_rules entries slot session = access_rules entries session (Some (ToLoad, Slot slot))
 
 -- the answer to a session that asks whether it may load the slot: what the load's entry is to bear, where the rules let
 -- it pass; else the refusal of the first rule that does not
 abbrev pub IsAdmitted : List Entry → (slot session : ℕ) → Result Stamp Refusal → Type 0
 IsAdmitted entries slot session answer =
-    MatchResult answer (λ stamp. (stamp ≡ stamp_of entries session) × AllPass (load_rules entries slot session))
-    (FirstRefuses (load_rules entries slot session))
+    MatchResult answer (λ stamp. (stamp ≡ stamp_of entries session) × AllPass (admit_rules entries slot session))
+    (FirstRefuses (admit_rules entries slot session))
 
 -- the rules of an entry where a module runs: the journal has room, and memory may be refused
 abbrev pub entry_rules : List SlotEntry → Rules Refusal

@@ -18,7 +18,7 @@ use crate::refusal::Refusal;
 use crate::reply::{Change, Reply};
 use crate::slot::{Slot, decide_slot};
 use rbac_admin::decisions::decide;
-use rbac_admin::refusals::Refusal as PolicyRefusal;
+use rbac_admin::refusal::Refusal as PolicyRefusal;
 use rbac_admin::room::has_room;
 use rbac_policy::commands::{AdminCommand, Entry, SessionId};
 use rbac_policy::journal::PolicyJournal;

@@ -8,7 +8,7 @@ ghost use Rattle.access_core.specs.Answering.{ByRules, no_memory};
 ghost use Rattle.access_core.specs.SlotStep.{SlotStep, access_rules, IsAdmitted, no_instant};
 ghost use Rattle.access_core.specs.SlotStep.{NamesUndecided, settle_rules, step_rules, entry_rules};
 ghost use Rattle.access_core.specs.SlotStep.{journal_full, stamp_of, Offers, AddsEntry, Steps};
-ghost use Rattle.access_core.specs.SlotStep.{Looks, Audits, Loads, tells};
+ghost use Rattle.access_core.specs.SlotStep.{Looks, Audits, Loads, tells_added};
 ghost use Rattle.reactor_core.specs.Meaning.{is_loaded};
 ghost use Rattle.reactor_core.specs.declared.entry.Action.TheVariants as action;
 ghost use Rattle.reactor_core.specs.Instants.{IsOutcome, HasNoOutcome};
@@ -22,7 +22,7 @@ use crate::reply::{Added, Reply};
 use crate::shown::{find_observed, keep_seen, list_names, list_statuses};
 use est_kernel::state::Stuck;
 use est_text::identifier::Identifier;
-use rbac_admin::refusals::Refusal as PolicyRefusal;
+use rbac_admin::refusal::Refusal as PolicyRefusal;
 use rbac_policy::commands::SessionId;
 use rbac_policy::objects::{Object, Operation, SlotNumber};
 use rbac_policy::policy::Policy;
@@ -134,7 +134,7 @@ fn refuse_stuck(
 
 /// The reply to the command of this word, which added the last entry of the reactor's journal.
 fn added_to(reactor: &Reactor, word: Word, stamp: Stamp) -> Reply
-    ensures { result ≡ tells word stamp.version reactor.now }
+    ensures { result ≡ tells_added word stamp.version reactor.now }
 {
     Reply::Added(Added {
         word,

@@ -4,7 +4,7 @@ use Rattle.std.specs.Prelude.{Option, Result, Ok, Err}
 use Rattle.rbac_policy.specs.declared.commands.AdminCommand.{AdminCommand}
 use Rattle.rbac_policy.specs.declared.commands.AdminCommand.TheVariants.{CreateSession}
 use Rattle.rbac_policy.specs.declared.commands.Entry.{Entry}
-use Rattle.rbac_admin.specs.declared.refusals.Refusal.{Refusal}
+use Rattle.rbac_admin.specs.declared.refusal.Refusal.{Refusal}
 use Rattle.rbac_admin.specs.PolicyStep.{PolicyStep, entry_of}
 use Rattle.rbac_admin.specs.Room.{HasRoomFor}
 use Rattle.rbac_admin.specs.PolicyLists.{IsAccepted}

@@ -14,9 +14,9 @@ use Rattle.rbac_policy.specs.declared.commands.AdminCommand.TheVariants.{CreateS
 use Rattle.rbac_policy.specs.declared.commands.AdminCommand.TheVariants.{DropActiveRole}
 use Rattle.rbac_policy.specs.declared.commands.Entry.{Entry}
 use Rattle.rbac_policy.specs.Entries.{is_login, logins}
-use Rattle.rbac_admin.specs.declared.refusals.Refusal.{Refusal as PolicyRefusal}
+use Rattle.rbac_admin.specs.declared.refusal.Refusal.{Refusal as PolicyRefusal}
 use Rattle.rbac_admin.specs.Room as room
-use Rattle.rbac_admin.specs.declared.refusals.Refusal.TheVariants as policy
+use Rattle.rbac_admin.specs.declared.refusal.Refusal.TheVariants as policy
 use Rattle.rbac_admin.specs.PolicyStep.{PolicyStep, entry_of}
 use Rattle.access_core.specs.declared.refusal.Refusal.TheVariants.{Policy, JournalFull, Memory}
 use Rattle.client_loop.specs.Asking.{IsLogoutReply}

@@ -4,7 +4,7 @@ use Rattle.rbac_policy.specs.declared.commands.AdminCommand.{AdminCommand}
 use Rattle.rbac_policy.specs.declared.objects.Operation.{Operation}
 use Rattle.rbac_policy.specs.declared.objects.Object.{Object}
 use Rattle.rbac_policy.specs.Facts.{May}
-use Rattle.rbac_admin.specs.declared.refusals.Refusal.TheVariants as policy
+use Rattle.rbac_admin.specs.declared.refusal.Refusal.TheVariants as policy
 use Rattle.access_core.specs.declared.command.SlotCommand.{SlotCommand}
 use Rattle.access_core.specs.declared.refusal.Refusal.TheVariants.{Policy, Memory}
 use Rattle.access_core.specs.declared.reply.Change.TheVariants.{DeleteSession as SessionDeleted}

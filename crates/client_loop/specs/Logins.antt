@@ -1,7 +1,7 @@
 -- Logins: when one is held, and what ends it (this project's own form).
 use Rattle.std.specs.Prelude.{◌≡◌, ℕ, Option, Some, None}
 use Rattle.rbac_policy.specs.declared.commands.AdminCommand.TheVariants.{DeleteSession}
-use Rattle.rbac_admin.specs.declared.refusals.Refusal.TheVariants as policy
+use Rattle.rbac_admin.specs.declared.refusal.Refusal.TheVariants as policy
 use Rattle.access_core.specs.declared.refusal.Refusal.TheVariants.{Policy, Memory}
 use Rattle.access_core.specs.declared.reply.Reply.{Reply}
 use Rattle.access_core.specs.declared.reply.Reply.TheVariants as reply

@@ -21,8 +21,8 @@ use Rattle.est_modules.proofs.TellingNumbers.{passes_none, passes_same}
 use Rattle.est_modules.proofs.Testing.{same_bytes, some_same}
 use Rattle.est_checks.specs.Duplicates.{first_duplicate}
 use Rattle.est_checks.specs.Emissions.{emitted_in, is_refused_in_run, refused_in_run}
-use Rattle.est_checks.specs.Inner.SentNumbers.{has_number, sends_number, AreSentNumbers}
-use Rattle.est_checks.specs.declared.sent_numbers.SentNumbers.{SentNumbers}
+use Rattle.est_checks.specs.Inner.EmittedNumbers.{has_number, sends_number, AreEmittedNumbers}
+use Rattle.est_checks.specs.declared.emitted_numbers.EmittedNumbers.{EmittedNumbers}
 use Rattle.est_checks.proofs.Leaving.{stands_left}
 use Rattle.est_checks.proofs.OneName.{first_of_name}
 
@@ -46,13 +46,13 @@ numbers_by false new old i = refl
 
 -- the numbers of one more module
 pub sent_more : (t : NameTable) (ps : List Program) (p : Program) (place : ℕ) (f g : List ℕ → List ℕ → Bool)
-    (old new : SentNumbers) (signals : NameSet) (numbers : NumberSet) → first_duplicate ps ≡ None
+    (old new : EmittedNumbers) (signals : NameSet) (numbers : NumberSet) → first_duplicate ps ≡ None
     → slice_get ps place ≡ Some p
     → Tells t (stands_in (filter (has signals) (map (λ (d : Declared). d.name) p.interface))) numbers
     → ((m s : List ℕ) → g m s ≡ cond (bytes_eq p.name m) (has signals s) (f m s))
     → ((m : List ℕ) (i : ℕ) → sends_number new m i
     ≡ cond (bytes_eq p.name m) (numbers_of numbers i) (sends_number old m i))
-    → AreSentNumbers t ps f old → AreSentNumbers t ps g new
+    → AreEmittedNumbers t ps f old → AreEmittedNumbers t ps g new
 sent_more t ps p place f g old new signals numbers distinct at tells emitted put are m q found i =
     let name = slice_get t.names.items i in
     let sent = λ (s : List ℕ). g m s && is_declared q.interface s in
@@ -76,9 +76,9 @@ sent_more t ps p place f g old new signals numbers distinct at tells emitted put
     ]
 
 -- before the first module nothing is sent
-pub none_sent : (t : NameTable) (ps : List Program) (f : List ℕ → List ℕ → Bool) (n : SentNumbers)
+pub none_sent : (t : NameTable) (ps : List Program) (f : List ℕ → List ℕ → Bool) (n : EmittedNumbers)
     → ((m s : List ℕ) → f m s ≡ false) → ((m : List ℕ) (i : ℕ) → sends_number n m i ≡ false)
-    → AreSentNumbers t ps f n
+    → AreEmittedNumbers t ps f n
 none_sent t ps f n none no_number m q found i =
     let name = slice_get t.names.items i in
     no_number m i ∙ passes_none name

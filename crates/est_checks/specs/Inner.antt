@@ -8,5 +8,5 @@ pub mod Numbers
 pub mod Offers
 pub mod Recursion
 pub mod Sent
-pub mod SentNumbers
+pub mod EmittedNumbers
 pub mod Stages

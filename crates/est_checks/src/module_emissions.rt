@@ -19,12 +19,12 @@ ghost use Rattle.est_checks.specs.Duplicates.{first_duplicate};
 ghost use Rattle.est_checks.specs.Emissions.{emitted_of, emits_here, emits_in_run, AreEmissions};
 ghost use Rattle.est_checks.specs.Inner.Keeping.{Keeps};
 ghost use Rattle.est_checks.specs.Inner.Noted.{is_noted, sends_renamed};
-ghost use Rattle.est_checks.specs.Inner.SentNumbers.{AreSentNumbers};
+ghost use Rattle.est_checks.specs.Inner.EmittedNumbers.{AreEmittedNumbers};
 ghost use Rattle.est_checks.specs.UnknownNames.{unknown_at};
 
 use crate::emission::Emissions;
+use crate::emitted_numbers::EmittedNumbers;
 use crate::run_emissions::names_in;
-use crate::sent_numbers::SentNumbers;
 use est_modules::head::{Declared, Head};
 use est_modules::head_tree::Heads;
 use est_modules::names::kept::KeptNames;
@@ -133,7 +133,7 @@ struct Sent<'a, 'b, 'c, 'd, 'e, 'f> {
     alloc: Global,
     heads: &'a Heads<'b>,
     table: &'a Emissions<'c>,
-    numbers: &'a SentNumbers<'f>,
+    numbers: &'a EmittedNumbers<'f>,
     names: &'d NameTable<'e>,
 }
 
@@ -221,7 +221,7 @@ fn emissions_of<'a, 'b>(
     names: &'a NameTable<'_>,
     heads: &'b Heads<'_>,
     table: &'b Emissions<'_>,
-    numbers: &'b SentNumbers<'_>,
+    numbers: &'b EmittedNumbers<'_>,
     home: &Head<'_>,
 ) -> Result<NameSet<'a>, AllocError>
     requires table { IsTable names.now }
@@ -229,7 +229,7 @@ fn emissions_of<'a, 'b>(
         ≡ true → is_numbered names.now s ≡ true }
     requires known { first_of (unknown_at (map program_of heads.now) (program_of home.now))
         (occurrences [] (program_of home.now).body) ≡ None }
-    requires numbers { AreSentNumbers names.now (map program_of heads.now) (emitted_of table.now)
+    requires numbers { AreEmittedNumbers names.now (map program_of heads.now) (emitted_of table.now)
         numbers.now }
     ensures { IfOk result (λ set. (s : List ℕ)
         → has set s ≡ list_any (emits_here (map program_of heads.now)
@@ -257,7 +257,7 @@ fn add_module<'a>(
     names: &'a NameTable<'_>,
     heads: &'a Heads<'_>,
     table: &mut Emissions<'a>,
-    numbers: &mut SentNumbers<'a>,
+    numbers: &mut EmittedNumbers<'a>,
     place: usize,
 ) -> Result<(), AllocError>
     requires place { place < length heads.now }
@@ -266,9 +266,9 @@ fn add_module<'a>(
     requires known { first_in_bodies (unknown_at (map program_of heads.now))
         (map program_of heads.now) ≡ None }
     requires distinct { first_duplicate (map program_of heads.now) ≡ None }
-    requires numbers { AreSentNumbers names.now (map program_of heads.now) (emitted_of table.old)
+    requires numbers { AreEmittedNumbers names.now (map program_of heads.now) (emitted_of table.old)
         numbers.old }
-    ensures numbers { OnOk result (AreSentNumbers names.now (map program_of heads.now) (emitted_of
+    ensures numbers { OnOk result (AreEmittedNumbers names.now (map program_of heads.now) (emitted_of
         table.new) numbers.new) }
     ensures emitted { OnOk result ((p : Program)
         → slice_get (map program_of heads.now) place ≡ Some p
@@ -306,7 +306,7 @@ pub fn emissions_along<'a>(
     ensures { IfOk result (λ table. AreEmissions (map program_of heads.now) (emitted_of table)) }
 {
     let mut table = Emissions::new(alloc);
-    let mut numbers = SentNumbers::new(alloc);
+    let mut numbers = EmittedNumbers::new(alloc);
     for place in order {
         add_module(alloc, names, &*heads, &mut table, &mut numbers, *place)?;
     }

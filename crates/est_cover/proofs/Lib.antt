@@ -1,5 +1,5 @@
 pub mod CoverLemmas
-pub mod EveryLemmas
+pub mod AllLawfulLemmas
 pub mod OneAtMost
 pub mod PartLemmas
 pub mod SaidLemmas

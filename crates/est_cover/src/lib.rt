@@ -5,9 +5,9 @@
 //! the same where it was asked; else the part is split at a signal that was not asked.
 #![tactic(auto)]
 
+pub mod all_lawful;
 pub mod asked;
 mod cover;
-pub mod every;
 mod part;
 pub mod reactive;
 mod said;

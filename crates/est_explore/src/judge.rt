@@ -14,8 +14,8 @@ ghost use Rattle.est_explore.specs.declared.one_module.Answer.{Answer as AnswerV
 use crate::claim::Claim;
 use crate::one_module::{Answer, OneModule, Position};
 use crate::verdict::Verdict;
+use est_cover::all_lawful::AllLawful;
 use est_cover::asked::Asked;
-use est_cover::every::Every;
 use est_kernel::state::State;
 use est_rounds::part_engine::PartEngine;
 use state_search::found::{Found, Row};
@@ -48,7 +48,7 @@ fn first_failure(rows: &[Row<Asked<Answer>>], claim: &Claim<'_>) -> Option<usize
 /// Searches all that a module does, as far as the limits allow.
 pub fn explore<E: PartEngine>(
     alloc: Global,
-    subject: &Every<'_, OneModule<'_, E>>,
+    subject: &AllLawful<'_, OneModule<'_, E>>,
     engine: &mut E,
     limits: Limits,
 ) -> Result<Found<Position, Asked<Answer>>, AllocError>
@@ -70,7 +70,7 @@ pub fn explore<E: PartEngine>(
 /// asked of each row.
 pub fn judge<E: PartEngine>(
     alloc: Global,
-    subject: &Every<'_, OneModule<'_, E>>,
+    subject: &AllLawful<'_, OneModule<'_, E>>,
     found: &Found<Position, Asked<Answer>>,
     claim: &Claim<'_>,
 ) -> Result<Verdict, AllocError>

@@ -13,8 +13,8 @@ ghost use Rattle.est_explore.specs.declared.two_modules.Both.{Both as BothValue}
 
 use crate::one_module::Position;
 use crate::two_modules::{Both, Engines, Positions, TwoModules, agree};
+use est_cover::all_lawful::AllLawful;
 use est_cover::asked::Asked;
-use est_cover::every::Every;
 use est_kernel::state::State;
 use est_rounds::part_engine::PartEngine;
 use state_search::found::{Found, Row};
@@ -62,7 +62,7 @@ fn first_difference(rows: &[Row<Asked<Both>>]) -> Option<usize>
 /// Searches all that two modules do side by side, as far as the limits allow.
 pub fn explore_both<E: PartEngine, F: PartEngine>(
     alloc: Global,
-    subject: &Every<'_, TwoModules<'_, E, F>>,
+    subject: &AllLawful<'_, TwoModules<'_, E, F>>,
     engines: &mut Engines<E, F>,
     limits: Limits,
 ) -> Result<Found<Positions, Asked<Both>>, AllocError>
@@ -90,7 +90,7 @@ pub fn explore_both<E: PartEngine, F: PartEngine>(
 /// Whether two modules do the same, from what a search has found of them.
 pub fn compare<E: PartEngine, F: PartEngine>(
     alloc: Global,
-    subject: &Every<'_, TwoModules<'_, E, F>>,
+    subject: &AllLawful<'_, TwoModules<'_, E, F>>,
     found: &Found<Positions, Asked<Both>>,
 ) -> Result<Comparison, AllocError>
     requires interface { subject.now.reactive.now.second.kernel.now.interface

@@ -28,7 +28,7 @@ use Rattle.access_core.specs.Refusals.{of_reactor}
 use Rattle.access_core.specs.Desk.{desk_at, no_slot, InSlot}
 use Rattle.access_core.specs.Needs.{IsAccepted}
 use Rattle.access_core.specs.SlotState.{SlotState}
-use Rattle.access_core.specs.SlotStep.{SlotStep, no_session, stamp_of, tells, Offers}
+use Rattle.access_core.specs.SlotStep.{SlotStep, no_session, stamp_of, tells_added, Offers}
 use Rattle.history_events.specs.declared.event.Event.{Event}
 use Rattle.history_events.specs.declared.event.Event.TheVariants.{Admin, OnSlot}
 use Rattle.history_events.specs.Accepting.{MeetsNoLimit, IsInputName, IsExcluded, CanOffer, HasReaction}
@@ -86,7 +86,7 @@ module _ (modules : OneModule) (entries : List Entry) (slot session : ℕ) (befo
   offer_taken name can h = by_answer h.answer h.given h.replied where
     by_answer : (answer : Result (Unit {0}) ReactorRefusal)
         → OfferAnswer before (stamp_of entries session) name answer after
-        → MatchResult answer (λ _. reply ≡ tells word.Offer (length entries) after)
+        → MatchResult answer (λ _. reply ≡ tells_added word.Offer (length entries) after)
         (λ refusal. IsRefused (of_reactor refusal) before reply after)
         → IsAccepted reply
     by_answer (Ok done) given replied = subst IsAccepted (sym replied) tt

@@ -13,7 +13,7 @@ use Rattle.rbac_policy.specs.declared.commands.AdminCommand.TheVariants.{DeleteI
 use Rattle.rbac_policy.specs.declared.commands.AdminCommand.TheVariants.{CreateSession, DeleteSession, AddActiveRole}
 use Rattle.rbac_policy.specs.declared.commands.AdminCommand.TheVariants.{DropActiveRole}
 use Rattle.rbac_policy.specs.declared.commands.Entry.{Entry}
-use Rattle.rbac_admin.specs.declared.refusals.Refusal.{Refusal as PolicyRefusal}
+use Rattle.rbac_admin.specs.declared.refusal.Refusal.{Refusal as PolicyRefusal}
 use Rattle.rbac_admin.specs.PolicyStep.{PolicyStep, entry_of}
 use Rattle.rbac_admin.specs.Room.{HasRoomFor}
 use Rattle.rbac_admin.proofs.Accepted.{accepted_administers, accepted_entry}
@@ -24,7 +24,7 @@ use Rattle.access_core.specs.declared.refusal.Refusal.TheVariants.{Policy}
 use Rattle.access_core.specs.declared.reply.Change.{Change}
 use Rattle.access_core.specs.Answering.{IsRefused, ByRules, no_memory}
 use Rattle.access_core.specs.Needs.{IsAccepted}
-use Rattle.access_core.specs.SlotStep.{no_session, tells}
+use Rattle.access_core.specs.SlotStep.{no_session, tells_added}
 use Rattle.access_core.specs.Desk.{DeskState, desk_at, AdminStep, InSlot, Appends, list_full, no_slot, accepted_reply}
 use Rattle.access_core.specs.Desk.{reply_of_change, change_of}
 use Rattle.access_core.proofs.Unchanged.{accepted_is_allowed, same_place}
@@ -91,8 +91,8 @@ module _ (m : Moment) where
                 is = a.is;
                 room = a.room;
                 added = slots ∙ ap (λ j. slice_set m.before.slots slot (record i.slot { journal = j })) added;
-                told = a.told ∙ ap (λ v. tells (word_of a.does) v i.journal) long
-                    ∙ ap (tells (word_of a.does) version) added;
+                told = a.told ∙ ap (λ v. tells_added (word_of a.does) v i.journal) long
+                    ∙ ap (tells_added (word_of a.does) version) added;
                 entries = h.entries;
               },
             )

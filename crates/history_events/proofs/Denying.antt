@@ -6,7 +6,7 @@ use Rattle.refusal_rules.proofs.RuleLemmas.{refuse, pass, append, split, all_pas
 use Rattle.rbac_policy.specs.declared.commands.AdminCommand.{AdminCommand}
 use Rattle.rbac_policy.specs.declared.commands.Entry.{Entry}
 use Rattle.rbac_policy.specs.Facts.{IsLive}
-use Rattle.rbac_admin.specs.declared.refusals.Refusal.{Refusal as PolicyRefusal}
+use Rattle.rbac_admin.specs.declared.refusal.Refusal.{Refusal as PolicyRefusal}
 use Rattle.rbac_admin.specs.PolicyStep.{PolicyStep, policy_rules, entry_of}
 use Rattle.reactor_core.specs.declared.entry.Action.{Action}
 use Rattle.reactor_core.specs.declared.entry.SlotEntry.{SlotEntry}
@@ -27,7 +27,7 @@ use Rattle.access_core.specs.Answering.{IsRefused, ByRules, no_memory}
 use Rattle.access_core.specs.Refusals.{of_reactor}
 use Rattle.access_core.specs.Desk.{desk_at, AdminStep, DeskStep, InSlot, Appends, list_full, change_of}
 use Rattle.access_core.specs.Needs.{IsAccepted}
-use Rattle.access_core.specs.SlotStep.{SlotStep, Loads, Offers, AddsEntry, Audits, stamp_of, journal_full, tells}
+use Rattle.access_core.specs.SlotStep.{SlotStep, Loads, Offers, AddsEntry, Audits, stamp_of, journal_full, tells_added}
 use Rattle.access_core.specs.SlotStep.{entry_rules as slot_entry_rules}
 use Rattle.access_core.proofs.OneSlotStep.{mapped, same_err, no_ok, no_err}
 use Rattle.history_events.specs.declared.event.Event.{Event}
@@ -108,7 +108,7 @@ module _ (entries : List Entry) (slot session : ℕ) (before : List SlotEntry) (
     by_answer : (answer : Result (List SlotEntry) (ReactorRefusal × List SlotEntry))
         → LoadAnswer before (stamp_of entries session) main text answer
         → MatchResult answer
-        (λ journal. (after ≡ journal) × (reply ≡ tells word.Load (length entries) after))
+        (λ journal. (after ≡ journal) × (reply ≡ tells_added word.Load (length entries) after))
         (λ refused. IsRefused (of_reactor refused.0) before reply after)
         → Named (told_as of_reactor (gives_module main text) ▸ journal_full before ▸ accept) reply
     by_answer (Ok journal) given replied =
@@ -134,7 +134,7 @@ module _ (entries : List Entry) (slot session : ℕ) (before : List SlotEntry) (
   offers signal h = by_answer h.answer h.given h.replied where
     by_answer : (answer : Result (Unit {0}) ReactorRefusal)
         → OfferAnswer before (stamp_of entries session) signal answer after
-        → MatchResult answer (λ _. reply ≡ tells word.Offer (length entries) after)
+        → MatchResult answer (λ _. reply ≡ tells_added word.Offer (length entries) after)
         (λ refusal. IsRefused (of_reactor refusal) before reply after)
         → Named (bad_offer before signal ▸ journal_full before ▸ accept) reply
     by_answer (Ok done) given replied =

@@ -19,7 +19,7 @@ use Rattle.access_core.specs.declared.reply.Reply.TheVariants.{Refused}
 use Rattle.access_core.specs.Answering.{IsRefused}
 use Rattle.access_core.specs.Refusals.{of_reactor}
 use Rattle.access_core.specs.Needs.{IsAccepted}
-use Rattle.access_core.specs.SlotStep.{SlotStep, slot_rules, Does, Loads, Offers, Steps, stamp_of, tells}
+use Rattle.access_core.specs.SlotStep.{SlotStep, slot_rules, Does, Loads, Offers, Steps, stamp_of, tells_added}
 use Rattle.history_events.specs.Changing.{Moves}
 
 -- a refusal accepts nothing
@@ -39,7 +39,7 @@ module _ (entries : List Entry) (slot session : ℕ) (before : List SlotEntry) (
     by_answer : (answer : Result (List SlotEntry) (ReactorRefusal × List SlotEntry))
         → LoadAnswer before (stamp_of entries session) main text answer
         → MatchResult answer
-        (λ journal. (after ≡ journal) × (reply ≡ tells word.Load (length entries) after))
+        (λ journal. (after ≡ journal) × (reply ≡ tells_added word.Load (length entries) after))
         (λ refused. IsRefused (of_reactor refused.0) before reply after)
         → Moves entries session (Load main text) before reply after
     by_answer (Ok journal) given replied =
@@ -66,7 +66,7 @@ module _ (entries : List Entry) (slot session : ℕ) (before : List SlotEntry) (
     by_answer : (answer : Result (Unit {0}) ReactorRefusal)
         → OfferAnswer before (stamp_of entries session) signal answer after
         → MatchResult answer
-        (λ _. reply ≡ tells word.Offer (length entries) after)
+        (λ _. reply ≡ tells_added word.Offer (length entries) after)
         (λ refusal. IsRefused (of_reactor refusal) before reply after)
         → Moves entries session (Offer signal) before reply after
     by_answer (Ok done) given replied =

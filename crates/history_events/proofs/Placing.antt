@@ -9,7 +9,7 @@ use Rattle.refusal_rules.proofs.RuleLemmas.{answered, first_or_none}
 use Rattle.rbac_policy.specs.declared.commands.AdminCommand.{AdminCommand}
 use Rattle.rbac_policy.specs.declared.commands.Entry.{Entry}
 use Rattle.rbac_policy.proofs.OfSlots.Slots.{get_set_same, get_set_other}
-use Rattle.rbac_admin.specs.declared.refusals.Refusal.{Refusal as PolicyRefusal}
+use Rattle.rbac_admin.specs.declared.refusal.Refusal.{Refusal as PolicyRefusal}
 use Rattle.reactor_core.specs.declared.entry.SlotEntry.{SlotEntry}
 use Rattle.access_core.specs.declared.command.SlotCommand.{SlotCommand}
 use Rattle.access_core.specs.declared.refusal.Refusal.{Refusal}

@@ -30,7 +30,7 @@ use Rattle.access_core.specs.Answering.{IsRefused}
 use Rattle.access_core.specs.Desk.{desk_at, InSlot}
 use Rattle.access_core.specs.Needs.{IsAccepted}
 use Rattle.access_core.specs.Shown.{shown_of}
-use Rattle.access_core.specs.SlotStep.{SlotStep, stamp_of, tells, Looks}
+use Rattle.access_core.specs.SlotStep.{SlotStep, stamp_of, tells_added, Looks}
 use Rattle.history_events.specs.declared.event.Event.TheVariants.{OnSlot}
 use Rattle.history_events.specs.Changing.{AddsAction, IsActionOf}
 use Rattle.history_events.specs.Entering.{Accepts, IsOn, IsStep, IsLoad, StandsIn, WasOffered}
@@ -218,7 +218,7 @@ module _ (modules : OneModule) (past : List Moment) (m : Moment) (seat version s
       }
 
   steps : command ≡ Step → (h : IsActionOf Step before a.does)
-      → m.reply ≡ tells (word_of a.does) (length (take version m.before.entries)) after
+      → m.reply ≡ tells_added (word_of a.does) (length (take version m.before.entries)) after
       → KnownSlot (past ++ m ∷ []) slot after
   steps e h told r runs =
       let o = h.outcome in
@@ -252,7 +252,7 @@ module _ (modules : OneModule) (past : List Moment) (m : Moment) (seat version s
                     accepted = (subst (IsOn slot IsStep) (sym is) (refl, e), a.accepted);
                     place = _;
                     version = _;
-                    numbered = told ∙ ap (λ d. tells (word_of d) (length (take version m.before.entries)) after) h.is
+                    numbered = told ∙ ap (λ d. tells_added (word_of d) (length (take version m.before.entries)) after) h.is
                         ∙ ap step_told number;
                     running = o.running;
                     declares = declares;
@@ -267,7 +267,7 @@ module _ (modules : OneModule) (past : List Moment) (m : Moment) (seat version s
       }
 
   by_command : (c : SlotCommand) → command ≡ c → IsActionOf c before a.does
-      → m.reply ≡ tells (word_of a.does) (length (take version m.before.entries)) after
+      → m.reply ≡ tells_added (word_of a.does) (length (take version m.before.entries)) after
       → KnownSlot (past ++ m ∷ []) slot after
   by_command (Load main text) e h told = loads main text h
   by_command (Offer signal) e h told =

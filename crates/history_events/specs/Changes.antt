@@ -14,7 +14,7 @@ use Rattle.access_core.specs.declared.command.SlotCommand.{SlotCommand}
 use Rattle.access_core.specs.Desk.{accepted_reply}
 use Rattle.access_core.specs.Needs.{Needs, IsAccepted}
 use Rattle.access_core.specs.SlotState.{SlotState}
-use Rattle.access_core.specs.SlotStep.{tells}
+use Rattle.access_core.specs.SlotStep.{tells_added}
 use Rattle.history_events.specs.declared.event.Event.{Event}
 use Rattle.history_events.specs.declared.event.Event.TheVariants.{Admin, OnSlot}
 use Rattle.history_events.specs.Changing.{IsActionOf, OnlyAsks}
@@ -46,7 +46,7 @@ pub record AddsSlotEntry (version slot session : ℕ) (command : SlotCommand) (m
   pub added : let new : SlotState =
       record old { journal = old.journal ++ entry (record { version = version; session = session }) does ∷ [] } in
       m.after.slots ≡ slice_set m.before.slots slot new
-  pub told : m.reply ≡ tells (word_of does) version
+  pub told : m.reply ≡ tells_added (word_of does) version
       (old.journal ++ entry (record { version = version; session = session }) does ∷ [])
   pub entries : m.after.entries ≡ m.before.entries
 

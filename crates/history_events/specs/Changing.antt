@@ -13,7 +13,7 @@ use Rattle.access_core.specs.declared.command.SlotCommand.{SlotCommand}
 use Rattle.access_core.specs.declared.command.SlotCommand.TheVariants.{Load, Offer, Discard, Step, Unload, Look, Audit}
 use Rattle.access_core.specs.declared.reply.Reply.{Reply}
 use Rattle.access_core.specs.Needs.{IsAccepted}
-use Rattle.access_core.specs.SlotStep.{stamp_of, tells}
+use Rattle.access_core.specs.SlotStep.{stamp_of, tells_added}
 use Rattle.history_events.specs.Accepting.{CanOffer}
 
 -- a load of the text's module, where no module runs
@@ -66,7 +66,7 @@ pub record AddsAction (entries : List Entry) (session : ℕ) (command : SlotComm
   pub is : IsActionOf command before does
   pub room : HasRoom before
   pub added : after ≡ before ++ entry (stamp_of entries session) does ∷ []
-  pub told : reply ≡ tells (word_of does) (length entries) after
+  pub told : reply ≡ tells_added (word_of does) (length entries) after
 
 -- the command only asks: it is a look or an audit
 abbrev pub OnlyAsks : SlotCommand → Type 0

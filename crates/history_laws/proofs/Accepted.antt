@@ -24,7 +24,7 @@ use Rattle.access_core.specs.Desk.{accepted_reply, change_of}
 use Rattle.access_core.specs.Journals.{command_of, last_version as version_of_last, IsLegalEntry}
 use Rattle.access_core.specs.Needs.{permission_of}
 use Rattle.access_core.specs.SlotState.{SlotState}
-use Rattle.access_core.specs.SlotStep.{SlotStep, slot_rules, access_rules, journal_rules, Does, stamp_of, tells}
+use Rattle.access_core.specs.SlotStep.{SlotStep, slot_rules, access_rules, journal_rules, Does, stamp_of, tells_added}
 use Rattle.access_core.proofs.Legality.{IsTaken, moves}
 use Rattle.history_events.specs.declared.event.TheConstants.{SEATS}
 use Rattle.history_events.specs.declared.event.Event.TheVariants as event
@@ -182,7 +182,7 @@ module _ (policy : List Entry) (seat : ℕ) (r : SlotReceipt) (e : SlotEntry) (s
   slot_after = ap journal_in (get_set_same world.slots r.slot _ (slice_get_within world.slots r.slot slot next.there))
 
   -- the slot step adds one entry that the command asks for, and the reply tells so
-  told : reply ≡ tells (word_of e.action) r.version (journal_at Given.after r.slot)
+  told : reply ≡ tells_added (word_of e.action) r.version (journal_at Given.after r.slot)
   told =
       let list : List Entry = take r.version world.entries in
       let after : List SlotEntry = slot.journal ++ e ∷ [] in
@@ -196,8 +196,8 @@ module _ (policy : List Entry) (seat : ℕ) (r : SlotReceipt) (e : SlotEntry) (s
       let same : entry (stamp_of list r.session) taken.done ≡ e = cc in
       let long : length list ≡ r.version =
       ap length (ap (λ n. take n world.entries) next.now ∙ take-length world.entries) ∙ sym next.now in
-      taken.told ∙ ap (λ (x : SlotEntry). tells (word_of x.action) (length list) after) same
-      ∙ ap (λ n. tells (word_of e.action) n after) long ∙ ap (tells (word_of e.action) r.version) (sym slot_after)
+      taken.told ∙ ap (λ (x : SlotEntry). tells_added (word_of x.action) (length list) after) same
+      ∙ ap (λ n. tells_added (word_of e.action) n after) long ∙ ap (tells_added (word_of e.action) r.version) (sym slot_after)
 
   pub slot_call : seat < SEATS → IsSlotCall seat r Given
   slot_call seated = record {

@@ -10,7 +10,7 @@ use Rattle.access_core.specs.Desk.{accepted_reply}
 use Rattle.access_core.specs.Journals.{command_of}
 use Rattle.access_core.specs.Needs.{IsAccepted}
 use Rattle.access_core.specs.SlotState.{SlotState}
-use Rattle.access_core.specs.SlotStep.{tells}
+use Rattle.access_core.specs.SlotStep.{tells_added}
 use Rattle.history_events.specs.declared.event.TheConstants.{SEATS}
 use Rattle.history_events.specs.declared.event.Event.TheVariants as event
 use Rattle.history_events.specs.OneRun.{events_of}

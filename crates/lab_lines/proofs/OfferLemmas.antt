@@ -7,7 +7,7 @@ use Rattle.std.proofs.lemmas.List.Elements.{All-push}
 use Rattle.std.proofs.lemmas.List.Folds.{list_any-append}
 use Rattle.est_kernel.specs.Bits.{bits}
 use Rattle.est_kernel.specs.declared.interface.Declaration.{Declaration}
-use Rattle.est_relations.specs.declared.refusal.Refusal.{Refusal as OfferFault}
+use Rattle.est_relations.specs.declared.refusal.Refusal.{Refusal as PendingRefusal}
 use Rattle.lab_lines.specs.Offers.{AreNamed, AreNotNamed, IsNoOffer, MayOffer, has_name}
 
 -- the texts of a list, cut at a place
@@ -51,7 +51,7 @@ named_next interface xs i x old one new within are may is more =
 
 -- the names so far may be offered, and the next may not
 pub first_not_offered : (interface : List Declaration) (xs : List (Bor (List ℕ))) (i : ℕ) (x : Bor (List ℕ))
-    (signals : ℕ) (fault : OfferFault) → i < length xs → AreNamed interface (map (λ t. t.now) (take i xs)) signals
+    (signals : ℕ) (fault : PendingRefusal) → i < length xs → AreNamed interface (map (λ t. t.now) (take i xs)) signals
     → IsNoOffer interface (get_or xs i x).now fault → AreNotNamed interface (map (λ t. t.now) xs) fault
 first_not_offered interface xs i x signals fault within are why = record {
   earlier = map (λ t. t.now) (take i xs);

@@ -5,7 +5,7 @@ use Rattle.est_kernel.specs.Bits.{bits}
 use Rattle.est_kernel.specs.Interfaces.{is_named, offerable}
 use Rattle.est_kernel.specs.declared.interface.Declaration.{Declaration}
 use Rattle.est_relations.specs.Offers.{IsOutputName, IsSignalName}
-use Rattle.est_relations.specs.declared.refusal.Refusal.{Refusal as OfferFault}
+use Rattle.est_relations.specs.declared.refusal.Refusal.{Refusal as PendingRefusal}
 use Rattle.est_relations.specs.declared.refusal.Refusal.TheVariants.{UnknownSignal, NotInput}
 use Rattle.est_text.specs.Identifiers.{is_identifier}
 
@@ -30,13 +30,13 @@ pub record AreNamed (interface : List Declaration) (names : List (List ℕ)) (si
   pub only : (n : ℕ) → bits signals n ≡ list_any (has_name interface n) names
 
 -- why no signal of this name may be offered: it is no identifier, or no signal has it, or an output has
-pub data IsNoOffer (interface : List Declaration) (name : List ℕ) (fault : OfferFault) : Type 0 where
+pub data IsNoOffer (interface : List Declaration) (name : List ℕ) (fault : PendingRefusal) : Type 0 where
   no_identifier : is_identifier name ≡ false → fault ≡ UnknownSignal → IsNoOffer interface name fault
   unknown : (IsSignalName interface name → ⊥) → fault ≡ UnknownSignal → IsNoOffer interface name fault
   output : IsOutputName interface name → fault ≡ NotInput → IsNoOffer interface name fault
 
 -- the first of the names that is none of a signal that may be offered, and why
-pub record AreNotNamed (interface : List Declaration) (names : List (List ℕ)) (fault : OfferFault) : Type 0 where
+pub record AreNotNamed (interface : List Declaration) (names : List (List ℕ)) (fault : PendingRefusal) : Type 0 where
   pub earlier : List (List ℕ)
   pub name : List ℕ
   pub later : List (List ℕ)

@@ -8,7 +8,7 @@ ghost use Rattle.lab_lines.specs.Comparing.{IsComparison};
 ghost use Rattle.lab_lines.specs.Told.{comparison_json};
 
 use crate::told::word_of_both;
-use est_cover::every::Every;
+use est_cover::all_lawful::AllLawful;
 use est_explore::same::{Comparison, compare, explore_both};
 use est_explore::two_modules::{Engines, TwoModules};
 use est_kernel::interface::{Declaration, Interface};
@@ -75,7 +75,7 @@ fn comparison_told(
 /// Whether two modules do the same.
 pub fn compare_modules<E: PartEngine, F: PartEngine>(
     alloc: Global,
-    subject: &Every<'_, TwoModules<'_, E, F>>,
+    subject: &AllLawful<'_, TwoModules<'_, E, F>>,
     engines: &mut Engines<E, F>,
     limits: Limits,
 ) -> Result<Value, AllocError>

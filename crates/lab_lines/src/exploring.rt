@@ -14,8 +14,8 @@ ghost use Rattle.lab_lines.specs.Told.{exploration_json};
 
 use crate::asked_test::AskedTest;
 use crate::told::verdict;
+use est_cover::all_lawful::AllLawful;
 use est_cover::asked::Asked;
-use est_cover::every::Every;
 use est_explore::claim::Claim;
 use est_explore::judge::{explore, judge};
 use est_explore::one_module::{Answer, OneModule, Position};
@@ -41,7 +41,7 @@ fn watched_by(tests: &[AskedTest]) -> u64
 /// The verdicts on tests.
 fn judge_tests<E: PartEngine>(
     alloc: Global,
-    subject: &Every<'_, OneModule<'_, E>>,
+    subject: &AllLawful<'_, OneModule<'_, E>>,
     found: &Found<Position, Asked<Answer>>,
     tests: &[AskedTest],
     limits: Limits,
@@ -88,7 +88,7 @@ fn exploration_told(
 /// The verdicts on a module: whether it is ever Stuck, and whether the tests always hold.
 pub fn judge_module<E: PartEngine>(
     alloc: Global,
-    subject: &Every<'_, OneModule<'_, E>>,
+    subject: &AllLawful<'_, OneModule<'_, E>>,
     engine: &mut E,
     tests: &[AskedTest],
     limits: Limits,
@@ -98,7 +98,7 @@ pub fn judge_module<E: PartEngine>(
         subject.now.relations.now subject.now.among) (map test_of tests.now) limits.states
         limits.steps (view v)) }
 {
-    let watching = Every {
+    let watching = AllLawful {
         reactive: subject.reactive,
         relations: subject.relations,
         among: subject.among,

@@ -146,7 +146,7 @@ fn stuck_line(
 }
 
 /// The line of an instant from inside, with the ties of one that is stuck.
-pub fn inside(
+pub fn instant_line(
     alloc: Global,
     interface: &Interface,
     instant: &Instant,
@@ -162,7 +162,7 @@ pub fn inside(
 }
 
 /// The line of where a module stands again.
-pub fn back(alloc: Global, stands: &State) -> Result<Vec<u8>, AllocError>
+pub fn back_line(alloc: Global, stands: &State) -> Result<Vec<u8>, AllocError>
     ensures { IfOk result (λ line. line.items ≡ compact_text (back_json stands.now) ++ 10 ∷ []) }
 {
     let mut line = LineWriter::begin(alloc)?;

@@ -6,23 +6,23 @@ ghost use Rattle.lab_lines.specs.Offers.{AreNamed, AreNotNamed, IsNoOffer, MayOf
 
 use est_kernel::interface::Interface;
 use est_kernel::mask;
-use est_relations::refusal::Refusal as OfferFault;
+use est_relations::refusal::Refusal as PendingRefusal;
 use est_text::identifier::Identifier;
 
 /// The signal of this name, alone in a mask, if it may be offered.
-fn offered(interface: &Interface, name: &str) -> Result<u64, OfferFault>
+fn offered(interface: &Interface, name: &str) -> Result<u64, PendingRefusal>
     ensures offered { IfOk result (λ m. MayOffer interface.now name.now) }
     ensures only { IfOk result (λ m. (n : ℕ) → bits m n ≡ has_name interface.now n name.now) }
     ensures fault { IfErr result (IsNoOffer interface.now name.now) }
 {
     let Some(name) = Identifier::from_text(name) else {
-        return Err(OfferFault::UnknownSignal);
+        return Err(PendingRefusal::UnknownSignal);
     };
     let Some(signal) = interface.find(&name) else {
-        return Err(OfferFault::UnknownSignal);
+        return Err(PendingRefusal::UnknownSignal);
     };
     if !interface.kind(signal).can_be_offered() {
-        return Err(OfferFault::NotInput);
+        return Err(PendingRefusal::NotInput);
     }
     Ok(mask::single(signal.index))
 }
@@ -32,7 +32,7 @@ fn offered(interface: &Interface, name: &str) -> Result<u64, OfferFault>
 /// # Errors
 ///
 /// Where one of them is no signal, or may not be offered.
-pub fn among(interface: &Interface, names: &[&str]) -> Result<u64, OfferFault>
+pub fn signals_of_names(interface: &Interface, names: &[&str]) -> Result<u64, PendingRefusal>
     ensures named { IfOk result (AreNamed interface.now (map (λ t. t.now) names.now)) }
     ensures fault { IfErr result (AreNotNamed interface.now (map (λ t. t.now) names.now)) }
 {

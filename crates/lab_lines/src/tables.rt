@@ -11,8 +11,8 @@ ghost use Rattle.lab_lines.specs.Tables.{place_json, row_json, state_json};
 
 use crate::pauses::pause_numbers;
 use crate::told::names;
+use est_cover::all_lawful::AllLawful;
 use est_cover::asked::Asked;
-use est_cover::every::Every;
 use est_explore::judge::explore;
 use est_explore::one_module::{Answer, OneModule, Position};
 use est_explore::table::is_closed;
@@ -137,7 +137,7 @@ fn too_large_told(alloc: Global, reactions: usize, states: usize) -> Result<Valu
 /// The table of a module; or that there are too many states or reactions.
 pub fn find_table<E: PartEngine>(
     alloc: Global,
-    subject: &Every<'_, OneModule<'_, E>>,
+    subject: &AllLawful<'_, OneModule<'_, E>>,
     engine: &mut E,
     limits: Limits,
 ) -> Result<Value, AllocError>

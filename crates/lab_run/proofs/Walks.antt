@@ -12,7 +12,7 @@ use Rattle.est_kernel.specs.declared.state.Inputs.{Inputs}
 use Rattle.est_meaning.specs.States.{IsState}
 use Rattle.est_meaning.specs.declared.status.Status.{Status}
 use Rattle.est_relations.specs.Offers.{PendingInputs}
-use Rattle.est_relations.specs.declared.refusal.Refusal.{Refusal as OfferFault}
+use Rattle.est_relations.specs.declared.refusal.Refusal.{Refusal as PendingRefusal}
 use Rattle.lab_instant.specs.Instants.{IsInstant}
 use Rattle.lab_instant.specs.declared.seen.Instant.{Instant}
 use Rattle.lab_instant.specs.declared.seen.Instant.TheVariants.{Reaction, Stuck}
@@ -36,7 +36,7 @@ one_taken names i name p next answer there taken later =
 
 -- it is refused
 pub one_refused : (names : List (Bor (List ℕ))) (i : ℕ) (name : Bor (List ℕ)) (p after : PendingInputs)
-    (fault : OfferFault) → slice_get names i ≡ Some name → NameAnswer p name.now (Err fault) after
+    (fault : PendingRefusal) → slice_get names i ≡ Some name → NameAnswer p name.now (Err fault) after
     → AreOffered p (map (λ t. t.now) (drop i names)) (Err fault)
 one_refused names i name p after fault there refused =
     rw (drop_more names i name (slice_get_within names i name there), get_or_from_slice_get names i name name there)
@@ -59,11 +59,11 @@ some_after states (Stuck s seen) some = some
 
 -- what is loaded after an instant
 pub loaded_after : (before : Standing) (m : Module) (inside : Inside) (states new : List State) (signals : ℕ)
-    (instant : Instant) (line : List ℕ) → before ≡ record { loaded = m; states = states }
+    (instant : Instant) (line : List ℕ) → before ≡ record { module = m; states = states }
     → IsInstantOf before signals instant line → AreLoaded m inside states → new ≡ states_after states instant
     → AreLoaded m inside new
 loaded_after before m inside states new signals instant line same told are grown =
-    let there : Standing = record { loaded = m; states = states } in
+    let there : Standing = record { module = m; states = states } in
     let t : IsInstantOf there signals instant line = subst
     (λ (z : Standing). IsInstantOf z signals instant line) same told in
     rw grown

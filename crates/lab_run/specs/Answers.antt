@@ -7,7 +7,7 @@ use Rattle.est_kernel.specs.declared.interface.Declaration.{Declaration}
 use Rattle.est_kernel.specs.declared.statement.Test.{Test}
 use Rattle.est_kernel.specs.Bits.{bits}
 use Rattle.est_explore.specs.Views.{module_of}
-use Rattle.est_relations.specs.declared.refusal.Refusal.{Refusal as OfferFault}
+use Rattle.est_relations.specs.declared.refusal.Refusal.{Refusal as PendingRefusal}
 use Rattle.reactor_core.specs.Loading.{Gives, IsLoadFault}
 use Rattle.reactor_core.specs.Standing.{given_by}
 use Rattle.reactor_core.specs.declared.loaded.Module.{Module}
@@ -71,7 +71,7 @@ Loads main text before (Written line) after = ⊥
 
 -- why inputs of these names are refused: the server's refusal of the first that may not be offered
 pub record IsNotOffered (interface : List Declaration) (names : List (List ℕ)) (given : Refusal) : Type 0 where
-  pub fault : OfferFault
+  pub fault : PendingRefusal
   pub told : given ≡ refusal.Module (of_module.Pending fault)
   pub first : AreNotNamed interface names fault
 
@@ -182,7 +182,7 @@ Answers m (Back to) told = ⊥
 -- the same where nothing may be loaded
 abbrev pub AnswersIf : Option Standing → Request → Told → Type 0
 AnswersIf None request told = told ≡ Refused refusal.Empty
-AnswersIf (Some s) request told = Answers s.loaded request told
+AnswersIf (Some s) request told = Answers s.module request told
 
 -- a request is done: what is loaded before it, what is told, and what is loaded afterwards
 abbrev pub Obeys : (before : Option Standing) → Request → Told → (after : Option Standing) → Type 0

@@ -9,7 +9,7 @@ use Rattle.est_kernel.specs.declared.state.State.TheVariants.{Fresh}
 use Rattle.est_meaning.specs.States.{IsState}
 use Rattle.est_meaning.specs.declared.status.Status.{Status}
 use Rattle.est_relations.specs.Offers.{PendingInputs, OfferAnswer, ReadyAnswer, pending_inputs}
-use Rattle.est_relations.specs.declared.refusal.Refusal.{Refusal as OfferFault}
+use Rattle.est_relations.specs.declared.refusal.Refusal.{Refusal as PendingRefusal}
 use Rattle.est_relations.specs.declared.refusal.Refusal.TheVariants.{UnknownSignal}
 use Rattle.reactor_core.specs.declared.loaded.Module.{Module}
 use Rattle.reactor_core.specs.declared.refusal.ModuleRefusal.TheVariants as of_module
@@ -27,16 +27,16 @@ use Rattle.lab_run.specs.declared.lab.Told.TheVariants.{Refused, Says, Written}
 -- what is loaded: a module, and where it stood at the start and after each instant, of which the last is where it
 -- stands
 pub record Standing : Type 0 where
-  pub loaded : Module
+  pub module : Module
   pub states : List State
 
 -- a module that stands at its start
 abbrev pub at_start : Module → Standing
-at_start m = record { loaded = m; states = Fresh ∷ [] }
+at_start m = record { module = m; states = Fresh ∷ [] }
 
 -- the same module, where it stood so and so
 abbrev pub standing_at : Standing → List State → Standing
-standing_at s states = record { loaded = s.loaded; states = states }
+standing_at s states = record { module = s.module; states = states }
 
 -- it stands there: this is the last of the states
 abbrev pub StandsAt : List State → State → Type 0
@@ -51,18 +51,18 @@ pub record AreLoaded (m : Module) (inside : Inside) (states : List State) : Type
 -- ---- the inputs of an instant
 
 -- the answer to an offer of the name, and what is pending afterwards; a text that is no identifier is no signal's name
-abbrev pub NameAnswer : PendingInputs → (name : List ℕ) → Result (Unit {0}) OfferFault → PendingInputs → Type 0
+abbrev pub NameAnswer : PendingInputs → (name : List ℕ) → Result (Unit {0}) PendingRefusal → PendingInputs → Type 0
 NameAnswer p name answer after =
     OfferAnswer p name answer after ⊎ ((is_identifier name ≡ false) × (answer ≡ Err UnknownSignal) × (after ≡ p))
 
 -- inputs of these names are offered one after another: all of them are taken, and may come in one instant, and what is
 -- pending then is answered; or it is answered why the first that is refused is
-abbrev pub AreOffered : PendingInputs → (names : List (List ℕ)) → Result PendingInputs OfferFault → Type 0
+abbrev pub AreOffered : PendingInputs → (names : List (List ℕ)) → Result PendingInputs PendingRefusal → Type 0
 AreOffered p [] (Ok after) = (after ≡ p) × ReadyAnswer p (Ok (record {}))
 AreOffered p [] (Err fault) = ReadyAnswer p (Err fault)
 AreOffered p (name ∷ names) answer =
     ((next : PendingInputs) × NameAnswer p name (Ok (record {})) next × AreOffered next names answer)
-    ⊎ ((fault : OfferFault) × (after : PendingInputs) × NameAnswer p name (Err fault) after × (answer ≡ Err fault))
+    ⊎ ((fault : PendingRefusal) × (after : PendingInputs) × NameAnswer p name (Err fault) after × (answer ≡ Err fault))
 
 -- nothing is pending of a module, or these inputs
 abbrev pub pending_of : Module → (inputs : ℕ) → PendingInputs
@@ -76,7 +76,7 @@ pub record MayTake (m : Module) (names : List (List ℕ)) (inputs : ℕ) : Type 
 
 -- no instant of the module may take the inputs of these names, for this reason
 pub record MayNotTake (m : Module) (names : List (List ℕ)) (given : Refusal) : Type 0 where
-  pub fault : OfferFault
+  pub fault : PendingRefusal
   pub told : given ≡ refusal.Module (of_module.Pending fault)
   pub first : AreOffered (pending_of m 0) names (Err fault)
 
@@ -95,13 +95,13 @@ pub record IsInstantAt (m : Module) (state : State) (inputs : ℕ) (instant : In
 pub record IsInstantOf (s : Standing) (inputs : ℕ) (instant : Instant) (line : List ℕ) : Type 0 where
   pub state : State
   pub stands : StandsAt s.states state
-  pub is : IsInstantAt s.loaded state inputs instant line
+  pub is : IsInstantAt s.module state inputs instant line
 
 -- the same, with the inputs of these names
 pub record IsInstantTold (s : Standing) (names : List (List ℕ)) (instant : Instant) (line : List ℕ)
     : Type 0 where
   pub inputs : ℕ
-  pub taken : MayTake s.loaded names inputs
+  pub taken : MayTake s.module names inputs
   pub is : IsInstantOf s inputs instant line
 
 -- where the module stands after the instant: at its next state, or if it is stuck where it stood
@@ -111,14 +111,14 @@ states_after states (Stuck undecided seen) = states
 
 -- the instant is made
 abbrev pub Makes : (before : Standing) → (names : List (List ℕ)) → Told → (after : Standing) → Type 0
-Makes before names (Refused given) after = MayNotTake before.loaded names given × (after ≡ before)
+Makes before names (Refused given) after = MayNotTake before.module names given × (after ≡ before)
 Makes before names (Says v) after = ⊥
 Makes before names (Written line) after = (instant : Instant) × IsInstantTold before names instant line.items
     × (after ≡ standing_at before (states_after before.states instant))
 
 -- the instant is told, and the module stays where it stands
 abbrev pub Tries : (before : Standing) → (names : List (List ℕ)) → Told → (after : Standing) → Type 0
-Tries before names (Refused given) after = MayNotTake before.loaded names given × (after ≡ before)
+Tries before names (Refused given) after = MayNotTake before.module names given × (after ≡ before)
 Tries before names (Says v) after = ⊥
 Tries before names (Written line) after =
     ((instant : Instant) × IsInstantTold before names instant line.items) × (after ≡ before)

@@ -44,7 +44,7 @@ fn told_of_value(alloc: Global, lab: &mut Lab, value: &Value) -> Result<Told, Al
 }
 
 /// What a line is told.
-fn told(alloc: Global, lab: &mut Lab, line: &[u8]) -> Told
+fn answer_line(alloc: Global, lab: &mut Lab, line: &[u8]) -> Told
     ensures { IsTold lab.old.loaded line.now result lab.new.loaded }
 {
     match value_of(alloc, line) {
@@ -86,7 +86,7 @@ impl Answerer<Lab> for Clerk {
     ghost fails = { λ before line after. HasNoText before.1.loaded line after.1.loaded };
 
     fn answer(&mut self, alloc: Global, lab: &mut Lab, line: &[u8]) -> Result<Text, AllocError> {
-        let told = told(alloc, lab, line);
+        let told = answer_line(alloc, lab, line);
         line_of(alloc, told)
     }
 }

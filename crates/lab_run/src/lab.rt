@@ -17,10 +17,10 @@ ghost use Rattle.lab_run.specs.Answers.{TellsOfTwo};
 ghost use Rattle.wire_lines.specs.Replies.{line_of};
 ghost use Rattle.wire_lines.specs.Requests.{IsValue};
 
-use crate::loaded::{Loaded, refusal_of};
+use crate::walk::{Walk, refusal_of};
 use access_core::refusal::Refusal;
 use access_core::reply::Reply;
-use est_cover::every::Every;
+use est_cover::all_lawful::AllLawful;
 use est_explore::one_module::OneModule;
 use est_explore::two_modules::{Engines, TwoModules};
 use est_micro::micro::Micro;
@@ -29,7 +29,7 @@ use lab_claims::claims::{BadClaim, read_claims};
 use lab_lines::asked_test::AskedTest;
 use lab_lines::comparing::{are_same, compare_modules};
 use lab_lines::exploring::judge_module;
-use lab_lines::offers::among;
+use lab_lines::offers::signals_of_names;
 use lab_lines::request::{Request, Scope};
 use lab_lines::statements::kernel_told;
 use lab_lines::tables::find_table;
@@ -56,7 +56,7 @@ pub enum Told {
 /// What is loaded.
 #[derive(Drop)]
 pub struct Lab {
-    loaded: Option<Loaded>,
+    loaded: Option<Walk>,
 }
 
 /// The engine of a module.
@@ -122,7 +122,7 @@ fn judge_tests(
 {
     let mut engine = engine_of(alloc, loaded)?;
     let reactive = one_module(loaded);
-    let subject = Every {
+    let subject = AllLawful {
         reactive: &reactive,
         relations: &loaded.relations,
         among,
@@ -157,7 +157,7 @@ fn explore_claims(
 ) -> Result<Told, AllocError>
     ensures { IfOk result (TellsOfClaims loaded.now (map (λ t. t.now) claims.now) scope.now) }
 {
-    let among = match among(loaded.kernel.interface(), scope.inputs.as_slice()) {
+    let among = match signals_of_names(loaded.kernel.interface(), scope.inputs.as_slice()) {
         Ok(among) => among,
         Err(fault) => return Ok(Told::Refused(refusal_of(fault))),
     };
@@ -185,7 +185,7 @@ fn compare_both(
         first: one_module(one),
         second: one_module(other),
     };
-    let subject = Every {
+    let subject = AllLawful {
         reactive: &both,
         relations: &one.relations,
         among,
@@ -230,7 +230,7 @@ fn compare_text(
 ) -> Result<Told, AllocError>
     ensures { IfOk result (TellsOfBoth loaded.now main.now text.now scope.now) }
 {
-    let among = match among(loaded.kernel.interface(), scope.inputs.as_slice()) {
+    let among = match signals_of_names(loaded.kernel.interface(), scope.inputs.as_slice()) {
         Ok(among) => among,
         Err(fault) => return Ok(Told::Refused(refusal_of(fault))),
     };
@@ -256,7 +256,7 @@ fn table_among(
 {
     let mut engine = engine_of(alloc, loaded)?;
     let reactive = one_module(loaded);
-    let subject = Every {
+    let subject = AllLawful {
         reactive: &reactive,
         relations: &loaded.relations,
         among,
@@ -269,7 +269,7 @@ fn table_among(
 fn table_of(alloc: Global, loaded: &Module, scope: &Scope<'_>) -> Result<Told, AllocError>
     ensures { IfOk result (TellsOfTable loaded.now scope.now) }
 {
-    let among = match among(loaded.kernel.interface(), scope.inputs.as_slice()) {
+    let among = match signals_of_names(loaded.kernel.interface(), scope.inputs.as_slice()) {
         Ok(among) => among,
         Err(fault) => return Ok(Told::Refused(refusal_of(fault))),
     };
@@ -323,7 +323,7 @@ impl Lab {
             Err(refusal) => return Ok(Told::Refused(Refusal::from(refusal))),
         };
         let value = loaded_told(alloc, &loaded)?;
-        self.loaded = Some(Loaded::begin(alloc, loaded)?);
+        self.loaded = Some(Walk::begin(alloc, loaded)?);
         Ok(Told::Says(value))
     }
 
@@ -332,7 +332,7 @@ impl Lab {
         ensures { IfOk result (AnswersIf self.now.loaded request.now) }
     {
         match &self.loaded {
-            Some(loaded) => answer(alloc, loaded.module(), request),
+            Some(walk) => answer(alloc, walk.module(), request),
             None => Ok(Told::Refused(Refusal::Empty)),
         }
     }
@@ -344,8 +344,8 @@ impl Lab {
         ensures kept { IfErr result (λ _. self.new ≡ self.old) }
     {
         match &mut self.loaded {
-            Some(loaded) => {
-                let told = loaded.make(alloc, names)?;
+            Some(walk) => {
+                let told = walk.make(alloc, names)?;
                 Ok(told)
             }
             None => Ok(Told::Refused(Refusal::Empty)),
@@ -359,8 +359,8 @@ impl Lab {
         ensures kept { IfErr result (λ _. self.new ≡ self.old) }
     {
         match &mut self.loaded {
-            Some(loaded) => {
-                let told = loaded.try_instant(alloc, names)?;
+            Some(walk) => {
+                let told = walk.try_instant(alloc, names)?;
                 Ok(told)
             }
             None => Ok(Told::Refused(Refusal::Empty)),
@@ -373,8 +373,8 @@ impl Lab {
         ensures kept { IfErr result (λ _. self.new ≡ self.old) }
     {
         match &mut self.loaded {
-            Some(loaded) => {
-                let told = loaded.go_back(alloc, to)?;
+            Some(walk) => {
+                let told = walk.go_back(alloc, to)?;
                 Ok(told)
             }
             None => Ok(Told::Refused(Refusal::Empty)),

@@ -9,13 +9,13 @@ ghost use Rattle.lab_run.specs.Runs.{status_of_end};
 
 use crate::answer::{Clerk, line_of};
 use crate::lab::{Lab, Told, explore_among, limits};
-use crate::loaded::refusal_of;
 use crate::order::{Order, Proof, WordFault};
 use crate::status::{FAILS, UNKNOWN, UNREAD, status_of};
+use crate::walk::refusal_of;
 use access_core::refusal::Refusal;
 use est_kernel::interface::Interface;
-use est_relations::refusal::Refusal as OfferFault;
-use lab_lines::offers::among;
+use est_relations::refusal::Refusal as PendingRefusal;
+use lab_lines::offers::signals_of_names;
 use reactor_core::loaded::Module;
 use reactor_core::reading::read_module;
 use std::alloc::{AllocError, Global};
@@ -75,14 +75,14 @@ fn texts_of<'a>(alloc: Global, claims: &'a [String]) -> Result<Vec<&'a str>, All
 
 /// The signals that somebody may offer: those of these names, or without names all that may be
 /// offered.
-fn offered_of(interface: &Interface, names: &[&str]) -> Result<u64, OfferFault>
+fn offered_of(interface: &Interface, names: &[&str]) -> Result<u64, PendingRefusal>
     ensures among { IfOk result (IsAmong interface.now (map (λ t. t.now) names.now)) }
     ensures fault { IfErr result (AreNotNamed interface.now (map (λ t. t.now) names.now)) }
 {
     if names.is_empty() {
         Ok(interface.offerable())
     } else {
-        among(interface, names)
+        signals_of_names(interface, names)
     }
 }
 

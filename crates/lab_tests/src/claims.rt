@@ -4,8 +4,8 @@ ghost use Rattle.std.specs.Prelude.{◌≡◌};
 ghost use Rattle.est_micro.specs.Engine.{IsNetOf};
 
 use crate::modules::{A, B, O, both, is_absent, late, paradox};
+use est_cover::all_lawful::AllLawful;
 use est_cover::asked::Asked;
-use est_cover::every::Every;
 use est_explore::claim::Claim;
 use est_explore::judge::{explore, judge};
 use est_explore::one_module::{Answer, OneModule};
@@ -77,7 +77,7 @@ fn answer_by<E: PartEngine>(
         kernel,
         engine: PhantomData,
     };
-    let subject = Every {
+    let subject = AllLawful {
         reactive: &reactive,
         relations,
         among,
@@ -233,7 +233,7 @@ fn instants_alike(rt: &impl Abort, alloc: Global, first: &Kernel, second: &Kerne
             engine: PhantomData,
         },
     };
-    let subject = Every {
+    let subject = AllLawful {
         reactive: &two,
         relations: &free,
         among: ALL,

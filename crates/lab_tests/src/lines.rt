@@ -2,7 +2,7 @@
 
 use crate::claims::engine_of;
 use crate::modules::{both, late};
-use est_cover::every::Every;
+use est_cover::all_lawful::AllLawful;
 use est_explore::one_module::OneModule;
 use est_kernel::kernel::Kernel;
 use est_micro::micro::Micro;
@@ -80,7 +80,7 @@ fn table_of(rt: &impl Abort, alloc: Global, kernel: &Kernel) -> Value {
         kernel,
         engine: PhantomData,
     };
-    let subject = Every {
+    let subject = AllLawful {
         reactive: &by_parts,
         relations: &free,
         among: 3,
@@ -113,7 +113,7 @@ fn states_of_a_table(rt: HostRuntime) {
     let alloc = rt.alloc();
     let kernel = late(&rt, alloc);
     let free = Relations::new(alloc);
-    let subject = Every {
+    let subject = AllLawful {
         reactive: &machine(&kernel),
         relations: &free,
         among: 0,

@@ -5,7 +5,7 @@ use Rattle.refusal_rules.specs.Rules.{accept, MayRefuse, ◌▸◌, Answers}
 use Rattle.refusal_rules.proofs.RuleLemmas.{all_passed}
 use Rattle.rbac_policy.specs.declared.commands.AdminCommand.{AdminCommand}
 use Rattle.rbac_policy.specs.declared.commands.Entry.{Entry}
-use Rattle.rbac_admin.specs.declared.refusals.Refusal.{Refusal as PolicyRefusal}
+use Rattle.rbac_admin.specs.declared.refusal.Refusal.{Refusal as PolicyRefusal}
 use Rattle.rbac_admin.specs.PolicyLists.{Begins}
 use Rattle.rbac_admin.specs.Room.{list_full}
 use Rattle.policy_board.specs.SeatState.{SeatState}

@@ -1,5 +1,5 @@
 //! Why a call of the board is refused.
-use rbac_admin::refusals::Refusal as PolicyRefusal;
+use rbac_admin::refusal::Refusal as PolicyRefusal;
 
 /// Why a call of the board is refused. A refusal leaves the policy and its list as they were.
 #[derive(Clone, Copy, PartialEq, Eq)]

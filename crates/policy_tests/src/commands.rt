@@ -1,6 +1,6 @@
 //! Policy commands, refusals and questions as text, so that a story of a policy is a table.
 use rbac_admin::decisions::decide;
-use rbac_admin::refusals::{Refusal, table_text};
+use rbac_admin::refusal::{Refusal, table_text};
 use rbac_policy::commands::{AdminCommand, Entry, SessionId};
 use rbac_policy::names::{LISTED_ROLES, Name, RoleNames};
 use rbac_policy::objects::{Object, Operation};

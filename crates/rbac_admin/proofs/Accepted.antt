@@ -8,7 +8,7 @@ use Rattle.rbac_policy.specs.declared.commands.AdminCommand.{AdminCommand}
 use Rattle.rbac_policy.specs.declared.commands.AdminCommand.TheVariants.{CreateSession, DeleteSession, AddActiveRole}
 use Rattle.rbac_policy.specs.declared.commands.AdminCommand.TheVariants.{DropActiveRole}
 use Rattle.rbac_policy.specs.declared.commands.Entry.{Entry}
-use Rattle.rbac_admin.specs.declared.refusals.Refusal.{Refusal}
+use Rattle.rbac_admin.specs.declared.refusal.Refusal.{Refusal}
 use Rattle.rbac_admin.specs.Conditions.{Administers}
 use Rattle.rbac_policy.specs.Entries.{is_administrative}
 use Rattle.rbac_admin.specs.PolicyStep.{PolicyStep, policy_rules, entry_of}

@@ -10,8 +10,8 @@ use Rattle.rbac_policy.specs.declared.commands.Entry.{Entry}
 use Rattle.rbac_policy.specs.Entries.{is_login}
 use Rattle.rbac_policy.specs.Names.{NameText}
 use Rattle.rbac_policy.specs.Facts.{IsActive, IsAuthorized, Lives}
-use Rattle.rbac_admin.specs.declared.refusals.Refusal.{Refusal}
-use Rattle.rbac_admin.specs.declared.refusals.Refusal.TheVariants.{NotAuthorized, AlreadyActive}
+use Rattle.rbac_admin.specs.declared.refusal.Refusal.{Refusal}
+use Rattle.rbac_admin.specs.declared.refusal.Refusal.TheVariants.{NotAuthorized, AlreadyActive}
 use Rattle.rbac_admin.specs.Conditions.{IsGivenBy, IsGiven, HasAuthorized, HasActive}
 use Rattle.rbac_admin.specs.PolicyStep.{session_rules, entry_rules, policy_rules, entry_of, Checks}
 

@@ -15,7 +15,7 @@ use Rattle.rbac_policy.specs.declared.commands.AdminCommand.TheVariants.{RevokeP
 use Rattle.rbac_policy.specs.declared.commands.AdminCommand.TheVariants.{DeleteInheritance, CreateDsdSet, CreateSession}
 use Rattle.rbac_policy.specs.declared.commands.AdminCommand.TheVariants.{DeleteSession, AddActiveRole, DropActiveRole}
 use Rattle.rbac_policy.specs.declared.commands.Entry.{Entry}
-use Rattle.rbac_admin.specs.declared.refusals.Refusal.{Refusal}
+use Rattle.rbac_admin.specs.declared.refusal.Refusal.{Refusal}
 use Rattle.rbac_policy.specs.Separation.{IsFirstViolated, IsFirstSetOf}
 use Rattle.rbac_admin.specs.Conditions.{FirstListed}
 use Rattle.rbac_admin.specs.PolicyStep.{PolicyStep, session_rules, right_rules, name_rules, condition_rules}

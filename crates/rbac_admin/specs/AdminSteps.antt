@@ -3,7 +3,7 @@ use Rattle.std.specs.Prelude.{ℕ, List, Option, Result, MatchResult}
 use Rattle.refusal_rules.specs.Rules.{MayRefuse, accept, ◌▸◌, Answers}
 use Rattle.rbac_policy.specs.declared.commands.AdminCommand.{AdminCommand}
 use Rattle.rbac_policy.specs.declared.commands.Entry.{Entry}
-use Rattle.rbac_admin.specs.declared.refusals.Refusal.{Refusal}
+use Rattle.rbac_admin.specs.declared.refusal.Refusal.{Refusal}
 use Rattle.rbac_admin.specs.PolicyStep.{PolicyStep}
 use Rattle.rbac_admin.specs.Room.{list_full}
 

@@ -17,13 +17,13 @@ use Rattle.rbac_policy.specs.Names.{NameText}
 use Rattle.rbac_policy.specs.Entries.{makes_session}
 use Rattle.rbac_policy.specs.Facts.{IsUser, IsRole, IsSetName, IsAssigned, IsGranted, IsEdge, IsAtOrBelow, IsAuthorized}
 use Rattle.rbac_policy.specs.Fits.{UsersFull, RolesFull, SetsFull, SessionsFull, NumbersExhausted}
-use Rattle.rbac_admin.specs.declared.refusals.Refusal.{Refusal}
-use Rattle.rbac_admin.specs.declared.refusals.Refusal.TheVariants.{NoSession, SessionsExhausted, Permission}
-use Rattle.rbac_admin.specs.declared.refusals.Refusal.TheVariants.{DsdViolated, NotAuthorized, AlreadyActive, NotActive}
-use Rattle.rbac_admin.specs.declared.refusals.Refusal.TheVariants.{Cycle, UnknownUser, UnknownRole, UserExists}
-use Rattle.rbac_admin.specs.declared.refusals.Refusal.TheVariants.{RoleExists, AlreadyAssigned, NotAssigned}
-use Rattle.rbac_admin.specs.declared.refusals.Refusal.TheVariants.{AlreadyGranted, NotGranted, EdgeExists, NoEdge}
-use Rattle.rbac_admin.specs.declared.refusals.Refusal.TheVariants.{DsdExists, NoDsd, DsdShape, RoleInDsd, Full}
+use Rattle.rbac_admin.specs.declared.refusal.Refusal.{Refusal}
+use Rattle.rbac_admin.specs.declared.refusal.Refusal.TheVariants.{NoSession, SessionsExhausted, Permission}
+use Rattle.rbac_admin.specs.declared.refusal.Refusal.TheVariants.{DsdViolated, NotAuthorized, AlreadyActive, NotActive}
+use Rattle.rbac_admin.specs.declared.refusal.Refusal.TheVariants.{Cycle, UnknownUser, UnknownRole, UserExists}
+use Rattle.rbac_admin.specs.declared.refusal.Refusal.TheVariants.{RoleExists, AlreadyAssigned, NotAssigned}
+use Rattle.rbac_admin.specs.declared.refusal.Refusal.TheVariants.{AlreadyGranted, NotGranted, EdgeExists, NoEdge}
+use Rattle.rbac_admin.specs.declared.refusal.Refusal.TheVariants.{DsdExists, NoDsd, DsdShape, RoleInDsd, Full}
 use Rattle.rbac_admin.specs.Conditions.{HasSession, Administers, HasAuthorized, HasActive, HasNoRoomFor, IsNoShape}
 use Rattle.rbac_admin.specs.Conditions.{FirstListed}
 use Rattle.rbac_policy.specs.Separation.{IsFirstViolated, IsFirstSetOf}

@@ -6,8 +6,8 @@ use Rattle.rbac_policy.specs.declared.commands.Table.{Table}
 use Rattle.rbac_policy.specs.declared.commands.Table.TheVariants.{Users, Roles, Permissions, Sessions, Sets}
 use Rattle.rbac_policy.specs.declared.objects.Object.{Object}
 use Rattle.rbac_policy.specs.declared.objects.Operation.{Operation}
-use Rattle.rbac_admin.specs.declared.refusals.Refusal.{Refusal}
-use Rattle.rbac_admin.specs.declared.refusals.Refusal.TheVariants as refusal
+use Rattle.rbac_admin.specs.declared.refusal.Refusal.{Refusal}
+use Rattle.rbac_admin.specs.declared.refusal.Refusal.TheVariants as refusal
 
 -- the word for a table of the policy
 abbrev pub table_text : Table → List ℕ

@@ -8,7 +8,7 @@ ghost use Rattle.rbac_admin.specs.PolicyStep.{Checks, PolicyStep, entry_of, sess
 ghost use Rattle.rbac_admin.specs.PolicyStep.{right_rules, name_rules, condition_rules};
 ghost use Rattle.rbac_admin.specs.PolicyStep.{separation_rules, table_rules};
 
-use crate::refusals::Refusal;
+use crate::refusal::Refusal;
 use crate::rules::{
     active_role, administers, authorized_role, authorized_roles, in_no_set, inactive_role,
     is_assigned, is_granted, is_shape, known_edge, known_role, known_roles, known_set, known_user,

@@ -11,7 +11,7 @@ ghost use Rattle.rbac_policy.specs.Opening.{opening_entries};
 ghost use Rattle.rbac_policy.specs.StandsFor.{StandsFor};
 ghost use Rattle.rbac_policy.specs.Entries.{is_administrative};
 ghost use Rattle.rbac_policy.specs.declared.sizes.TheConstants.{LAST_VERSION};
-ghost use Rattle.rbac_admin.specs.declared.refusals.Refusal.{Refusal};
+ghost use Rattle.rbac_admin.specs.declared.refusal.Refusal.{Refusal};
 ghost use Rattle.rbac_admin.specs.Conditions.{Administers};
 ghost use Rattle.rbac_admin.specs.PolicyStep.{PolicyStep, policy_rules, entry_of};
 ghost use Rattle.rbac_admin.specs.PolicyLists.{IsAccepted, IsPolicyList};

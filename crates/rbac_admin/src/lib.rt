@@ -8,6 +8,6 @@
 
 pub mod decisions;
 pub mod laws;
-pub mod refusals;
+pub mod refusal;
 pub mod room;
 mod rules;

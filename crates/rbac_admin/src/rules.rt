@@ -18,7 +18,7 @@ ghost use Rattle.rbac_admin.specs.PolicyStep.{no_session, unknown_user, unknown_
 ghost use Rattle.rbac_admin.specs.PolicyStep.{unknown_listed, unauthorized_listed, repeated_listed};
 ghost use Rattle.rbac_admin.specs.PolicyStep.{violation};
 
-use crate::refusals::Refusal;
+use crate::refusal::Refusal;
 use rbac_policy::commands::{AdminCommand, SessionId, Table};
 use rbac_policy::names::{Name, RoleNames};
 use rbac_policy::objects::{Object, Operation};

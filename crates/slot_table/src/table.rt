@@ -22,7 +22,7 @@ use policy_board::board::Board;
 use policy_board::history::BoardName;
 use policy_board::reader::SlotReader;
 use policy_board::seat::Seat;
-use rbac_admin::refusals::Refusal as PolicyRefusal;
+use rbac_admin::refusal::Refusal as PolicyRefusal;
 use rbac_policy::commands::SessionId;
 use rbac_policy::objects::SLOTS;
 use reactor_core::journal::Journal;

@@ -16,7 +16,7 @@ ghost use Rattle.access_core.specs.declared.reply.Reply.TheVariants.{Refused, Lo
 ghost use Rattle.access_core.specs.declared.reply.Reply.TheVariants.{Added, Audit, Check, Look};
 ghost use Rattle.access_core.specs.declared.reply.Change.TheVariants as change;
 ghost use Rattle.access_core.specs.declared.refusal.Refusal.TheVariants as refusal;
-ghost use Rattle.rbac_admin.specs.declared.refusals.Refusal.TheVariants as policy;
+ghost use Rattle.rbac_admin.specs.declared.refusal.Refusal.TheVariants as policy;
 ghost use Rattle.reactor_core.specs.declared.refusal.ModuleRefusal.TheVariants as of_module;
 ghost use Rattle.est_text.specs.declared.place.Place.{Place};
 
@@ -27,7 +27,7 @@ use access_core::reply::{Reply, ShownSignal};
 use est_relations::refusal::Refusal as PendingRefusal;
 use est_text::identifier::Identifier;
 use est_text::place::Place;
-use rbac_admin::refusals::{Refusal as PolicyRefusal, table_text};
+use rbac_admin::refusal::{Refusal as PolicyRefusal, table_text};
 use reactor_core::refusal::{ModuleRefusal, limit_text};
 use std::alloc::{AllocError, Global};
 use std::borrow::CowSlice;

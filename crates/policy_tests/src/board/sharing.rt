@@ -5,7 +5,7 @@ use policy_board::history::{BoardName, Fresh};
 use policy_board::refusal::Refusal;
 use policy_board::seat::{Receipt, Seat};
 use policy_board::sharing::boards_are_shared;
-use rbac_admin::refusals::Refusal as PolicyRefusal;
+use rbac_admin::refusal::Refusal as PolicyRefusal;
 use rbac_policy::commands::{AdminCommand, SessionId};
 use rbac_policy::names::{Name, RoleNames};
 use rbac_policy::objects::{Object, Operation};

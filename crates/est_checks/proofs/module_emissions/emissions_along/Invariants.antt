@@ -1,7 +1,7 @@
 use Rattle.std.proofs.Common.{map}
 use Rattle.est_checks.specs.Emissions.{emitted_of}
 use Rattle.est_checks.specs.Inner.Sent.{AreSent}
-use Rattle.est_checks.specs.Inner.SentNumbers.{AreSentNumbers}
+use Rattle.est_checks.specs.Inner.EmittedNumbers.{AreEmittedNumbers}
 use Rattle.est_modules.specs.Modules.{program_of}
 use Rattle.est_checks.proofs.module_emissions.emissions_along.Given as goal
 
@@ -9,5 +9,5 @@ abbrev pub invariant-loop-place : goal.invariant-loop-place
 invariant-loop-place l =
     record {
       sent : AreSent (map program_of l.heads) l.order l.place-index (emitted_of l.table);
-      numbers : AreSentNumbers l.names (map program_of l.heads) (emitted_of l.table) l.numbers;
+      numbers : AreEmittedNumbers l.names (map program_of l.heads) (emitted_of l.table) l.numbers;
     }

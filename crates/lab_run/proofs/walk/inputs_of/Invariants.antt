@@ -2,9 +2,9 @@ use Rattle.std.proofs.Common.{Result, drop, map}
 use Rattle.est_relations.specs.Offers.{PendingInputs}
 use Rattle.est_relations.specs.declared.refusal.Refusal.{Refusal}
 use Rattle.lab_run.specs.Walking.{AreOffered, pending_of}
-use Rattle.lab_run.proofs.loaded.inputs_of.Given as goal
+use Rattle.lab_run.proofs.walk.inputs_of.Given as goal
 
 abbrev pub invariant-loop-place : goal.invariant-loop-place
 invariant-loop-place l =
     (answer : Result PendingInputs Refusal) → AreOffered l.pending (map (λ t. t.now) (drop l.place l.names)) answer
-    → AreOffered (pending_of l.loaded 0) (map (λ t. t.now) l.names) answer
+    → AreOffered (pending_of l.module 0) (map (λ t. t.now) l.names) answer

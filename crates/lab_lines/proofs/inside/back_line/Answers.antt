@@ -6,7 +6,7 @@ use Rattle.lab_lines.specs.Inside.{back_json}
 use Rattle.lab_lines.specs.Parts.{members_in}
 use Rattle.lab_lines.specs.Tables.{state_json}
 use Rattle.lab_lines.proofs.LineLemmas.{two_pieces}
-use Rattle.lab_lines.proofs.inside.back.Goals as goal
+use Rattle.lab_lines.proofs.inside.back_line.Goals as goal
 
 pub returns : goal.returns
 returns c =

@@ -15,11 +15,11 @@ use crate::lab::Told;
 use access_core::refusal::Refusal;
 use est_kernel::state::{Inputs, State};
 use est_relations::pending::Pending;
-use est_relations::refusal::Refusal as OfferFault;
+use est_relations::refusal::Refusal as PendingRefusal;
 use est_text::identifier::Identifier;
 use lab_instant::instant::Inside;
 use lab_instant::seen::Instant;
-use lab_lines::inside::{back, inside as inside_line};
+use lab_lines::inside::{back_line, instant_line};
 use lab_ties::stuck::ties_after;
 use reactor_core::loaded::Module;
 use reactor_core::refusal::ModuleRefusal;
@@ -29,13 +29,13 @@ use std::marker::Model;
 /// A module with the states in which it stood, of which the last is where it stands. A contract
 /// sees these two.
 #[derive(Drop)]
-pub struct Loaded {
-    loaded: Module,
+pub struct Walk {
+    module: Module,
     inside: Inside,
     states: Vec<State>,
 }
 
-impl Model for Loaded {
+impl Model for Walk {
     ghost use Rattle.std.specs.Coded.{codes};
     ghost use Rattle.reactor_core.specs.contracts.loaded.Module as held;
     ghost use Rattle.lab_run.specs.Walking.{AreLoaded, Standing};
@@ -44,13 +44,13 @@ impl Model for Loaded {
 
     ghost coded = { Prim.hlevel (codes, held.the_row.coded) };
 
-    ghost view = { λ l. record { loaded = l.loaded; states = l.states.items } };
+    ghost view = { λ l. record { module = l.module; states = l.states.items } };
 
-    ghost invariant = { λ l. AreLoaded l.loaded l.inside l.states.items };
+    ghost invariant = { λ l. AreLoaded l.module l.inside l.states.items };
 }
 
 /// Why inputs may not be offered.
-pub fn refusal_of(fault: OfferFault) -> Refusal
+pub fn refusal_of(fault: PendingRefusal) -> Refusal
     ensures { result ≡ refusal.Module (of_module.Pending fault) }
 {
     Refusal::Module(ModuleRefusal::Pending(fault))
@@ -65,21 +65,21 @@ fn name_at<'a>(names: &[&'a str], place: usize) -> &'a str
 }
 
 /// Offers the input of this name.
-fn offer_name(pending: &mut Pending<'_>, name: &str) -> Result<(), OfferFault>
+fn offer_name(pending: &mut Pending<'_>, name: &str) -> Result<(), PendingRefusal>
     ensures { NameAnswer pending.old name.now result pending.new }
 {
     match Identifier::from_text(name) {
         Some(name) => pending.offer(&name),
-        None => Err(OfferFault::UnknownSignal),
+        None => Err(PendingRefusal::UnknownSignal),
     }
 }
 
 /// The inputs of these names, where an instant of the module may take them.
-fn inputs_of(loaded: &Module, names: &[&str]) -> Result<u64, OfferFault>
-    ensures { MatchResult result (MayTake loaded.now (map (λ t. t.now) names.now))
-        (λ fault. AreOffered (pending_of loaded.now 0) (map (λ t. t.now) names.now) (Err fault)) }
+fn inputs_of(module: &Module, names: &[&str]) -> Result<u64, PendingRefusal>
+    ensures { MatchResult result (MayTake module.now (map (λ t. t.now) names.now))
+        (λ fault. AreOffered (pending_of module.now 0) (map (λ t. t.now) names.now) (Err fault)) }
 {
-    let mut pending = Pending::new(loaded.kernel.interface(), &loaded.relations);
+    let mut pending = Pending::new(module.kernel.interface(), &module.relations);
     for place in 0..names.len() {
         offer_name(&mut pending, name_at(names, place))?;
     }
@@ -100,21 +100,21 @@ fn last_of(states: &[State]) -> State
 fn look_inside(
     alloc: Global,
     inside: &mut Inside,
-    loaded: &Module,
+    module: &Module,
     state: &State,
     signals: u64,
 ) -> Result<(Instant, Vec<u8>), AllocError>
-    requires is_for { IsFor inside.old loaded.now.kernel }
-    requires state { IsState loaded.now.kernel.root state.now }
-    ensures is_for { IsFor inside.new loaded.now.kernel }
-    ensures told { IfOk result (λ told. IsInstantAt loaded.now state.now signals told.0
+    requires is_for { IsFor inside.old module.now.kernel }
+    requires state { IsState module.now.kernel.root state.now }
+    ensures is_for { IsFor inside.new module.now.kernel }
+    ensures told { IfOk result (λ told. IsInstantAt module.now state.now signals told.0
         told.1.items) }
 {
     let inputs = Inputs { signals };
-    let instant = inside.look(alloc, &loaded.kernel, state, &inputs)?;
-    let ties = ties_after(alloc, inside, &loaded.kernel, &instant)?;
-    let interface = loaded.kernel.interface();
-    let line = inside_line(alloc, interface, &instant, ties.as_slice())?;
+    let instant = inside.look(alloc, &module.kernel, state, &inputs)?;
+    let ties = ties_after(alloc, inside, &module.kernel, &instant)?;
+    let interface = module.kernel.interface();
+    let line = instant_line(alloc, interface, &instant, ties.as_slice())?;
     Ok((instant, line))
 }
 
@@ -133,15 +133,15 @@ fn advance(states: &mut Vec<State>, instant: &Instant) -> Result<(), AllocError>
     }
 }
 
-impl Loaded {
+impl Walk {
     /// A module at its start.
-    pub fn begin(alloc: Global, loaded: Module) -> Result<Loaded, AllocError>
-        ensures { IfOk result (λ begun. begun ≡ at_start loaded) }
+    pub fn begin(alloc: Global, module: Module) -> Result<Walk, AllocError>
+        ensures { IfOk result (λ begun. begun ≡ at_start module) }
     {
-        let inside = Inside::new(alloc, &loaded.kernel)?;
+        let inside = Inside::new(alloc, &module.kernel)?;
         let states = vec![in alloc; State::Fresh]?;
-        Ok(Loaded {
-            loaded,
+        Ok(Walk {
+            module,
             inside,
             states,
         })
@@ -149,9 +149,9 @@ impl Loaded {
 
     /// The module.
     pub fn module(&self) -> &Module
-        ensures { result.now ≡ self.now.loaded }
+        ensures { result.now ≡ self.now.module }
     {
-        &self.loaded
+        &self.module
     }
 
     /// Its next instant from inside, with these inputs, and the line that tells it.
@@ -160,7 +160,7 @@ impl Loaded {
         ensures kept { self.new ≡ self.old }
     {
         let state = last_of(self.states.as_slice());
-        look_inside(alloc, &mut self.inside, &self.loaded, &state, signals)
+        look_inside(alloc, &mut self.inside, &self.module, &state, signals)
     }
 
     /// Makes the next instant, with the inputs of these names.
@@ -169,7 +169,7 @@ impl Loaded {
             self.new) }
         ensures kept { IfErr result (λ _. self.new ≡ self.old) }
     {
-        let signals = match inputs_of(&self.loaded, names) {
+        let signals = match inputs_of(&self.module, names) {
             Ok(signals) => signals,
             Err(fault) => return Ok(Told::Refused(refusal_of(fault))),
         };
@@ -184,7 +184,7 @@ impl Loaded {
             self.new) }
         ensures kept { IfErr result (λ _. self.new ≡ self.old) }
     {
-        let signals = match inputs_of(&self.loaded, names) {
+        let signals = match inputs_of(&self.module, names) {
             Ok(signals) => signals,
             Err(fault) => return Ok(Told::Refused(refusal_of(fault))),
         };
@@ -201,7 +201,7 @@ impl Loaded {
             return Ok(Told::Refused(Refusal::Module(ModuleRefusal::NoInstant)));
         }
         let to = to as usize;
-        let line = back(alloc, &self.states[to])?;
+        let line = back_line(alloc, &self.states[to])?;
         self.states.truncate(to + 1);
         Ok(Told::Written(line))
     }

@@ -4,9 +4,9 @@ use Rattle.std.specs.BTreeMap.{get_by}
 use Rattle.std.specs.Cmp.Lexicographic.{slice_cmp}
 use Rattle.std.specs.Ordering.{nat_cmp}
 use Rattle.std.specs.Str.{bytes_eq}
-use Rattle.est_checks.specs.Inner.SentNumbers.{has_number}
+use Rattle.est_checks.specs.Inner.EmittedNumbers.{has_number}
 use Rattle.est_checks.proofs.Emitting.{numbers_by}
-use Rattle.est_checks.proofs.sent_numbers.SentNumbers.add.Goals as goal
+use Rattle.est_checks.proofs.emitted_numbers.EmittedNumbers.add.Goals as goal
 
 pub returns : goal.returns
 returns c m i =

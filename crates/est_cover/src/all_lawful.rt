@@ -14,7 +14,7 @@ use std::alloc::AllocError;
 
 /// What something does with the sets of inputs that somebody may offer and that keep the relations.
 #[derive(Drop)]
-pub struct Every<'a, R> {
+pub struct AllLawful<'a, R> {
     pub reactive: &'a R,
     pub relations: &'a Relations,
     /// The signals that somebody may offer.
@@ -23,7 +23,7 @@ pub struct Every<'a, R> {
     pub watched: u64,
 }
 
-impl<'a, R: Reactive> Machine for Every<'a, R> {
+impl<'a, R: Reactive> Machine for AllLawful<'a, R> {
     type State = R::State;
 
     type Label = Asked<R::Answer>;

@@ -2,7 +2,7 @@
 ghost use Rattle.std.specs.Prelude.{◌≡◌, ℕ, List, OnOk, false, option_map, if◌then◌else◌};
 ghost use Rattle.std.specs.Str.{bytes_eq};
 ghost use Rattle.est_modules.specs.NumberSets.{numbers_of};
-ghost use Rattle.est_checks.specs.Inner.SentNumbers.{has_number, sends_number};
+ghost use Rattle.est_checks.specs.Inner.EmittedNumbers.{has_number, sends_number};
 
 use est_modules::names::set::NumberSet;
 use est_text::identifier::Identifier;
@@ -11,16 +11,16 @@ use std::collections::BTreeMap;
 
 /// For each module, by its name: the numbers of the interface names that it emits.
 #[derive(Drop)]
-pub struct SentNumbers<'a> {
+pub struct EmittedNumbers<'a> {
     modules: BTreeMap<&'a [u8], NumberSet>,
 }
 
-impl<'a> SentNumbers<'a> {
+impl<'a> EmittedNumbers<'a> {
     /// No module emits a name.
-    pub fn new(alloc: Global) -> SentNumbers<'a>
+    pub fn new(alloc: Global) -> EmittedNumbers<'a>
         ensures { (m : List ℕ) (i : ℕ) → sends_number result m i ≡ false }
     {
-        SentNumbers {
+        EmittedNumbers {
             modules: BTreeMap::new(alloc),
         }
     }

@@ -9,7 +9,7 @@ use Rattle.est_modules.specs.NamedNumbers.{is_number_of}
 use Rattle.est_modules.specs.NumberSets.{numbers_of}
 use Rattle.est_modules.specs.declared.names.table.NameTable.{NameTable}
 use Rattle.est_modules.specs.declared.names.set.NumberSet.{NumberSet}
-use Rattle.est_checks.specs.declared.sent_numbers.SentNumbers.{SentNumbers}
+use Rattle.est_checks.specs.declared.emitted_numbers.EmittedNumbers.{EmittedNumbers}
 
 -- a set that was found has the number
 abbrev pub has_number : Option NumberSet → ℕ → Bool
@@ -17,10 +17,10 @@ has_number None i = false
 has_number (Some set) i = numbers_of set i
 
 -- the module of a name has the number
-abbrev pub sends_number : SentNumbers → List ℕ → ℕ → Bool
+abbrev pub sends_number : EmittedNumbers → List ℕ → ℕ → Bool
 sends_number n m i = has_number (get_by (λ (k : Bor (List ℕ)). slice_cmp nat_cmp m k.now) n.modules) i
 
 -- each module has the numbers of the interface names that it emits
-abbrev pub AreSentNumbers : NameTable → List Program → (List ℕ → List ℕ → Bool) → SentNumbers → Type 0
-AreSentNumbers t ps emitted n = (m : List ℕ) (q : Program) → program_named ps m ≡ Some q → (i : ℕ)
+abbrev pub AreEmittedNumbers : NameTable → List Program → (List ℕ → List ℕ → Bool) → EmittedNumbers → Type 0
+AreEmittedNumbers t ps emitted n = (m : List ℕ) (q : Program) → program_named ps m ≡ Some q → (i : ℕ)
     → sends_number n m i ≡ is_number_of t (λ s. emitted m s && is_declared q.interface s) i
