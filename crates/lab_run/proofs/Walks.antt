@@ -59,11 +59,11 @@ some_after states (Stuck s seen) some = some
 
 -- what is loaded after an instant
 pub loaded_after : (before : Standing) (m : Module) (inside : Inside) (states new : List State) (signals : ℕ)
-    (instant : Instant) (line : List ℕ) → before ≡ record { module = m; states = states }
+    (instant : Instant) (line : List ℕ) → before ≡ record { walked = m; states = states }
     → IsInstantOf before signals instant line → AreLoaded m inside states → new ≡ states_after states instant
     → AreLoaded m inside new
 loaded_after before m inside states new signals instant line same told are grown =
-    let there : Standing = record { module = m; states = states } in
+    let there : Standing = record { walked = m; states = states } in
     let t : IsInstantOf there signals instant line = subst
     (λ (z : Standing). IsInstantOf z signals instant line) same told in
     rw grown

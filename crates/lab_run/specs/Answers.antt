@@ -182,7 +182,7 @@ Answers m (Back to) told = ⊥
 -- the same where nothing may be loaded
 abbrev pub AnswersIf : Option Standing → Request → Told → Type 0
 AnswersIf None request told = told ≡ Refused refusal.Empty
-AnswersIf (Some s) request told = Answers s.module request told
+AnswersIf (Some s) request told = Answers s.walked request told
 
 -- a request is done: what is loaded before it, what is told, and what is loaded afterwards
 abbrev pub Obeys : (before : Option Standing) → Request → Told → (after : Option Standing) → Type 0

@@ -27,16 +27,16 @@ use Rattle.lab_run.specs.declared.lab.Told.TheVariants.{Refused, Says, Written}
 -- what is loaded: a module, and where it stood at the start and after each instant, of which the last is where it
 -- stands
 pub record Standing : Type 0 where
-  pub module : Module
+  pub walked : Module
   pub states : List State
 
 -- a module that stands at its start
 abbrev pub at_start : Module → Standing
-at_start m = record { module = m; states = Fresh ∷ [] }
+at_start m = record { walked = m; states = Fresh ∷ [] }
 
 -- the same module, where it stood so and so
 abbrev pub standing_at : Standing → List State → Standing
-standing_at s states = record { module = s.module; states = states }
+standing_at s states = record { walked = s.walked; states = states }
 
 -- it stands there: this is the last of the states
 abbrev pub StandsAt : List State → State → Type 0
@@ -95,13 +95,13 @@ pub record IsInstantAt (m : Module) (state : State) (inputs : ℕ) (instant : In
 pub record IsInstantOf (s : Standing) (inputs : ℕ) (instant : Instant) (line : List ℕ) : Type 0 where
   pub state : State
   pub stands : StandsAt s.states state
-  pub is : IsInstantAt s.module state inputs instant line
+  pub is : IsInstantAt s.walked state inputs instant line
 
 -- the same, with the inputs of these names
 pub record IsInstantTold (s : Standing) (names : List (List ℕ)) (instant : Instant) (line : List ℕ)
     : Type 0 where
   pub inputs : ℕ
-  pub taken : MayTake s.module names inputs
+  pub taken : MayTake s.walked names inputs
   pub is : IsInstantOf s inputs instant line
 
 -- where the module stands after the instant: at its next state, or if it is stuck where it stood
@@ -111,14 +111,14 @@ states_after states (Stuck undecided seen) = states
 
 -- the instant is made
 abbrev pub Makes : (before : Standing) → (names : List (List ℕ)) → Told → (after : Standing) → Type 0
-Makes before names (Refused given) after = MayNotTake before.module names given × (after ≡ before)
+Makes before names (Refused given) after = MayNotTake before.walked names given × (after ≡ before)
 Makes before names (Says v) after = ⊥
 Makes before names (Written line) after = (instant : Instant) × IsInstantTold before names instant line.items
     × (after ≡ standing_at before (states_after before.states instant))
 
 -- the instant is told, and the module stays where it stands
 abbrev pub Tries : (before : Standing) → (names : List (List ℕ)) → Told → (after : Standing) → Type 0
-Tries before names (Refused given) after = MayNotTake before.module names given × (after ≡ before)
+Tries before names (Refused given) after = MayNotTake before.walked names given × (after ≡ before)
 Tries before names (Says v) after = ⊥
 Tries before names (Written line) after =
     ((instant : Instant) × IsInstantTold before names instant line.items) × (after ≡ before)

@@ -30,7 +30,7 @@ use std::marker::Model;
 /// sees these two.
 #[derive(Drop)]
 pub struct Walk {
-    module: Module,
+    walked: Module,
     inside: Inside,
     states: Vec<State>,
 }
@@ -44,9 +44,9 @@ impl Model for Walk {
 
     ghost coded = { Prim.hlevel (codes, held.the_row.coded) };
 
-    ghost view = { λ l. record { module = l.module; states = l.states.items } };
+    ghost view = { λ l. record { walked = l.walked; states = l.states.items } };
 
-    ghost invariant = { λ l. AreLoaded l.module l.inside l.states.items };
+    ghost invariant = { λ l. AreLoaded l.walked l.inside l.states.items };
 }
 
 /// Why inputs may not be offered.
@@ -75,11 +75,11 @@ fn offer_name(pending: &mut Pending<'_>, name: &str) -> Result<(), PendingRefusa
 }
 
 /// The inputs of these names, where an instant of the module may take them.
-fn inputs_of(module: &Module, names: &[&str]) -> Result<u64, PendingRefusal>
-    ensures { MatchResult result (MayTake module.now (map (λ t. t.now) names.now))
-        (λ fault. AreOffered (pending_of module.now 0) (map (λ t. t.now) names.now) (Err fault)) }
+fn inputs_of(walked: &Module, names: &[&str]) -> Result<u64, PendingRefusal>
+    ensures { MatchResult result (MayTake walked.now (map (λ t. t.now) names.now))
+        (λ fault. AreOffered (pending_of walked.now 0) (map (λ t. t.now) names.now) (Err fault)) }
 {
-    let mut pending = Pending::new(module.kernel.interface(), &module.relations);
+    let mut pending = Pending::new(walked.kernel.interface(), &walked.relations);
     for place in 0..names.len() {
         offer_name(&mut pending, name_at(names, place))?;
     }
@@ -100,20 +100,20 @@ fn last_of(states: &[State]) -> State
 fn look_inside(
     alloc: Global,
     inside: &mut Inside,
-    module: &Module,
+    walked: &Module,
     state: &State,
     signals: u64,
 ) -> Result<(Instant, Vec<u8>), AllocError>
-    requires is_for { IsFor inside.old module.now.kernel }
-    requires state { IsState module.now.kernel.root state.now }
-    ensures is_for { IsFor inside.new module.now.kernel }
-    ensures told { IfOk result (λ told. IsInstantAt module.now state.now signals told.0
+    requires is_for { IsFor inside.old walked.now.kernel }
+    requires state { IsState walked.now.kernel.root state.now }
+    ensures is_for { IsFor inside.new walked.now.kernel }
+    ensures told { IfOk result (λ told. IsInstantAt walked.now state.now signals told.0
         told.1.items) }
 {
     let inputs = Inputs { signals };
-    let instant = inside.look(alloc, &module.kernel, state, &inputs)?;
-    let ties = ties_after(alloc, inside, &module.kernel, &instant)?;
-    let interface = module.kernel.interface();
+    let instant = inside.look(alloc, &walked.kernel, state, &inputs)?;
+    let ties = ties_after(alloc, inside, &walked.kernel, &instant)?;
+    let interface = walked.kernel.interface();
     let line = instant_line(alloc, interface, &instant, ties.as_slice())?;
     Ok((instant, line))
 }
@@ -135,13 +135,13 @@ fn advance(states: &mut Vec<State>, instant: &Instant) -> Result<(), AllocError>
 
 impl Walk {
     /// A module at its start.
-    pub fn begin(alloc: Global, module: Module) -> Result<Walk, AllocError>
-        ensures { IfOk result (λ begun. begun ≡ at_start module) }
+    pub fn begin(alloc: Global, walked: Module) -> Result<Walk, AllocError>
+        ensures { IfOk result (λ begun. begun ≡ at_start walked) }
     {
-        let inside = Inside::new(alloc, &module.kernel)?;
+        let inside = Inside::new(alloc, &walked.kernel)?;
         let states = vec![in alloc; State::Fresh]?;
         Ok(Walk {
-            module,
+            walked,
             inside,
             states,
         })
@@ -149,9 +149,9 @@ impl Walk {
 
     /// The module.
     pub fn module(&self) -> &Module
-        ensures { result.now ≡ self.now.module }
+        ensures { result.now ≡ self.now.walked }
     {
-        &self.module
+        &self.walked
     }
 
     /// Its next instant from inside, with these inputs, and the line that tells it.
@@ -160,7 +160,7 @@ impl Walk {
         ensures kept { self.new ≡ self.old }
     {
         let state = last_of(self.states.as_slice());
-        look_inside(alloc, &mut self.inside, &self.module, &state, signals)
+        look_inside(alloc, &mut self.inside, &self.walked, &state, signals)
     }
 
     /// Makes the next instant, with the inputs of these names.
@@ -169,7 +169,7 @@ impl Walk {
             self.new) }
         ensures kept { IfErr result (λ _. self.new ≡ self.old) }
     {
-        let signals = match inputs_of(&self.module, names) {
+        let signals = match inputs_of(&self.walked, names) {
             Ok(signals) => signals,
             Err(fault) => return Ok(Told::Refused(refusal_of(fault))),
         };
@@ -184,7 +184,7 @@ impl Walk {
             self.new) }
         ensures kept { IfErr result (λ _. self.new ≡ self.old) }
     {
-        let signals = match inputs_of(&self.module, names) {
+        let signals = match inputs_of(&self.walked, names) {
             Ok(signals) => signals,
             Err(fault) => return Ok(Told::Refused(refusal_of(fault))),
         };

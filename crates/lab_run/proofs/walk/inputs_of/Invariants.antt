@@ -7,4 +7,4 @@ use Rattle.lab_run.proofs.walk.inputs_of.Given as goal
 abbrev pub invariant-loop-place : goal.invariant-loop-place
 invariant-loop-place l =
     (answer : Result PendingInputs Refusal) → AreOffered l.pending (map (λ t. t.now) (drop l.place l.names)) answer
-    → AreOffered (pending_of l.module 0) (map (λ t. t.now) l.names) answer
+    → AreOffered (pending_of l.walked 0) (map (λ t. t.now) l.names) answer
