@@ -16,7 +16,7 @@ mod Exchanging
 mod OpenTables
 mod Limits
 mod FullTables
-mod Settling
+mod Settles
 mod AllDecided
 mod Outcomes
 mod PartReactions

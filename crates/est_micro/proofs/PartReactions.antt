@@ -29,7 +29,7 @@ use Rattle.est_micro.specs.declared.settling.Settled.{Settled}
 use Rattle.est_micro.proofs.FullTables.{full_decided}
 use Rattle.est_micro.proofs.OpenTests.{waits_unasked}
 use Rattle.est_micro.proofs.Outcomes.{some_code}
-use Rattle.est_micro.proofs.Settling.{full_settled}
+use Rattle.est_micro.proofs.Settles.{full_settled}
 
 -- inputs that agree on what is asked
 not_there : (i : List Declaration) (a : ℕ → Bool) (n : ℕ) → IsIn a (offerable i) → offerable i n ≡ false

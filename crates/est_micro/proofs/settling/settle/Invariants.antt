@@ -2,7 +2,7 @@ use Rattle.std.proofs.Common.{◌≡◌, ◌-◌, ℕ, Bool, length}
 use Rattle.est_kernel.specs.Bits.{bits}
 use Rattle.est_net.specs.Kept.{kept, reopened}
 use Rattle.est_micro.specs.Parts.{AgreeBut}
-use Rattle.est_micro.proofs.Settling.{Settling}
+use Rattle.est_micro.proofs.Settles.{Settling}
 use Rattle.est_micro.proofs.settling.settle.Given as goal
 
 abbrev pub invariant-loop-found : goal.invariant-loop-found

@@ -2,7 +2,7 @@ use Rattle.std.proofs.Common.{◌≡◌, false, true, refl, sym, ◌∙◌}
 use Rattle.est_kernel.proofs.Masks.{bits_zero}
 use Rattle.est_kernel.specs.Bits.{bits}
 use Rattle.est_micro.proofs.Outcomes.{as_meant, no_reaction}
-use Rattle.est_micro.proofs.Settling.{none_knows, none_settled}
+use Rattle.est_micro.proofs.Settles.{none_knows, none_settled}
 use Rattle.est_micro.proofs.micro.Micro.run.Goals as goal
 
 pub settle_by-settled-requires-clause-apart : goal.settle_by-settled-requires-clause-apart

@@ -1,6 +1,6 @@
 use Rattle.std.proofs.Common.{◌+◌, ◌*◌, max}
 use Rattle.est_kernel.proofs.statement.Statement.TheLaws.{the_size}
-use Rattle.est_micro.proofs.sweep_resume.resume.Given as goal
+use Rattle.est_micro.proofs.sweep_resume.+resume.Given as goal
 
 abbrev pub decreases-resume : goal.decreases-resume
 decreases-resume l = 4 * the_size l.s.now + 1

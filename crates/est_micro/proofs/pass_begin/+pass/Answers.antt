@@ -6,7 +6,7 @@ use Rattle.est_micro.proofs.Frames.{size_least}
 use Rattle.est_micro.proofs.KeptExtents.{still_at}
 use Rattle.est_micro.proofs.PassedNodes.{loop_passed, nothing_passed, par_passed, seq_passed, suspend_passed}
 use Rattle.est_micro.proofs.PassedNodes.{trap_passed}
-use Rattle.est_micro.proofs.pass_begin.pass.Goals as goal
+use Rattle.est_micro.proofs.pass_begin.+pass.Goals as goal
 
 pub pass_par-pass-requires-2 : goal.pass_par-pass-requires-2
 pass_par-pass-requires-2 t c = (

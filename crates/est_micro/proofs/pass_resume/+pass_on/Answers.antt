@@ -7,7 +7,7 @@ use Rattle.est_micro.proofs.Frames.{size_least}
 use Rattle.est_micro.proofs.KeptExtents.{still, still_at}
 use Rattle.est_micro.proofs.PassedNodes.{loop_on_passed, nothing_passed_on, par_on_passed, seq_on_later}
 use Rattle.est_micro.proofs.PassedNodes.{seq_on_passed, side_size}
-use Rattle.est_micro.proofs.pass_resume.pass_on.Goals as goal
+use Rattle.est_micro.proofs.pass_resume.+pass_on.Goals as goal
 
 pub pass_on-returns-else-is_reader-clause-passes : goal.pass_on-returns-else-is_reader-clause-passes
 pass_on-returns-else-is_reader-clause-passes t c =

@@ -1,6 +1,6 @@
 use Rattle.std.proofs.Common.{◌+◌, ◌*◌, max}
 use Rattle.est_kernel.proofs.statement.Statement.TheLaws.{the_size}
-use Rattle.est_micro.proofs.sweep_begin.begin.Given as goal
+use Rattle.est_micro.proofs.sweep_begin.+begin.Given as goal
 
 abbrev pub decreases-begin : goal.decreases-begin
 decreases-begin l = 3 * the_size l.s.now + 1

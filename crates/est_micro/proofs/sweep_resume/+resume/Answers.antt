@@ -7,7 +7,7 @@ use Rattle.est_micro.proofs.ResumedNodes.{present_resumed, seq_resumed, par_resu
 use Rattle.est_micro.proofs.ResumedNodes.{suspend_resumed, trap_resumed}
 use Rattle.est_micro.proofs.ResumedNodes.{loop_resumed, local_resumed, begun_chosen, resumed_chosen, resumed_one}
 use Rattle.est_micro.proofs.ResumedNodes.{resumed_two, resumed_next, resumed_local, resumed_told}
-use Rattle.est_micro.proofs.sweep_resume.resume.Goals as goal
+use Rattle.est_micro.proofs.sweep_resume.+resume.Goals as goal
 
 pub part-returns-then-is_on-clause-swept : goal.part-returns-then-is_on-clause-swept
 part-returns-then-is_on-clause-swept t c =

@@ -9,7 +9,7 @@ use Rattle.est_micro.proofs.BegunNodes.{loop_begun, local_begun, within_one, wit
 use Rattle.est_micro.proofs.BegunNodes.{within_back, within_told}
 use Rattle.est_micro.proofs.IdleSheets.{idle_begun}
 use Rattle.est_micro.proofs.KeptExtents.{still, still_at}
-use Rattle.est_micro.proofs.sweep_begin.begin.Goals as goal
+use Rattle.est_micro.proofs.sweep_begin.+begin.Goals as goal
 
 pub begin_present-returns-clause-swept : goal.begin_present-returns-clause-swept
 begin_present-returns-clause-swept t c = λ q a b asks.

@@ -1,6 +1,6 @@
 use Rattle.std.proofs.Common.{◌+◌, ◌*◌, max}
 use Rattle.est_kernel.proofs.statement.Statement.TheLaws.{the_size}
-use Rattle.est_micro.proofs.pass_resume.pass_on.Given as goal
+use Rattle.est_micro.proofs.pass_resume.+pass_on.Given as goal
 
 abbrev pub decreases-pass_on : goal.decreases-pass_on
 decreases-pass_on l = 5 * the_size l.s.now + 1
