@@ -168,29 +168,20 @@ TellsOfKernel m (Refused given) = ⊥
 TellsOfKernel m (Says v) = IsKernelTold m.kernel (view v)
 TellsOfKernel m (Written line) = ⊥
 
--- what is answered of the module that is loaded
-abbrev pub Answers : Module → Request → Told → Type 0
-Answers m (Load main text) told = ⊥
-Answers m Kernel told = TellsOfKernel m told
-Answers m (Explore claims scope) told = TellsOfClaims m (map (λ t. t.now) claims.items) scope told
-Answers m (Same main text scope) told = TellsOfBoth m main.now text.now scope told
-Answers m (Table scope) told = TellsOfTable m scope told
-Answers m (Instant names) told = ⊥
-Answers m (Try names) told = ⊥
-Answers m (Back to) told = ⊥
-
--- the same where nothing may be loaded
-abbrev pub AnswersIf : Option Standing → Request → Told → Type 0
-AnswersIf None request told = told ≡ Refused refusal.Empty
-AnswersIf (Some s) request told = Answers s.walked request told
+-- what is told of the module that is loaded, where one is
+abbrev pub TellsIf : Option Standing → (Module → Told → Type 0) → Told → Type 0
+TellsIf None tells told = told ≡ Refused refusal.Empty
+TellsIf (Some s) tells told = tells s.walked told
 
 -- a request is done: what is loaded before it, what is told, and what is loaded afterwards
 abbrev pub Obeys : (before : Option Standing) → Request → Told → (after : Option Standing) → Type 0
 Obeys before (Load main text) told after = Loads main.now text.now before told after
-Obeys before Kernel told after = AnswersIf before Kernel told × (after ≡ before)
-Obeys before (Explore claims scope) told after = AnswersIf before (Explore claims scope) told × (after ≡ before)
-Obeys before (Same main text scope) told after = AnswersIf before (Same main text scope) told × (after ≡ before)
-Obeys before (Table scope) told after = AnswersIf before (Table scope) told × (after ≡ before)
+Obeys before Kernel told after = TellsIf before TellsOfKernel told × (after ≡ before)
+Obeys before (Explore claims scope) told after =
+    TellsIf before (λ m. TellsOfClaims m (map (λ t. t.now) claims.items) scope) told × (after ≡ before)
+Obeys before (Same main text scope) told after =
+    TellsIf before (λ m. TellsOfBoth m main.now text.now scope) told × (after ≡ before)
+Obeys before (Table scope) told after = TellsIf before (λ m. TellsOfTable m scope) told × (after ≡ before)
 Obeys before (Instant names) told after = MakesIf before (map (λ t. t.now) names.items) told after
 Obeys before (Try names) told after = TriesIf before (map (λ t. t.now) names.items) told after
 Obeys before (Back to) told after = GoesBackIf before to told after

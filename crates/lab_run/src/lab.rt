@@ -10,10 +10,9 @@ ghost use Rattle.lab_lines.specs.Exploring.{IsExploration};
 ghost use Rattle.lab_lines.specs.Tables.{IsTableTold, IsTooLarge};
 ghost use Rattle.lab_lines.specs.Tests.{test_of};
 ghost use Rattle.lab_run.specs.Walking.{GoesBackIf, MakesIf, TriesIf};
-ghost use Rattle.lab_run.specs.Answers.{Answers, AnswersIf, IsBadClaimTold, IsLoadedTold};
-ghost use Rattle.lab_run.specs.Answers.{IsOtherInterface, Loads, Obeys};
-ghost use Rattle.lab_run.specs.Answers.{TellsAmong, TellsOfBoth, TellsOfClaims, TellsOfTable};
-ghost use Rattle.lab_run.specs.Answers.{TellsOfTwo};
+ghost use Rattle.lab_run.specs.Answers.{IsBadClaimTold, IsLoadedTold, IsOtherInterface, Loads};
+ghost use Rattle.lab_run.specs.Answers.{Obeys, TellsAmong, TellsIf, TellsOfBoth, TellsOfClaims};
+ghost use Rattle.lab_run.specs.Answers.{TellsOfKernel, TellsOfTable, TellsOfTwo};
 ghost use Rattle.wire_lines.specs.Replies.{line_of};
 ghost use Rattle.wire_lines.specs.Requests.{IsValue};
 
@@ -287,21 +286,11 @@ fn loaded_told(alloc: Global, loaded: &Module) -> Result<Value, AllocError>
     json!(in alloc; {"inputs": inputs, "ok": "load", "outputs": outputs})
 }
 
-/// What is answered of a module.
-fn answer(alloc: Global, loaded: &Module, request: &Request<'_>) -> Result<Told, AllocError>
-    ensures { IfOk result (Answers loaded.now request.now) }
+/// The statements of a module.
+fn kernel_of(alloc: Global, loaded: &Module) -> Result<Told, AllocError>
+    ensures { IfOk result (TellsOfKernel loaded.now) }
 {
-    match request {
-        Request::Load { .. } | Request::Instant(_) | Request::Try(_) | Request::Back(_) => {
-            Err(AllocError)
-        }
-        Request::Kernel => Ok(Told::Says(kernel_told(alloc, &loaded.kernel)?)),
-        Request::Explore { claims, scope } => {
-            explore_claims(alloc, loaded, claims.as_slice(), scope)
-        }
-        Request::Same { main, text, scope } => compare_text(alloc, loaded, *main, *text, scope),
-        Request::Table(scope) => table_of(alloc, loaded, scope),
-    }
+    Ok(Told::Says(kernel_told(alloc, &loaded.kernel)?))
 }
 
 impl Lab {
@@ -327,12 +316,50 @@ impl Lab {
         Ok(Told::Says(value))
     }
 
-    /// What is answered of the module that is loaded.
-    fn ask(&self, alloc: Global, request: &Request<'_>) -> Result<Told, AllocError>
-        ensures { IfOk result (AnswersIf self.now.loaded request.now) }
+    /// Tells the statements of the module that is loaded.
+    fn tell_kernel(&self, alloc: Global) -> Result<Told, AllocError>
+        ensures { IfOk result (TellsIf self.now.loaded TellsOfKernel) }
     {
         match &self.loaded {
-            Some(walk) => answer(alloc, walk.module(), request),
+            Some(walk) => kernel_of(alloc, walk.module()),
+            None => Ok(Told::Refused(Refusal::Empty)),
+        }
+    }
+
+    /// Judges claims on all runs of the module that is loaded.
+    fn explore(&self, alloc: Global, claims: &[&str], scope: &Scope<'_>) -> Result<Told, AllocError>
+        ensures { IfOk result (TellsIf self.now.loaded (λ m. TellsOfClaims m
+            (map (λ t. t.now) claims.now) scope.now)) }
+    {
+        match &self.loaded {
+            Some(walk) => explore_claims(alloc, walk.module(), claims, scope),
+            None => Ok(Told::Refused(Refusal::Empty)),
+        }
+    }
+
+    /// Compares the module that is loaded with the module `main` of a text.
+    fn compare(
+        &self,
+        alloc: Global,
+        main: &str,
+        text: &str,
+        scope: &Scope<'_>,
+    ) -> Result<Told, AllocError>
+        ensures { IfOk result (TellsIf self.now.loaded (λ m. TellsOfBoth m main.now text.now
+            scope.now)) }
+    {
+        match &self.loaded {
+            Some(walk) => compare_text(alloc, walk.module(), main, text, scope),
+            None => Ok(Told::Refused(Refusal::Empty)),
+        }
+    }
+
+    /// Tells the table of the module that is loaded.
+    fn tabulate(&self, alloc: Global, scope: &Scope<'_>) -> Result<Told, AllocError>
+        ensures { IfOk result (TellsIf self.now.loaded (λ m. TellsOfTable m scope.now)) }
+    {
+        match &self.loaded {
+            Some(walk) => table_of(alloc, walk.module(), scope),
             None => Ok(Told::Refused(Refusal::Empty)),
         }
     }
@@ -389,11 +416,13 @@ impl Lab {
     {
         match request {
             Request::Load { main, text } => self.load(alloc, *main, *text),
+            Request::Kernel => self.tell_kernel(alloc),
+            Request::Explore { claims, scope } => self.explore(alloc, claims.as_slice(), scope),
+            Request::Same { main, text, scope } => self.compare(alloc, *main, *text, scope),
+            Request::Table(scope) => self.tabulate(alloc, scope),
             Request::Instant(names) => self.make_instant(alloc, names.as_slice()),
             Request::Try(names) => self.try_instant(alloc, names.as_slice()),
             Request::Back(to) => self.go_back(alloc, *to),
-            Request::Kernel | Request::Explore { .. } | Request::Same { .. } | Request::Table(_) =>
-                self.ask(alloc, request),
         }
     }
 }
