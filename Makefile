@@ -99,14 +99,14 @@ socket:
 	tests/socket/run
 
 gateway:
-	tests/gateway/run
+	gateway/tests/run
 
 hostile:
 	tests/hostile/run
 
 soak:
 	tests/hostile/run --long
-	tests/gateway/run --soak
+	gateway/tests/run --soak
 	tests/lab/run --soak
 
 documents:
@@ -122,7 +122,7 @@ documents:
 test:
 	python3 tests/documents.py
 	python3 tests/style.py
-	python3 scripts/trial.py $(ASKS_LAB) sh -c 'clients/tests/run && $(if $(ASKS_LAB),tests/lab/run &&) tests/socket/run && tests/journals/walk && tests/gateway/run && tests/hostile/run && tests/faults/run && tests/setup/run'
+	python3 scripts/trial.py $(ASKS_LAB) sh -c 'clients/tests/run && $(if $(ASKS_LAB),tests/lab/run &&) tests/socket/run && tests/journals/walk && gateway/tests/run && tests/hostile/run && tests/faults/run && tests/setup/run'
 	python3 tests/journals/run
 	python3 tests/must-not-compile/run
 	tests/targets/run --compile

@@ -12,7 +12,7 @@ import sys
 
 sys.path[
     0
-] += "/../tests/gateway"  # where this file stands, a file has the name of a module that is taken
+] += "/../gateway/tests"  # where this file stands, a file has the name of a module that is taken
 sys.dont_write_bytecode = True
 
 import hashlib

@@ -214,7 +214,7 @@ def main(given):
     parts = given[3:] or ["instant", "gateway", "page"]
     if "instant" in parts:
         tell_instants(lab, benches, program)
-    sys.path[0] = str(ROOT / "tests" / "gateway")  # where this file stands, a file has the name of a module that is taken
+    sys.path[0] = str(ROOT / "gateway" / "tests")  # where this file stands, a file has the name of a module that is taken
     sys.path.append(str(HERE))
     if "gateway" in parts:
         tell_gateway(program)

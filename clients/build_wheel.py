@@ -1,5 +1,5 @@
-"""Builds the client for pip, with the standard library alone: a wheel is a zip file with four files
-of metadata.
+"""Builds the client for pip, and the gateway with it, with the standard library alone: a wheel is a
+zip file with four files of metadata.
 
 pip calls these functions, as pyproject.toml says. So `pip install ./clients` needs no network and
 no other package.
@@ -17,6 +17,7 @@ from typing import Any, Dict, Iterable, List, Optional, Tuple
 
 HERE = pathlib.Path(__file__).resolve().parent
 PACKAGES = ("estserve_client", "estserve_team")  # those whose folders are there
+PLACES = (HERE, HERE.parent / "gateway")  # an archive of the sources has both in one folder
 WHEEL = "Wheel-Version: 1.0\nGenerator: build_wheel.py\nRoot-Is-Purelib: true\nTag: py3-none-any\n"
 COMMANDS = "[console_scripts]\nestserve-client = estserve:installed\n"
 METADATA = """Metadata-Version: 2.1
@@ -37,15 +38,23 @@ def version() -> str:
     return found[1]
 
 
+def folders() -> List[pathlib.Path]:
+    """Where the packages lie that are there."""
+    found: List[pathlib.Path] = []
+    for name in PACKAGES:
+        found += [place / name for place in PLACES if (place / name).is_dir()][:1]
+    return found
+
+
 def sources() -> List[Entry]:
-    """The files of the client, by their names in the wheel."""
-    folders = [HERE / name for name in PACKAGES if (HERE / name).is_dir()]
-    paths = [path for folder in folders for path in sorted(folder.rglob("*")) if path.is_file()]
-    kept = [path for path in paths if "__pycache__" not in path.parts]
-    return [
-        (path.relative_to(HERE).as_posix(), path.read_bytes())
-        for path in [HERE / "estserve.py", *kept]
-    ]
+    """The files of the client and the gateway, by their names in the wheel."""
+    entries = [("estserve.py", (HERE / "estserve.py").read_bytes())]
+    for folder in folders():
+        for path in sorted(folder.rglob("*")):
+            if path.is_file() and "__pycache__" not in path.parts:
+                name = path.relative_to(folder.parent).as_posix()
+                entries.append((name, path.read_bytes()))
+    return entries
 
 
 def metadata() -> List[Entry]:
@@ -91,8 +100,9 @@ def build_wheel(
 def build_editable(
     directory: str, settings: Optional[Dict[str, Any]] = None, made: Optional[str] = None
 ) -> str:
-    """Writes a wheel that leads to this very folder, for `pip install -e`. Answers its name."""
-    return write_wheel(directory, [("estserve_client.pth", f"{HERE}\n".encode())])
+    """Writes a wheel that leads to these very folders, for `pip install -e`. Answers its name."""
+    lines = dict.fromkeys(f"{folder.parent}\n" for folder in folders())
+    return write_wheel(directory, [("estserve_client.pth", "".join(lines).encode())])
 
 
 def build_sdist(directory: str, settings: Optional[Dict[str, Any]] = None) -> str:

@@ -3,7 +3,7 @@
 
 usage: version.py
 
-It stands in the program, in the client and on the pages of the manual. tests/documents.py fails where one of them differs from VERSION,
+It stands in the program, in the client, in gateway/pyproject.toml and on the pages of the manual. tests/documents.py fails where one of them differs from VERSION,
 where CHANGELOG.md doesn't begin with it, or where the program's help and docs/PROTOCOL.md name different versions of the protocol.
 `git tag` is made by hand.
 """
@@ -23,9 +23,10 @@ def version():
 
 def places():
     """The files in which the version stands, each with what stands before it on its line."""
-    pages = {page.relative_to(ROOT).as_posix(): rf'\.TH \S+ 1 "" "{page.stem} ' for page in sorted((ROOT / "clients/man").glob("*.1"))}
+    pages = {page.relative_to(ROOT).as_posix(): rf'\.TH \S+ 1 "" "{page.stem} ' for page in sorted(ROOT.glob("*/man/*.1"))}
     constant = 'const VERSION: &str = "'
-    return {PROGRAM: constant, LAB: constant, "clients/estserve_client/__init__.py": '__version__ = "', **pages}
+    packages = {"clients/estserve_client/__init__.py": '__version__ = "', "gateway/pyproject.toml": 'version = "'}
+    return {PROGRAM: constant, LAB: constant, **packages, **pages}
 
 
 def with_version(text, before):

@@ -101,8 +101,8 @@ def faulty_examples():
 
 
 def code_of_tests():
-    """What may define a test: the crates' code, and all of tests and clients."""
-    files = [*ROOT.glob("crates/*/src/**/*.rt"), *ROOT.glob("tests/**/*"), *ROOT.glob("clients/**/*.py")]
+    """What may define a test: the crates' code, and all of tests, clients and gateway."""
+    files = [*ROOT.glob("crates/*/src/**/*.rt"), *ROOT.glob("tests/**/*"), *ROOT.glob("clients/**/*.py"), *ROOT.glob("gateway/**/*.py")]
     return "\n".join(file.read_text() for file in files if file.suffix in {".rt", ".py", ""} and file.is_file())
 
 
@@ -116,7 +116,7 @@ def missing_tests():
     code = code_of_tests()
     defined = set(re.findall(r"\b(?:fn|const|def|class) (\w+)", code))
     known = {file.name for folder in ["crates", "examples/scripts", "tests/dialogues"] for file in (ROOT / folder).iterdir()}
-    known |= {"stdout", *(file.stem for file in ROOT.glob("tests/*/*.py"))}
+    known |= {"stdout", *(file.stem for pattern in ("tests/*/*.py", "gateway/tests/*.py") for file in ROOT.glob(pattern))}
     files = {name for row in rows for name in re.findall(r"\bsrc/\S+?\.rt|\btest_\w+\.py", row)}
     faults = [name for name in files if not any(ROOT.glob(f"*/*/{name}"))]
     return [f"docs/EXAMPLES.md: no {name}" for name in sorted([*(named - defined - known), *faults])]
@@ -183,7 +183,7 @@ def main():
     faults = differing_tables() + missing_sentences() + missing_functions() + faulty_examples()
     faults += long_readme() + nameless_crates() + missing_tests() + wide_lines()
     faults += faulty_decisions() + proof_lines.stale_rows() + version.stale_places() + words.faults()
-    for document in [*ROOT.glob("*.md"), *ROOT.glob("docs/**/*.md"), *ROOT.glob("examples/*.md")]:
+    for document in [*ROOT.glob("*.md"), *ROOT.glob("docs/**/*.md"), *ROOT.glob("examples/*.md"), *ROOT.glob("gateway/*.md")]:
         faults += broken_links(document) + broken_anchors(document) + stale_quotes(document)
     print("\n".join(faults) if faults else "documents: in step with the repository")
     return 1 if faults else 0

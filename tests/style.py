@@ -3,8 +3,8 @@
 written.
 
 No line is too wide. Where Debian's `black`, `mypy` and `node` are there, black would change no file,
-`mypy --strict` finds nothing in the packages of clients and in what their tests share, and node reads
-each script. What is not there, or there in another version than Debian 12 has, is said:
+`mypy --strict` finds nothing in the packages of clients and gateway and in what their tests share, and
+node reads each script. What is not there, or there in another version than Debian 12 has, is said:
 scripts/install_debian.sh installs it.
 Ends with status 1 after naming what differs.
 """
@@ -19,13 +19,13 @@ import tempfile
 from typing import Iterator, List
 
 ROOT = pathlib.Path(__file__).resolve().parent.parent
-CLIENTS, GATEWAY = ROOT / "clients", ROOT / "tests" / "gateway"
+CLIENTS, GATEWAY = ROOT / "clients", ROOT / "gateway"
 FOLDERS = (CLIENTS, GATEWAY, ROOT / "editors")
 KINDS = (".py", ".js", ".mjs", ".css")
 WIDTH = 110  # columns of a line, at most; black breaks at 100 what it can break
 SHOWN = 20  # lines of what a tool says
 VERSIONS = {"black": "black, 23.", "mypy": "mypy 1.0", "node": "v"}  # others may decide otherwise
-PACKAGES = ("estserve_client", "estserve_team")
+PACKAGES = (CLIENTS / "estserve_client", GATEWAY / "estserve_team")
 READ = """
 const [fs, vm] = [require("fs"), require("vm")];
 for (const path of process.argv.slice(1)) {
@@ -77,10 +77,11 @@ def mypy() -> List[str]:
     with tempfile.TemporaryDirectory() as cache:
         words = ["mypy", "--strict", "--no-error-summary", f"--cache-dir={cache}"]
         programs = [str(path) for path in sorted(CLIENTS.glob("*.py"))]
-        found = run([*words, *programs, *(str(CLIENTS / name) for name in PACKAGES)], CLIENTS)
+        found = run([*words, *programs, *map(str, PACKAGES)], CLIENTS)
         found += run([*words, *map(str, SHARED)], CLIENTS)
-        os.environ["MYPYPATH"] = f"{CLIENTS}:{ROOT / 'tests' / 'socket'}"
-        return found + run([*words, *LENIENT, *(f"{name}.py" for name in OF_GATEWAY)], GATEWAY)
+        os.environ["MYPYPATH"] = f"{CLIENTS}:{GATEWAY}:{ROOT / 'tests' / 'socket'}"
+        shared = [f"{name}.py" for name in OF_GATEWAY]
+        return found + run([*words, *LENIENT, *shared], GATEWAY / "tests")
 
 
 def node() -> List[str]:

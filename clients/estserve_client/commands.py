@@ -2,12 +2,13 @@
 
 A further command is a function `add_NAME` here, a line in ADDERS, and a function that does it, in a
 module of its own that is imported when it is asked for; then a section of man/estserve-client.1, and
-`make_completions.py` run anew. A package beside this one brings its commands by NEIGHBOURS.
+`make_completions.py` run anew. A further package brings its commands by NEIGHBOURS.
 """
 from __future__ import annotations
 
 import argparse
 import os
+import sys
 
 from . import __version__
 from .connection import READS
@@ -27,8 +28,9 @@ BESIDE = (
     " What `prove` writes, NAME.counterexample.inputs, is no scenario."
 )
 
-# subcommands of packages beside this one, which may be there
+# subcommands of further packages, which may be there
 NEIGHBOURS = (("team", "estserve_team"),)
+NEXT_FOLDER = "gateway"  # where they lie in the repository, beside `clients`
 
 
 def terminal_columns() -> int:
@@ -257,7 +259,7 @@ class TellVersion(argparse.Action):
 
 
 def add_neighbour(commands: Any, name: str, package: str, asked: str) -> None:
-    """Adds the subcommand of a package beside this one. The package has its HELP, and a module
+    """Adds the subcommand of a further package. The package has its HELP, and a module
     `command` with a function `add_parser(subparsers)`, which is imported where it is asked for.
     """
     import importlib
@@ -268,13 +270,27 @@ def add_neighbour(commands: Any, name: str, package: str, asked: str) -> None:
         commands.add_parser(name, help=importlib.import_module(package).HELP)
 
 
+def find_neighbour(package: str) -> bool:
+    """Answers whether a further package is there: beside this one, as where both are installed, or
+    in the repository's folder for it, in which Python then looks too.
+    """
+    here = os.path.dirname(os.path.dirname(os.path.realpath(__file__)))
+    if os.path.isdir(os.path.join(here, package)):
+        return True
+    folder = os.path.join(os.path.dirname(here), NEXT_FOLDER)
+    if not os.path.isdir(os.path.join(folder, package)):
+        return False
+    if folder not in sys.path:
+        sys.path.insert(0, folder)
+    return True
+
+
 def add_neighbours(commands: Any, asked: str) -> None:
     """Adds the subcommands of packages whose folders are there, unless one that is there already is
     asked for.
     """
-    here = os.path.dirname(os.path.dirname(os.path.realpath(__file__)))
     for name, package in NEIGHBOURS:
-        if asked not in commands.choices and os.path.isdir(os.path.join(here, package)):
+        if asked not in commands.choices and find_neighbour(package):
             add_neighbour(commands, name, package, asked)
 
 

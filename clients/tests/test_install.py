@@ -17,7 +17,6 @@ import unittest.mock
 from support import CLIENTS, EXAMPLES, ROOT, InAFolder, needs_program
 
 from estserve_client import commands
-from estserve_team import command
 
 MANUALS = CLIENTS / "man"
 MANUAL = MANUALS / "estserve-client.1"
@@ -72,20 +71,6 @@ class Pages(unittest.TestCase):
                 self.assertRegex(text, rf"(?m)^\.B[IR]? .*{word}\b", f"{name} {word}")
         for name, _ in commands.NEIGHBOURS:
             self.assertIn(f".SS {name}\n", text)
-
-    def test_the_gateways_manual_has_each_word_and_option(self):
-        parser = argparse.ArgumentParser()
-        command.add_parser(parser.add_subparsers())
-        team = parser._actions[-1].choices["team"]
-        text = (MANUALS / "estserve-team.1").read_text().replace("\\-", "-")
-        shown = [action for action in team._actions if action.help != argparse.SUPPRESS]
-        options = {word for action in shown for word in action.option_strings} - {"-h", "--help"}
-        for word in options:
-            self.assertEqual(
-                len(re.findall(rf"(?m)^\.TP\n\.B[IR]* {word}(?![\w-])", text)), 1, word
-            )
-        for word in team._subparsers._group_actions[0].choices:
-            self.assertEqual(len(re.findall(rf"(?m)^\.TP\n\.BI? {word}( \"|$)", text)), 1, word)
 
     @needs_program
     def test_the_programs_manual_has_each_option(self):

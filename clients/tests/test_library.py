@@ -152,11 +152,9 @@ class Installed(unittest.TestCase):
     def test_pip_installs_a_command_and_a_package(self):
         with tempfile.TemporaryDirectory() as name:
             folder = pathlib.Path(name)
-            source = shutil.copytree(
-                CLIENTS,
-                folder / "clients",
-                ignore=shutil.ignore_patterns("__pycache__", "build", "*.egg-info"),
-            )
+            left_out = shutil.ignore_patterns("__pycache__", "build", "*.egg-info")
+            source = shutil.copytree(CLIENTS, folder / "clients", ignore=left_out)
+            shutil.copytree(ROOT / "gateway", folder / "gateway", ignore=left_out)
             subprocess.run(
                 [sys.executable, "-m", "venv", folder / "venv"], check=True, capture_output=True
             )
@@ -187,6 +185,13 @@ class Installed(unittest.TestCase):
                 ran.stderr,
                 "estserve-client: the module text none cannot be read: No such file or directory\n",
             )
+            ran = subprocess.run(
+                [here / "estserve-client", "team", "who", "--state", folder / "none"],
+                capture_output=True,
+                text=True,
+                cwd=folder,
+            )
+            self.assertIn("none/gateway.sock", ran.stderr)
             code = "import estserve_client as e; print(e.__file__, e.connect.__name__)"
             ran = subprocess.run(
                 [here / "python3", "-c", code], capture_output=True, text=True, cwd=folder

@@ -1,4 +1,4 @@
-"""Packages beside the client give it subcommands of their own, where their folder is there."""
+"""Further packages give the client subcommands of their own, where their folder is there."""
 import shutil
 import subprocess
 import sys
@@ -24,20 +24,21 @@ def add_parser(commands):
 class Neighbours(InAFolder):
     def setUp(self):
         super().setUp()
-        shutil.copy(CLIENTS / "estserve.py", self.folder)
-        shutil.copytree(CLIENTS / "estserve_client", self.folder / "estserve_client")
+        self.clients = self.folder / "clients"
+        shutil.copytree(CLIENTS / "estserve_client", self.clients / "estserve_client")
+        shutil.copy(CLIENTS / "estserve.py", self.clients)
 
     def run_team(self):
-        words = [sys.executable, "-B", str(self.folder / "estserve.py"), "team"]
+        words = [sys.executable, "-B", str(self.clients / "estserve.py"), "team"]
         ran = subprocess.run(words, capture_output=True, text=True, timeout=60)
         return ran.returncode, ran.stdout, ran.stderr.splitlines()[-1:]
 
     def test_a_package_that_is_there_adds_its_command(self):
-        package = self.folder / "estserve_team"
-        package.mkdir()
-        (package / "__init__.py").write_text("")
-        (package / "command.py").write_text(COMMAND)
-        self.assertEqual(self.run_team(), (0, "the team's team\n", []))
+        for place in ("clients", "gateway"):  # as where both are installed, as in the repository
+            package = self.file(f"{place}/estserve_team/__init__.py", "").parent
+            (package / "command.py").write_text(COMMAND)
+            self.assertEqual(self.run_team(), (0, "the team's team\n", []), place)
+            shutil.rmtree(package)
 
     def test_one_that_is_not_there_adds_none(self):
         status, printed, told = self.run_team()

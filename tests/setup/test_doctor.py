@@ -10,7 +10,7 @@ import unittest
 import unittest.mock
 
 ROOT = pathlib.Path(__file__).resolve().parents[2]
-sys.path.insert(0, str(ROOT / "clients"))
+sys.path[:0] = [str(ROOT / "clients"), str(ROOT / "gateway")]
 from estserve_client.running import Failed  # noqa: E402
 from estserve_team.web import serving  # noqa: E402
 

@@ -9,7 +9,7 @@ from test_insides import ACROSS, CIRCLE
 
 HERE = pathlib.Path(__file__).resolve().parent
 MOVES = "module M:\noutput O;\nloop\n  pause;\n  emit O;\n  pause\nend\nend module\n"
-RUNS = (HERE.parent / "lab" / "motors.strl").read_text()
+RUNS = (HERE.parents[1] / "tests" / "lab" / "motors.strl").read_text()
 MARKED = (
     "return [...document.querySelectorAll('.source li')].flatMap("
     "(line, at) => line.classList.contains(arguments[0]) ? [at + 1] : [])"

@@ -21,7 +21,8 @@ import struct
 import sys
 from typing import Any, List, Optional, Union
 
-sys.path.insert(0, str(pathlib.Path(__file__).resolve().parents[2] / "clients"))
+ROOT = pathlib.Path(__file__).resolve().parents[2]
+sys.path[:0] = [str(ROOT / "clients"), str(ROOT / "gateway")]
 from estserve_client import command_line  # noqa: E402
 from estserve_team import moments  # noqa: E402
 

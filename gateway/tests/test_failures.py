@@ -324,7 +324,7 @@ class Watched(unittest.TestCase):
             "import re; re.match(r'(a+)+b', 'a' * 60)\n"
         )
         began = time.monotonic()
-        words = [sys.executable, "-c", text, str(teams.ROOT / "clients")]
+        words = [sys.executable, "-c", text, str(teams.ROOT / "gateway")]
         self.assertEqual(subprocess.run(words, timeout=END_SECONDS).returncode, 1)
         self.assertGreater(time.monotonic() - began, 4)
 

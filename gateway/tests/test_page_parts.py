@@ -17,7 +17,7 @@ from estserve_client.pictures import Seen, vcd_lines
 from estserve_client.policy_file import read_policy
 from estserve_client.syntax_tree import KEYWORDS
 
-PAGE = teams.ROOT / "clients" / "estserve_team" / "page"
+PAGE = teams.ROOT / "gateway" / "estserve_team" / "page"
 HERE = pathlib.Path(__file__).resolve().parent
 NODE = shutil.which("node")
 LINES, COLUMNS = 300, 105  # that a module may have at most

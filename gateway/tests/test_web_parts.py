@@ -10,7 +10,8 @@ import threading
 import unittest
 import unittest.mock
 
-sys.path.insert(0, str(pathlib.Path(__file__).resolve().parents[2] / "clients"))
+ROOT = pathlib.Path(__file__).resolve().parents[2]
+sys.path[:0] = [str(ROOT / "clients"), str(ROOT / "gateway")]
 from estserve_client.trying_out import try_text  # noqa: E402
 from estserve_team.people import Person  # noqa: E402
 from estserve_team.reads import who  # noqa: E402

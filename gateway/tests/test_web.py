@@ -13,7 +13,7 @@ import teams
 import visitors
 from visitors import OwnTeam, SharedTeam, Visitor, link_of, visitor_of
 
-PAGE = teams.ROOT / "clients" / "estserve_team" / "page"
+PAGE = teams.ROOT / "gateway" / "estserve_team" / "page"
 READS = ("me", "here", "text", "looks", "inside", "locals", "stuck", "policy", "why", "log", "who")
 READS += ("events",)
 ACTS = ("login", "leave", "ask", "archive", "retract", "try", "plan", "out")

@@ -20,7 +20,7 @@ import threading
 from typing import Any, Callable, Iterator, List, Optional, Sequence, TypeVar
 
 ROOT = pathlib.Path(__file__).resolve().parents[2]
-sys.path[:0] = [str(ROOT / "clients"), str(ROOT / "tests" / "socket")]
+sys.path[:0] = [str(ROOT / name) for name in ("clients", "gateway", "tests/socket")]
 sys.dont_write_bytecode = True
 import running as programs  # noqa: E402
 from estserve_client.connection import Client, connect  # noqa: E402
