@@ -7,8 +7,9 @@
 //! engine.
 //!
 //! `judge` judges claims on one module, `same` compares two. Both are one search of `state_search`
-//! over a machine (`one_module`, `two_modules`); `est_cover` splits the inputs only where a reaction
-//! depends on them. `table` hands out what the search found: each state with its reactions.
+//! over a machine (`one_module`, `two_modules`); `est_cover` splits the inputs only where a
+//! reaction depends on them. `table` hands out what the search found: each state with its
+//! reactions.
 #![tactic(auto)]
 
 pub mod claim;

@@ -197,7 +197,8 @@ module _ (policy : List Entry) (seat : ℕ) (r : SlotReceipt) (e : SlotEntry) (s
       let long : length list ≡ r.version =
       ap length (ap (λ n. take n world.entries) next.now ∙ take-length world.entries) ∙ sym next.now in
       taken.told ∙ ap (λ (x : SlotEntry). tells_added (word_of x.action) (length list) after) same
-      ∙ ap (λ n. tells_added (word_of e.action) n after) long ∙ ap (tells_added (word_of e.action) r.version) (sym slot_after)
+      ∙ ap (λ n. tells_added (word_of e.action) n after) long
+      ∙ ap (tells_added (word_of e.action) r.version) (sym slot_after)
 
   pub slot_call : seat < SEATS → IsSlotCall seat r Given
   slot_call seated = record {
@@ -207,6 +208,6 @@ module _ (policy : List Entry) (seat : ℕ) (r : SlotReceipt) (e : SlotEntry) (s
     signal = sym next.tells.signal;
     is = refl;
     accepted = next.legal.added.accepted;
-    told = told ∙ ap (λ w. tells w r.version (journal_at Given.after r.slot)) (sym next.tells.word);
+    told = told ∙ ap (λ w. tells_added w r.version (journal_at Given.after r.slot)) (sym next.tells.word);
     place = ap length slot_after ∙ length-append slot.journal (e ∷ []) ∙ sym next.place;
   }

@@ -41,7 +41,7 @@ pub record IsSlotCall (seat : ℕ) (r : SlotReceipt) (m : Moment) : Type 0 where
   pub signal : signal_of action ≡ r.signal
   pub is : m.event ≡ event.OnSlot seat r.version r.slot r.session (command_of action)
   pub accepted : IsAccepted m.reply
-  pub told : m.reply ≡ tells r.word r.version (journal_at m.after r.slot)
+  pub told : m.reply ≡ tells_added r.word r.version (journal_at m.after r.slot)
   pub place : length (journal_at m.after r.slot) ≡ r.place
 
 -- the moment is the call of which the event tells
