@@ -235,7 +235,8 @@ module _ (modules : OneModule) (one_load : OneLoad) (entries : List Entry) (slot
     both_refused refusal x y = (x.replied ∙ sym y.replied, x.stays ∙ sym y.stays)
 
     -- two replies that tell of the same journal afterwards
-    told : (asked : Word) (version : ℕ) → a ≡ b → r ≡ tells_added asked version a → s ≡ tells_added asked version b → Same r s a b
+    told : (asked : Word) (version : ℕ) → a ≡ b → r ≡ tells_added asked version a → s ≡ tells_added asked version b
+        → Same r s a b
     told asked version same x y = (x ∙ ap (tells_added asked version) same ∙ sym y, same)
 
     loads : (stamp : Stamp) (main text : List ℕ) → Loads stamp main text before r a → Loads stamp main text before s b

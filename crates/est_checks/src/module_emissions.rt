@@ -268,8 +268,8 @@ fn add_module<'a>(
     requires distinct { first_duplicate (map program_of heads.now) ≡ None }
     requires numbers { AreEmittedNumbers names.now (map program_of heads.now) (emitted_of table.old)
         numbers.old }
-    ensures numbers { OnOk result (AreEmittedNumbers names.now (map program_of heads.now) (emitted_of
-        table.new) numbers.new) }
+    ensures numbers { OnOk result (AreEmittedNumbers names.now (map program_of heads.now)
+        (emitted_of table.new) numbers.new) }
     ensures emitted { OnOk result ((p : Program)
         → slice_get (map program_of heads.now) place ≡ Some p
         → (m s : List ℕ) → emitted_of table.new m s ≡ (if bytes_eq p.name m then list_any

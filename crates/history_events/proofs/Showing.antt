@@ -252,7 +252,8 @@ module _ (modules : OneModule) (past : List Moment) (m : Moment) (seat version s
                     accepted = (subst (IsOn slot IsStep) (sym is) (refl, e), a.accepted);
                     place = _;
                     version = _;
-                    numbered = told ∙ ap (λ d. tells_added (word_of d) (length (take version m.before.entries)) after) h.is
+                    numbered = told
+                        ∙ ap (λ d. tells_added (word_of d) (length (take version m.before.entries)) after) h.is
                         ∙ ap step_told number;
                     running = o.running;
                     declares = declares;

@@ -9,4 +9,5 @@ use Rattle.est_checks.specs.declared.module_emissions.Sent.{Sent}
 
 -- the walk's table of names is the visitor's, whose sets have, for each module, the numbers of the names that it emits
 abbrev pub Keeps : Sent → NameTable → List Kept → Type 0
-Keeps v t ks = (t ≡ v.names.now) × AreEmittedNumbers t (map program_of v.heads.now) (emitted_of v.table.now) v.numbers.now
+Keeps v t ks = (t ≡ v.names.now)
+    × AreEmittedNumbers t (map program_of v.heads.now) (emitted_of v.table.now) v.numbers.now

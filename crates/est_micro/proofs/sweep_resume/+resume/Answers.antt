@@ -54,7 +54,8 @@ resume_par_back-returns-clause-swept t c = λ a b.
     par_resumed_back c.args.at.now a c.args.p.now b c.args.q.now c.args.pauses.now c.args.run _ _ _ _ c.args.env.now
     _ _ _ _ _ _ _ _ _ _ _ _ c.requires.direction c.is_live-first_on.ensures c.second_lives-second_on.ensures
     c.learn-go.ensures.learns
-    c.learn-go.ensures.known (rw c.requires.main at c.past.ensures) c.part-second.ensures.swept c.with_emitted-inside.ensures
+    c.learn-go.ensures.known (rw c.requires.main at c.past.ensures) c.part-second.ensures.swept
+    c.with_emitted-inside.ensures
     c.part-first.ensures.swept
     c.side-left.ensures
     c.side-right.ensures
