@@ -4,7 +4,7 @@ use Rattle.std.specs.Prelude.{◌≡◌, ℕ, Bool, true, List, [], ◌∷◌, �
 use Rattle.std.specs.Prelude.{if◌then◌else◌}
 use Rattle.refusal_rules.specs.Rules.{Rule, Rules, Says, Unless, AllPass, FirstRefuses, accept, ◌▸◌, ◌▸▸◌}
 use Rattle.est_kernel.specs.Term.{Term}
-use Rattle.est_relations.specs.declared.refusal.Refusal.TheVariants.{Implied}
+use Rattle.est_relations.specs.declared.refusal.PendingRefusal.TheVariants.{Implied}
 use Rattle.rbac_policy.specs.declared.commands.Entry.{Entry}
 use Rattle.rbac_policy.specs.declared.objects.Operation.{Operation}
 use Rattle.rbac_policy.specs.declared.objects.Object.{Object}

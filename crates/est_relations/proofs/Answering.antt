@@ -18,9 +18,9 @@ use Rattle.est_relations.specs.Inner.Names.{IsNewInput, RefusesName}
 use Rattle.est_relations.specs.Keeping.{keeps, keeps_exclusion, has_one_at_most, is_within, AreOverInputs}
 use Rattle.est_relations.specs.Offers.{PendingInputs, place_of, with_place, KeepsExclusions, IsSignalName, IsOutputName}
 use Rattle.est_relations.specs.Offers.{IsPendingName, IsFirstBroken, IsFirstLacking, OfferAnswer, ReadyAnswer}
-use Rattle.est_relations.specs.declared.refusal.Refusal.{Refusal}
-use Rattle.est_relations.specs.declared.refusal.Refusal.TheVariants.{UnknownSignal, NotInput, AlreadyOffered, Excluded}
-use Rattle.est_relations.specs.declared.refusal.Refusal.TheVariants.{Implied}
+use Rattle.est_relations.specs.declared.refusal.PendingRefusal.{PendingRefusal}
+use Rattle.est_relations.specs.declared.refusal.PendingRefusal.TheVariants.{UnknownSignal, NotInput, AlreadyOffered}
+use Rattle.est_relations.specs.declared.refusal.PendingRefusal.TheVariants.{Excluded, Implied}
 use Rattle.est_relations.specs.declared.relations.Relation.{Relation}
 use Rattle.est_relations.specs.declared.relations.Relation.TheVariants.{Exclusion, Implication}
 use Rattle.est_relations.proofs.Members.{found_is, one_where, or_true, nat_same}
@@ -139,7 +139,8 @@ no_name i name none s = none_some (sym none ∙ s.there) where
   none_some h = cc
 
 -- an offer is refused by its name
-pub refused_name : (p : PendingInputs) (name : List ℕ) (e : Refusal) → KeepsExclusions p.interface p.relations p.mask
+pub refused_name : (p : PendingInputs) (name : List ℕ) (e : PendingRefusal)
+    → KeepsExclusions p.interface p.relations p.mask
     → RefusesName p.interface p.mask name e → OfferAnswer p name (Err e) p
 refused_name p name UnknownSignal k h = refuse UnknownSignal (refl, no_name p.interface name h) (refl, refl)
 refused_name p name NotInput k h =

@@ -9,9 +9,9 @@ use Rattle.est_kernel.specs.Interfaces.{offerable, is_named}
 use Rattle.est_kernel.specs.declared.interface.Declaration.{Declaration}
 use Rattle.est_kernel.specs.declared.statement.InterfaceSignal.{InterfaceSignal}
 use Rattle.est_relations.specs.Keeping.{keeps, keeps_exclusion, AreLawful, AreOverInputs}
-use Rattle.est_relations.specs.declared.refusal.Refusal.{Refusal}
-use Rattle.est_relations.specs.declared.refusal.Refusal.TheVariants.{UnknownSignal, NotInput, AlreadyOffered, Excluded}
-use Rattle.est_relations.specs.declared.refusal.Refusal.TheVariants.{Implied}
+use Rattle.est_relations.specs.declared.refusal.PendingRefusal.{PendingRefusal}
+use Rattle.est_relations.specs.declared.refusal.PendingRefusal.TheVariants.{UnknownSignal, NotInput, AlreadyOffered}
+use Rattle.est_relations.specs.declared.refusal.PendingRefusal.TheVariants.{Excluded, Implied}
 use Rattle.est_relations.specs.declared.relations.Relation.{Relation}
 use Rattle.est_relations.specs.declared.relations.Relation.TheVariants.{Exclusion, Implication}
 
@@ -98,7 +98,7 @@ pub record IsFirstImplied (p : PendingInputs) (number : ℕ) (missing : List ℕ
   pub named : IsNameAt p.interface implied missing
 
 -- the rules of refusal of an offer, in their order
-abbrev pub offer_rules : PendingInputs → List ℕ → Rules Refusal
+abbrev pub offer_rules : PendingInputs → List ℕ → Rules PendingRefusal
 offer_rules p name =
     Unless (IsSignalName p.interface name) UnknownSignal
     ▸ Says NotInput (IsOutputName p.interface name)
@@ -107,7 +107,7 @@ offer_rules p name =
     ▸ accept
 
 -- the rules of refusal of an instant
-abbrev pub ready_rules : PendingInputs → Rules Refusal
+abbrev pub ready_rules : PendingInputs → Rules PendingRefusal
 ready_rules p = Naming {Thing = ℕ × List ℕ} (λ e. Implied e.0 e.1) (λ e. IsFirstImplied p e.0 e.1) ▸ accept
 
 -- the signal of the name becomes pending too
@@ -118,14 +118,14 @@ pub record Adds (before : PendingInputs) (name : List ℕ) (after : PendingInput
       ≡ record { interface = before.interface; relations = before.relations; mask = with_place before.mask place }
 
 -- the answer to an offer of the name, and what is pending afterwards: a refusal changes nothing
-abbrev pub OfferAnswer : PendingInputs → List ℕ → Result (Unit {0}) Refusal → PendingInputs → Type 0
+abbrev pub OfferAnswer : PendingInputs → List ℕ → Result (Unit {0}) PendingRefusal → PendingInputs → Type 0
 OfferAnswer before name answer after =
     Answers (offer_rules before name)
     (λ refusal. (answer ≡ Err refusal) × (after ≡ before))
     ((answer ≡ Ok (record {})) × Adds before name after)
 
 -- the answer to whether an instant may take the pending inputs: it may exactly when they are lawful
-abbrev pub ReadyAnswer : PendingInputs → Result (Unit {0}) Refusal → Type 0
+abbrev pub ReadyAnswer : PendingInputs → Result (Unit {0}) PendingRefusal → Type 0
 ReadyAnswer p answer =
     Answers (ready_rules p)
     (λ refusal. answer ≡ Err refusal)

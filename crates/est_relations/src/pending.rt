@@ -5,7 +5,7 @@ ghost use Rattle.est_relations.specs.Keeping.{AreOverInputs};
 ghost use Rattle.est_relations.specs.Offers.{KeepsExclusions, OfferAnswer, ReadyAnswer};
 ghost use Rattle.est_relations.specs.Offers.{pending_inputs, place_of, with_place};
 
-use crate::refusal::Refusal;
+use crate::refusal::PendingRefusal;
 use crate::relations::Relations;
 use crate::violations::{first_broken, first_lacking};
 use est_kernel::interface::Interface;
@@ -51,7 +51,7 @@ fn joined(
     relations: &Relations,
     pending: u64,
     signal: InterfaceSignal,
-) -> Result<u64, Refusal>
+) -> Result<u64, PendingRefusal>
     requires kept { KeepsExclusions interface.now relations.now pending }
     requires within { signal.index < length interface.now }
     ensures kept { IfOk result (KeepsExclusions interface.now relations.now) }
@@ -61,13 +61,13 @@ fn joined(
         (RefusesOffer interface.now relations.now pending name) }
 {
     if !interface.kind(signal).can_be_offered() {
-        return Err(Refusal::NotInput);
+        return Err(PendingRefusal::NotInput);
     }
     if mask::has(pending, signal.index) {
-        return Err(Refusal::AlreadyOffered);
+        return Err(PendingRefusal::AlreadyOffered);
     }
     match first_broken(relations.as_slice(), pending, signal) {
-        Some(broken) => Err(Refusal::Excluded {
+        Some(broken) => Err(PendingRefusal::Excluded {
             relation: broken.relation,
             signal: interface.get(broken.signal).name,
         }),
@@ -112,17 +112,17 @@ impl<'a> Pending<'a> {
     /// Makes the input of this name pending, where that keeps each exclusion. The first of these
     /// that holds refuses it, and then nothing changes: no signal has the name, it is that of an
     /// output alone, its signal is pending already, or an exclusion would not hold.
-    pub fn offer(&mut self, name: &Identifier) -> Result<(), Refusal>
+    pub fn offer(&mut self, name: &Identifier) -> Result<(), PendingRefusal>
         ensures { OfferAnswer self.old name.now result self.new }
     {
         match self.interface.find(name) {
             Some(signal) => self.offer_signal(signal),
-            None => Err(Refusal::UnknownSignal),
+            None => Err(PendingRefusal::UnknownSignal),
         }
     }
 
     /// The same of this signal: it is answered as an offer of its name.
-    fn offer_signal(&mut self, signal: InterfaceSignal) -> Result<(), Refusal>
+    fn offer_signal(&mut self, signal: InterfaceSignal) -> Result<(), PendingRefusal>
         requires { signal.index < length self.old.interface }
         ensures { (name : List ℕ) → place_of self.old.interface name ≡ Some signal.index
             → OfferAnswer self.old name result self.new }
@@ -138,11 +138,11 @@ impl<'a> Pending<'a> {
 
     /// Whether an instant may take the pending inputs: it may exactly when each relation holds of
     /// them. The first relation that does not hold refuses it; that is an implication.
-    pub fn ready(&self) -> Result<(), Refusal>
+    pub fn ready(&self) -> Result<(), PendingRefusal>
         ensures { ReadyAnswer self.now result }
     {
         match first_lacking(self.relations.as_slice(), self.inputs) {
-            Some(lacking) => Err(Refusal::Implied {
+            Some(lacking) => Err(PendingRefusal::Implied {
                 relation: lacking.relation,
                 missing: self.interface.get(lacking.signal).name,
             }),

@@ -4,7 +4,7 @@ use est_text::identifier::Identifier;
 /// Why an input is not offered, or an instant is not begun. Relations are numbered from 1, in the
 /// order of the text.
 #[derive(Clone, Copy, PartialEq, Eq)]
-pub enum Refusal {
+pub enum PendingRefusal {
     /// No signal of the interface has this name.
     UnknownSignal,
     /// The signal is an output.

@@ -7,7 +7,7 @@ use Rattle.std.proofs.lemmas.List.Elements.{All-push}
 use Rattle.std.proofs.lemmas.List.Folds.{list_any-append}
 use Rattle.est_kernel.specs.Bits.{bits}
 use Rattle.est_kernel.specs.declared.interface.Declaration.{Declaration}
-use Rattle.est_relations.specs.declared.refusal.Refusal.{Refusal as PendingRefusal}
+use Rattle.est_relations.specs.declared.refusal.PendingRefusal.{PendingRefusal}
 use Rattle.lab_lines.specs.Offers.{AreNamed, AreNotNamed, IsNoOffer, MayOffer, has_name}
 
 -- the texts of a list, cut at a place

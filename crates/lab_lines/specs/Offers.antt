@@ -5,8 +5,8 @@ use Rattle.est_kernel.specs.Bits.{bits}
 use Rattle.est_kernel.specs.Interfaces.{is_named, offerable}
 use Rattle.est_kernel.specs.declared.interface.Declaration.{Declaration}
 use Rattle.est_relations.specs.Offers.{IsOutputName, IsSignalName}
-use Rattle.est_relations.specs.declared.refusal.Refusal.{Refusal as PendingRefusal}
-use Rattle.est_relations.specs.declared.refusal.Refusal.TheVariants.{UnknownSignal, NotInput}
+use Rattle.est_relations.specs.declared.refusal.PendingRefusal.{PendingRefusal}
+use Rattle.est_relations.specs.declared.refusal.PendingRefusal.TheVariants.{UnknownSignal, NotInput}
 use Rattle.est_text.specs.Identifiers.{is_identifier}
 
 -- whether this is that place

@@ -6,7 +6,7 @@ ghost use Rattle.lab_lines.specs.Offers.{AreNamed, AreNotNamed, IsNoOffer, MayOf
 
 use est_kernel::interface::Interface;
 use est_kernel::mask;
-use est_relations::refusal::Refusal as PendingRefusal;
+use est_relations::refusal::PendingRefusal;
 use est_text::identifier::Identifier;
 
 /// The signal of this name, alone in a mask, if it may be offered.

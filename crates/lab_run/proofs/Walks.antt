@@ -12,7 +12,7 @@ use Rattle.est_kernel.specs.declared.state.Inputs.{Inputs}
 use Rattle.est_meaning.specs.States.{IsState}
 use Rattle.est_meaning.specs.declared.status.Status.{Status}
 use Rattle.est_relations.specs.Offers.{PendingInputs}
-use Rattle.est_relations.specs.declared.refusal.Refusal.{Refusal as PendingRefusal}
+use Rattle.est_relations.specs.declared.refusal.PendingRefusal.{PendingRefusal}
 use Rattle.lab_instant.specs.Instants.{IsInstant}
 use Rattle.lab_instant.specs.declared.seen.Instant.{Instant}
 use Rattle.lab_instant.specs.declared.seen.Instant.TheVariants.{Reaction, Stuck}

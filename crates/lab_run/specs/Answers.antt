@@ -7,7 +7,7 @@ use Rattle.est_kernel.specs.declared.interface.Declaration.{Declaration}
 use Rattle.est_kernel.specs.declared.statement.Test.{Test}
 use Rattle.est_kernel.specs.Bits.{bits}
 use Rattle.est_explore.specs.Views.{module_of}
-use Rattle.est_relations.specs.declared.refusal.Refusal.{Refusal as PendingRefusal}
+use Rattle.est_relations.specs.declared.refusal.PendingRefusal.{PendingRefusal}
 use Rattle.reactor_core.specs.Loading.{Gives, IsLoadFault}
 use Rattle.reactor_core.specs.Standing.{given_by}
 use Rattle.reactor_core.specs.declared.loaded.Module.{Module}

@@ -14,7 +14,7 @@ use crate::status::{FAILS, UNKNOWN, UNREAD, status_of};
 use crate::walk::refusal_of;
 use access_core::refusal::Refusal;
 use est_kernel::interface::Interface;
-use est_relations::refusal::Refusal as PendingRefusal;
+use est_relations::refusal::PendingRefusal;
 use lab_lines::offers::signals_of_names;
 use reactor_core::loaded::Module;
 use reactor_core::reading::read_module;

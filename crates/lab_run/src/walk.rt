@@ -15,7 +15,7 @@ use crate::lab::Told;
 use access_core::refusal::Refusal;
 use est_kernel::state::{Inputs, State};
 use est_relations::pending::Pending;
-use est_relations::refusal::Refusal as PendingRefusal;
+use est_relations::refusal::PendingRefusal;
 use est_text::identifier::Identifier;
 use lab_instant::instant::Inside;
 use lab_instant::seen::Instant;

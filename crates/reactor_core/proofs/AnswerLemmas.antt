@@ -5,7 +5,7 @@ use Rattle.est_kernel.specs.Bits.{bits}
 use Rattle.est_kernel.specs.Term.{Term}
 use Rattle.est_relations.specs.Keeping.{AreLawful}
 use Rattle.est_relations.specs.Offers.{PendingInputs, Adds, IsFirstImplied, offer_rules as pending_rules}
-use Rattle.est_relations.specs.declared.refusal.Refusal.{Refusal as PendingRefusal}
+use Rattle.est_relations.specs.declared.refusal.PendingRefusal.{PendingRefusal}
 use Rattle.est_relations.proofs.OffersKeep.{no_fault}
 use Rattle.refusal_rules.specs.Rules.{Rules, ◌▸▸◌, Answers}
 use Rattle.refusal_rules.proofs.RuleLemmas.{refuse, pass, answered}

@@ -4,8 +4,8 @@ use Rattle.std.specs.Prelude.{◌==◌, codes, Option, Some, None, if◌then◌e
 use Rattle.std.specs.Str.{bytes_eq}
 use Rattle.refusal_rules.specs.Rows.{Fields, TellsApart}
 use Rattle.refusal_rules.proofs.TellingApart.{first, second, text_in, number_in, read_back}
-use Rattle.est_relations.specs.declared.refusal.Refusal.TheVariants.{UnknownSignal, NotInput, AlreadyOffered, Excluded}
-use Rattle.est_relations.specs.declared.refusal.Refusal.TheVariants.{Implied}
+use Rattle.est_relations.specs.declared.refusal.PendingRefusal.TheVariants.{UnknownSignal, NotInput, AlreadyOffered}
+use Rattle.est_relations.specs.declared.refusal.PendingRefusal.TheVariants.{Excluded, Implied}
 use Rattle.est_text.specs.declared.place.Place.{Place}
 use Rattle.reactor_core.specs.declared.refusal.Limit.{Limit}
 use Rattle.reactor_core.specs.declared.refusal.Limit.TheVariants.{Nesting, Signals, Relations, Statements, Loops, Traps}

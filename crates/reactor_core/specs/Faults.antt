@@ -9,8 +9,8 @@ use Rattle.est_checks.specs.declared.fault.LinkFault.{LinkFault}
 use Rattle.est_checks.specs.declared.fault.LinkFault.TheVariants as link
 use Rattle.est_reduce.specs.declared.fault.ReduceFault.{ReduceFault}
 use Rattle.est_reduce.specs.declared.fault.ReduceFault.TheVariants as reduce
-use Rattle.est_relations.specs.declared.refusal.Refusal.{Refusal as PendingRefusal}
-use Rattle.est_relations.specs.declared.refusal.Refusal.TheVariants.{Implied}
+use Rattle.est_relations.specs.declared.refusal.PendingRefusal.{PendingRefusal}
+use Rattle.est_relations.specs.declared.refusal.PendingRefusal.TheVariants.{Implied}
 use Rattle.est_syntax.specs.declared.parse.ParseFault.{ParseFault}
 use Rattle.est_syntax.specs.declared.parse.ParseFault.TheVariants as parse
 use Rattle.est_text.specs.declared.lex.LexFault.{LexFault}

@@ -1,8 +1,8 @@
 -- The refusals of a module: what each tells (this project's own table).
 use Rattle.std.specs.Prelude.{ℕ, List, [], ◌∷◌, codes}
 use Rattle.refusal_rules.specs.Rows.{Row, tells, Number, Text}
-use Rattle.est_relations.specs.declared.refusal.Refusal.TheVariants.{UnknownSignal, NotInput, AlreadyOffered, Excluded}
-use Rattle.est_relations.specs.declared.refusal.Refusal.TheVariants.{Implied}
+use Rattle.est_relations.specs.declared.refusal.PendingRefusal.TheVariants.{UnknownSignal, NotInput, AlreadyOffered}
+use Rattle.est_relations.specs.declared.refusal.PendingRefusal.TheVariants.{Excluded, Implied}
 use Rattle.reactor_core.specs.declared.refusal.Limit.{Limit}
 use Rattle.reactor_core.specs.declared.refusal.Limit.TheVariants.{Nesting, Signals, Relations, Statements, Loops, Traps}
 use Rattle.reactor_core.specs.declared.refusal.Limit.TheVariants.{Locals}

@@ -5,7 +5,7 @@ use Rattle.est_kernel.specs.declared.state.Outcome.{Outcome}
 use Rattle.est_kernel.specs.declared.state.State.{State}
 use Rattle.est_meaning.specs.States.{IsState, state_term}
 use Rattle.est_relations.specs.Offers.{PendingInputs, KeepsExclusions, IsFirstImplied, OfferAnswer as PendingAnswer}
-use Rattle.est_relations.specs.declared.refusal.Refusal.{Refusal as PendingRefusal}
+use Rattle.est_relations.specs.declared.refusal.PendingRefusal.{PendingRefusal}
 use Rattle.reactor_core.specs.declared.entry.PastInstant.{PastInstant}
 use Rattle.est_micro.specs.Engine.{IsNetOf}
 use Rattle.reactor_core.specs.declared.entry.Load.{Load as LoadEntry}

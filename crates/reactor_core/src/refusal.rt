@@ -5,7 +5,7 @@ ghost use Rattle.reactor_core.specs.Refusals.{code_of, name_of, limit_text};
 use est_checks::fault::{Limit as LinkLimit, LinkFault};
 use est_kernel::limits::Limit as KernelLimit;
 use est_reduce::fault::ReduceFault;
-use est_relations::refusal::Refusal as PendingRefusal;
+use est_relations::refusal::PendingRefusal;
 use est_syntax::parse::ParseFault;
 use est_text::identifier::Identifier;
 use est_text::lex::LexFault;

@@ -24,7 +24,7 @@ use crate::accepted::{added_line, audit_line, changed_line, check_line, login_li
 use crate::line_writer::LineWriter;
 use access_core::refusal::Refusal;
 use access_core::reply::{Reply, ShownSignal};
-use est_relations::refusal::Refusal as PendingRefusal;
+use est_relations::refusal::PendingRefusal;
 use est_text::identifier::Identifier;
 use est_text::place::Place;
 use rbac_admin::refusal::{Refusal as PolicyRefusal, table_text};

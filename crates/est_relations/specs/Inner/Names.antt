@@ -6,8 +6,8 @@ use Rattle.est_kernel.specs.declared.interface.Declaration.{Declaration}
 use Rattle.est_relations.specs.Offers.{pending_inputs, place_of, IsOutputName, IsPendingName}
 use Rattle.est_relations.specs.Offers.{OfferAnswer}
 use Rattle.est_relations.specs.declared.relations.Relation.{Relation}
-use Rattle.est_relations.specs.declared.refusal.Refusal.{Refusal}
-use Rattle.est_relations.specs.declared.refusal.Refusal.TheVariants.{UnknownSignal, NotInput, AlreadyOffered}
+use Rattle.est_relations.specs.declared.refusal.PendingRefusal.{PendingRefusal}
+use Rattle.est_relations.specs.declared.refusal.PendingRefusal.TheVariants.{UnknownSignal, NotInput, AlreadyOffered}
 
 -- the name is that of the input at this place, which is not pending
 pub record IsNewInput (interface : List Declaration) (mask : ℕ) (name : List ℕ) (place : ℕ) : Type 0 where
@@ -16,7 +16,7 @@ pub record IsNewInput (interface : List Declaration) (mask : ℕ) (name : List �
   pub new : bits mask place ≡ false
 
 -- why the name is not that of an input that is not yet pending
-abbrev pub RefusesName : List Declaration → (mask : ℕ) → List ℕ → Refusal → Type 0
+abbrev pub RefusesName : List Declaration → (mask : ℕ) → List ℕ → PendingRefusal → Type 0
 RefusesName interface mask name UnknownSignal = place_of interface name ≡ None
 RefusesName interface mask name NotInput = IsOutputName interface name
 RefusesName interface mask name AlreadyOffered = IsPendingName interface mask name
@@ -29,6 +29,6 @@ AcceptsOffer interface relations mask name after =
     (pending_inputs interface relations after)
 
 -- why the name may not be offered
-abbrev pub RefusesOffer : List Declaration → List Relation → (mask : ℕ) → List ℕ → Refusal → Type 0
+abbrev pub RefusesOffer : List Declaration → List Relation → (mask : ℕ) → List ℕ → PendingRefusal → Type 0
 RefusesOffer interface relations mask name e =
     OfferAnswer (pending_inputs interface relations mask) name (Err e) (pending_inputs interface relations mask)

@@ -1,7 +1,7 @@
 use Rattle.std.proofs.Common.{◌∙◌, refl, sym}
 use Rattle.est_kernel.specs.Interfaces.{can_be_offered}
 use Rattle.est_relations.specs.Offers.{pending_inputs}
-use Rattle.est_relations.specs.declared.refusal.Refusal.TheVariants.{NotInput, AlreadyOffered}
+use Rattle.est_relations.specs.declared.refusal.PendingRefusal.TheVariants.{NotInput, AlreadyOffered}
 use Rattle.est_relations.proofs.Answering.{member_within, refused_name, refused_member, accepted, kept_with}
 use Rattle.est_relations.proofs.pending.joined.Goals as goal
 

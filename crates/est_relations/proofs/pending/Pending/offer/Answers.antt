@@ -1,5 +1,5 @@
 use Rattle.std.proofs.Common.{sym}
-use Rattle.est_relations.specs.declared.refusal.Refusal.TheVariants.{UnknownSignal}
+use Rattle.est_relations.specs.declared.refusal.PendingRefusal.TheVariants.{UnknownSignal}
 use Rattle.est_relations.proofs.Answering.{refused_name}
 use Rattle.est_relations.proofs.pending.Pending.offer.Goals as goal
 
