@@ -131,12 +131,12 @@ pub no_pause_put : (old : ℕ → Bool) (n : ℕ) (b : Bool) → b ≡ false →
 no_pause_put old n b e i = or_nothing (old i) true ∙ ap (λ (y : Bool). old i || (y && nat_eq n i)) (sym e)
 
 -- the pauses at which a whole kernel stands
-pub all_collected : (k : Kernel) (root : Statement) (outputs : ℕ) (cells : List Status) (from old new : PauseSet)
-    → root ≡ k.root → outputs ≡ output_count k.interface → ((i : ℕ) → pauses_of old i ≡ false)
-    → Collects root true outputs 0 cells from old new → (i : ℕ) → pauses_of new i
+pub all_collected : (k : Kernel) (root : Statement) (outputs_count : ℕ) (cells : List Status) (from old new : PauseSet)
+    → root ≡ k.root → outputs_count ≡ output_count k.interface → ((i : ℕ) → pauses_of old i ≡ false)
+    → Collects root true outputs_count 0 cells from old new → (i : ℕ) → pauses_of new i
     ≡ stays true k.root (pauses_of from) (sheet_in (cell_at cells) true k.root (output_count k.interface) 0) i
-all_collected k root outputs cells from old new a b none h i =
+all_collected k root outputs_count cells from old new a b none h i =
     let x = subst (λ (n : ℕ). Collects k.root true n 0 cells from old new) b
-    (subst (λ (z : Statement). Collects z true outputs 0 cells from old new) a h) in
+    (subst (λ (z : Statement). Collects z true outputs_count 0 cells from old new) a h) in
     x i ∙ ap (λ (z : Bool). z || stays true k.root (pauses_of from)
     (sheet_in (cell_at cells) true k.root (output_count k.interface) 0) i) (none i)

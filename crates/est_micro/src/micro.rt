@@ -40,7 +40,7 @@ pub struct Micro {
 fn outcome(
     net: &Net,
     kernel: &Kernel,
-    outputs: usize,
+    outputs_count: usize,
     state: &State,
     from: &PauseSet,
     found: &Found,
@@ -48,7 +48,7 @@ fn outcome(
     requires state { IsState kernel.now.root state.now }
     requires lives { state.now ≡ Done → ⊥ }
     requires from { GoesOnFrom state.now (pauses_of from.now) }
-    requires outputs { outputs ≡ output_count kernel.now.interface }
+    requires outputs_count { outputs_count ≡ output_count kernel.now.interface }
     requires size { length net.now.cells.items ≡ cell_count kernel.now }
     requires extents { HasExtents net.now.extents.items 0 0 kernel.now.root }
     ensures some { IfSome result
@@ -61,7 +61,7 @@ fn outcome(
             number: 0,
             main: true,
             direction: Direction::Forwards,
-            cell: outputs,
+            cell: outputs_count,
             traps: 0,
         };
         let mut next = PauseSet::new();
@@ -84,12 +84,12 @@ fn outcome(
 pub(crate) fn read_outcome(
     net: &Net,
     kernel: &Kernel,
-    outputs: usize,
+    outputs_count: usize,
     state: &State,
     found: &Found,
 ) -> Option<Outcome>
     requires state { IsState kernel.now.root state.now }
-    requires outputs { outputs ≡ output_count kernel.now.interface }
+    requires outputs_count { outputs_count ≡ output_count kernel.now.interface }
     requires size { length net.now.cells.items ≡ cell_count kernel.now }
     requires extents { HasExtents net.now.extents.items 0 0 kernel.now.root }
     ensures some { IfSome result
@@ -101,8 +101,8 @@ pub(crate) fn read_outcome(
             outputs: found.judged.must.signals.interface,
             next: State::Done,
         }),
-        State::Fresh => outcome(net, kernel, outputs, state, &PauseSet::new(), found),
-        State::Paused(from) => outcome(net, kernel, outputs, state, from, found),
+        State::Fresh => outcome(net, kernel, outputs_count, state, &PauseSet::new(), found),
+        State::Paused(from) => outcome(net, kernel, outputs_count, state, from, found),
     }
 }
 
@@ -149,12 +149,12 @@ impl Micro {
             result }
         ensures once { kept self.new.net ≡ reopened self.old.net }
     {
-        let outputs = self.net.outputs();
+        let outputs_count = self.net.outputs();
         let possible = self.net.reach().from_state(state);
         let settled = settle(
             &mut self.net,
             kernel,
-            outputs,
+            outputs_count,
             state,
             possible,
             inputs,
@@ -183,8 +183,8 @@ impl Micro {
         ensures once { kept self.new.net ≡ reopened self.old.net }
     {
         let settled = self.settle_by(kernel, state, inputs.signals, 0);
-        let outputs = self.net.outputs();
-        match read_outcome(&self.net, kernel, outputs, state, &settled.found) {
+        let outputs_count = self.net.outputs();
+        match read_outcome(&self.net, kernel, outputs_count, state, &settled.found) {
             Some(outcome) => Ok(outcome),
             None => Err(Stuck {
                 undecided: mask::minus(

@@ -22,12 +22,12 @@ use est_rounds::part_engine::{PartEngine, Unsettled};
 fn told_if_decided(
     net: &Net,
     kernel: &Kernel,
-    outputs: usize,
+    outputs_count: usize,
     state: &State,
     found: &Found,
 ) -> Option<Outcome>
     requires state { IsState kernel.now.root state.now }
-    requires outputs { outputs ≡ output_count kernel.now.interface }
+    requires outputs_count { outputs_count ≡ output_count kernel.now.interface }
     requires size { length net.now.cells.items ≡ cell_count kernel.now }
     requires extents { HasExtents net.now.extents.items 0 0 kernel.now.root }
     ensures some { IfSome result
@@ -39,7 +39,7 @@ fn told_if_decided(
     if net.steps() < net.cells() {
         return None;
     }
-    read_outcome(net, kernel, outputs, state, found)
+    read_outcome(net, kernel, outputs_count, state, found)
 }
 
 /// The inputs that are not asked.
@@ -93,11 +93,18 @@ impl PartEngine for Micro {
     {
         let unasked = unasked_inputs(kernel, asked);
         let settled = self.settle_by(kernel, state, inputs.signals, unasked);
-        let outputs = self.net().outputs();
-        match told_if_decided(self.net(), kernel, outputs, state, &settled.found) {
+        let outputs_count = self.net().outputs();
+        match told_if_decided(self.net(), kernel, outputs_count, state, &settled.found) {
             Some(outcome) => Ok(outcome),
             None => Err(Unsettled {
-                waits_for: first_waited(self.net(), kernel, outputs, state, unasked, &settled.env),
+                waits_for: first_waited(
+                    self.net(),
+                    kernel,
+                    outputs_count,
+                    state,
+                    unasked,
+                    &settled.env,
+                ),
             }),
         }
     }

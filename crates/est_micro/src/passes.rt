@@ -71,13 +71,20 @@ fn judged(net: &Net) -> Judgement
 }
 
 /// Passes over the cells of a kernel's statement from this state.
-fn pass_sheet(net: &mut Net, root: &Statement, outputs: usize, state: &State, env: &Env, fresh: u64)
+fn pass_sheet(
+    net: &mut Net,
+    root: &Statement,
+    outputs_count: usize,
+    state: &State,
+    env: &Env,
+    fresh: u64,
+)
     requires state { IsState root.now state.now }
     requires fits { FitsMasks root.now }
     requires traps { 0 + trap_depth (term_of root.now) ≤ 62 }
     requires extents { HasExtents net.old.extents.items 0 0 root.now }
-    requires within { outputs + sheet_size true root.now 0 ≤ length net.old.cells.items }
-    ensures passes { SheetPasses root.now state.now outputs (env_of env.now)
+    requires within { outputs_count + sheet_size true root.now 0 ≤ length net.old.cells.items }
+    ensures passes { SheetPasses root.now state.now outputs_count (env_of env.now)
         net.old.cells.items net.new.cells.items }
     ensures kept { kept net.new ≡ kept net.old }
 {
@@ -85,7 +92,7 @@ fn pass_sheet(net: &mut Net, root: &Statement, outputs: usize, state: &State, en
         number: 0,
         main: true,
         direction: Direction::Forwards,
-        cell: outputs,
+        cell: outputs_count,
         traps: 0,
     };
     match state {
@@ -99,7 +106,7 @@ fn pass_sheet(net: &mut Net, root: &Statement, outputs: usize, state: &State, en
 fn pass_round(
     net: &mut Net,
     kernel: &Kernel,
-    outputs: usize,
+    outputs_count: usize,
     state: &State,
     inputs: u64,
     unasked: u64,
@@ -107,7 +114,7 @@ fn pass_round(
     fresh: u64,
 )
     requires state { IsState kernel.now.root state.now }
-    requires outputs { outputs ≡ output_count kernel.now.interface }
+    requires outputs_count { outputs_count ≡ output_count kernel.now.interface }
     requires size { length net.old.cells.items ≡ cell_count kernel.now }
     requires signals { bits net.old.signals ≡ emittable kernel.now.interface }
     requires extents { HasExtents net.old.extents.items 0 0 kernel.now.root }
@@ -117,7 +124,7 @@ fn pass_round(
         state.now env.old env.new net.old.cells.items net.new.cells.items }
     ensures kept { kept net.new ≡ kept net.old }
 {
-    pass_sheet(net, kernel.root(), outputs, state, env, fresh);
+    pass_sheet(net, kernel.root(), outputs_count, state, env, fresh);
     let said = judged(net);
     *env = exchange(net, kernel, inputs, unasked, &said);
 }
@@ -126,7 +133,7 @@ fn pass_round(
 pub fn pass_all(
     net: &mut Net,
     kernel: &Kernel,
-    outputs: usize,
+    outputs_count: usize,
     state: &State,
     inputs: u64,
     unasked: u64,
@@ -134,7 +141,7 @@ pub fn pass_all(
     fresh: u64,
 )
     requires state { IsState kernel.now.root state.now }
-    requires outputs { outputs ≡ output_count kernel.now.interface }
+    requires outputs_count { outputs_count ≡ output_count kernel.now.interface }
     requires size { length net.old.cells.items ≡ cell_count kernel.now }
     requires signals { bits net.old.signals ≡ emittable kernel.now.interface }
     requires extents { HasExtents net.old.extents.items 0 0 kernel.now.root }
@@ -155,7 +162,16 @@ pub fn pass_all(
             return;
         }
         let was = *env;
-        pass_round(net, kernel, outputs, state, inputs, unasked, env, fresh);
+        pass_round(
+            net,
+            kernel,
+            outputs_count,
+            state,
+            inputs,
+            unasked,
+            env,
+            fresh,
+        );
         fresh = newly_decided(&was, env);
     }
 }

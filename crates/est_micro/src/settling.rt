@@ -37,7 +37,7 @@ use est_rounds::signal_set::Env;
 fn sweep(
     net: &mut Net,
     root: &Statement,
-    outputs: usize,
+    outputs_count: usize,
     state: &State,
     env: &Env,
     direction: Direction,
@@ -46,8 +46,8 @@ fn sweep(
     requires fits { FitsMasks root.now }
     requires traps { 0 + trap_depth (term_of root.now) ≤ 62 }
     requires extents { HasExtents net.old.extents.items 0 0 root.now }
-    requires within { outputs + sheet_size true root.now 0 ≤ length net.old.cells.items }
-    ensures swept { IsSwept true root.now outputs 0
+    requires within { outputs_count + sheet_size true root.now 0 ≤ length net.old.cells.items }
+    ensures swept { IsSwept true root.now outputs_count 0
         (sheet_swept direction root.now state.now (env_of env.now))
         net.old.cells.items
         net.new.cells.items result }
@@ -56,7 +56,7 @@ fn sweep(
     let place = Place {
         number: 0,
         main: true,
-        cell: outputs,
+        cell: outputs_count,
         traps: 0,
         direction,
     };
@@ -71,7 +71,7 @@ fn sweep(
 fn round(
     net: &mut Net,
     kernel: &Kernel,
-    outputs: usize,
+    outputs_count: usize,
     state: &State,
     inputs: u64,
     unasked: u64,
@@ -79,7 +79,7 @@ fn round(
     direction: Direction,
 ) -> Found
     requires state { IsState kernel.now.root state.now }
-    requires outputs { outputs ≡ output_count kernel.now.interface }
+    requires outputs_count { outputs_count ≡ output_count kernel.now.interface }
     requires size { length net.old.cells.items ≡ cell_count kernel.now }
     requires signals { bits net.old.signals ≡ emittable kernel.now.interface }
     requires extents { HasExtents net.old.extents.items 0 0 kernel.now.root }
@@ -88,7 +88,7 @@ fn round(
         net.old.cells.items net.new.cells.items result }
     ensures kept { kept net.new ≡ kept net.old }
 {
-    let found = sweep(net, kernel.root(), outputs, state, env, direction);
+    let found = sweep(net, kernel.root(), outputs_count, state, env, direction);
     *env = exchange(net, kernel, inputs, unasked, &found.judged);
     found
 }
@@ -142,7 +142,7 @@ fn to_pass(was: &Env, env: &Env, now: usize, before: usize, cells: usize) -> u64
 pub fn settle(
     net: &mut Net,
     kernel: &Kernel,
-    outputs: usize,
+    outputs_count: usize,
     state: &State,
     possible: u64,
     inputs: u64,
@@ -150,7 +150,7 @@ pub fn settle(
     first: Direction,
 ) -> Settled
     requires state { IsState kernel.now.root state.now }
-    requires outputs { outputs ≡ output_count kernel.now.interface }
+    requires outputs_count { outputs_count ≡ output_count kernel.now.interface }
     requires size { length net.old.cells.items ≡ cell_count kernel.now }
     requires signals { bits net.old.signals ≡ emittable kernel.now.interface }
     requires extents { HasExtents net.old.extents.items 0 0 kernel.now.root }
@@ -171,19 +171,40 @@ pub fn settle(
     let mut direction = first;
     let mut was = env;
     let mut found = round(
-        net, kernel, outputs, state, inputs, unasked, &mut env, direction,
+        net,
+        kernel,
+        outputs_count,
+        state,
+        inputs,
+        unasked,
+        &mut env,
+        direction,
     );
     let mut now = net.steps();
     while goes_on(now, before, cells) {
         direction = next_direction(direction, now, before, cells);
         let fresh = to_pass(&was, &env, now, before, cells);
         pass_all(
-            net, kernel, outputs, state, inputs, unasked, &mut env, fresh,
+            net,
+            kernel,
+            outputs_count,
+            state,
+            inputs,
+            unasked,
+            &mut env,
+            fresh,
         );
         before = net.steps();
         was = env;
         found = round(
-            net, kernel, outputs, state, inputs, unasked, &mut env, direction,
+            net,
+            kernel,
+            outputs_count,
+            state,
+            inputs,
+            unasked,
+            &mut env,
+            direction,
         );
         now = net.steps();
     }

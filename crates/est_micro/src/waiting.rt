@@ -295,12 +295,12 @@ pub fn look(
 pub fn first_waited(
     net: &Net,
     kernel: &Kernel,
-    outputs: usize,
+    outputs_count: usize,
     state: &State,
     unasked: u64,
     env: &Env,
 ) -> Option<u8>
-    requires outputs { outputs ≡ output_count kernel.now.interface }
+    requires outputs_count { outputs_count ≡ output_count kernel.now.interface }
     requires size { length net.now.cells.items ≡ cell_count kernel.now }
     ensures { result ≡ waits_for (bits unasked) true kernel.now.root (pauses_from state.now) Present
         (env_of env.now)
@@ -320,7 +320,7 @@ pub fn first_waited(
     look(
         &sight,
         true,
-        outputs,
+        outputs_count,
         0,
         kernel.root(),
         Status::Present,

@@ -8,7 +8,7 @@ use Rattle.est_micro.proofs.micro.outcome.Goals as goal
 pub collect-requires-clause-within : goal.collect-requires-clause-within
 collect-requires-clause-within c =
     let n = c.requires.size in
-    rw c.root.ensures (omega (arith, n, c.requires.outputs))
+    rw c.root.ensures (omega (arith, n, c.requires.outputs_count))
 
 pub collect-requires-clause-extents : goal.collect-requires-clause-extents
 collect-requires-clause-extents c = rw c.root.ensures c.requires.extents
@@ -22,7 +22,7 @@ returns-then-has-clause-some c =
           reaction_paused k c.args.state.now i _ c.args.found.now
           (pauses_of c.args.from.now) _ k.distinct k.loop_safe
           c.requires.state c.requires.lives c.requires.from h one
-          (all_collected k _ c.args.outputs _ c.args.from.now _ _ c.root.ensures c.requires.outputs
+          (all_collected k _ c.args.outputs_count _ c.args.from.now _ _ c.root.ensures c.requires.outputs_count
           c.new-next.ensures c.collect.ensures);
       values = λ i h. values_by_code k c.args.state.now (bits i.signals) _ c.args.found.now k.loop_safe
           c.requires.state h 1 one;

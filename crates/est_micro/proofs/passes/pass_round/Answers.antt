@@ -18,15 +18,15 @@ exchange-requires-clause-signals c =
 
 pub exchange-requires-clause-room : goal.exchange-requires-clause-room
 exchange-requires-clause-room c =
-    let s = (pass_changes _ c.args.state.now c.args.outputs
+    let s = (pass_changes _ c.args.state.now c.args.outputs_count
     (env_of c.args.env.now) _ _ c.pass_sheet.ensures.passes).size
     in
     omega (arith, s, c.requires.size)
 
 pub returns-clause-made : goal.returns-clause-made
 returns-clause-made c =
-    pass_round_is c.args.kernel.now c.args.state.now c.args.inputs c.args.unasked _ c.args.outputs
+    pass_round_is c.args.kernel.now c.args.state.now c.args.inputs c.args.unasked _ c.args.outputs_count
     c.args.env.now _ _ _ _
-    c.judged-said.result _ c.root.ensures c.requires.outputs
+    c.judged-said.result _ c.root.ensures c.requires.outputs_count
     (ap (λ (k : Kept). k.emissions) c.pass_sheet.ensures.kept ∙ c.requires.emissions) c.pass_sheet.ensures.passes
     c.judged-said.ensures.sure c.judged-said.ensures.possible c.exchange.ensures.exchanged

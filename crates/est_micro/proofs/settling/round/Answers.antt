@@ -15,17 +15,18 @@ use Rattle.est_micro.specs.declared.direction.Direction.{Direction}
 use Rattle.est_micro.specs.declared.cells.Found.{Found}
 use Rattle.est_micro.proofs.settling.round.Goals as goal
 
-round_is : (d : Direction) (k : Kernel) (x : State) (inputs unasked : ℕ) (root : Statement) (outputs : ℕ) (e f : Known)
+round_is : (d : Direction) (k : Kernel) (x : State) (inputs unasked : ℕ) (root : Statement) (outputs_count : ℕ)
+    (e f : Known)
     (old mid new : List Status) (r : Found)
-    → root ≡ k.root → outputs ≡ output_count k.interface
-    → IsSwept true root outputs 0 (sheet_swept d root x (env_of e)) old mid r
+    → root ≡ k.root → outputs_count ≡ output_count k.interface
+    → IsSwept true root outputs_count 0 (sheet_swept d root x (env_of e)) old mid r
     → IsExchanged k.interface (bits unasked) (bits inputs) (bits r.judged.must.signals.interface)
     (bits r.judged.can.signals.interface) mid new f
     → IsRound d k.interface (bits unasked) (bits inputs) k.root x e f old new r
-round_is d k x inputs unasked root outputs e f old mid new r a b s h = record {
+round_is d k x inputs unasked root outputs_count e f old mid new r a b s h = record {
   mid = mid;
   sweep = subst (λ (n : ℕ). IsSwept true k.root n 0 (sheet_swept d k.root x (env_of e)) old mid r) b
-      (subst (λ (z : Statement). IsSwept true z outputs 0 (sheet_swept d z x (env_of e)) old mid r) a s);
+      (subst (λ (z : Statement). IsSwept true z outputs_count 0 (sheet_swept d z x (env_of e)) old mid r) a s);
   exchange = h;
 }
 
@@ -45,7 +46,7 @@ exchange-requires-clause-room c =
 
 pub returns-clause-made : goal.returns-clause-made
 returns-clause-made c =
-    round_is c.args.direction c.args.kernel.now c.args.state.now c.args.inputs c.args.unasked _ c.args.outputs
+    round_is c.args.direction c.args.kernel.now c.args.state.now c.args.inputs c.args.unasked _ c.args.outputs_count
     c.args.env.now _ _ _ _
     c.sweep-found.result
-    c.root.ensures c.requires.outputs c.sweep-found.ensures.swept c.exchange.ensures.exchanged
+    c.root.ensures c.requires.outputs_count c.sweep-found.ensures.swept c.exchange.ensures.exchanged
