@@ -1,7 +1,7 @@
 -- A connection over states of one kind is one over states of another that they stand for.
 use Rattle.std.proofs.Common.{ℕ, List, [], ◌∷◌, Option, ap, inl, inr}
-use Rattle.wire_reader.specs.declared.serving.Why.{Why}
-use Rattle.wire_reader.specs.declared.serving.Why.TheVariants.{Closed, TooLong, ReadFault, WriteFault, Memory}
+use Rattle.wire_reader.specs.declared.serving.EndReason.{EndReason}
+use Rattle.wire_reader.specs.declared.serving.EndReason.TheVariants.{Closed, TooLong, ReadFault, WriteFault, Memory}
 use Rattle.wire_reader.specs.Serving.{BetweenLines, between, Exchange, Runs, Ends, IsSilent, RefusesLine, FindsNoMemory}
 use Rattle.wire_reader.specs.Serving.{Serves}
 
@@ -36,7 +36,7 @@ no_memory_map f fails stops h last desk n =
 
 ends_map : {A B : Type 0} (f : A → B) (fails : A → List ℕ → A → Type 0) (stops : B → List ℕ → B → Type 0)
     → ((a : A) (line : List ℕ) (b : A) → fails a line b → stops (f a) line (f b))
-    → (refusal : List ℕ) (last : BetweenLines A) (why : Why) (desk : A) (more : List ℕ)
+    → (refusal : List ℕ) (last : BetweenLines A) (why : EndReason) (desk : A) (more : List ℕ)
     → Ends fails refusal last why desk more → Ends stops refusal (lifted f last) why (f desk) more
 ends_map f fails stops h refusal last Closed desk more e = (e.0, silent_map f last desk more e.1)
 ends_map f fails stops h refusal last TooLong desk more e = refuses_map f refusal last desk more e
@@ -52,7 +52,7 @@ pub serves_map : {A B : Type 0} (f : A → B) (tells : A → List ℕ → List �
     (says : B → List ℕ → List ℕ → B → Type 0) (stops : B → List ℕ → B → Type 0)
     → ((a : A) (line text : List ℕ) (b : A) → tells a line text b → says (f a) line text (f b))
     → ((a : A) (line : List ℕ) (b : A) → fails a line b → stops (f a) line (f b))
-    → (refusal : List ℕ) (ahead : Option (List ℕ)) (before : A) (why : Why) (desk : A) (written after : Option (List ℕ))
+    → (refusal : List ℕ) (ahead : Option (List ℕ)) (before : A) (why : EndReason) (desk : A) (written after : Option (List ℕ))
     (waiting left : List ℕ)
     → Serves tells fails refusal (between ahead before) why desk written after waiting left
     → Serves says stops refusal (between ahead (f before)) why (f desk) written after waiting left

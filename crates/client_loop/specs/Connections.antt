@@ -1,6 +1,6 @@
 -- Connections that a worker serves over its desk, one after another (this project's own form).
 use Rattle.std.specs.Prelude.{◌≡◌, ℕ, List, Option, Some, None, Bool}
-use Rattle.wire_reader.specs.declared.serving.Why.{Why}
+use Rattle.wire_reader.specs.declared.serving.EndReason.{EndReason}
 use Rattle.access_core.specs.declared.reply.Reply.{Reply}
 use Rattle.client_loop.specs.declared.login.Logout.{Logout}
 use Rattle.client_loop.specs.Asking.{Ask}
@@ -15,7 +15,7 @@ LogsOutLeft answers (Some session) before after = (done : Logout) × LogsOutAtLa
 
 -- a connection to this desk is served to its end, which comes for this reason, and no login of it is held any more
 pub record ServesConnection {D : Type 0} (answers : D → Ask → Reply → D → Type 0) (refused : Bool)
-    (ahead : Option (List ℕ)) (before : D) (why : Why) (after : D) (written wrote : Option (List ℕ)) : Type 0 where
+    (ahead : Option (List ℕ)) (before : D) (why : EndReason) (after : D) (written wrote : Option (List ℕ)) : Type 0 where
   pub desk : D
   pub left : Option ℕ
   pub served : ServesDesk answers refused ahead before why desk left written wrote

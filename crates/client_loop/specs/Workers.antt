@@ -2,7 +2,7 @@
 use Rattle.std.specs.Prelude.{◌≡◌, ℕ, List, Option, true}
 use Rattle.policy_board.specs.SeatState.{SeatState}
 use Rattle.wire_reader.specs.Meters.{IsStopped, has_failed}
-use Rattle.wire_reader.specs.declared.serving.Why.TheVariants.{ReadFault, WriteFault}
+use Rattle.wire_reader.specs.declared.serving.EndReason.TheVariants.{ReadFault, WriteFault}
 use Rattle.client_loop.specs.declared.source.Connection.{Connection}
 use Rattle.client_loop.specs.declared.source.Served.{Served}
 use Rattle.client_loop.specs.Connections.{ServesConnection}

@@ -1,7 +1,7 @@
 //! A connection of a source, served to its end.
 ghost use Rattle.std.specs.Prelude.{◌≡◌, true};
 ghost use Rattle.wire_reader.specs.Meters.{IsStopped, has_failed};
-ghost use Rattle.wire_reader.specs.declared.serving.Why.TheVariants as why;
+ghost use Rattle.wire_reader.specs.declared.serving.EndReason.TheVariants as why;
 ghost use Rattle.client_loop.specs.Connections.{LogsOutLeft, ServesConnection};
 ghost use Rattle.client_loop.specs.Logins.{session_of};
 

@@ -1,7 +1,7 @@
 //! Serves a connection to its end, over any reader and writer, and any desk that is lent.
 ghost use Rattle.std.specs.Prelude.{◌≡◌, true};
 ghost use Rattle.wire_reader.specs.Meters.{IsStopped, has_failed};
-ghost use Rattle.wire_reader.specs.declared.serving.Why.TheVariants as why;
+ghost use Rattle.wire_reader.specs.declared.serving.EndReason.TheVariants as why;
 ghost use Rattle.client_loop.specs.LineSteps.{with_login};
 ghost use Rattle.client_loop.specs.Logins.{session_of, Leaves};
 ghost use Rattle.client_loop.specs.Serving.{too_long_text, ServesLines, ServesDesk};
@@ -14,7 +14,7 @@ use std::io::{Read, Write};
 use wire_lines::reading::RequestReader;
 use wire_reader::meter::{MeteredMemory, MeteredReader, MeteredWriter};
 use wire_reader::serving;
-use wire_reader::serving::Why;
+use wire_reader::serving::EndReason;
 
 /// The answer to an over-long line.
 const TOO_LONG: &str = "{\"code\":1,\"fault\":\"TooLong\"}\n";
@@ -22,7 +22,7 @@ const TOO_LONG: &str = "{\"code\":1,\"fault\":\"TooLong\"}\n";
 /// How a connection ended. Whoever gets it has to spend the login that is left.
 pub struct End {
     /// Why it ended.
-    pub why: Why,
+    pub why: EndReason,
     /// The login that the connection held at its end, where memory was refused for its logout.
     pub left: Option<Login>,
 }
@@ -42,7 +42,7 @@ fn answer_lines<R: Read, W: Write, D: Desk, G: Gate>(
     desk: &mut D,
     gate: &G,
     worker: usize,
-) -> (Why, Option<Login>)
+) -> (EndReason, Option<Login>)
     ensures serves { ServesLines D.answers (has_failed memory.old.refusals memory.new.refusals)
         (R.remaining reader.old.device) desk.old result.0
         (with_login desk.new (session_of result.1))

@@ -5,7 +5,7 @@ ghost use Rattle.client_loop.specs.declared.source.Served.{Served};
 
 use std::io::{Read, Write};
 use wire_reader::meter::{MeteredMemory, MeteredReader, MeteredWriter};
-use wire_reader::serving::Why;
+use wire_reader::serving::EndReason;
 
 /// A connection: what its client writes is read here, and what is written here its client reads.
 #[derive(Drop)]
@@ -20,7 +20,7 @@ pub struct Connection<I, O> {
 #[derive(Drop)]
 pub struct Served<I, O> {
     /// Why it ended.
-    pub why: Why,
+    pub why: EndReason,
     /// The lines of its client, in the meter through which they were read.
     pub input: MeteredReader<I>,
     /// The answers to its client, in the meter through which they were written.

@@ -18,7 +18,7 @@ use Rattle.est_relations.proofs.Answering.{and_first}
 use Rattle.est_cover.specs.InputSets.{may_offer, InputSet, IsAsked, HasInputs, HaveAllInputs}
 use Rattle.est_cover.specs.Inner.Parts.{AreWatched, HasPart, IsCovered}
 use Rattle.est_cover.specs.declared.asked.Asked.{Asked}
-use Rattle.state_search.specs.declared.machine.Step.{Step}
+use Rattle.state_search.specs.declared.transition_system.Step.{Step}
 
 -- what holds of each value of a call that succeeds
 pub on_ok : {X E : Type 0} (r : Result X E) (P : X → Type 0) (Q : Type 0) → ((x : X) → P x → Q) → IfOk r P → OnOk r Q

@@ -15,7 +15,7 @@ use Rattle.est_cover.specs.InputSets.{InputSet, IsAsked, HasInputs}
 use Rattle.est_cover.specs.Inner.Parts.{HasPart, IsNarrower, IsStepOf, IsCovered}
 use Rattle.est_cover.specs.declared.asked.Asked.{Asked}
 use Rattle.est_cover.specs.declared.part.Part.{Part}
-use Rattle.state_search.specs.declared.machine.Step.{Step}
+use Rattle.state_search.specs.declared.transition_system.Step.{Step}
 use Rattle.est_cover.proofs.PartLemmas.{has_narrower, has_wider, narrower_is}
 
 -- pairs of two lists

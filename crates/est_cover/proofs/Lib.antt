@@ -2,4 +2,4 @@ pub mod CoverLemmas
 pub mod AllLawfulLemmas
 pub mod OneAtMost
 pub mod PartLemmas
-pub mod SaidLemmas
+pub mod ForcedLemmas

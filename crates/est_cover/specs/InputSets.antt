@@ -8,7 +8,7 @@ use Rattle.est_meaning.specs.Knowledge.{IsIn}
 use Rattle.est_relations.specs.Keeping.{AreLawful}
 use Rattle.est_relations.specs.declared.relations.Relation.{Relation}
 use Rattle.est_cover.specs.declared.asked.Asked.{Asked}
-use Rattle.state_search.specs.declared.machine.Step.{Step}
+use Rattle.state_search.specs.declared.transition_system.Step.{Step}
 
 -- a set of signals of the interface, by their places
 abbrev pub InputSet : Type 0

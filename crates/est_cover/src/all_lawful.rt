@@ -9,7 +9,7 @@ use crate::part::Part;
 use crate::reactive::Reactive;
 use est_kernel::mask;
 use est_relations::relations::Relations;
-use state_search::machine::{Machine, Step};
+use state_search::transition_system::{TransitionSystem, Step};
 use std::alloc::AllocError;
 
 /// What something does with the sets of inputs that somebody may offer and that keep the relations.
@@ -23,7 +23,7 @@ pub struct AllLawful<'a, R> {
     pub watched: u64,
 }
 
-impl<'a, R: Reactive> Machine for AllLawful<'a, R> {
+impl<'a, R: Reactive> TransitionSystem for AllLawful<'a, R> {
     type State = R::State;
 
     type Label = Asked<R::Answer>;

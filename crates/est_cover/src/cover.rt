@@ -8,10 +8,10 @@ ghost use Rattle.est_cover.specs.Inner.Parts.{AreWatched, IsCovered, IsNext, IsP
 use crate::asked::Asked;
 use crate::part::{Part, first_in, with, without};
 use crate::reactive::Reactive;
-use crate::said::{Said, first_said};
+use crate::forced::{Forced, first_forced};
 use est_kernel::mask;
 use est_relations::relations::Relation;
-use state_search::machine::Step;
+use state_search::transition_system::Step;
 use std::alloc::AllocError;
 
 /// Which sets of inputs an instant may have.
@@ -129,13 +129,13 @@ pub fn cover<R: Reactive>(
         (bits sets.now.may) sets.now.relations.now (bits sets.now.watched) part.unasked part.inputs
         most whole steps.old.items steps.new.items) }
 {
-    match first_said(sets.relations, part) {
-        Some(Said::Broken) => Ok(true),
-        Some(Said::Present(place)) => {
+    match first_forced(sets.relations, part) {
+        Some(Forced::Broken) => Ok(true),
+        Some(Forced::Present(place)) => {
             let part = with(part.unasked, part.inputs, place);
             cover(reactive, sets, scratch, state, most, part, steps)
         }
-        Some(Said::Absent(place)) => {
+        Some(Forced::Absent(place)) => {
             let part = without(part.unasked, part.inputs, place);
             cover(reactive, sets, scratch, state, most, part, steps)
         }

@@ -10,4 +10,4 @@ pub mod asked;
 mod cover;
 mod part;
 pub mod reactive;
-mod said;
+mod forced;

@@ -9,7 +9,7 @@ ghost use Rattle.est_cover.specs.InputSets.{Agrees, InputSet};
 
 use est_kernel::interface::Interface;
 use est_rounds::part_engine::Unsettled;
-use state_search::machine::{Standing, Step};
+use state_search::transition_system::{Standing, Step};
 
 /// What reacts to the inputs of an instant.
 pub trait Reactive {

@@ -12,7 +12,7 @@ ghost use Rattle.est_link.specs.Inner.Binds.{binding_of};
 
 use crate::meaning::{Meaning, Meanings};
 use crate::numbers::{small, sum};
-use crate::scope::Scope;
+use crate::scope::NamedScope;
 use est_modules::head::{Declared, Head, Interface};
 use est_modules::renamings::RunRenamings;
 use est_reduce::body::BoundSignal;
@@ -27,7 +27,7 @@ pub struct Binding<'a, 'b, 'c> {
     /// The module in whose body the `run` stands.
     pub home: &'a Head<'b>,
     /// The binders around it.
-    pub scope: &'a Scope<'a, 'b>,
+    pub scope: &'a NamedScope<'a, 'b>,
     /// How many local signals these binders declare.
     pub locals: u32,
     /// Its renamings.
@@ -49,13 +49,13 @@ fn interface_signal(interface: &Interface<'_>, name: &Identifier) -> Result<Mean
 
 /// How many local signals lie around a place. It calls itself once for each binder around the
 /// place, of which there are at most 128.
-pub fn locals_around(scope: &Scope<'_, '_>) -> Result<u32, AllocError>
+pub fn locals_around(scope: &NamedScope<'_, '_>) -> Result<u32, AllocError>
     ensures { IfOk result (λ n. n ≡ locals_around (binders_of scope.now)) }
 {
     match scope {
-        Scope::Module => Ok(0),
-        Scope::Signals(names, outer) => sum(locals_around(outer)?, names.count()?),
-        Scope::Trap(_, outer) => locals_around(outer),
+        NamedScope::Module => Ok(0),
+        NamedScope::Signals(names, outer) => sum(locals_around(outer)?, names.count()?),
+        NamedScope::Trap(_, outer) => locals_around(outer),
     }
 }
 
@@ -63,34 +63,34 @@ pub fn locals_around(scope: &Scope<'_, '_>) -> Result<u32, AllocError>
 /// there are at most 128.
 pub fn signal_at(
     home: &Head<'_>,
-    scope: &Scope<'_, '_>,
+    scope: &NamedScope<'_, '_>,
     name: &Identifier,
 ) -> Result<Meaning, AllocError>
     ensures { IfOk result (λ m. meaning_of m ≡ meant (signal_at (program_of home.now) (binders_of
         scope.now) name.now)) }
 {
     match scope {
-        Scope::Module => interface_signal(&home.interface, name),
-        Scope::Signals(names, outer) => match names.place(name) {
+        NamedScope::Module => interface_signal(&home.interface, name),
+        NamedScope::Signals(names, outer) => match names.place(name) {
             Some(place) => {
                 let level = sum(locals_around(outer)?, small(place)?)?;
                 Ok(Meaning::of(BoundSignal::Inner(level)))
             }
             None => signal_at(home, outer, name),
         },
-        Scope::Trap(_, outer) => signal_at(home, outer, name),
+        NamedScope::Trap(_, outer) => signal_at(home, outer, name),
     }
 }
 
 /// How many traps lie between an exit and its trap. It calls itself once for each binder around
 /// the place, of which there are at most 128.
-pub fn trap_at(scope: &Scope<'_, '_>, name: &Identifier) -> Result<u32, AllocError>
+pub fn trap_at(scope: &NamedScope<'_, '_>, name: &Identifier) -> Result<u32, AllocError>
     ensures { IfOk result (λ k. k ≡ trap_at (binders_of scope.now) name.now) }
 {
     match scope {
-        Scope::Module => Ok(0),
-        Scope::Signals(_, outer) => trap_at(outer, name),
-        Scope::Trap(trap, outer) => {
+        NamedScope::Module => Ok(0),
+        NamedScope::Signals(_, outer) => trap_at(outer, name),
+        NamedScope::Trap(trap, outer) => {
             if trap.is(name) {
                 Ok(0)
             } else {

@@ -11,11 +11,11 @@ ghost use Rattle.est_link.specs.Inner.Tables.{module_body_of};
 ghost use Rattle.est_modules.specs.Modules.{Program, program_of, first_in_bodies};
 ghost use Rattle.est_modules.specs.ModuleOrders.{IsOrderOf};
 
-use crate::flatten::{Linker, Place, flat_statement};
+use crate::flatten::{Linker, LinkContext, flat_statement};
 use crate::module_bodies::{ModuleBodies, ModuleBody};
 use crate::needed::is_in;
 use crate::open_body::OpenBody;
-use crate::scope::Scope;
+use crate::scope::NamedScope;
 use est_modules::head::Head;
 use est_modules::head_tree::Heads;
 use std::alloc::{AllocError, Global};
@@ -26,9 +26,9 @@ fn whole_body(linker: &Linker<'_, '_, '_>) -> Result<OpenBody, AllocError>
         (bodies_of linker.now.bodies.now) (program_of linker.now.home.now) []
         (program_of linker.now.home.now).body) }
 {
-    let whole = Place {
+    let whole = LinkContext {
         linker: &*linker,
-        scope: &Scope::Module,
+        scope: &NamedScope::Module,
     };
     flat_statement(&whole, linker.home.body)
 }

@@ -29,7 +29,7 @@ use crate::local_names::LocalNames;
 use crate::meaning::Meaning;
 use crate::module_bodies::ModuleBodies;
 use crate::open_body::OpenBody;
-use crate::scope::Scope;
+use crate::scope::NamedScope;
 use crate::watch::Watch;
 use est_modules::head::{Declared, Head};
 use est_modules::head_tree::Heads;
@@ -65,7 +65,7 @@ fn interface_run<'a>(heads: &'a Heads<'_>, name: &Identifier) -> &'a [Declared]
 /// The flat statement of a `run`: the body of its module, its interface names bound.
 fn run<'b>(
     linker: &Linker<'_, 'b, '_>,
-    scope: &Scope<'_, 'b>,
+    scope: &NamedScope<'_, 'b>,
     name: &Identifier,
     renamings: &[Renaming],
 ) -> Result<OpenBody, AllocError>
@@ -93,15 +93,15 @@ fn run<'b>(
 
 /// A place in the module whose body is made flat.
 #[derive(Clone, Copy)]
-pub struct Place<'a, 'b, 'c> {
+pub struct LinkContext<'a, 'b, 'c> {
     /// The modules, and the module.
     pub linker: &'a Linker<'a, 'b, 'c>,
     /// The binders around the place.
-    pub scope: &'a Scope<'a, 'b>,
+    pub scope: &'a NamedScope<'a, 'b>,
 }
 
 /// The signal that a name means.
-pub fn find_signal(place: &Place<'_, '_, '_>, name: &Identifier) -> Result<Meaning, AllocError>
+pub fn find_signal(place: &LinkContext<'_, '_, '_>, name: &Identifier) -> Result<Meaning, AllocError>
     ensures { IfOk result (λ m. meaning_of m ≡ meant (signal_at
         (program_of place.now.linker.now.home.now) (binders_of place.now.scope.now) name.now)) }
 {
@@ -109,7 +109,7 @@ pub fn find_signal(place: &Place<'_, '_, '_>, name: &Identifier) -> Result<Meani
 }
 
 /// The signal that the emission of a name means.
-fn find_sent(place: &Place<'_, '_, '_>, name: &Identifier) -> Result<BoundSignal, AllocError>
+fn find_sent(place: &LinkContext<'_, '_, '_>, name: &Identifier) -> Result<BoundSignal, AllocError>
     ensures { IfOk result (λ n. name_view n ≡ emitted (signal_at
         (program_of place.now.linker.now.home.now) (binders_of place.now.scope.now) name.now)) }
 {
@@ -117,7 +117,7 @@ fn find_sent(place: &Place<'_, '_, '_>, name: &Identifier) -> Result<BoundSignal
 }
 
 /// What is waited for.
-fn find_wait(place: &Place<'_, '_, '_>, delay: &Delay) -> Result<Wait, AllocError>
+fn find_wait(place: &LinkContext<'_, '_, '_>, delay: &Delay) -> Result<Wait, AllocError>
     ensures immediate { IfOk result (λ w. w.immediate ≡ delay.now.immediate) }
     ensures test { IfOk result (λ w. query_view w.test
         ≡ asked_at (program_of place.now.linker.now.home.now) (binders_of place.now.scope.now)
@@ -138,7 +138,7 @@ fn box_nothing(alloc: Global) -> Result<Box<OpenBody>, AllocError>
 
 /// The flat statement of a `present`, its branches being flat.
 fn present(
-    at: &Place<'_, '_, '_>,
+    at: &LinkContext<'_, '_, '_>,
     test: &Test,
     first: Box<OpenBody>,
     second: Box<OpenBody>,
@@ -152,7 +152,7 @@ fn present(
 
 /// The flat statement of a unit.
 #[cycle(flat)]
-fn flat_unit<'b>(at: &Place<'_, 'b, '_>, unit: &'b Unit) -> Result<OpenBody, AllocError>
+fn flat_unit<'b>(at: &LinkContext<'_, 'b, '_>, unit: &'b Unit) -> Result<OpenBody, AllocError>
     ensures { IfOk result (λ f. closed_of f ≡ linked (map program_of at.now.linker.now.heads.now)
         (bodies_of at.now.linker.now.bodies.now) (program_of at.now.linker.now.home.now)
         (binders_of at.now.scope.now) (unit_derived (unit_view unit.now))) }
@@ -176,7 +176,7 @@ fn flat_unit<'b>(at: &Place<'_, 'b, '_>, unit: &'b Unit) -> Result<OpenBody, All
         }
         Unit::Every(delay, p, _) => flat_watched(at, Watch::Every, p, delay),
         Unit::Trap(name, p, _) => {
-            let scope = Scope::Trap(*name, &*at.scope);
+            let scope = NamedScope::Trap(*name, &*at.scope);
             Ok(OpenBody::Trap(box_inside(at, &scope, p)?))
         }
         Unit::Signal(names, p, _) => flat_signal(at, names, p),
@@ -188,7 +188,7 @@ fn flat_unit<'b>(at: &Place<'_, 'b, '_>, unit: &'b Unit) -> Result<OpenBody, All
 /// The flat statement of a `signal`.
 #[cycle(flat)]
 fn flat_signal<'b>(
-    at: &Place<'_, 'b, '_>,
+    at: &LinkContext<'_, 'b, '_>,
     names: &'b Names,
     statement: &'b Statement,
 ) -> Result<OpenBody, AllocError>
@@ -200,14 +200,14 @@ fn flat_signal<'b>(
 {
     let names = LocalNames::of(at.linker.alloc, names)?;
     let count = names.count()?;
-    let scope = Scope::Signals(names, &*at.scope);
+    let scope = NamedScope::Signals(names, &*at.scope);
     Ok(OpenBody::Signal(count, box_inside(at, &scope, statement)?))
 }
 
 /// The flat statement of a statement that waits for something while another runs.
 #[cycle(flat)]
 fn flat_watched<'b>(
-    at: &Place<'_, 'b, '_>,
+    at: &LinkContext<'_, 'b, '_>,
     watch: Watch,
     statement: &'b Statement,
     delay: &Delay,
@@ -225,7 +225,7 @@ fn flat_watched<'b>(
 /// The flat statement of a `present`, with its branches.
 #[cycle(flat)]
 fn flat_test<'b>(
-    at: &Place<'_, 'b, '_>,
+    at: &LinkContext<'_, 'b, '_>,
     test: &Test,
     branches: &'b Branches,
 ) -> Result<OpenBody, AllocError>
@@ -274,7 +274,7 @@ fn beside(alloc: Global, p: OpenBody, rest: Option<Box<OpenBody>>) -> Result<Ope
 
 /// The flat statement of a sequence.
 #[cycle(flat)]
-fn flat_sequence<'b>(at: &Place<'_, 'b, '_>, sequence: &'b Sequence) -> Result<OpenBody, AllocError>
+fn flat_sequence<'b>(at: &LinkContext<'_, 'b, '_>, sequence: &'b Sequence) -> Result<OpenBody, AllocError>
     ensures { IfOk result (λ f. closed_of f ≡ linked (map program_of at.now.linker.now.heads.now)
         (bodies_of at.now.linker.now.bodies.now) (program_of at.now.linker.now.home.now)
         (binders_of at.now.scope.now) (sequence_derived (sequence_view sequence.now))) }
@@ -294,7 +294,7 @@ fn flat_sequence<'b>(at: &Place<'_, 'b, '_>, sequence: &'b Sequence) -> Result<O
 /// The flat statement of sequences side by side.
 #[cycle(flat)]
 pub fn flat_statement<'b>(
-    at: &Place<'_, 'b, '_>,
+    at: &LinkContext<'_, 'b, '_>,
     statement: &'b Statement,
 ) -> Result<OpenBody, AllocError>
     ensures { IfOk result (λ f. closed_of f ≡ linked (map program_of at.now.linker.now.heads.now)
@@ -316,7 +316,7 @@ pub fn flat_statement<'b>(
 /// The flat statement of sequences side by side, in a box.
 #[cycle(flat)]
 fn box_body<'b>(
-    at: &Place<'_, 'b, '_>,
+    at: &LinkContext<'_, 'b, '_>,
     statement: &'b Statement,
 ) -> Result<Box<OpenBody>, AllocError>
     ensures { IfOk result (λ b. closed_of b.value ≡ linked (map program_of
@@ -330,8 +330,8 @@ fn box_body<'b>(
 /// The flat statement of sequences side by side inside one binder more, in a box.
 #[cycle(flat)]
 fn box_inside<'b>(
-    at: &Place<'_, 'b, '_>,
-    scope: &Scope<'_, 'b>,
+    at: &LinkContext<'_, 'b, '_>,
+    scope: &NamedScope<'_, 'b>,
     statement: &'b Statement,
 ) -> Result<Box<OpenBody>, AllocError>
     ensures { IfOk result (λ b. closed_of b.value ≡ linked (map program_of
@@ -339,7 +339,7 @@ fn box_inside<'b>(
         (program_of at.now.linker.now.home.now) (binders_of scope.now)
         (statement_derived (statement_view statement.now))) }
 {
-    let inside = Place {
+    let inside = LinkContext {
         linker: &*at.linker,
         scope: &*scope,
     };

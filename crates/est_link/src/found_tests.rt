@@ -11,7 +11,7 @@ ghost use Rattle.est_reduce.specs.Views.{bound_query as query_view};
 ghost use Rattle.est_link.specs.Asking.{literal_asked, conjunction_asked, expression_asked};
 ghost use Rattle.est_link.specs.Linking.{asked_at, signal_at};
 
-use crate::flatten::{Place, find_signal};
+use crate::flatten::{LinkContext, find_signal};
 use est_kernel::statement::Connective;
 use est_reduce::body::BoundTest;
 use est_syntax::tree::{Conjunction, Expression, Literal, Test};
@@ -19,7 +19,7 @@ use std::alloc::AllocError;
 
 /// What a literal asks.
 #[cycle(tests)]
-fn find_literal(place: &Place<'_, '_, '_>, literal: &Literal) -> Result<BoundTest, AllocError>
+fn find_literal(place: &LinkContext<'_, '_, '_>, literal: &Literal) -> Result<BoundTest, AllocError>
     ensures { IfOk result (λ t. query_view t ≡ literal_asked
         (signal_at (program_of place.now.linker.now.home.now) (binders_of place.now.scope.now))
         (literal_view literal.now)) }
@@ -36,7 +36,7 @@ fn find_literal(place: &Place<'_, '_, '_>, literal: &Literal) -> Result<BoundTes
 /// What literals with `and` between them ask.
 #[cycle(tests)]
 fn find_conjunction(
-    place: &Place<'_, '_, '_>,
+    place: &LinkContext<'_, '_, '_>,
     conjunction: &Conjunction,
 ) -> Result<BoundTest, AllocError>
     ensures { IfOk result (λ t. query_view t ≡ conjunction_asked
@@ -58,7 +58,7 @@ fn find_conjunction(
 /// What an expression asks.
 #[cycle(tests)]
 fn find_expression(
-    place: &Place<'_, '_, '_>,
+    place: &LinkContext<'_, '_, '_>,
     expression: &Expression,
 ) -> Result<BoundTest, AllocError>
     ensures { IfOk result (λ t. query_view t ≡ expression_asked
@@ -78,7 +78,7 @@ fn find_expression(
 }
 
 /// What a test asks.
-pub fn find_test(place: &Place<'_, '_, '_>, test: &Test) -> Result<BoundTest, AllocError>
+pub fn find_test(place: &LinkContext<'_, '_, '_>, test: &Test) -> Result<BoundTest, AllocError>
     ensures { IfOk result (λ t. query_view t ≡ asked_at
         (program_of place.now.linker.now.home.now) (binders_of place.now.scope.now)
         (test_view test.now)) }

@@ -25,7 +25,7 @@ use Rattle.est_micro.specs.Parts.{AgreeBut, AreInputsAlone, IsClosedBut, known_b
 use Rattle.est_micro.specs.Runs.{IsSettledBut, output_cells, table_of}
 use Rattle.est_micro.specs.Unsettled.{IsLeftOpen}
 use Rattle.est_micro.specs.Waiting.{pauses_from, table_waits_for, waits_for}
-use Rattle.est_micro.specs.declared.settling.Settled.{Settled}
+use Rattle.est_micro.specs.declared.settling.DecidedCells.{DecidedCells}
 use Rattle.est_micro.proofs.FullTables.{full_decided}
 use Rattle.est_micro.proofs.OpenTests.{waits_unasked}
 use Rattle.est_micro.proofs.Outcomes.{some_code}
@@ -62,11 +62,11 @@ inputs_alone i u asked e h n o =
 
 -- by each input set for which the part stands
 abbrev pub IsSettledByAll : (u : ℕ → Bool) (k : Kernel) (x : State) (inputs : ℕ → Bool) (cells : List Status)
-    (r : Settled) → Type 0
+    (r : DecidedCells) → Type 0
 IsSettledByAll u k x inputs cells r = (others : ℕ → Bool) → AgreeBut u inputs others
     → IsSettledBut u k x others cells r
 
-pub settled_for : (u asked : ℕ → Bool) (k : Kernel) (x : State) (inputs : Inputs) (cells : List Status) (r : Settled)
+pub settled_for : (u asked : ℕ → Bool) (k : Kernel) (x : State) (inputs : Inputs) (cells : List Status) (r : DecidedCells)
     → u ≡ not_asked k.interface asked → AreInputs k inputs → IsSettledByAll u k x (bits inputs.signals) cells r
     → (others : Inputs) → AgreeOn k asked (bits inputs.signals) others
     → IsSettledBut u k x (bits others.signals) cells r
@@ -79,7 +79,7 @@ if_named (Some n) h = h n refl
 if_named None h = tt
 
 -- where there is no outcome
-pub left_open : (u asked : ℕ → Bool) (k : Kernel) (x : State) (inputs : ℕ → Bool) (cells : List Status) (r : Settled)
+pub left_open : (u asked : ℕ → Bool) (k : Kernel) (x : State) (inputs : ℕ → Bool) (cells : List Status) (r : DecidedCells)
     (w : Option ℕ) → u ≡ not_asked k.interface asked → IsState k.root x → IsSettledByAll u k x inputs cells r
     → (decided cells ≡ length cells → HasNoCode x r.found)
     → w ≡ waits_for u true k.root (pauses_from x) Present (env_of r.env)

@@ -38,7 +38,7 @@ use Rattle.est_micro.specs.Parts.{AreInputsAlone, IsClosedBut, known_but}
 use Rattle.est_micro.specs.Runs.{AreOfferedTrue, output_cells, output_gate, IsExchanged, IsRound, IsSettled}
 use Rattle.est_micro.specs.Runs.{IsSettledBut, Ready, table_of}
 use Rattle.est_micro.specs.declared.cells.Found.{Found}
-use Rattle.est_micro.specs.declared.settling.Settled.{Settled}
+use Rattle.est_micro.specs.declared.settling.DecidedCells.{DecidedCells}
 use Rattle.est_micro.proofs.Exchanging.{emittable_within}
 use Rattle.est_micro.proofs.Frames.{sheet_same}
 use Rattle.est_micro.proofs.FullTables.{full_closed}
@@ -109,7 +109,7 @@ round_made unasked way k x inputs e f old new r before now alone ready h before_
     }
 
 pub settled : (unasked : ℕ → Bool) (k : Kernel) (x : State) (inputs : ℕ → Bool) (before now : ℕ) (cells : List Status)
-    (r : Settled) → Settling unasked k x inputs before now cells r.found r.env → (now ≡ before) ⊎ (now ≡ length cells)
+    (r : DecidedCells) → Settling unasked k x inputs before now cells r.found r.env → (now ≡ before) ⊎ (now ≡ length cells)
     → IsSettledBut unasked k x inputs cells r
 settled unasked k x inputs before now cells r h e = record {
   size = h.ready.size;
@@ -121,7 +121,7 @@ settled unasked k x inputs before now cells r h e = record {
 }
 
 -- a table without an open cell is settled
-pub full_settled : (unasked : ℕ → Bool) (k : Kernel) (x : State) (inputs : ℕ → Bool) (cells : List Status) (r : Settled)
+pub full_settled : (unasked : ℕ → Bool) (k : Kernel) (x : State) (inputs : ℕ → Bool) (cells : List Status) (r : DecidedCells)
     → IsSettledBut unasked k x inputs cells r → decided cells ≡ length cells → IsSettled k x inputs cells r.found
 full_settled unasked k x inputs cells r h all = record {
   size = h.size;
@@ -132,7 +132,7 @@ full_settled unasked k x inputs cells r h all = record {
 }
 
 -- and so is one where each input is asked
-pub none_settled : (unasked : ℕ → Bool) (k : Kernel) (x : State) (inputs : ℕ → Bool) (cells : List Status) (r : Settled)
+pub none_settled : (unasked : ℕ → Bool) (k : Kernel) (x : State) (inputs : ℕ → Bool) (cells : List Status) (r : DecidedCells)
     → ((n : ℕ) → unasked n ≡ false) → IsSettledBut unasked k x inputs cells r → IsSettled k x inputs cells r.found
 none_settled unasked k x inputs cells r none h = elim h.closed [
   | inl all ↦ full_settled unasked k x inputs cells r h all
@@ -152,7 +152,7 @@ none_settled unasked k x inputs cells r none h = elim h.closed [
   }
 ]
 
-pub none_knows : (unasked : ℕ → Bool) (k : Kernel) (x : State) (inputs : ℕ → Bool) (cells : List Status) (r : Settled)
+pub none_knows : (unasked : ℕ → Bool) (k : Kernel) (x : State) (inputs : ℕ → Bool) (cells : List Status) (r : DecidedCells)
     → ((n : ℕ) → unasked n ≡ false) → IsSettledBut unasked k x inputs cells r
     → env_of r.env ≡ known (judged_signals k.interface inputs) inputs (output_cells k.interface cells)
 none_knows unasked k x inputs cells r none h = h.knows ∙ none_opened unasked _ none

@@ -24,7 +24,7 @@ use Rattle.est_micro.specs.Sweeps.{swept, live_swept}
 use Rattle.est_micro.specs.declared.direction.Direction.{Direction}
 use Rattle.est_micro.specs.Views.{Changes, IsJudged, IsSwept}
 use Rattle.est_micro.specs.declared.cells.Found.{Found}
-use Rattle.est_micro.specs.declared.settling.Settled.{Settled}
+use Rattle.est_micro.specs.declared.settling.DecidedCells.{DecidedCells}
 
 -- the sheet of a kernel's statement after a sweep, by its state
 abbrev pub sheet_swept : Direction → (s : Statement) → State → Env → Sheet true s → Sheet true s
@@ -91,7 +91,7 @@ pub record IsSettled (k : Kernel) (x : State) (inputs : ℕ → Bool) (cells : L
 
 -- the same where some inputs are not asked: no cell is open, or the gates decide nothing more by what is known
 pub record IsSettledBut (unasked : ℕ → Bool) (k : Kernel) (x : State) (inputs : ℕ → Bool) (cells : List Status)
-    (r : Settled) : Type 0 where
+    (r : DecidedCells) : Type 0 where
   pub size : length cells ≡ cell_count k
   pub sound : let j = judged_signals k.interface inputs in
       TableBelow j k.root (table_of k.interface k.root cells) (table_meaning j inputs k.root x)

@@ -18,7 +18,7 @@ ghost use Rattle.est_micro.specs.Runs.{IsSettledBut};
 use crate::cells::{Found, Place};
 use crate::direction::Direction;
 use crate::next::collect;
-use crate::settling::{Settled, settle};
+use crate::settling::{DecidedCells, decide_cells};
 use est_kernel::completion::Completion;
 use est_kernel::kernel::Kernel;
 use est_kernel::mask;
@@ -139,7 +139,7 @@ impl Micro {
         state: &State,
         inputs: u64,
         unasked: u64,
-    ) -> Settled
+    ) -> DecidedCells
         requires net { IsNetOf self.old.net kernel.now }
         requires state { IsState kernel.now.root state.now }
         requires apart { AreInputsAlone kernel.now.interface (bits unasked) }
@@ -151,7 +151,7 @@ impl Micro {
     {
         let outputs_count = self.net.outputs();
         let possible = self.net.reach().from_state(state);
-        let settled = settle(
+        let settled = decide_cells(
             &mut self.net,
             kernel,
             outputs_count,

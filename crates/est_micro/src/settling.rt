@@ -95,7 +95,7 @@ fn round(
 
 /// What is found where nothing more can be decided.
 #[derive(Clone, Copy)]
-pub struct Settled {
+pub struct DecidedCells {
     /// What the cells of the statement say.
     pub found: Found,
     /// What is known of the signals of the interface.
@@ -139,7 +139,7 @@ fn to_pass(was: &Env, env: &Env, now: usize, before: usize, cells: usize) -> u64
 /// Opens the table, and makes rounds until nothing more can be decided. `possible` has every signal
 /// that may be emitted from this state. Of the inputs in `unasked` nothing is known: what is
 /// decided is so whatever they are. The first sweep goes the way of `first`.
-pub fn settle(
+pub fn decide_cells(
     net: &mut Net,
     kernel: &Kernel,
     outputs_count: usize,
@@ -148,7 +148,7 @@ pub fn settle(
     inputs: u64,
     unasked: u64,
     first: Direction,
-) -> Settled
+) -> DecidedCells
     requires state { IsState kernel.now.root state.now }
     requires outputs_count { outputs_count ≡ output_count kernel.now.interface }
     requires size { length net.old.cells.items ≡ cell_count kernel.now }
@@ -208,7 +208,7 @@ pub fn settle(
         );
         now = net.steps();
     }
-    Settled {
+    DecidedCells {
         found,
         env,
         direction,

@@ -97,8 +97,8 @@ fn add_emission(list: &mut Vec<Emission>, signal: Signal, go: usize) -> Result<(
 
 /// Adds the emissions of two parts, the second after the first, or memory was refused. Answers the
 /// first place after their cells.
-#[cycle(add)]
-fn add_two(
+#[cycle(add_emissions)]
+fn add_emissions_of_two(
     list: &mut Vec<Emission>,
     main: bool,
     p: &Statement,
@@ -114,14 +114,14 @@ fn add_two(
         ++ (emissions main p.now cell traps
         ++ emissions main q.now (cell + sheet_size main p.now traps) traps)) }
 {
-    let next = add(list, main, p, cell, traps)?;
-    add(list, main, q, next, traps)
+    let next = add_emissions(list, main, p, cell, traps)?;
+    add_emissions(list, main, q, next, traps)
 }
 
 /// Adds the emissions of a statement whose cells begin at `cell`, in their order, or memory was
 /// refused. Answers the first place after its cells. Recursion is as deep as the statement is.
-#[cycle(add)]
-fn add(
+#[cycle(add_emissions)]
+fn add_emissions(
     list: &mut Vec<Emission>,
     main: bool,
     s: &Statement,
@@ -141,20 +141,20 @@ fn add(
             add_emission(list, *signal, cell)?;
             Ok(cell + traps + 3)
         }
-        Statement::Present(_, p, q) => add_two(list, main, p, q, cell + traps + 3, traps),
-        Statement::Seq(p, q) => add_two(list, main, p, q, cell + traps + 3, traps),
-        Statement::Par(p, q) => add_two(list, main, p, q, cell + traps + 3, traps),
-        Statement::Suspend(_, p) => add(list, main, p, cell + traps + 3, traps),
+        Statement::Present(_, p, q) => add_emissions_of_two(list, main, p, q, cell + traps + 3, traps),
+        Statement::Seq(p, q) => add_emissions_of_two(list, main, p, q, cell + traps + 3, traps),
+        Statement::Par(p, q) => add_emissions_of_two(list, main, p, q, cell + traps + 3, traps),
+        Statement::Suspend(_, p) => add_emissions(list, main, p, cell + traps + 3, traps),
         Statement::Loop(p) => {
-            let next = add(list, main, p, cell + traps + 3, traps)?;
+            let next = add_emissions(list, main, p, cell + traps + 3, traps)?;
             if main {
-                add(list, false, p, next, traps)
+                add_emissions(list, false, p, next, traps)
             } else {
                 Ok(next)
             }
         }
-        Statement::Trap(p) => add(list, main, p, cell + traps + 3, traps + 1),
-        Statement::Local(_, p) => add(list, main, p, cell + traps + 4, traps),
+        Statement::Trap(p) => add_emissions(list, main, p, cell + traps + 3, traps + 1),
+        Statement::Local(_, p) => add_emissions(list, main, p, cell + traps + 4, traps),
     }
 }
 
@@ -165,6 +165,6 @@ pub fn emissions_of(alloc: Global, s: &Statement, cell: usize) -> Result<Vec<Emi
     ensures { IfOk result (λ list. list.items ≡ emissions true s.now cell 0) }
 {
     let mut list = Vec::new(alloc);
-    add(&mut list, true, s, cell, 0)?;
+    add_emissions(&mut list, true, s, cell, 0)?;
     Ok(list)
 }

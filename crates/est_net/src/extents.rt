@@ -168,7 +168,7 @@ fn with_parts(own: usize, p: &Extent, q: &Extent, reads: u64) -> Extent
 
 /// Adds the entries of the parts of a statement, or memory was refused. Answers what is known of
 /// the statement.
-#[cycle(add)]
+#[cycle(add_extents)]
 fn add_parts(extents: &mut Vec<Extent>, s: &Statement, traps: usize) -> Result<Extent, AllocError>
     requires main { sheet_size true s.now traps ≤ 18446744073709551615 }
     requires again { sheet_size false s.now traps ≤ 18446744073709551615 }
@@ -180,23 +180,23 @@ fn add_parts(extents: &mut Vec<Extent>, s: &Statement, traps: usize) -> Result<E
         Statement::Emit(_) => Ok(leaf(traps + 3, no_pause())),
         Statement::Exit(_) => Ok(leaf(traps + 3, no_pause())),
         Statement::Pause(pause) => Ok(leaf(traps + 3, one_pause(*pause))),
-        Statement::Present(test, p, q) => add_two(extents, p, q, traps, read_by(test)),
-        Statement::Seq(p, q) => add_two(extents, p, q, traps, 0),
-        Statement::Par(p, q) => add_two(extents, p, q, traps, 0),
+        Statement::Present(test, p, q) => add_extents_of_two(extents, p, q, traps, read_by(test)),
+        Statement::Seq(p, q) => add_extents_of_two(extents, p, q, traps, 0),
+        Statement::Par(p, q) => add_extents_of_two(extents, p, q, traps, 0),
         Statement::Suspend(test, p) => {
-            let body = add(extents, p, traps)?;
+            let body = add_extents(extents, p, traps)?;
             Ok(with_test(with_part(traps + 3, &body), test))
         }
         Statement::Loop(p) => {
-            let body = add(extents, p, traps)?;
+            let body = add_extents(extents, p, traps)?;
             Ok(with_body(traps + 3, &body))
         }
         Statement::Trap(p) => {
-            let body = add(extents, p, traps + 1)?;
+            let body = add_extents(extents, p, traps + 1)?;
             Ok(with_part(traps + 3, &body))
         }
         Statement::Local(_, p) => {
-            let body = add(extents, p, traps)?;
+            let body = add_extents(extents, p, traps)?;
             Ok(with_part(traps + 4, &body))
         }
     }
@@ -204,8 +204,8 @@ fn add_parts(extents: &mut Vec<Extent>, s: &Statement, traps: usize) -> Result<E
 
 /// Adds the entries of two parts, or memory was refused. Answers what is known of the statement
 /// that has these parts, and whose own test, if it has one, reads these signals.
-#[cycle(add)]
-fn add_two(
+#[cycle(add_extents)]
+fn add_extents_of_two(
     extents: &mut Vec<Extent>,
     p: &Statement,
     q: &Statement,
@@ -224,15 +224,15 @@ fn add_two(
     ensures par { IfOk result (λ x. (a b : _)
         → ArePartsAdded (Par' a p.now b q.now) traps extents.old.items extents.new.items x) }
 {
-    let first = add(extents, p, traps)?;
-    let second = add(extents, q, traps)?;
+    let first = add_extents(extents, p, traps)?;
+    let second = add_extents(extents, q, traps)?;
     Ok(with_parts(traps + 3, &first, &second, reads))
 }
 
 /// Adds the entries of a statement and of its parts, or memory was refused. Answers its own.
 /// Recursion is as deep as the statement is.
-#[cycle(add)]
-fn add(extents: &mut Vec<Extent>, s: &Statement, traps: usize) -> Result<Extent, AllocError>
+#[cycle(add_extents)]
+fn add_extents(extents: &mut Vec<Extent>, s: &Statement, traps: usize) -> Result<Extent, AllocError>
     requires main { sheet_size true s.now traps ≤ 18446744073709551615 }
     requires again { sheet_size false s.now traps ≤ 18446744073709551615 }
     requires statements { statements s.now ≤ 18446744073709551615 }
@@ -252,6 +252,6 @@ pub fn extents_of(alloc: Global, s: &Statement) -> Result<Vec<Extent>, AllocErro
     ensures { IfOk result (λ xs. HasExtents xs.items 0 0 s.now) }
 {
     let mut extents = Vec::new(alloc);
-    add(&mut extents, s, 0)?;
+    add_extents(&mut extents, s, 0)?;
     Ok(extents)
 }

@@ -115,8 +115,8 @@ fn add_pause(
 }
 
 /// Adds the pauses of two parts of which each may be begun, or memory was refused.
-#[cycle(add)]
-fn add_two(
+#[cycle(add_pauses)]
+fn add_pauses_of_two(
     pauses: &mut Vec<FromPause>,
     p: &Statement,
     q: &Statement,
@@ -129,13 +129,13 @@ fn add_two(
         → IsAdded (Par' a p.now b q.now) (bits later.end) (bits later.exit)
         pauses.old.items pauses.new.items signals) }
 {
-    let first = add(pauses, p, later)?;
-    let second = add(pauses, q, later)?;
+    let first = add_pauses(pauses, p, later)?;
+    let second = add_pauses(pauses, q, later)?;
     Ok(mask::either(first, second))
 }
 
 /// Adds the pauses of a `;`, or memory was refused.
-#[cycle(add)]
+#[cycle(add_pauses)]
 fn add_seq(
     pauses: &mut Vec<FromPause>,
     p: &Statement,
@@ -146,27 +146,27 @@ fn add_seq(
         → IsAdded (Seq' a p.now b q.now) (bits later.end) (bits later.exit)
         pauses.old.items pauses.new.items signals) }
 {
-    let end = add(pauses, q, later)?;
-    let first = add(pauses, p, Later { end, ..later })?;
+    let end = add_pauses(pauses, q, later)?;
+    let first = add_pauses(pauses, p, Later { end, ..later })?;
     Ok(first)
 }
 
 /// Adds the pauses of a loop, or memory was refused.
-#[cycle(add)]
+#[cycle(add_pauses)]
 fn add_loop(pauses: &mut Vec<FromPause>, p: &Statement, later: Later) -> Result<u64, AllocError>
     ensures { IfOk result (λ signals. (a : _)
         → IsAdded (Loop' a p.now) (bits later.end) (bits later.exit)
         pauses.old.items pauses.new.items signals) }
 {
     let end = begun(p, later);
-    add(pauses, p, Later { end, ..later })?;
+    add_pauses(pauses, p, Later { end, ..later })?;
     Ok(end)
 }
 
 /// Adds the pauses of a statement, or memory was refused. Answers what may be emitted once the
 /// statement is begun. Recursion is as deep as the statement is.
-#[cycle(add)]
-fn add(pauses: &mut Vec<FromPause>, s: &Statement, later: Later) -> Result<u64, AllocError>
+#[cycle(add_pauses)]
+fn add_pauses(pauses: &mut Vec<FromPause>, s: &Statement, later: Later) -> Result<u64, AllocError>
     ensures { IfOk result (IsAdded s.now (bits later.end) (bits later.exit)
         pauses.old.items pauses.new.items) }
 {
@@ -175,13 +175,13 @@ fn add(pauses: &mut Vec<FromPause>, s: &Statement, later: Later) -> Result<u64, 
         Statement::Emit(_) => Ok(begun(s, later)),
         Statement::Exit(_) => Ok(begun(s, later)),
         Statement::Pause(pause) => add_pause(pauses, *pause, later),
-        Statement::Present(_, p, q) => add_two(pauses, p, q, later),
-        Statement::Par(p, q) => add_two(pauses, p, q, later),
-        Statement::Suspend(_, p) => add(pauses, p, later),
-        Statement::Local(_, p) => add(pauses, p, later),
+        Statement::Present(_, p, q) => add_pauses_of_two(pauses, p, q, later),
+        Statement::Par(p, q) => add_pauses_of_two(pauses, p, q, later),
+        Statement::Suspend(_, p) => add_pauses(pauses, p, later),
+        Statement::Local(_, p) => add_pauses(pauses, p, later),
         Statement::Seq(p, q) => add_seq(pauses, p, q, later),
         Statement::Loop(p) => add_loop(pauses, p, later),
-        Statement::Trap(p) => add(pauses, p, inside_trap(later)),
+        Statement::Trap(p) => add_pauses(pauses, p, inside_trap(later)),
     }
 }
 
@@ -207,7 +207,7 @@ impl Reach {
             end: no_signal(),
             exit: no_signal(),
         };
-        let first = add(&mut pauses, s, nothing)?;
+        let first = add_pauses(&mut pauses, s, nothing)?;
         Ok(Reach { first, pauses })
     }
 

@@ -61,7 +61,7 @@ fn inside_binders(
 
 /// Where a body stands.
 #[derive(Clone, Copy)]
-pub struct Place<'a> {
+pub struct ReduceContext<'a> {
     /// Where memory for its statement is taken.
     pub alloc: Global,
     /// The traps around it.
@@ -73,7 +73,7 @@ pub struct Place<'a> {
 /// The kernel statement of a body at a place. Recursion is as deep as the body, which comes to at
 /// most 2,048 kernel statements when `reduce` asks.
 #[cycle(statement)]
-pub fn statement(place: &Place<'_>, body: &Body) -> Result<Statement, AllocError>
+pub fn statement(place: &ReduceContext<'_>, body: &Body) -> Result<Statement, AllocError>
     requires room { place.now.locals ≤ 65536 }
     requires small { IsSmall (reduced (leads place.now.exits.now)
         place.now.locals (body_of body.now)) }
@@ -111,7 +111,7 @@ pub fn statement(place: &Place<'_>, body: &Body) -> Result<Statement, AllocError
 
 /// The kernel statement of a body with a fresh trap around it.
 #[cycle(statement)]
-fn reduce_in_fresh(place: &Place<'_>, body: &Body) -> Result<Statement, AllocError>
+fn reduce_in_fresh(place: &ReduceContext<'_>, body: &Body) -> Result<Statement, AllocError>
     requires room { place.now.locals ≤ 65536 }
     requires small { IsSmall (reduced (past_fresh (leads place.now.exits.now))
         place.now.locals (body_of body.now)) }
@@ -119,7 +119,7 @@ fn reduce_in_fresh(place: &Place<'_>, body: &Body) -> Result<Statement, AllocErr
         ≡ reduced (past_fresh (leads place.now.exits.now)) place.now.locals (body_of body.now)) }
 {
     let exits = Exits::Fresh(&*place.exits);
-    let inside = Place {
+    let inside = ReduceContext {
         alloc: place.alloc,
         exits: &exits,
         locals: place.locals,
@@ -129,7 +129,7 @@ fn reduce_in_fresh(place: &Place<'_>, body: &Body) -> Result<Statement, AllocErr
 
 /// The kernel statement of a body with a trap of the text around it.
 #[cycle(statement)]
-fn reduce_in_trap(place: &Place<'_>, body: &Body) -> Result<Statement, AllocError>
+fn reduce_in_trap(place: &ReduceContext<'_>, body: &Body) -> Result<Statement, AllocError>
     requires room { place.now.locals ≤ 65536 }
     requires small { IsSmall (reduced (past_named (leads place.now.exits.now))
         place.now.locals (body_of body.now)) }
@@ -137,7 +137,7 @@ fn reduce_in_trap(place: &Place<'_>, body: &Body) -> Result<Statement, AllocErro
         ≡ reduced (past_named (leads place.now.exits.now)) place.now.locals (body_of body.now)) }
 {
     let exits = Exits::Named(&*place.exits);
-    let inside = Place {
+    let inside = ReduceContext {
         alloc: place.alloc,
         exits: &exits,
         locals: place.locals,
@@ -147,14 +147,14 @@ fn reduce_in_trap(place: &Place<'_>, body: &Body) -> Result<Statement, AllocErro
 
 /// The kernel statement of a body with `count` more local signals around it.
 #[cycle(statement)]
-fn reduce_in_signals(place: &Place<'_>, count: u32, body: &Body) -> Result<Statement, AllocError>
+fn reduce_in_signals(place: &ReduceContext<'_>, count: u32, body: &Body) -> Result<Statement, AllocError>
     requires room { place.now.locals + count ≤ 65536 }
     requires small { IsSmall (reduced (leads place.now.exits.now)
         (place.now.locals + count) (body_of body.now)) }
     ensures { IfOk result (λ s. term_of s
         ≡ reduced (leads place.now.exits.now) (place.now.locals + count) (body_of body.now)) }
 {
-    let inside = Place {
+    let inside = ReduceContext {
         alloc: place.alloc,
         exits: &*place.exits,
         locals: place.locals + count,

@@ -4,7 +4,7 @@ ghost use Rattle.est_kernel.specs.declared.interface.TheConstants.{MOST_SIGNALS}
 ghost use Rattle.est_reduce.specs.Reducing.{Reduces};
 ghost use Rattle.est_reduce.specs.Views.{body_of};
 
-use crate::builder::{Exits, Place, statement};
+use crate::builder::{Exits, ReduceContext, statement};
 use crate::fault::ReduceFault;
 use crate::flat::Flat;
 use crate::size::room_after;
@@ -39,7 +39,7 @@ pub fn reduce(alloc: Global, flat: &Flat) -> Result<Kernel, ReduceFault>
         return Err(ReduceFault::TooLarge(Limit::Statements));
     }
     let interface = copied(alloc, &flat.interface)?;
-    let outermost = Place {
+    let outermost = ReduceContext {
         alloc,
         exits: &Exits::Outermost,
         locals: 0,

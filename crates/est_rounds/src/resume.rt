@@ -63,10 +63,10 @@ pub fn resume_maybe(s: &Statement, pauses: &PauseSet, env: &Env) -> Option<Acts>
         Statement::Suspend(t, p) => suspend_maybe(t, p, pauses, env),
         Statement::Seq(p, q) => seq_maybe(p, q, pauses, env),
         Statement::Loop(p) => loop_maybe(p, pauses, env),
-        Statement::Par(p, q) => par_maybe(p, q, pauses, env),
-        Statement::Trap(p) => trap_maybe(p, pauses, env),
+        Statement::Par(p, q) => resume_par_maybe(p, q, pauses, env),
+        Statement::Trap(p) => resume_trap_maybe(p, pauses, env),
         Statement::Exit(_) => None,
-        Statement::Local(s, p) => local_maybe(*s, p, pauses, env),
+        Statement::Local(s, p) => resume_local_maybe(*s, p, pauses, env),
     }
 }
 
@@ -113,7 +113,7 @@ fn loop_maybe(p: &Statement, pauses: &PauseSet, env: &Env) -> Option<Acts>
 
 /// What `p || q` can do as it goes on (mode `maybe`).
 #[cycle(doubt)]
-fn par_maybe(p: &Statement, q: &Statement, pauses: &PauseSet, env: &Env) -> Option<Acts>
+fn resume_par_maybe(p: &Statement, q: &Statement, pauses: &PauseSet, env: &Env) -> Option<Acts>
     requires fits { FitsMasks p.now × FitsMasks q.now }
     ensures { (x y : _) → JudgesInDoubt result (Par' x p.now y q.now) pauses.now env.now }
 {
@@ -127,7 +127,7 @@ fn par_maybe(p: &Statement, q: &Statement, pauses: &PauseSet, env: &Env) -> Opti
 
 /// What `trap p end` can do as it goes on (mode `maybe`).
 #[cycle(doubt)]
-fn trap_maybe(p: &Statement, pauses: &PauseSet, env: &Env) -> Option<Acts>
+fn resume_trap_maybe(p: &Statement, pauses: &PauseSet, env: &Env) -> Option<Acts>
     requires fits { FitsMasks p.now }
     ensures { (x : _) → JudgesInDoubt result (Trap' x p.now) pauses.now env.now }
 {
@@ -136,7 +136,7 @@ fn trap_maybe(p: &Statement, pauses: &PauseSet, env: &Env) -> Option<Acts>
 
 /// What `signal s in p end` can do as it goes on (mode `maybe`).
 #[cycle(doubt)]
-fn local_maybe(s: LocalSignal, p: &Statement, pauses: &PauseSet, env: &Env) -> Option<Acts>
+fn resume_local_maybe(s: LocalSignal, p: &Statement, pauses: &PauseSet, env: &Env) -> Option<Acts>
     requires fits { (s.index < 64) × FitsMasks p.now }
     ensures { (x : _) → JudgesInDoubt result (Local' s x p.now) pauses.now env.now }
 {
@@ -170,10 +170,10 @@ pub fn resume_sure(s: &Statement, pauses: &PauseSet, env: &Env) -> Option<Judgem
         Statement::Suspend(t, p) => suspend_sure(t, p, pauses, env),
         Statement::Seq(p, q) => seq_sure(p, q, pauses, env),
         Statement::Loop(p) => loop_sure(p, pauses, env),
-        Statement::Par(p, q) => par_sure(p, q, pauses, env),
-        Statement::Trap(p) => trap_sure(p, pauses, env),
+        Statement::Par(p, q) => resume_par_sure(p, q, pauses, env),
+        Statement::Trap(p) => resume_trap_sure(p, pauses, env),
         Statement::Exit(_) => None,
-        Statement::Local(s, p) => local_sure(*s, p, pauses, env),
+        Statement::Local(s, p) => resume_local_sure(*s, p, pauses, env),
     }
 }
 
@@ -226,7 +226,7 @@ fn loop_sure(p: &Statement, pauses: &PauseSet, env: &Env) -> Option<Judgement>
 
 /// What `p || q` must do and can do as it goes on.
 #[cycle(sure)]
-fn par_sure(p: &Statement, q: &Statement, pauses: &PauseSet, env: &Env) -> Option<Judgement>
+fn resume_par_sure(p: &Statement, q: &Statement, pauses: &PauseSet, env: &Env) -> Option<Judgement>
     requires fits { FitsMasks p.now × FitsMasks q.now }
     ensures { (x y : _) → Judges result (Par' x p.now y q.now) pauses.now env.now }
 {
@@ -244,7 +244,7 @@ fn par_sure(p: &Statement, q: &Statement, pauses: &PauseSet, env: &Env) -> Optio
 
 /// What `trap p end` must do and can do as it goes on.
 #[cycle(sure)]
-fn trap_sure(p: &Statement, pauses: &PauseSet, env: &Env) -> Option<Judgement>
+fn resume_trap_sure(p: &Statement, pauses: &PauseSet, env: &Env) -> Option<Judgement>
     requires fits { FitsMasks p.now }
     ensures { (x : _) → Judges result (Trap' x p.now) pauses.now env.now }
 {
@@ -253,7 +253,7 @@ fn trap_sure(p: &Statement, pauses: &PauseSet, env: &Env) -> Option<Judgement>
 
 /// What `signal s in p end` must do and can do as it goes on.
 #[cycle(sure)]
-fn local_sure(s: LocalSignal, p: &Statement, pauses: &PauseSet, env: &Env) -> Option<Judgement>
+fn resume_local_sure(s: LocalSignal, p: &Statement, pauses: &PauseSet, env: &Env) -> Option<Judgement>
     requires fits { (s.index < 64) × FitsMasks p.now }
     ensures { (x : _) → Judges result (Local' s x p.now) pauses.now env.now }
 {

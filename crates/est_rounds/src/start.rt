@@ -40,16 +40,16 @@ pub fn start_maybe(s: &Statement, env: &Env) -> Acts
         Statement::Suspend(_, p) => start_maybe(p, env),
         Statement::Seq(p, q) => then_start_maybe(start_maybe(p, env), q, env),
         Statement::Loop(p) => start_maybe(p, env),
-        Statement::Par(p, q) => par_maybe(p, q, env),
-        Statement::Trap(p) => trap_maybe(p, env),
+        Statement::Par(p, q) => start_par_maybe(p, q, env),
+        Statement::Trap(p) => start_trap_maybe(p, env),
         Statement::Exit(k) => Acts::just_code(Completion::Exit(*k)),
-        Statement::Local(s, p) => local_maybe(*s, p, env),
+        Statement::Local(s, p) => start_local_maybe(*s, p, env),
     }
 }
 
 /// What `p || q` can do (mode `maybe`).
 #[cycle(doubt)]
-fn par_maybe(p: &Statement, q: &Statement, env: &Env) -> Acts
+fn start_par_maybe(p: &Statement, q: &Statement, env: &Env) -> Acts
     requires fits { FitsMasks p.now × FitsMasks q.now }
     ensures { acts_of result ≡ may_by env.now (par (term_of p.now) (term_of q.now)) }
 {
@@ -58,7 +58,7 @@ fn par_maybe(p: &Statement, q: &Statement, env: &Env) -> Acts
 
 /// What `trap p end` can do (mode `maybe`).
 #[cycle(doubt)]
-fn trap_maybe(p: &Statement, env: &Env) -> Acts
+fn start_trap_maybe(p: &Statement, env: &Env) -> Acts
     requires fits { FitsMasks p.now }
     ensures { acts_of result ≡ may_by env.now (trap (term_of p.now)) }
 {
@@ -67,7 +67,7 @@ fn trap_maybe(p: &Statement, env: &Env) -> Acts
 
 /// What `signal s in p end` can do (mode `maybe`).
 #[cycle(doubt)]
-fn local_maybe(s: LocalSignal, p: &Statement, env: &Env) -> Acts
+fn start_local_maybe(s: LocalSignal, p: &Statement, env: &Env) -> Acts
     requires fits { (s.index < 64) × FitsMasks p.now }
     ensures { acts_of result ≡ may_by env.now (signal s.index (term_of p.now)) }
 {
@@ -115,16 +115,16 @@ pub fn start_sure(s: &Statement, env: &Env) -> Judgement
         Statement::Suspend(_, p) => start_sure(p, env),
         Statement::Seq(p, q) => then_start(start_sure(p, env), q, env),
         Statement::Loop(p) => start_sure(p, env),
-        Statement::Par(p, q) => par_sure(p, q, env),
-        Statement::Trap(p) => trap_sure(p, env),
+        Statement::Par(p, q) => start_par_sure(p, q, env),
+        Statement::Trap(p) => start_trap_sure(p, env),
         Statement::Exit(k) => Judgement::exactly(Acts::just_code(Completion::Exit(*k))),
-        Statement::Local(s, p) => local_sure(*s, p, env),
+        Statement::Local(s, p) => start_local_sure(*s, p, env),
     }
 }
 
 /// What `p || q` must do and can do.
 #[cycle(start)]
-fn par_sure(p: &Statement, q: &Statement, env: &Env) -> Judgement
+fn start_par_sure(p: &Statement, q: &Statement, env: &Env) -> Judgement
     requires fits { FitsMasks p.now × FitsMasks q.now }
     ensures must { acts_of result.must ≡ must_by env.now (par (term_of p.now) (term_of q.now)) }
     ensures can { acts_of result.can ≡ can_by env.now (par (term_of p.now) (term_of q.now)) }
@@ -134,7 +134,7 @@ fn par_sure(p: &Statement, q: &Statement, env: &Env) -> Judgement
 
 /// What `trap p end` must do and can do.
 #[cycle(start)]
-fn trap_sure(p: &Statement, env: &Env) -> Judgement
+fn start_trap_sure(p: &Statement, env: &Env) -> Judgement
     requires fits { FitsMasks p.now }
     ensures must { acts_of result.must ≡ must_by env.now (trap (term_of p.now)) }
     ensures can { acts_of result.can ≡ can_by env.now (trap (term_of p.now)) }
@@ -144,7 +144,7 @@ fn trap_sure(p: &Statement, env: &Env) -> Judgement
 
 /// What `signal s in p end` must do and can do.
 #[cycle(start)]
-fn local_sure(s: LocalSignal, p: &Statement, env: &Env) -> Judgement
+fn start_local_sure(s: LocalSignal, p: &Statement, env: &Env) -> Judgement
     requires fits { (s.index < 64) × FitsMasks p.now }
     ensures must { acts_of result.must ≡ must_by env.now (signal s.index (term_of p.now)) }
     ensures can { acts_of result.can ≡ can_by env.now (signal s.index (term_of p.now)) }

@@ -5,8 +5,8 @@ use Rattle.access_core.specs.declared.refusal.Refusal.TheVariants as refusal
 use Rattle.access_core.specs.declared.reply.Reply.TheVariants as reply
 use Rattle.wire_lines.specs.Replies.{line_of}
 use Rattle.wire_reader.specs.Serving.{Serves as ServesBy, between}
-use Rattle.wire_reader.specs.declared.serving.Why.{Why}
-use Rattle.wire_reader.specs.declared.serving.Why.TheVariants.{Closed, TooLong, ReadFault, WriteFault, Memory}
+use Rattle.wire_reader.specs.declared.serving.EndReason.{EndReason}
+use Rattle.wire_reader.specs.declared.serving.EndReason.TheVariants.{Closed, TooLong, ReadFault, WriteFault, Memory}
 use Rattle.lab_run.specs.Lines.{HasNoText, IsAnswer, IsTextOf}
 use Rattle.lab_run.specs.Proving.{TellsOfText}
 use Rattle.lab_run.specs.Statuses.{status_of}
@@ -16,7 +16,7 @@ use Rattle.lab_run.specs.declared.lab.Told.{Told}
 use Rattle.lab_run.specs.declared.order.Proof.{Proof}
 
 -- the status after the end of the lines
-abbrev pub status_of_end : Why → ℕ
+abbrev pub status_of_end : EndReason → ℕ
 status_of_end Closed = 0
 status_of_end TooLong = 0
 status_of_end ReadFault = 1
@@ -33,7 +33,7 @@ TellsNothing before line after = HasNoText before.1.loaded line after.1.loaded
 
 -- the lines are answered, first of a lab in which nothing is loaded
 pub record ServesLines (ahead : Option (List ℕ)) (status : ℕ) (written after : Option (List ℕ)) : Type 0 where
-  pub why : Why
+  pub why : EndReason
   pub opened : Clerk × Lab
   pub empty : opened.1.loaded ≡ None
   pub closed : Clerk × Lab

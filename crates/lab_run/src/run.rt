@@ -24,16 +24,16 @@ use std::fs::Files;
 use std::io::{Read, Write};
 use wire_reader::meter::{MeteredMemory, MeteredReader, MeteredWriter};
 use wire_reader::replies::{Replies, WriteFault};
-use wire_reader::serving::{Why, answer_connection};
+use wire_reader::serving::{EndReason, answer_connection};
 
 /// The status after the end of the lines.
-fn status_of_end(why: Why) -> u8
+fn status_of_end(why: EndReason) -> u8
     ensures { result ≡ status_of_end why }
 {
     match why {
-        Why::Closed | Why::TooLong => 0,
-        Why::ReadFault | Why::WriteFault => FAILS,
-        Why::Memory => UNKNOWN,
+        EndReason::Closed | EndReason::TooLong => 0,
+        EndReason::ReadFault | EndReason::WriteFault => FAILS,
+        EndReason::Memory => UNKNOWN,
     }
 }
 

@@ -3,7 +3,7 @@
 ghost use Rattle.std.specs.Prelude.{[]};
 ghost use Rattle.std.proofs.Common.{rules};
 
-use state_search::machine::{Machine, Standing, Step};
+use state_search::transition_system::{TransitionSystem, Standing, Step};
 use state_search::search::{Limits, search};
 use std::alloc::AllocError;
 use std::hash::{Hash, Hasher};
@@ -29,7 +29,7 @@ impl Standing for Alike {
 /// It counts to three.
 struct Counter;
 
-impl Machine for Counter {
+impl TransitionSystem for Counter {
     type State = Alike;
 
     type Label = u8;

@@ -1,12 +1,12 @@
 -- A writer that failed in a connection or after it.
 use Rattle.std.proofs.Common.{◌≡◌, ℕ, true, refl, sym, subst}
 use Rattle.wire_reader.specs.Meters.{has_failed}
-use Rattle.wire_reader.specs.declared.serving.Why.{Why}
-use Rattle.wire_reader.specs.declared.serving.Why.TheVariants as why
+use Rattle.wire_reader.specs.declared.serving.EndReason.{EndReason}
+use Rattle.wire_reader.specs.declared.serving.EndReason.TheVariants as why
 use Rattle.program_run.specs.Runs.{CannotWrite}
 
 -- where a fault of its writer ended the connection, the writer failed in it; else it failed after it
-pub failed_in_run : (y : Why) (first mid last : ℕ) → CannotWrite y mid last
+pub failed_in_run : (y : EndReason) (first mid last : ℕ) → CannotWrite y mid last
     → (y ≡ why.WriteFault → has_failed first mid ≡ true)
     → ((y ≡ why.WriteFault → ⊥) → mid ≡ first) → has_failed first last ≡ true
 failed_in_run why.WriteFault first mid last same failed kept =

@@ -7,8 +7,8 @@ use Rattle.program_run.specs.declared.fault.Fault.{Fault}
 use Rattle.program_run.specs.declared.fault.Fault.TheVariants as fault
 use Rattle.program_words.specs.declared.fault.WordFault.{WordFault}
 use Rattle.program_words.specs.declared.fault.WordFault.TheVariants as words
-use Rattle.wire_reader.specs.declared.serving.Why.{Why}
-use Rattle.wire_reader.specs.declared.serving.Why.TheVariants as why
+use Rattle.wire_reader.specs.declared.serving.EndReason.{EndReason}
+use Rattle.wire_reader.specs.declared.serving.EndReason.TheVariants as why
 
 -- the status of a fault: 2 for the words, and else 1
 abbrev pub status_of : Fault → ℕ
@@ -46,7 +46,7 @@ fault_of_taking OutOfMemory = fault.Memory
 fault_of_taking _ = fault.Unreadable
 
 -- what the end of a connection means for the program
-abbrev pub IsOutcome : Why → Result ⊤ Fault → Type 0
+abbrev pub IsOutcome : EndReason → Result ⊤ Fault → Type 0
 IsOutcome why.Closed (Ok _) = Unit {0}
 IsOutcome why.TooLong (Ok _) = Unit {0}
 IsOutcome why.ReadFault (Err f) = f ≡ fault.Read

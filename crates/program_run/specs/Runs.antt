@@ -4,8 +4,8 @@ use Rattle.std.specs.Io.KnownBytes.{Keeps}
 use Rattle.access_core.specs.Desk.{DeskState, opening_desk}
 use Rattle.access_core.specs.SlotState.{SlotState}
 use Rattle.wire_reader.specs.Meters.{IsStopped, has_failed}
-use Rattle.wire_reader.specs.declared.serving.Why.{Why}
-use Rattle.wire_reader.specs.declared.serving.Why.TheVariants as why
+use Rattle.wire_reader.specs.declared.serving.EndReason.{EndReason}
+use Rattle.wire_reader.specs.declared.serving.EndReason.TheVariants as why
 use Rattle.client_loop.specs.Asking.{DeskAnswers}
 use Rattle.client_loop.specs.Connections.{ServesConnection}
 use Rattle.program_run.specs.declared.fault.Fault.{Fault}
@@ -20,7 +20,7 @@ use Rattle.program_words.specs.declared.order.Order.TheVariants.{Script, Serve}
 use Rattle.clap.specs.Words.{Text}
 
 -- one connection is served over a new desk, it ends for this reason, and none of its logins is held any more
-pub record ServesOne (refused : Bool) (ahead : Option (List ℕ)) (why : Why)
+pub record ServesOne (refused : Bool) (ahead : Option (List ℕ)) (why : EndReason)
     (written after : Option (List ℕ)) : Type 0 where
   pub desk : DeskState
   pub one : ServesConnection (λ a ask given b. DeskAnswers a ask given b) refused ahead opening_desk why desk written
@@ -39,12 +39,12 @@ Finishes true desk answer written after = Reports desk.entries
 Finishes false desk answer written after = (answer ≡ Ok tt) × (after ≡ written)
 
 -- where something can't be written, the writer has failed: in the connection, and then no more is written; or after it
-abbrev pub CannotWrite : Why → (before after : ℕ) → Type 0
+abbrev pub CannotWrite : EndReason → (before after : ℕ) → Type 0
 CannotWrite why.WriteFault before after = after ≡ before
 CannotWrite other before after = has_failed before after ≡ true
 
 -- what the end of a connection means for the program, with what it has written by then: a fault, or what follows it
-abbrev pub EndsSo : (report : Bool) → Why → DeskState → Result ⊤ Fault → (written after : Option (List ℕ)) → Type 0
+abbrev pub EndsSo : (report : Bool) → EndReason → DeskState → Result ⊤ Fault → (written after : Option (List ℕ)) → Type 0
 EndsSo report why.Closed desk answer written after = Finishes report desk answer written after
 EndsSo report why.TooLong desk answer written after = Finishes report desk answer written after
 EndsSo report other desk answer written after = IsOutcome other answer × (after ≡ written)
@@ -52,7 +52,7 @@ EndsSo report other desk answer written after = IsOutcome other answer × (after
 -- what a connection that was served means for the program
 pub record Ends (refused report : Bool) (ahead : Option (List ℕ)) (answer : Result ⊤ Fault)
     (written after : Option (List ℕ)) : Type 0 where
-  pub why : Why
+  pub why : EndReason
   pub answers : Option (List ℕ)
   pub one : ServesOne refused ahead why written answers
   pub ends : EndsSo report why one.desk answer answers after

@@ -8,7 +8,7 @@ use program_words::fault::WordFault;
 use std::io;
 use std::io::{ErrorKind, Write};
 use thiserror::Error;
-use wire_reader::serving::Why;
+use wire_reader::serving::EndReason;
 
 /// A fault of the program. Its text goes to standard error.
 #[derive(Debug, Drop, Error)]
@@ -88,13 +88,13 @@ pub fn taking_fault(error: &io::Error) -> Fault
 }
 
 /// What the end of a connection means for the program: a line over its limit is no fault.
-pub fn outcome(why: Why) -> Result<(), Fault>
+pub fn outcome(why: EndReason) -> Result<(), Fault>
     ensures { IsOutcome why result }
 {
     match why {
-        Why::Closed | Why::TooLong => Ok(()),
-        Why::ReadFault => Err(Fault::Read),
-        Why::WriteFault => Err(Fault::Write),
-        Why::Memory => Err(Fault::Memory),
+        EndReason::Closed | EndReason::TooLong => Ok(()),
+        EndReason::ReadFault => Err(Fault::Read),
+        EndReason::WriteFault => Err(Fault::Write),
+        EndReason::Memory => Err(Fault::Memory),
     }
 }

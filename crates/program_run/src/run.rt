@@ -1,7 +1,7 @@
 //! A run of the program, over any words and streams.
 ghost use Rattle.std.specs.Prelude.{◌≡◌, Err, map, string_bytes};
 ghost use Rattle.wire_reader.specs.Meters.{has_failed};
-ghost use Rattle.wire_reader.specs.declared.serving.Why.TheVariants.{ReadFault, WriteFault};
+ghost use Rattle.wire_reader.specs.declared.serving.EndReason.TheVariants.{ReadFault, WriteFault};
 ghost use Rattle.program_run.specs.declared.fault.Fault.TheVariants as fault;
 ghost use Rattle.program_run.specs.Runs.{EndsSo, CannotWrite, RunsScript, Obeys, NamesDevices};
 ghost use Rattle.program_run.specs.Runs.{Runs};
@@ -22,10 +22,10 @@ use std::net::Net;
 use std::sync::Wait;
 use std::thread::Threads;
 use wire_reader::meter::{MeteredMemory, MeteredReader, MeteredWriter};
-use wire_reader::serving::Why;
+use wire_reader::serving::EndReason;
 
 /// Writes a line on how the connection ended.
-fn log_end<E: Write>(errors: &mut E, why: Why) {
+fn log_end<E: Write>(errors: &mut E, why: EndReason) {
     let log = Logged::new((), Level::Info, Writer::new(errors));
     info!(log; "connection ended: {why:?}");
 }
@@ -33,7 +33,7 @@ fn log_end<E: Write>(errors: &mut E, why: Why) {
 /// What follows the end of a connection: its fault, or the report, if one was asked for.
 fn finish<O: Write>(
     alloc: Global,
-    why: Why,
+    why: EndReason,
     desk: Single,
     output: &mut MeteredWriter<O>,
     report: bool,
@@ -45,14 +45,14 @@ fn finish<O: Write>(
         CannotWrite why output.old.faults output.new.faults }
 {
     match why {
-        Why::Closed | Why::TooLong => {
+        EndReason::Closed | EndReason::TooLong => {
             if !report {
                 return Ok(());
             }
             let (policy, slots) = desk.into_journals();
             write_report(alloc, &policy, &slots, output)
         }
-        Why::ReadFault | Why::WriteFault | Why::Memory => outcome(why),
+        EndReason::ReadFault | EndReason::WriteFault | EndReason::Memory => outcome(why),
     }
 }
 

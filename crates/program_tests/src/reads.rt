@@ -6,7 +6,7 @@ use std::io;
 use std::io::{Read, Write};
 use std::test::Fail;
 use wire_reader::meter::{MeteredMemory, MeteredReader, MeteredWriter, READS};
-use wire_reader::serving::Why;
+use wire_reader::serving::EndReason;
 
 /// Gives `x` and LF in turn, one byte a read.
 #[derive(Drop)]
@@ -70,7 +70,7 @@ fn a_connection_has_a_million_reads(rt: HostRuntime) -> Result<(), Fail> {
     let mut desk = Single::new(rt.alloc())?;
     let End { why, left } = serve(&mut memory, &mut reader, &mut writer, &mut desk);
     log_out_left(&rt, &mut desk, left);
-    assert!(rt; why == Why::ReadFault);
+    assert!(rt; why == EndReason::ReadFault);
     assert_eq!(rt; reader.reads_left(), 0);
     let answers = writer.into_device();
     assert_eq!(rt; answers.whole, READS / 2);

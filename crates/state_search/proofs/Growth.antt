@@ -6,7 +6,7 @@ use Rattle.std.proofs.lemmas.List.Elements.{All-weaker, Contains-append_left}
 use Rattle.state_search.specs.Table.{IsRow, HasRow, IsDone, Came}
 use Rattle.state_search.specs.declared.found.Node.{Node}
 use Rattle.state_search.specs.declared.found.Row.{Row}
-use Rattle.state_search.specs.declared.machine.Step.{Step}
+use Rattle.state_search.specs.declared.transition_system.Step.{Step}
 use Rattle.state_search.proofs.Nodes.{is_stays, leads_stays}
 
 module _ {S L : Type 0} where

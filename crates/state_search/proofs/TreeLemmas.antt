@@ -13,7 +13,7 @@ use Rattle.state_search.specs.Inner.Searching.{Adds, stops, goes, HasLabel, IsEx
 use Rattle.state_search.specs.Table.{Is, At, Leads, nowhere, there, IsRow, HasRow, IsDone, Came, IsTree}
 use Rattle.state_search.specs.declared.found.Node.{Node}
 use Rattle.state_search.specs.declared.found.Row.{Row}
-use Rattle.state_search.specs.declared.machine.Step.{Step}
+use Rattle.state_search.specs.declared.transition_system.Step.{Step}
 use Rattle.state_search.proofs.Growth.{row_stays, has_stays, done_stays, came_stays}
 use Rattle.state_search.proofs.Nodes.{is_stays, at_stays, is_last, is_one, is_old, is_cases}
 

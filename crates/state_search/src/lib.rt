@@ -2,7 +2,7 @@
 #![tactic(auto)]
 
 pub mod found;
-pub mod machine;
+pub mod transition_system;
 mod places;
 pub mod search;
 pub mod word;

@@ -8,7 +8,7 @@ ghost use Rattle.state_search.specs.Inner.Places.{IsPlaced, Puts};
 ghost use Rattle.state_search.specs.Table.{At};
 
 use crate::found::Node;
-use crate::machine::Standing;
+use crate::transition_system::Standing;
 use std::alloc::{AllocError, Global};
 use std::collections::HashMap;
 use std::hash::{FoldHasher, Hasher};

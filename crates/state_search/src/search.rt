@@ -6,7 +6,7 @@ ghost use Rattle.state_search.specs.Inner.Searching.{Adds, IsSearching};
 ghost use Rattle.state_search.specs.Table.{At, IsFound, HasEnded};
 
 use crate::found::{Found, Node, Row};
-use crate::machine::{Machine, Standing, Step};
+use crate::transition_system::{TransitionSystem, Standing, Step};
 use crate::places::{Places, place_of};
 use std::alloc::{AllocError, Global};
 
@@ -55,7 +55,7 @@ fn add_row<S: Standing, L: Copy + Drop>(
 
 /// Adds all steps of the state that is next in turn, and answers whether there were no more than
 /// that many.
-fn expand<M: Machine>(
+fn expand<M: TransitionSystem>(
     machine: &M,
     scratch: &mut M::Scratch,
     most: usize,
@@ -105,7 +105,7 @@ fn expand<M: Machine>(
 
 /// Searches all states that the machine reaches from one, breadth first, as far as the limits
 /// allow.
-pub fn search<M: Machine>(
+pub fn search<M: TransitionSystem>(
     alloc: Global,
     machine: &M,
     scratch: &mut M::Scratch,

@@ -5,7 +5,7 @@ ghost use Rattle.state_search.specs.declared.found.Row.{Row as RowValue};
 ghost use Rattle.state_search.specs.Words.{LedTo};
 
 use crate::found::{Found, Row};
-use crate::machine::Machine;
+use crate::transition_system::TransitionSystem;
 use std::alloc::{AllocError, Global};
 
 /// These labels, the last ones first.
@@ -17,7 +17,7 @@ fn reversed<L: Copy + Drop>(alloc: Global, back: &[L]) -> Result<Vec<L>, AllocEr
 
 /// The labels of the steps that lead to the row at this place and by it, from the first state on.
 /// There are as many as the depth of the state before the row, and one more.
-pub fn word_to<M: Machine>(
+pub fn word_to<M: TransitionSystem>(
     alloc: Global,
     machine: &M,
     found: &Found<M::State, M::Label>,

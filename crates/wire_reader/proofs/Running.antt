@@ -3,8 +3,8 @@ use Rattle.std.proofs.Common.{◌≡◌, ◌∙◌, List, ℕ, [], ◌∷◌, �
 use Rattle.std.proofs.Common.{inl, inr, Some, None}
 use Rattle.std.specs.Io.KnownBytes.{Appends, prepend_known}
 use Rattle.std.proofs.KnownBytes.{Appends-nil, Appends-trans, prepend_known-nil}
-use Rattle.wire_reader.specs.declared.serving.Why.{Why}
-use Rattle.wire_reader.specs.declared.serving.Why.TheVariants as why
+use Rattle.wire_reader.specs.declared.serving.EndReason.{EndReason}
+use Rattle.wire_reader.specs.declared.serving.EndReason.TheVariants as why
 use Rattle.wire_reader.specs.Writing.{WritesUpTo, WritesFront}
 use Rattle.wire_reader.specs.Serving.{BetweenLines, Exchange, Runs, texts, Ends, Puts, Serves}
 use Rattle.wire_reader.specs.Inner.Turns.{Answers}
@@ -56,7 +56,7 @@ reach_on tells before next after a m b w waits left r answers =
           (up_to_more a m b (w ++ texts r.exchanges) waits answers.text left r.puts answers.puts);
     }
 
-puts_more : (y : Why) (a m b : Option (List ℕ)) (text waits more left : List ℕ) → WritesUpTo a m text waits
+puts_more : (y : EndReason) (a m b : Option (List ℕ)) (text waits more left : List ℕ) → WritesUpTo a m text waits
     → Puts y m b (waits ++ more) left → Puts y a b (text ++ more) left
 puts_more why.Closed a m b text waits more left u p = up_to_more a m b text waits more left u p
 puts_more why.TooLong a m b text waits more left u p = up_to_more a m b text waits more left u p
@@ -65,7 +65,7 @@ puts_more why.Memory a m b text waits more left u p = up_to_more a m b text wait
 puts_more why.WriteFault a m b text waits more left u p = (p.0, up_to_more a m b text waits more p.0 u p.1)
 
 pub served : {A : Type 0} (tells : A → List ℕ → List ℕ → A → Type 0) (fails : A → List ℕ → A → Type 0)
-    (refusal : List ℕ) (before next : BetweenLines A) (y : Why) (desk : A) (a m b : Option (List ℕ))
+    (refusal : List ℕ) (before next : BetweenLines A) (y : EndReason) (desk : A) (a m b : Option (List ℕ))
     (w waits left : List ℕ)
     → Reaches tells before next a m w waits → Serves tells fails refusal next y desk m b waits left
     → Serves tells fails refusal before y desk a b w left
@@ -85,7 +85,7 @@ served tells fails refusal before next y desk a m b w waits left r s =
           (puts_more y a m b (w ++ texts r.exchanges) waits (texts s.exchanges ++ s.more) left r.puts s.puts);
     }
 
-all_puts : (y : Why) (a b : Option (List ℕ)) (text left : List ℕ) → (y ≡ why.WriteFault → ⊥) → Puts y a b text left
+all_puts : (y : EndReason) (a b : Option (List ℕ)) (text left : List ℕ) → (y ≡ why.WriteFault → ⊥) → Puts y a b text left
     → WritesUpTo a b text left
 all_puts why.Closed a b text left n p = p
 all_puts why.TooLong a b text left n p = p
@@ -93,14 +93,14 @@ all_puts why.ReadFault a b text left n p = p
 all_puts why.Memory a b text left n p = p
 all_puts why.WriteFault a b text left n p = absurd (n refl)
 
-puts_all : (y : Why) (a b : Option (List ℕ)) (text : List ℕ) → WritesUpTo a b text [] → Puts y a b text []
+puts_all : (y : EndReason) (a b : Option (List ℕ)) (text : List ℕ) → WritesUpTo a b text [] → Puts y a b text []
 puts_all why.Closed a b text p = p
 puts_all why.TooLong a b text p = p
 puts_all why.ReadFault a b text p = p
 puts_all why.Memory a b text p = p
 puts_all why.WriteFault a b text p = ([], p)
 
-fault_ends : {A : Type 0} (fails : A → List ℕ → A → Type 0) (refusal : List ℕ) (last : BetweenLines A) (y : Why)
+fault_ends : {A : Type 0} (fails : A → List ℕ → A → Type 0) (refusal : List ℕ) (last : BetweenLines A) (y : EndReason)
     (desk : A) (more : List ℕ) → Ends fails refusal last y desk more → Ends fails refusal last why.WriteFault desk more
 fault_ends fails refusal last why.Closed desk more e = inl e.1
 fault_ends fails refusal last why.TooLong desk more e = inr (inl e)
@@ -110,7 +110,7 @@ fault_ends fails refusal last why.WriteFault desk more e = e
 
 -- what waits is written at the end
 pub finished : {A : Type 0} (tells : A → List ℕ → List ℕ → A → Type 0) (fails : A → List ℕ → A → Type 0)
-    (refusal : List ℕ) (before : BetweenLines A) (y : Why) (desk : A) (a b c : Option (List ℕ)) (w left : List ℕ)
+    (refusal : List ℕ) (before : BetweenLines A) (y : EndReason) (desk : A) (a b c : Option (List ℕ)) (w left : List ℕ)
     → (y ≡ why.WriteFault → ⊥) → Serves tells fails refusal before y desk a b w left → Appends b c left
     → Serves tells fails refusal before y desk a c w []
 finished tells fails refusal before y desk a b c w left n s k =
@@ -132,7 +132,7 @@ finished tells fails refusal before y desk a b c w left n s k =
 
 -- what waits is written at the end in part
 pub cut_short : {A : Type 0} (tells : A → List ℕ → List ℕ → A → Type 0) (fails : A → List ℕ → A → Type 0)
-    (refusal : List ℕ) (before : BetweenLines A) (y : Why) (desk : A) (a b c : Option (List ℕ)) (w left : List ℕ)
+    (refusal : List ℕ) (before : BetweenLines A) (y : EndReason) (desk : A) (a b c : Option (List ℕ)) (w left : List ℕ)
     → (y ≡ why.WriteFault → ⊥) → Serves tells fails refusal before y desk a b w left → WritesFront b c left
     → Serves tells fails refusal before why.WriteFault desk a c w []
 cut_short tells fails refusal before y desk a b c w left n s k =
@@ -163,7 +163,7 @@ any_left tells fails refusal before desk a b w left rest s =
 
 -- nothing is held and nothing waits at first
 pub from_nothing : {A : Type 0} (tells : A → List ℕ → List ℕ → A → Type 0) (fails : A → List ℕ → A → Type 0)
-    (refusal : List ℕ) (held : List ℕ) (ahead : Option (List ℕ)) (start : A) (y : Why) (desk : A)
+    (refusal : List ℕ) (held : List ℕ) (ahead : Option (List ℕ)) (start : A) (y : EndReason) (desk : A)
     (a b : Option (List ℕ)) (w left : List ℕ)
     → held ≡ [] → w ≡ [] → Serves tells fails refusal
     (record { ahead = prepend_known held ahead; desk = start }) y desk a b w left

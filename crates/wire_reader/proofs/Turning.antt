@@ -13,8 +13,8 @@ use Rattle.wire_reader.specs.Lines.{Gives}
 use Rattle.wire_reader.specs.Readers.{answer_after}
 use Rattle.wire_reader.specs.Inner.Turns.{IsSound, IsNextOf}
 use Rattle.wire_reader.specs.Writing.{WritesUpTo, WritesFront}
-use Rattle.wire_reader.specs.declared.serving.Why.{Why}
-use Rattle.wire_reader.specs.declared.serving.Why.TheVariants as why
+use Rattle.wire_reader.specs.declared.serving.EndReason.{EndReason}
+use Rattle.wire_reader.specs.declared.serving.EndReason.TheVariants as why
 use Rattle.wire_reader.specs.Serving.{BetweenLines, NothingAhead, AnswersLine, Exchange, texts, Ends, Puts, Serves}
 use Rattle.wire_reader.proofs.Written.{up_to_more}
 
@@ -58,7 +58,7 @@ one_text e = append-nil (e.text ++ []) ∙ append-nil e.text
 
 -- nothing comes after what waits
 pub silent : {A : Type 0} (tells : A → List ℕ → List ℕ → A → Type 0) (fails : A → List ℕ → A → Type 0)
-    (refusal : List ℕ) (before : BetweenLines A) (y : Why) (desk : A) (a b : Option (List ℕ)) (w left : List ℕ)
+    (refusal : List ℕ) (before : BetweenLines A) (y : EndReason) (desk : A) (a b : Option (List ℕ)) (w left : List ℕ)
     → Ends fails refusal before y desk [] → Puts y a b w left → Serves tells fails refusal before y desk a b w left
 silent tells fails refusal before y desk a b w left e p =
     record {
@@ -72,7 +72,7 @@ silent tells fails refusal before y desk a b w left e p =
 
 -- the refusal comes after what waits
 pub refused : {A : Type 0} (tells : A → List ℕ → List ℕ → A → Type 0) (fails : A → List ℕ → A → Type 0)
-    (refusal : List ℕ) (before : BetweenLines A) (y : Why) (desk : A) (a b : Option (List ℕ)) (w left : List ℕ)
+    (refusal : List ℕ) (before : BetweenLines A) (y : EndReason) (desk : A) (a b : Option (List ℕ)) (w left : List ℕ)
     → Ends fails refusal before y desk refusal → Puts y a b (w ++ refusal) left
     → Serves tells fails refusal before y desk a b w left
 refused tells fails refusal before y desk a b w left e p =

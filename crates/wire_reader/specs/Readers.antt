@@ -2,7 +2,7 @@
 use Rattle.std.specs.Prelude.{◌≡◌, ◌+◌, ◌*◌, ℕ, List, length, slice_range, Option, Some, None, Result, Ok, Err, ⊤, ◌≢◌}
 use Rattle.std.specs.Prelude.{◌⊎◌}
 use Rattle.wire_reader.specs.declared.lines.LineReader.{LineReader}
-use Rattle.wire_reader.specs.declared.lines.TheConstants.{ROOM}
+use Rattle.wire_reader.specs.declared.lines.TheConstants.{LINE_BUFFER_BYTES}
 use Rattle.wire_reader.specs.declared.lines.Ending.{Ending}
 use Rattle.wire_reader.specs.declared.lines.Ending.TheVariants as ending
 use Rattle.wire_reader.specs.declared.lines.LineFault.{LineFault}
@@ -35,7 +35,7 @@ Leaves (Err Read) e held left = e ≡ Some ending.Read
 
 -- it falls with each read and each line
 abbrev pub weight : (reads_left : ℕ) → LineReader → ℕ
-weight reads_left r = reads_left * (ROOM + 1) + length (held_bytes r)
+weight reads_left r = reads_left * (LINE_BUFFER_BYTES + 1) + length (held_bytes r)
 
 -- the next line is held whole, or an ending was met
 abbrev pub IsReady : LineReader → Type 0

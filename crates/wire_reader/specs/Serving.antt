@@ -4,8 +4,8 @@ use Rattle.std.specs.Prelude.{◌≡◌, ℕ, List, [], ◌∷◌, ◌++◌, ◌
 use Rattle.std.specs.List.{concat}
 use Rattle.wire_reader.specs.Lines.{IsNext, IsTooLong, Cuts}
 use Rattle.wire_reader.specs.Writing.{WritesUpTo, WritesFront}
-use Rattle.wire_reader.specs.declared.serving.Why.{Why}
-use Rattle.wire_reader.specs.declared.serving.Why.TheVariants.{Closed, TooLong, ReadFault, WriteFault, Memory}
+use Rattle.wire_reader.specs.declared.serving.EndReason.{EndReason}
+use Rattle.wire_reader.specs.declared.serving.EndReason.TheVariants.{Closed, TooLong, ReadFault, WriteFault, Memory}
 
 -- a connection between two lines: the bytes that are held or still to be read, where they are known, and what answers
 -- its lines
@@ -81,7 +81,7 @@ pub record IsSilent {A : Type 0} (last : BetweenLines A) (desk : A) (more : List
 
 -- how a connection ends after its last answer, and what more is to be written then
 abbrev pub Ends : {A : Type 0} → (fails : A → List ℕ → A → Type 0) → (refusal : List ℕ) → (last : BetweenLines A)
-    → Why → (desk : A) → (more : List ℕ) → Type 0
+    → EndReason → (desk : A) → (more : List ℕ) → Type 0
 Ends fails refusal last Closed desk more = NothingAhead last.ahead × IsSilent last desk more
 Ends fails refusal last TooLong desk more = RefusesLine refusal last desk more
 Ends fails refusal last ReadFault desk more = IsSilent last desk more
@@ -90,14 +90,14 @@ Ends fails refusal last WriteFault desk more =
 Ends fails refusal last Memory desk more = FindsNoMemory fails last desk × (more ≡ [])
 
 -- what is written: the text up to what waits, or a front of it where the writer failed
-abbrev pub Puts : Why → (before after : Option (List ℕ)) → (text left : List ℕ) → Type 0
+abbrev pub Puts : EndReason → (before after : Option (List ℕ)) → (text left : List ℕ) → Type 0
 Puts WriteFault before after text left = WritesFront before after text
 Puts _ before after text left = WritesUpTo before after text left
 
 -- lines are answered, then the connection ends for this reason; everything that waited or was answered is written,
 -- except what is left
 pub record Serves {A : Type 0} (tells : A → List ℕ → List ℕ → A → Type 0) (fails : A → List ℕ → A → Type 0)
-    (refusal : List ℕ) (before : BetweenLines A) (why : Why) (desk : A) (written after : Option (List ℕ))
+    (refusal : List ℕ) (before : BetweenLines A) (why : EndReason) (desk : A) (written after : Option (List ℕ))
     (waiting left : List ℕ) : Type 0 where
   pub exchanges : List Exchange
   pub last : BetweenLines A

@@ -7,7 +7,7 @@ ghost use Rattle.std.specs.Prelude.{true, length, take, drop, slice_range, Match
 ghost use Rattle.std.specs.Prelude.{OnErr, IfSome, IfNone, IsTrue, Some, None, Ok, Err};
 ghost use Rattle.wire_reader.specs.Lines.{HasNoEnd, IsNext, IsTooLong};
 ghost use Rattle.wire_reader.specs.Meters.{Reads, IsStopped, has_failed};
-ghost use Rattle.wire_reader.specs.declared.lines.TheConstants.{ROOM, LINE_BYTES};
+ghost use Rattle.wire_reader.specs.declared.lines.TheConstants.{LINE_BUFFER_BYTES, LINE_BYTES};
 
 use crate::meter::{MeteredMemory, MeteredReader};
 use memchr::memchr;
@@ -19,7 +19,7 @@ pub const LINE_BYTES: usize = 65_536;
 
 /// How many bytes the buffer holds. With this size, no more bytes are moved to the front than were
 /// read since the last move.
-const ROOM: usize = 131_073;
+const LINE_BUFFER_BYTES: usize = 131_073;
 
 /// What is next.
 #[derive(Clone, Copy, PartialEq, Eq)]
@@ -108,9 +108,9 @@ pub struct LineReader {
     end: usize,
     /// Why no more lines come, once that is known.
     ending: Option<Ending>,
-    ghost room: { length bytes.items ≡ ROOM },
-    ghost line: { (from ≤ to) × (to ≤ ROOM) },
-    ghost places: { (start ≤ scanned) × (scanned ≤ end) × (end ≤ ROOM) },
+    ghost room: { length bytes.items ≡ LINE_BUFFER_BYTES },
+    ghost line: { (from ≤ to) × (to ≤ LINE_BUFFER_BYTES) },
+    ghost places: { (start ≤ scanned) × (scanned ≤ end) × (end ≤ LINE_BUFFER_BYTES) },
     ghost no_end: { HasNoEnd (slice_range bytes.items start scanned) },
 }
 
@@ -130,7 +130,7 @@ impl LineReader {
         ensures refused { OnErr result
             (has_failed memory.old.refusals memory.new.refusals ≡ true) }
     {
-        let bytes = memory.zeros(ROOM)?;
+        let bytes = memory.zeros(LINE_BUFFER_BYTES)?;
         Ok(LineReader {
             bytes,
             from: 0,
@@ -173,10 +173,10 @@ impl LineReader {
     fn make_room(&mut self)
         requires { length (held_bytes self.old) ≤ LINE_BYTES }
         ensures held { held_bytes self.new ≡ held_bytes self.old }
-        ensures room { self.new.end < ROOM }
+        ensures room { self.new.end < LINE_BUFFER_BYTES }
         ensures ending { self.new.ending ≡ self.old.ending }
     {
-        if self.end == ROOM {
+        if self.end == LINE_BUFFER_BYTES {
             move_to_front(&mut self.bytes, self.start, self.end);
             self.end -= self.start;
             self.scanned -= self.start;
@@ -189,7 +189,7 @@ impl LineReader {
         requires { length (held_bytes self.old) ≤ LINE_BYTES }
         ensures adds { Adds (held_bytes self.old) (R.remaining reader.old.device) result
             (held_bytes self.new) (R.remaining reader.new.device) }
-        ensures len { length (held_bytes self.new) ≤ length (held_bytes self.old) + ROOM }
+        ensures len { length (held_bytes self.new) ≤ length (held_bytes self.old) + LINE_BUFFER_BYTES }
         ensures left { reader.new.left ≡ reader.old.left - 1 }
         ensures gave { IfSome result (λ _. (0 < reader.old.left)
             × (reader.new.faults ≡ reader.old.faults)) }

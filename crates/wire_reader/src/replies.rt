@@ -5,14 +5,14 @@ ghost use Rattle.std.specs.Prelude.{◌≡◌, ◌≤◌, ◌+◌, ◌++◌, [],
 ghost use Rattle.std.specs.Io.KnownBytes.{Appends};
 ghost use Rattle.wire_reader.specs.Meters.{has_failed};
 ghost use Rattle.wire_reader.specs.Writing.{WritesUpTo, WritesFront};
-ghost use Rattle.wire_reader.specs.declared.replies.TheConstants.{ROOM};
+ghost use Rattle.wire_reader.specs.declared.replies.TheConstants.{REPLY_BUFFER_BYTES};
 
 use crate::meter::{MeteredMemory, MeteredWriter};
 use std::alloc::AllocError;
 use std::io::Write;
 
 /// How many bytes may wait.
-const ROOM: usize = 65_536;
+const REPLY_BUFFER_BYTES: usize = 65_536;
 
 /// The writer failed, or took nothing.
 #[derive(Clone, Copy, PartialEq, Eq)]
@@ -53,8 +53,8 @@ fn place(bytes: &mut Vec<u8>, at: usize, text: &[u8])
 pub struct Replies {
     bytes: Vec<u8>,
     filled: usize,
-    ghost room: { length bytes.items ≡ ROOM },
-    ghost within: { filled ≤ ROOM },
+    ghost room: { length bytes.items ≡ REPLY_BUFFER_BYTES },
+    ghost within: { filled ≤ REPLY_BUFFER_BYTES },
 }
 
 impl Replies {
@@ -67,7 +67,7 @@ impl Replies {
         ensures refused { OnErr result
             (has_failed memory.old.refusals memory.new.refusals ≡ true) }
     {
-        let bytes = memory.zeros(ROOM)?;
+        let bytes = memory.zeros(REPLY_BUFFER_BYTES)?;
         Ok(Replies { bytes, filled: 0 })
     }
 
@@ -100,7 +100,7 @@ impl Replies {
 
     /// Lets a reply wait, for which there is room.
     fn hold(&mut self, text: &[u8])
-        requires { self.old.filled + length text.now ≤ ROOM }
+        requires { self.old.filled + length text.now ≤ REPLY_BUFFER_BYTES }
         ensures { waiting_bytes self.new ≡ waiting_bytes self.old ++ text.now }
     {
         place(&mut self.bytes, self.filled, text);
@@ -127,14 +127,14 @@ impl Replies {
         ensures failed { OnErr result (has_failed writer.old.faults writer.new.faults ≡ true) }
         ensures unfailed { OnOk result (writer.new.faults ≡ writer.old.faults) }
     {
-        if text.len() <= ROOM - self.filled {
+        if text.len() <= REPLY_BUFFER_BYTES - self.filled {
             self.hold(text);
             return Ok(());
         }
         let Ok(()) = self.write_out(writer) else {
             return Err(WriteFault);
         };
-        if text.len() <= ROOM {
+        if text.len() <= REPLY_BUFFER_BYTES {
             self.hold(text);
             return Ok(());
         }

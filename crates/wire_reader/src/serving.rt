@@ -11,7 +11,7 @@ ghost use Rattle.wire_reader.specs.Serving.{BetweenLines, between, Exchange, Run
 ghost use Rattle.wire_reader.specs.Serving.{Serves};
 ghost use Rattle.wire_reader.specs.Replies.{waiting_bytes};
 ghost use Rattle.wire_reader.specs.Writing.{WritesUpTo, WritesFront};
-ghost use Rattle.wire_reader.specs.declared.serving.Why.TheVariants as why;
+ghost use Rattle.wire_reader.specs.declared.serving.EndReason.TheVariants as why;
 ghost use Rattle.wire_reader.specs.declared.lines.Line.TheVariants as line;
 ghost use Rattle.wire_reader.specs.declared.lines.LineFault.TheVariants as fault;
 
@@ -49,7 +49,7 @@ pub trait Answerer<D> {
 
 /// Why a connection ended.
 #[derive(Clone, Copy, PartialEq, Eq, Debug)]
-pub enum Why {
+pub enum EndReason {
     /// The reader is at its end, and each line was answered.
     Closed,
     /// A line was longer than 65,536 bytes.
@@ -103,7 +103,7 @@ fn turn<R: Read, W: Write, D, A: Answerer<D>>(
     answerer: &mut A,
     desk: &mut D,
     refusal: &[u8],
-) -> Result<(), Why>
+) -> Result<(), EndReason>
     requires { IsSound lines.old.ending (held_bytes lines.old) (R.remaining reader.old.device) }
     ensures turns { Turns A.tells A.fails refusal.now
         (between (prepend_known (held_bytes lines.old) (R.remaining reader.old.device))
@@ -128,21 +128,21 @@ fn turn<R: Read, W: Write, D, A: Answerer<D>>(
 {
     match take_line(lines, replies, reader, writer) {
         Ok(Ok(Line::Whole)) => {}
-        Ok(Ok(Line::End)) => return Err(Why::Closed),
-        Ok(Err(LineFault::Read)) => return Err(Why::ReadFault),
+        Ok(Ok(Line::End)) => return Err(EndReason::Closed),
+        Ok(Err(LineFault::Read)) => return Err(EndReason::ReadFault),
         Ok(Err(LineFault::TooLong)) => {
             let Ok(()) = replies.add(writer, refusal) else {
-                return Err(Why::WriteFault);
+                return Err(EndReason::WriteFault);
             };
-            return Err(Why::TooLong);
+            return Err(EndReason::TooLong);
         }
-        Err(WriteFault) => return Err(Why::WriteFault),
+        Err(WriteFault) => return Err(EndReason::WriteFault),
     }
     let Ok(text) = answerer.answer(alloc, desk, lines.line()) else {
-        return Err(Why::Memory);
+        return Err(EndReason::Memory);
     };
     let Ok(()) = replies.add(writer, text.as_slice()) else {
-        return Err(Why::WriteFault);
+        return Err(EndReason::WriteFault);
     };
     Ok(())
 }
@@ -157,7 +157,7 @@ fn answer_all<R: Read, W: Write, D, A: Answerer<D>>(
     answerer: &mut A,
     desk: &mut D,
     refusal: &[u8],
-) -> Why
+) -> EndReason
     requires { IsSound lines.old.ending (held_bytes lines.old) (R.remaining reader.old.device) }
     ensures serves { Serves A.tells A.fails refusal.now
         (between (prepend_known (held_bytes lines.old) (R.remaining reader.old.device))
@@ -192,7 +192,7 @@ pub fn answer_connection<R: Read, W: Write, D, A: Answerer<D>>(
     answerer: &mut A,
     desk: &mut D,
     refusal: &[u8],
-) -> Why
+) -> EndReason
     // Serves, or (the second half) the allocator refused the buffers.
     ensures serves { Serves A.tells A.fails refusal.now
         (between (R.remaining reader.old.device) (answerer.old, desk.old))
@@ -209,10 +209,10 @@ pub fn answer_connection<R: Read, W: Write, D, A: Answerer<D>>(
         writer.new.faults ≡ writer.old.faults }
 {
     let Ok(mut lines) = LineReader::new(memory) else {
-        return Why::Memory;
+        return EndReason::Memory;
     };
     let Ok(mut replies) = Replies::new(memory) else {
-        return Why::Memory;
+        return EndReason::Memory;
     };
     match answer_all(
         memory.allocator(),
@@ -224,10 +224,10 @@ pub fn answer_connection<R: Read, W: Write, D, A: Answerer<D>>(
         desk,
         refusal,
     ) {
-        Why::WriteFault => Why::WriteFault,
+        EndReason::WriteFault => EndReason::WriteFault,
         why => {
             let Ok(()) = replies.write_out(writer) else {
-                return Why::WriteFault;
+                return EndReason::WriteFault;
             };
             why
         }

@@ -13,9 +13,9 @@ use Rattle.est_cover.specs.declared.asked.Asked.{Asked}
 use Rattle.est_cover.specs.declared.cover.Next.{Next}
 use Rattle.est_cover.specs.declared.cover.Next.TheVariants.{Step as Stepped, Split}
 use Rattle.est_cover.specs.declared.part.Part.{Part}
-use Rattle.est_cover.specs.declared.said.Said.{Said}
-use Rattle.est_cover.specs.declared.said.Said.TheVariants.{Broken, Present, Absent}
-use Rattle.state_search.specs.declared.machine.Step.{Step}
+use Rattle.est_cover.specs.declared.forced.Forced.{Forced}
+use Rattle.est_cover.specs.declared.forced.Forced.TheVariants.{Broken, Present, Absent}
+use Rattle.state_search.specs.declared.transition_system.Step.{Step}
 
 -- of the signals that are not unasked, the set has those in `inputs`
 abbrev pub HasPart : (unasked inputs : ℕ) → InputSet → Type 0
@@ -35,11 +35,11 @@ pub record IsNarrower (place : ℕ) (is : Bool) (old new : Part) : Type 0 where
   pub inputs : (n : ℕ) → n ≢ place → bits new.inputs n ≡ bits old.inputs n
 
 -- what is said of the lawful sets that have the part
-abbrev pub IsSaid : Said → (lawful : InputSet → Type 0) → (unasked inputs : ℕ) → Type 0
-IsSaid Broken lawful unasked inputs = (set : InputSet) → HasPart unasked inputs set → lawful set → ⊥
-IsSaid (Present p) lawful unasked inputs = (bits unasked p ≡ true)
+abbrev pub IsForced : Forced → (lawful : InputSet → Type 0) → (unasked inputs : ℕ) → Type 0
+IsForced Broken lawful unasked inputs = (set : InputSet) → HasPart unasked inputs set → lawful set → ⊥
+IsForced (Present p) lawful unasked inputs = (bits unasked p ≡ true)
     × ((set : InputSet) → HasPart unasked inputs set → lawful set → set p ≡ true)
-IsSaid (Absent p) lawful unasked inputs = (bits unasked p ≡ true)
+IsForced (Absent p) lawful unasked inputs = (bits unasked p ≡ true)
     × ((set : InputSet) → HasPart unasked inputs set → lawful set → set p ≡ false)
 
 -- these are the signals that may be offered, and those that may be emitted too are watched

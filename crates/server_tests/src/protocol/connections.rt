@@ -13,7 +13,7 @@ use std::process::Abort;
 use std::sync::Wait;
 use std::test::Fail;
 use wire_reader::meter::{MeteredMemory, MeteredReader, MeteredWriter};
-use wire_reader::serving::Why;
+use wire_reader::serving::EndReason;
 
 /// More calls or bytes than any test needs.
 const AMPLE: usize = 1_000_000;
@@ -96,7 +96,7 @@ fn served<R: Abort + Wait>(
     desk: &mut Single,
     reader: Trickle<'_>,
     calls_that_write: usize,
-) -> (Why, Vec<u8>) {
+) -> (EndReason, Vec<u8>) {
     let mut reader = MeteredReader::new(reader);
     let mut writer = MeteredWriter::new(Sink {
         written: Vec::new(alloc),
@@ -130,7 +130,7 @@ fn a_held_login_is_logged_out_at_the_end(rt: HostRuntime) -> Result<(), Fail> {
     for step in [1usize, 7, 5000] {
         let mut desk = Single::new(rt.alloc())?;
         let (why, written) = served(&rt, rt.alloc(), &mut desk, lines_by(step, AMPLE), AMPLE);
-        assert!(rt; why == Why::Closed);
+        assert!(rt; why == EndReason::Closed);
         assert!(rt; written.as_slice() == ANSWERS.as_bytes());
         assert!(rt; !lives(&desk));
         assert_eq!(rt; desk.entries().len(), 7);
@@ -143,7 +143,7 @@ fn no_session_lives_where_a_device_fails(rt: HostRuntime) -> Result<(), Fail> {
     for calls in 0..=LINES.len().div_ceil(7) {
         let mut desk = Single::new(rt.alloc())?;
         let (why, written) = served(&rt, rt.alloc(), &mut desk, lines_by(7, calls), AMPLE);
-        assert!(rt; why == Why::ReadFault, "{calls}");
+        assert!(rt; why == EndReason::ReadFault, "{calls}");
         assert!(rt;
             ANSWERS.as_bytes().starts_with(written.as_slice()),
             "{calls}"
@@ -154,9 +154,9 @@ fn no_session_lives_where_a_device_fails(rt: HostRuntime) -> Result<(), Fail> {
         let mut desk = Single::new(rt.alloc())?;
         let (why, written) = served(&rt, rt.alloc(), &mut desk, lines_by(AMPLE, AMPLE), calls);
         let taken = taken_by(calls);
-        assert!(rt; (why == Why::Closed) == (taken == ANSWERS.len()), "{calls}");
+        assert!(rt; (why == EndReason::Closed) == (taken == ANSWERS.len()), "{calls}");
         assert!(rt;
-            (why == Why::WriteFault) == (taken < ANSWERS.len()),
+            (why == EndReason::WriteFault) == (taken < ANSWERS.len()),
             "{calls}"
         );
         assert!(rt;
@@ -175,8 +175,8 @@ fn connections_follow_each_other(rt: HostRuntime) -> Result<(), Fail> {
     let mut desk = Single::new(rt.alloc())?;
     let (first, _) = served(&rt, rt.alloc(), &mut desk, lines_by(AMPLE, AMPLE), AMPLE);
     let (second, written) = served(&rt, rt.alloc(), &mut desk, lines_by(AMPLE, AMPLE), AMPLE);
-    assert!(rt; first == Why::Closed);
-    assert!(rt; second == Why::Closed);
+    assert!(rt; first == EndReason::Closed);
+    assert!(rt; second == EndReason::Closed);
     let wanted =
         "{\"ok\":\"login\",\"session\":2,\"version\":8}\n{\"code\":2,\"fault\":\"NotJson\"}\n\
         {\"code\":31,\"fault\":\"AlreadyGranted\"}\n";

@@ -11,7 +11,7 @@ use wire_reader::exchange::next_line;
 use wire_reader::lines::{LINE_BYTES, Line, LineFault, LineReader};
 use wire_reader::meter::{MeteredMemory, MeteredReader, MeteredWriter, READS};
 use wire_reader::replies::{Replies, WriteFault};
-use wire_reader::serving::{Answerer, Text, Why, answer_connection};
+use wire_reader::serving::{Answerer, Text, EndReason, answer_connection};
 
 /// Gives `x` and LF by turns, one byte at a time, without end.
 #[derive(Drop)]
@@ -215,7 +215,7 @@ impl Answerer<()> for Echo {
 }
 
 /// How a connection of two parts ended, and what it wrote.
-fn echoed(alloc: Global, reader: TwoParts<'_>, room: usize) -> (Why, Vec<u8>) {
+fn echoed(alloc: Global, reader: TwoParts<'_>, room: usize) -> (EndReason, Vec<u8>) {
     let mut reader = MeteredReader::new(reader);
     let mut writer = MeteredWriter::new(Sink {
         written: Vec::new(alloc),
@@ -239,11 +239,11 @@ fn connections_end(rt: HostRuntime) -> Result<(), Fail> {
     let alloc = rt.alloc();
     let long = vec![in alloc; b'x'; LINE_BYTES + 1]?;
     for (first, second, calls_that_work, room, why, written) in [
-        ("", "", AMPLE, AMPLE, Why::Closed, ""),
-        ("a\nb", "c\n", AMPLE, AMPLE, Why::Closed, "a.\nbc.\n"),
-        ("a", "\nrest", AMPLE, AMPLE, Why::Closed, "a.\nrest.\n"),
-        ("a\nb", "c\n", 1, AMPLE, Why::ReadFault, "a.\n"),
-        ("a\nb", "c\nd", AMPLE, 4, Why::WriteFault, "a.\nb"),
+        ("", "", AMPLE, AMPLE, EndReason::Closed, ""),
+        ("a\nb", "c\n", AMPLE, AMPLE, EndReason::Closed, "a.\nbc.\n"),
+        ("a", "\nrest", AMPLE, AMPLE, EndReason::Closed, "a.\nrest.\n"),
+        ("a\nb", "c\n", 1, AMPLE, EndReason::ReadFault, "a.\n"),
+        ("a\nb", "c\nd", AMPLE, 4, EndReason::WriteFault, "a.\nb"),
     ] {
         let reader = TwoParts {
             first: first.as_bytes(),
@@ -263,7 +263,7 @@ fn connections_end(rt: HostRuntime) -> Result<(), Fail> {
         calls_that_work: AMPLE,
     };
     let end = echoed(alloc, reader, AMPLE);
-    assert!(rt; end.0 == Why::TooLong);
+    assert!(rt; end.0 == EndReason::TooLong);
     assert!(rt; end.1.as_slice() == b"a.\ntoo long\n".as_slice());
     Ok(())
 }
@@ -339,7 +339,7 @@ fn faults_before_a_connection_are_none_of_its_own(rt: HostRuntime) -> Result<(),
         &mut (),
         b"too long\n",
     );
-    assert!(rt; why == Why::Closed);
+    assert!(rt; why == EndReason::Closed);
     assert!(rt; (reader.faults(), writer.faults(), memory.refusals()) == (1, 1, 1));
     let written = writer.into_device().taken.written;
     assert!(rt; written.as_slice() == b"a.\nb.\n".as_slice());

@@ -8,7 +8,7 @@ use std::process::Abort;
 use std::sync::Wait;
 use std::test::Fail;
 use wire_reader::meter::{MeteredMemory, MeteredReader, MeteredWriter};
-use wire_reader::serving::Why;
+use wire_reader::serving::EndReason;
 
 /// Root logs in, loads a module, steps it three times and looks at each instant.
 const SCRIPT: &str = "{\"cmd\":\"login\",\"roles\":[\"root\"],\"user\":\"root\"}
@@ -61,7 +61,7 @@ fn answers_cut_at<R: Abort + Wait>(rt: &R, alloc: Global, place: usize) -> Vec<u
     let mut desk = Single::new(alloc).ok().expect(rt, "a desk");
     let End { why, left } = serve(&mut memory, &mut reader, &mut writer, &mut desk);
     log_out_left(rt, &mut desk, left);
-    assert!(rt; why == Why::Closed, "{place}");
+    assert!(rt; why == EndReason::Closed, "{place}");
     writer.into_device().written
 }
 

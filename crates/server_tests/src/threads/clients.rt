@@ -5,7 +5,7 @@ use client_loop::source::{Connection, Served, Source};
 use std::io;
 use std::io::{Read, Write};
 use std::sync::atomic::{AtomicBool, AtomicU64, Ordering};
-use wire_reader::serving::Why;
+use wire_reader::serving::EndReason;
 
 /// A client: what it sends, whether a worker has its connection, whether that was served to the end
 /// of its lines, and how many answers it got.
@@ -143,7 +143,7 @@ impl<'a> Source for Clients<'a> {
         ensures { ⊤ }
     {
         if let Some(client) = self.clients.get(worker) {
-            let is_closed = served.why == Why::Closed;
+            let is_closed = served.why == EndReason::Closed;
             client.is_closed.store(is_closed, Ordering::SeqCst);
         }
     }

@@ -21,7 +21,7 @@ use std::process::Abort;
 use std::sync::Wait;
 use std::test::Fail;
 use wire_reader::meter::{MeteredMemory, MeteredReader, MeteredWriter};
-use wire_reader::serving::Why;
+use wire_reader::serving::EndReason;
 
 /// The opening script, with checks and refusals between its lines.
 const SCRIPT: &str = "{\"cmd\":\"login\",\"roles\":[\"root\"],\"user\":\"root\"}
@@ -97,7 +97,7 @@ fn answers_of<R: Wait + Abort, D: Desk>(rt: &R, alloc: Global, desk: &mut D) -> 
     });
     let mut memory = MeteredMemory::new(alloc);
     let End { why, left } = serve(&mut memory, &mut reader, &mut writer, desk);
-    assert!(rt; why == Why::Closed);
+    assert!(rt; why == EndReason::Closed);
     log_out_left(rt, desk, left);
     writer.into_device().written
 }

@@ -5,7 +5,7 @@ use Rattle.state_search.specs.Inner.Places.{Puts}
 use Rattle.state_search.specs.Table.{Is, HasRow, IsFound}
 use Rattle.state_search.specs.declared.found.Node.{Node}
 use Rattle.state_search.specs.declared.found.Row.{Row}
-use Rattle.state_search.specs.declared.machine.Step.{Step}
+use Rattle.state_search.specs.declared.transition_system.Step.{Step}
 
 -- a step from a node of this place and depth comes as one more row, and where it leads to a new state, as one more node
 pub data Adds {S L : Type 0} (nodes : List (Node S)) (rows : List (Row L)) (from depth : ℕ) (s : Step S L)

@@ -8,7 +8,7 @@ use Rattle.wire_reader.specs.declared.lines.LineFault.{LineFault}
 use Rattle.wire_reader.specs.declared.lines.LineFault.TheVariants as fault
 use Rattle.wire_reader.specs.declared.lines.Line.{Line}
 use Rattle.wire_reader.specs.declared.lines.Line.TheVariants.{Whole, End}
-use Rattle.wire_reader.specs.declared.serving.Why.{Why}
+use Rattle.wire_reader.specs.declared.serving.EndReason.{EndReason}
 use Rattle.wire_reader.specs.Serving.{BetweenLines, TakesLine, NothingAhead, IsOverLong, AnswersLine, Serves}
 
 -- no ending was met, or the end, with nothing left
@@ -33,7 +33,7 @@ pub record Answers {A : Type 0} (tells : A → List ℕ → List ℕ → A → T
 
 -- a turn answers a line, or is the end of the connection
 abbrev pub Turns : {A : Type 0} → (tells : A → List ℕ → List ℕ → A → Type 0) → (fails : A → List ℕ → A → Type 0)
-    → (refusal : List ℕ) → BetweenLines A → Result ⊤ Why → BetweenLines A → (written later : Option (List ℕ))
+    → (refusal : List ℕ) → BetweenLines A → Result ⊤ EndReason → BetweenLines A → (written later : Option (List ℕ))
     → (waiting left : List ℕ) → Type 0
 Turns tells fails refusal before (Ok _) after written later waiting left =
     Answers tells before after written later waiting left

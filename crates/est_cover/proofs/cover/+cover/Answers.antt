@@ -9,16 +9,16 @@ returns-in-Some-Broken-clause-covered g t c = covers_none _ _ _ _ _ _ _ _ _
 
 pub returns-in-Some-Present-clause-covered : goal.returns-in-Some-Present-clause-covered
 returns-in-Some-Present-clause-covered g t c =
-    let said = rw c.in-Some-Present.field-0-is at c.in-Some-Present.ensures in
+    let forced = rw c.in-Some-Present.field-0-is at c.in-Some-Present.ensures in
     IfOk-weaker c.cover.result _ _ (λ whole e.
-    covers_narrower _ _ _ _ _ _ c.in-Some-Present.place true _ _ _ _ whole said.0 said.1 c.with-part.ensures.narrower
+    covers_narrower _ _ _ _ _ _ c.in-Some-Present.place true _ _ _ _ whole forced.0 forced.1 c.with-part.ensures.narrower
     e) c.cover.ensures.covered
 
 pub returns-in-Some-Absent-clause-covered : goal.returns-in-Some-Absent-clause-covered
 returns-in-Some-Absent-clause-covered g t c =
-    let said = rw c.in-Some-Absent.field-0-is at c.in-Some-Absent.ensures in
+    let forced = rw c.in-Some-Absent.field-0-is at c.in-Some-Absent.ensures in
     IfOk-weaker c.cover-in-Some-Absent.result _ _ (λ whole e.
-    covers_narrower _ _ _ _ _ _ c.in-Some-Absent.place false _ _ _ _ whole said.0 said.1
+    covers_narrower _ _ _ _ _ _ c.in-Some-Absent.place false _ _ _ _ whole forced.0 forced.1
     c.without-part.ensures.narrower e) c.cover-in-Some-Absent.ensures.covered
 
 pub returns-in-Step-clause-covered : goal.returns-in-Step-clause-covered

@@ -11,14 +11,14 @@ decreases-suspend_maybe l = 2 * the_size l.p.now + 1
 abbrev pub decreases-loop_maybe : goal.decreases-loop_maybe
 decreases-loop_maybe l = 2 * the_size l.p.now + 1
 
-abbrev pub decreases-par_maybe : goal.decreases-par_maybe
-decreases-par_maybe l = 2 * max (the_size l.p.now) (the_size l.q.now) + 1
+abbrev pub decreases-resume_par_maybe : goal.decreases-resume_par_maybe
+decreases-resume_par_maybe l = 2 * max (the_size l.p.now) (the_size l.q.now) + 1
 
-abbrev pub decreases-local_maybe : goal.decreases-local_maybe
-decreases-local_maybe l = 2 * the_size l.p.now + 1
+abbrev pub decreases-resume_local_maybe : goal.decreases-resume_local_maybe
+decreases-resume_local_maybe l = 2 * the_size l.p.now + 1
 
 abbrev pub decreases-seq_maybe : goal.decreases-seq_maybe
 decreases-seq_maybe l = 2 * max (the_size l.p.now) (the_size l.q.now) + 1
 
-abbrev pub decreases-trap_maybe : goal.decreases-trap_maybe
-decreases-trap_maybe l = 2 * the_size l.p.now + 1
+abbrev pub decreases-resume_trap_maybe : goal.decreases-resume_trap_maybe
+decreases-resume_trap_maybe l = 2 * the_size l.p.now + 1

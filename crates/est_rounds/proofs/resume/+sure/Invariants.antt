@@ -11,14 +11,14 @@ decreases-suspend_sure l = 2 * the_size l.p.now + 1
 abbrev pub decreases-loop_sure : goal.decreases-loop_sure
 decreases-loop_sure l = 2 * the_size l.p.now + 1
 
-abbrev pub decreases-par_sure : goal.decreases-par_sure
-decreases-par_sure l = 2 * max (the_size l.p.now) (the_size l.q.now) + 1
+abbrev pub decreases-resume_par_sure : goal.decreases-resume_par_sure
+decreases-resume_par_sure l = 2 * max (the_size l.p.now) (the_size l.q.now) + 1
 
-abbrev pub decreases-local_sure : goal.decreases-local_sure
-decreases-local_sure l = 2 * the_size l.p.now + 1
+abbrev pub decreases-resume_local_sure : goal.decreases-resume_local_sure
+decreases-resume_local_sure l = 2 * the_size l.p.now + 1
 
 abbrev pub decreases-seq_sure : goal.decreases-seq_sure
 decreases-seq_sure l = 2 * max (the_size l.p.now) (the_size l.q.now) + 1
 
-abbrev pub decreases-trap_sure : goal.decreases-trap_sure
-decreases-trap_sure l = 2 * the_size l.p.now + 1
+abbrev pub decreases-resume_trap_sure : goal.decreases-resume_trap_sure
+decreases-resume_trap_sure l = 2 * the_size l.p.now + 1

@@ -5,14 +5,14 @@ use Rattle.est_rounds.proofs.start.+start.Given as goal
 abbrev pub decreases-start_sure : goal.decreases-start_sure
 decreases-start_sure l = 2 * the_size l.s.now
 
-abbrev pub decreases-par_sure : goal.decreases-par_sure
-decreases-par_sure l = 2 * max (the_size l.p.now) (the_size l.q.now) + 1
+abbrev pub decreases-start_par_sure : goal.decreases-start_par_sure
+decreases-start_par_sure l = 2 * max (the_size l.p.now) (the_size l.q.now) + 1
 
-abbrev pub decreases-trap_sure : goal.decreases-trap_sure
-decreases-trap_sure l = 2 * the_size l.p.now + 1
+abbrev pub decreases-start_trap_sure : goal.decreases-start_trap_sure
+decreases-start_trap_sure l = 2 * the_size l.p.now + 1
 
-abbrev pub decreases-local_sure : goal.decreases-local_sure
-decreases-local_sure l = 2 * the_size l.p.now + 1
+abbrev pub decreases-start_local_sure : goal.decreases-start_local_sure
+decreases-start_local_sure l = 2 * the_size l.p.now + 1
 
 abbrev pub decreases-then_start : goal.decreases-then_start
 decreases-then_start l = 2 * the_size l.q.now + 1

@@ -6,11 +6,11 @@ use Rattle.state_search.proofs.search.search.Given as goal
 
 abbrev pub invariant-loop-found : goal.invariant-loop-found
 invariant-loop-found g l = record {
-  fits : g.M.Machine.fits l.machine l.scratch;
+  fits : g.M.TransitionSystem.fits l.machine l.scratch;
   places : IsPlaced g.M.State.Hash.hash_input l.places l.found.nodes.items;
   first : At l.found.nodes.items 0 l.fn.start;
-  searching : IsSearching (g.M.Machine.is_state l.machine) (g.M.Machine.does l.machine) (g.M.Machine.covers l.machine)
-      (g.M.Machine.apart l.machine) l.found.nodes.items l.found.rows.items l.found.done;
+  searching : IsSearching (g.M.TransitionSystem.is_state l.machine) (g.M.TransitionSystem.does l.machine) (g.M.TransitionSystem.covers l.machine)
+      (g.M.TransitionSystem.apart l.machine) l.found.nodes.items l.found.rows.items l.found.done;
 }
 
 abbrev pub decreases-loop-found : goal.decreases-loop-found

@@ -2,8 +2,8 @@ use Rattle.std.proofs.Common.{◌≡◌, ◌∙◌, sym, true, false}
 use Rattle.std.proofs.lemmas.Bool.{false≢true}
 use Rattle.est_kernel.specs.Bits.{bits}
 use Rattle.est_cover.proofs.OneAtMost.{one_if_none}
-use Rattle.est_cover.proofs.SaidLemmas.{is_offered, not_another, one_alone}
-use Rattle.est_cover.proofs.said.said_by_exclusion.Goals as goal
+use Rattle.est_cover.proofs.ForcedLemmas.{is_offered, not_another, one_alone}
+use Rattle.est_cover.proofs.forced.forced_by_exclusion.Goals as goal
 
 pub returns-in_default : goal.returns-in_default
 returns-in_default c = one_if_none (bits c.args.part.inputs) c.args.members.now (sym c.in_default.ensures)

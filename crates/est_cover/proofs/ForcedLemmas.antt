@@ -10,9 +10,9 @@ use Rattle.est_relations.specs.Keeping.{AreLawful, has_one_at_most, has_implied,
 use Rattle.est_relations.specs.declared.relations.Relation.{Relation}
 use Rattle.est_relations.proofs.Members.{one_means, one_where, found_is}
 use Rattle.est_cover.specs.InputSets.{InputSet}
-use Rattle.est_cover.specs.Inner.Parts.{HasPart, IsSaid}
-use Rattle.est_cover.specs.declared.said.Said.{Said}
-use Rattle.est_cover.specs.declared.said.Said.TheVariants.{Broken, Present, Absent}
+use Rattle.est_cover.specs.Inner.Parts.{HasPart, IsForced}
+use Rattle.est_cover.specs.declared.forced.Forced.{Forced}
+use Rattle.est_cover.specs.declared.forced.Forced.TheVariants.{Broken, Present, Absent}
 use Rattle.est_cover.proofs.OneAtMost.{one_if_alone}
 
 -- at most one is offered of fewer too
@@ -83,10 +83,10 @@ offered_is_asked unasked inputs apart n h = elim (cases_Bool (bits unasked n)) [
 ]
 
 -- what is said of the sets that keep a relation is said of those that keep all
-pub said_of_all : (s : Said) (rs : List Relation) (i : ℕ) (r : Relation) (unasked inputs : ℕ) → i < length rs
-    → r ≡ get_or rs i r → IsSaid s (λ set. keeps set r ≡ true) unasked inputs
-    → IsSaid s (AreLawful rs) unasked inputs
-said_of_all s rs i r unasked inputs within at said = by s said where
+pub forced_of_all : (s : Forced) (rs : List Relation) (i : ℕ) (r : Relation) (unasked inputs : ℕ) → i < length rs
+    → r ≡ get_or rs i r → IsForced s (λ set. keeps set r ≡ true) unasked inputs
+    → IsForced s (AreLawful rs) unasked inputs
+forced_of_all s rs i r unasked inputs within at forced = by s forced where
   one : (set : InputSet) → AreLawful rs set → keeps set r ≡ true
   one set all = elim (cases_Bool (keeps set r)) [
     | inl t ↦ t
@@ -94,7 +94,7 @@ said_of_all s rs i r unasked inputs within at said = by s said where
         (subst (λ (x : Relation). keeps set x ≡ false) at f)) ∙ all))
   ]
 
-  by : (s : Said) → IsSaid s (λ set. keeps set r ≡ true) unasked inputs → IsSaid s (AreLawful rs) unasked inputs
+  by : (s : Forced) → IsForced s (λ set. keeps set r ≡ true) unasked inputs → IsForced s (AreLawful rs) unasked inputs
   by Broken h = λ set has all. h set has (one set all)
   by (Present p) h = (h.0, λ set has all. h.1 set has (one set all))
   by (Absent p) h = (h.0, λ set has all. h.1 set has (one set all))

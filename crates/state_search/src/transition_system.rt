@@ -3,7 +3,7 @@ ghost use Rattle.std.specs.Prelude.{◌≡◌, ℕ, ◌<◌, [], List, Option, I
 ghost use Rattle.std.specs.Bool.{MatchBool};
 ghost use Rattle.std.specs.List.{All, AllPairs};
 ghost use Rattle.state_search.specs.Table.{IsExact};
-ghost use Rattle.state_search.specs.declared.machine.Step.{Step as StepValue};
+ghost use Rattle.state_search.specs.declared.transition_system.Step.{Step as StepValue};
 
 use std::alloc::AllocError;
 use std::hash::Hash;
@@ -23,7 +23,7 @@ pub struct Step<S, L> {
 }
 
 /// What a search goes through: states, and steps between them.
-pub trait Machine {
+pub trait TransitionSystem {
     /// Where it stands.
     type State: Standing;
     /// What is to be seen of a step.

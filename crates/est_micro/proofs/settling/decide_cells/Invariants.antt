@@ -3,7 +3,7 @@ use Rattle.est_kernel.specs.Bits.{bits}
 use Rattle.est_net.specs.Kept.{kept, reopened}
 use Rattle.est_micro.specs.Parts.{AgreeBut}
 use Rattle.est_micro.proofs.Settles.{Settling}
-use Rattle.est_micro.proofs.settling.settle.Given as goal
+use Rattle.est_micro.proofs.settling.decide_cells.Given as goal
 
 abbrev pub invariant-loop-found : goal.invariant-loop-found
 invariant-loop-found l = record {

@@ -8,7 +8,7 @@ use Rattle.est_micro.specs.Runs.{IsExchanged}
 use Rattle.est_net.proofs.Ranges.{decided_within}
 use Rattle.est_micro.proofs.Unasked.{exchange_by, round_by}
 use Rattle.est_micro.proofs.Settles.{start_ready, round_made, settled}
-use Rattle.est_micro.proofs.settling.settle.Goals as goal
+use Rattle.est_micro.proofs.settling.decide_cells.Goals as goal
 
 pub loop-found-init : goal.loop-found-init
 loop-found-init c =

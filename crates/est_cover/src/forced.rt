@@ -3,7 +3,7 @@ ghost use Rattle.std.specs.Prelude.{◌≡◌, ◌<◌, MatchOption, ℕ, true, 
 ghost use Rattle.std.specs.List.{list_all};
 ghost use Rattle.est_kernel.specs.Bits.{bits};
 ghost use Rattle.est_relations.specs.Keeping.{AreLawful, has_implied, has_one_at_most, keeps};
-ghost use Rattle.est_cover.specs.Inner.Parts.{IsSaid};
+ghost use Rattle.est_cover.specs.Inner.Parts.{IsForced};
 
 use crate::part::Part;
 use est_kernel::mask;
@@ -11,7 +11,7 @@ use est_relations::relations::{Members, Relation};
 
 /// What is said of a part.
 #[derive(Clone, Copy)]
-pub enum Said {
+pub enum Forced {
     /// No lawful set of inputs has it.
     Broken,
     /// The lawful sets that have it have this signal, which was not asked.
@@ -22,10 +22,10 @@ pub enum Said {
 
 /// What it says that at most one of the members is offered, unless that holds of the part without
 /// all that was not asked.
-fn said_by_exclusion(members: &Members, part: Part) -> Option<Said>
+fn forced_by_exclusion(members: &Members, part: Part) -> Option<Forced>
     requires { (n : ℕ) → bits part.unasked n ≡ true → bits part.inputs n ≡ false }
     ensures { MatchOption result (has_one_at_most (bits part.inputs) members.now ≡ true)
-        (λ s. IsSaid s (λ set. has_one_at_most set members.now ≡ true) part.unasked part.inputs) }
+        (λ s. IsForced s (λ set. has_one_at_most set members.now ≡ true) part.unasked part.inputs) }
 {
     let Some(first) = members.first_in(part.inputs) else {
         return None;
@@ -35,19 +35,19 @@ fn said_by_exclusion(members: &Members, part: Part) -> Option<Said>
         return None;
     };
     if mask::has(part.unasked, other.index) {
-        return Some(Said::Absent(other.index));
+        return Some(Forced::Absent(other.index));
     }
-    Some(Said::Broken)
+    Some(Forced::Broken)
 }
 
 /// What it says that one signal is offered where another is, unless that holds of the part without
 /// all that was not asked.
-fn said_by_implication(condition: u8, implied: u8, part: Part) -> Option<Said>
+fn forced_by_implication(condition: u8, implied: u8, part: Part) -> Option<Forced>
     requires condition { condition < 64 }
     requires implied { implied < 64 }
     requires apart { (n : ℕ) → bits part.unasked n ≡ true → bits part.inputs n ≡ false }
     ensures { MatchOption result (has_implied (bits part.inputs) condition implied ≡ true)
-        (λ s. IsSaid s (λ set. has_implied set condition implied ≡ true) part.unasked part.inputs) }
+        (λ s. IsForced s (λ set. has_implied set condition implied ≡ true) part.unasked part.inputs) }
 {
     if mask::has(part.inputs, implied) {
         return None;
@@ -56,12 +56,12 @@ fn said_by_implication(condition: u8, implied: u8, part: Part) -> Option<Said>
         mask::has(part.unasked, implied),
         mask::has(part.inputs, condition),
     ) {
-        (true, true) => Some(Said::Present(implied)),
+        (true, true) => Some(Forced::Present(implied)),
         (true, false) => None,
-        (false, true) => Some(Said::Broken),
+        (false, true) => Some(Forced::Broken),
         (false, false) => {
             if mask::has(part.unasked, condition) {
-                Some(Said::Absent(condition))
+                Some(Forced::Absent(condition))
             } else {
                 None
             }
@@ -71,29 +71,29 @@ fn said_by_implication(condition: u8, implied: u8, part: Part) -> Option<Said>
 
 /// What the relation says of the part, unless it holds of it without all that was not asked, and
 /// says nothing more.
-fn said_by(relation: &Relation, part: Part) -> Option<Said>
+fn forced_by(relation: &Relation, part: Part) -> Option<Forced>
     requires { (n : ℕ) → bits part.unasked n ≡ true → bits part.inputs n ≡ false }
     ensures { MatchOption result (keeps (bits part.inputs) relation.now ≡ true)
-        (λ s. IsSaid s (λ set. keeps set relation.now ≡ true) part.unasked part.inputs) }
+        (λ s. IsForced s (λ set. keeps set relation.now ≡ true) part.unasked part.inputs) }
 {
     match relation {
-        Relation::Exclusion(members) => said_by_exclusion(members, part),
+        Relation::Exclusion(members) => forced_by_exclusion(members, part),
         Relation::Implication(condition, implied) => {
-            said_by_implication(condition.index, implied.index, part)
+            forced_by_implication(condition.index, implied.index, part)
         }
     }
 }
 
 /// What the first relation that says something of the part says. If none does, the part without
 /// all that was not asked is lawful.
-pub fn first_said(relations: &[Relation], part: Part) -> Option<Said>
+pub fn first_forced(relations: &[Relation], part: Part) -> Option<Forced>
     requires { (n : ℕ) → bits part.unasked n ≡ true → bits part.inputs n ≡ false }
     ensures { MatchOption result (AreLawful relations.now (bits part.inputs))
-        (λ s. IsSaid s (AreLawful relations.now) part.unasked part.inputs) }
+        (λ s. IsForced s (AreLawful relations.now) part.unasked part.inputs) }
 {
     for relation in relations {
-        if let Some(said) = said_by(relation, part) {
-            return Some(said);
+        if let Some(forced) = forced_by(relation, part) {
+            return Some(forced);
         }
     }
     None

@@ -1,8 +1,8 @@
 use Rattle.std.proofs.Common.{◌≡◌, ◌∙◌, sym, true, false}
 use Rattle.std.proofs.lemmas.Bool.{false≢true}
 use Rattle.est_kernel.specs.Bits.{bits}
-use Rattle.est_cover.proofs.SaidLemmas.{implied_is, implies, implies_not, nothing_implied, offered_is_asked}
-use Rattle.est_cover.proofs.said.said_by_implication.Goals as goal
+use Rattle.est_cover.proofs.ForcedLemmas.{implied_is, implies, implies_not, nothing_implied, offered_is_asked}
+use Rattle.est_cover.proofs.forced.forced_by_implication.Goals as goal
 
 pub returns-then-has : goal.returns-then-has
 returns-then-has c = implied_is (bits c.args.part.inputs) c.args.condition c.args.implied

@@ -1,7 +1,0 @@
-use Rattle.est_cover.proofs.SaidLemmas.{said_of_all}
-use Rattle.est_cover.proofs.said.first_said.Goals as goal
-
-pub returns-in-Some : goal.returns-in-Some
-returns-in-Some c = said_of_all c.in-Some.said c.args.relations.now c.loop-relation.relation-index
-    c.relation-item.result c.args.part.unasked c.args.part.inputs c.loop-relation-test.true c.relation-item.is
-    c.in-Some.ensures
