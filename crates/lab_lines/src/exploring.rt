@@ -39,7 +39,7 @@ fn watched_by(tests: &[AskedTest]) -> u64
 }
 
 /// The verdicts on tests.
-fn judge_tests<E: PartEngine>(
+fn verdicts_on<E: PartEngine>(
     alloc: Global,
     subject: &AllLawful<'_, OneModule<'_, E>>,
     found: &Found<Position, Asked<Answer>>,
@@ -107,7 +107,7 @@ pub fn judge_module<E: PartEngine>(
     let found = explore(alloc, &watching, engine, limits)?;
     let given = judge(alloc, &watching, &found, &Claim::NeverStuck)?;
     let stuck = verdict(alloc, subject.reactive.kernel.interface(), &given)?;
-    let verdicts = judge_tests(alloc, &watching, &found, tests, limits)?;
+    let verdicts = verdicts_on(alloc, &watching, &found, tests, limits)?;
     let reactions = found.rows.len();
     let states = found.nodes.len();
     let told = exploration_told(alloc, reactions, states, stuck, verdicts)?;

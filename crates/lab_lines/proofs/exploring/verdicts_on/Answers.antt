@@ -1,7 +1,7 @@
 use Rattle.std.proofs.Common.{rules}
 use Rattle.est_explore.specs.declared.claim.Claim.TheVariants.{Always}
 use Rattle.lab_lines.proofs.ToldLemmas.{told_next}
-use Rattle.lab_lines.proofs.exploring.judge_tests.Goals as goal
+use Rattle.lab_lines.proofs.exploring.verdicts_on.Goals as goal
 
 pub loop-test-preserved : goal.loop-test-preserved
 loop-test-preserved g c = told_next _ _ _ c.args.tests.now c.loop-test.test-index c.test-item.result

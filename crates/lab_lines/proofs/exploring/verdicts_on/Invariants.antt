@@ -3,7 +3,7 @@ use Rattle.serde_json.specs.View.{view}
 use Rattle.est_explore.specs.Views.{module_of}
 use Rattle.lab_lines.specs.Exploring.{AreTold}
 use Rattle.lab_lines.specs.Tests.{test_of}
-use Rattle.lab_lines.proofs.exploring.judge_tests.Given as goal
+use Rattle.lab_lines.proofs.exploring.verdicts_on.Given as goal
 
 abbrev pub invariant-loop-test : goal.invariant-loop-test
 invariant-loop-test g l = AreTold (module_of l.subject.reactive.now.kernel.now l.subject.relations.now l.subject.among)
