@@ -10,10 +10,10 @@ ghost use Rattle.est_explore.specs.Explored.{IsExplored};
 ghost use Rattle.est_explore.specs.Views.{module_of};
 ghost use Rattle.lab_lines.specs.Tests.{test_of};
 ghost use Rattle.lab_lines.specs.Exploring.{AreTold, IsExploration};
-ghost use Rattle.lab_lines.specs.Told.{exploration_json};
+ghost use Rattle.lab_lines.specs.FoundJson.{exploration_json};
 
 use crate::asked_test::AskedTest;
-use crate::told::verdict;
+use crate::found_json::verdict;
 use est_cover::all_lawful::AllLawful;
 use est_cover::asked::Asked;
 use est_explore::claim::Claim;
