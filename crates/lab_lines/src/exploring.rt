@@ -13,7 +13,7 @@ ghost use Rattle.lab_lines.specs.Exploring.{AreTold, IsExploration};
 ghost use Rattle.lab_lines.specs.FoundJson.{exploration_json};
 
 use crate::asked_test::AskedTest;
-use crate::found_json::verdict;
+use crate::found_json::verdict_json;
 use est_cover::all_lawful::AllLawful;
 use est_cover::asked::Asked;
 use est_explore::claim::Claim;
@@ -59,7 +59,7 @@ fn verdicts_on<E: PartEngine>(
     for test in tests {
         let claim = Claim::Always(test.test());
         let given = judge(alloc, subject, found, &claim)?;
-        let told = verdict(alloc, subject.reactive.kernel.interface(), &given)?;
+        let told = verdict_json(alloc, subject.reactive.kernel.interface(), &given)?;
         verdicts.push(told)?;
     }
     Ok(verdicts)
@@ -106,7 +106,7 @@ pub fn judge_module<E: PartEngine>(
     };
     let found = explore(alloc, &watching, engine, limits)?;
     let given = judge(alloc, &watching, &found, &Claim::NeverStuck)?;
-    let stuck = verdict(alloc, subject.reactive.kernel.interface(), &given)?;
+    let stuck = verdict_json(alloc, subject.reactive.kernel.interface(), &given)?;
     let verdicts = verdicts_on(alloc, &watching, &found, tests, limits)?;
     let reactions = found.rows.len();
     let states = found.nodes.len();

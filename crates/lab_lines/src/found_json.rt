@@ -16,7 +16,7 @@ use serde_json::{Value, json};
 use std::alloc::{AllocError, Global};
 
 /// The names of the signals, in the order of declaration.
-pub fn names(alloc: Global, interface: &Interface, signals: u64) -> Result<Value, AllocError>
+pub fn names_json(alloc: Global, interface: &Interface, signals: u64) -> Result<Value, AllocError>
     ensures { IfOk result (λ v. view v ≡ names_json interface.now signals) }
 {
     let declarations = interface.declarations();
@@ -31,75 +31,89 @@ pub fn names(alloc: Global, interface: &Interface, signals: u64) -> Result<Value
 }
 
 /// What a module answered.
-fn answer(alloc: Global, interface: &Interface, answer: Answer) -> Result<Value, AllocError>
+fn answer_json(alloc: Global, interface: &Interface, answer: Answer) -> Result<Value, AllocError>
     ensures { IfOk result (λ v. view v ≡ object (answer_members interface.now answer)) }
 {
     match answer {
         Answer::Reaction { outputs } => {
-            json!(in alloc; {"outputs": names(alloc, interface, outputs)?})
+            json!(in alloc; {"outputs": names_json(alloc, interface, outputs)?})
         }
         Answer::Stuck { undecided } => {
-            json!(in alloc; {"undecided": names(alloc, interface, undecided)?})
+            json!(in alloc; {"undecided": names_json(alloc, interface, undecided)?})
         }
     }
 }
 
 /// An instant of a module.
-fn instant(alloc: Global, interface: &Interface, asked: &Asked<Answer>) -> Result<Value, AllocError>
+fn instant_json(
+    alloc: Global,
+    interface: &Interface,
+    asked: &Asked<Answer>,
+) -> Result<Value, AllocError>
     ensures { IfOk result (λ v. view v ≡ instant_json interface.now asked.now) }
 {
-    let inputs = names(alloc, interface, asked.inputs)?;
+    let inputs = names_json(alloc, interface, asked.inputs)?;
     match asked.answer {
-        Answer::Reaction { outputs } => {
-            json!(in alloc; {"inputs": inputs, "outputs": names(alloc, interface, outputs)?})
-        }
-        Answer::Stuck { undecided } => {
-            json!(in alloc; {"inputs": inputs, "undecided": names(alloc, interface, undecided)?})
-        }
+        Answer::Reaction { outputs } => json!(in alloc; {
+            "inputs": inputs,
+            "outputs": names_json(alloc, interface, outputs)?
+        }),
+        Answer::Stuck { undecided } => json!(in alloc; {
+            "inputs": inputs,
+            "undecided": names_json(alloc, interface, undecided)?
+        }),
     }
 }
 
 /// The instants of a module.
-fn word(alloc: Global, interface: &Interface, word: &[Asked<Answer>]) -> Result<Value, AllocError>
+fn word_json(
+    alloc: Global,
+    interface: &Interface,
+    word: &[Asked<Answer>],
+) -> Result<Value, AllocError>
     ensures { IfOk result (λ v.
         view v ≡ array (items_of (map (instant_json interface.now) word.now))) }
 {
     let mut instants = Vec::new(alloc);
     for asked in word {
-        instants.push(instant(alloc, interface, asked)?)?;
+        instants.push(instant_json(alloc, interface, asked)?)?;
     }
     Ok(Value::from(instants))
 }
 
 /// What is answered to a claim.
-pub fn verdict(alloc: Global, interface: &Interface, verdict: &Verdict) -> Result<Value, AllocError>
+pub fn verdict_json(
+    alloc: Global,
+    interface: &Interface,
+    verdict: &Verdict,
+) -> Result<Value, AllocError>
     ensures { IfOk result (λ v. view v ≡ verdict_json interface.now verdict.now) }
 {
     match verdict {
         Verdict::Holds => json!(in alloc; {"verdict": "holds"}),
         Verdict::TooMany => json!(in alloc; {"verdict": "toomany"}),
         Verdict::Fails { word: instants } => {
-            json!(in alloc; {"verdict": "fails", "word": word(alloc, interface, instants)?})
+            json!(in alloc; {"verdict": "fails", "word": word_json(alloc, interface, instants)?})
         }
     }
 }
 
 /// An instant of two modules.
-fn instant_of_both(
+fn instant_of_both_json(
     alloc: Global,
     interface: &Interface,
     asked: &Asked<Both>,
 ) -> Result<Value, AllocError>
     ensures { IfOk result (λ v. view v ≡ instant_of_both_json interface.now asked.now) }
 {
-    let inputs = names(alloc, interface, asked.inputs)?;
-    let first = answer(alloc, interface, asked.answer.first)?;
-    let second = answer(alloc, interface, asked.answer.second)?;
+    let inputs = names_json(alloc, interface, asked.inputs)?;
+    let first = answer_json(alloc, interface, asked.answer.first)?;
+    let second = answer_json(alloc, interface, asked.answer.second)?;
     json!(in alloc; {"first": first, "inputs": inputs, "second": second})
 }
 
 /// The instants of two modules.
-pub fn word_of_both(
+pub fn word_of_both_json(
     alloc: Global,
     interface: &Interface,
     word: &[Asked<Both>],
@@ -109,7 +123,7 @@ pub fn word_of_both(
 {
     let mut instants = Vec::new(alloc);
     for asked in word {
-        instants.push(instant_of_both(alloc, interface, asked)?)?;
+        instants.push(instant_of_both_json(alloc, interface, asked)?)?;
     }
     Ok(Value::from(instants))
 }

@@ -9,7 +9,7 @@ ghost use Rattle.est_kernel.specs.declared.state.State.TheVariants.{Paused};
 ghost use Rattle.lab_lines.specs.TableJson.{IsTableTold, IsTooLarge, node_json, number_json};
 ghost use Rattle.lab_lines.specs.TableJson.{place_json, row_json, state_json};
 
-use crate::found_json::names;
+use crate::found_json::names_json;
 use crate::pauses::pause_numbers;
 use est_cover::all_lawful::AllLawful;
 use est_cover::asked::Asked;
@@ -26,7 +26,7 @@ use state_search::search::Limits;
 use std::alloc::{AllocError, Global};
 
 /// Numbers.
-fn number_values(alloc: Global, numbers: &[u16]) -> Result<Value, AllocError>
+fn numbers_json(alloc: Global, numbers: &[u16]) -> Result<Value, AllocError>
     ensures { IfOk result (λ v. view v ≡ array (items_of (map number_json numbers.now))) }
 {
     let mut values = Vec::new(alloc);
@@ -37,37 +37,37 @@ fn number_values(alloc: Global, numbers: &[u16]) -> Result<Value, AllocError>
 }
 
 /// The numbers of the pauses.
-fn pauses(alloc: Global, paused: &PauseSet) -> Result<Value, AllocError>
+fn pauses_json(alloc: Global, paused: &PauseSet) -> Result<Value, AllocError>
     ensures { IfOk result (λ v. view v ≡ state_json (Paused paused.now)) }
 {
     let numbers = pause_numbers(alloc, paused)?;
-    number_values(alloc, numbers.as_slice())
+    numbers_json(alloc, numbers.as_slice())
 }
 
 /// Where a module stands.
-pub fn state(alloc: Global, state: &State) -> Result<Value, AllocError>
+pub fn state_json(alloc: Global, state: &State) -> Result<Value, AllocError>
     ensures { IfOk result (λ v. view v ≡ state_json state.now) }
 {
     match state {
         State::Fresh => Value::try_from_str(alloc, "start"),
         State::Done => Value::try_from_str(alloc, "end"),
-        State::Paused(paused) => pauses(alloc, paused),
+        State::Paused(paused) => pauses_json(alloc, paused),
     }
 }
 
 /// The states.
-fn states(alloc: Global, nodes: &[Node<Position>]) -> Result<Vec<Value>, AllocError>
+fn states_json(alloc: Global, nodes: &[Node<Position>]) -> Result<Vec<Value>, AllocError>
     ensures { IfOk result (λ v. map view v.items ≡ map node_json nodes.now) }
 {
     let mut values = Vec::new(alloc);
     for node in nodes {
-        values.push(state(alloc, &node.state.state)?)?;
+        values.push(state_json(alloc, &node.state.state)?)?;
     }
     Ok(values)
 }
 
 /// A place, or none.
-fn place(place: Option<usize>) -> Value
+fn place_json(place: Option<usize>) -> Value
     ensures { view result ≡ place_json place }
 {
     match place {
@@ -77,30 +77,34 @@ fn place(place: Option<usize>) -> Value
 }
 
 /// A row.
-fn row(alloc: Global, interface: &Interface, row: &Row<Asked<Answer>>) -> Result<Value, AllocError>
+fn row_json(
+    alloc: Global,
+    interface: &Interface,
+    row: &Row<Asked<Answer>>,
+) -> Result<Value, AllocError>
     ensures { IfOk result (λ v. view v ≡ row_json interface.now row.now) }
 {
-    let asked = names(alloc, interface, row.label.asked)?;
-    let inputs = names(alloc, interface, row.label.inputs)?;
+    let asked = names_json(alloc, interface, row.label.asked)?;
+    let inputs = names_json(alloc, interface, row.label.inputs)?;
     match row.label.answer {
         Answer::Reaction { outputs } => json!(in alloc; {
             "asked": asked,
             "from": row.from,
             "inputs": inputs,
-            "next": place(row.next),
-            "outputs": names(alloc, interface, outputs)?
+            "next": place_json(row.next),
+            "outputs": names_json(alloc, interface, outputs)?
         }),
         Answer::Stuck { undecided } => json!(in alloc; {
             "asked": asked,
             "from": row.from,
             "inputs": inputs,
-            "undecided": names(alloc, interface, undecided)?
+            "undecided": names_json(alloc, interface, undecided)?
         }),
     }
 }
 
 /// The rows.
-fn rows(
+fn rows_json(
     alloc: Global,
     interface: &Interface,
     rows: &[Row<Asked<Answer>>],
@@ -110,7 +114,7 @@ fn rows(
 {
     let mut values = Vec::new(alloc);
     for each in rows {
-        values.push(row(alloc, interface, each)?)?;
+        values.push(row_json(alloc, interface, each)?)?;
     }
     Ok(Value::from(values))
 }
@@ -155,8 +159,8 @@ pub fn find_table<E: PartEngine>(
         let told = too_large_told(alloc, reactions, states)?;
         return Ok(told);
     }
-    let states = states(alloc, found.nodes.as_slice())?;
-    let rows = rows(alloc, interface, found.rows.as_slice())?;
+    let states = states_json(alloc, found.nodes.as_slice())?;
+    let rows = rows_json(alloc, interface, found.rows.as_slice())?;
     let told = table_told(alloc, rows, states)?;
     Ok(told)
 }

@@ -28,7 +28,7 @@ use lab_claims::claims::{BadClaim, read_claims};
 use lab_lines::asked_test::AskedTest;
 use lab_lines::comparing::{are_same, compare_modules};
 use lab_lines::exploring::judge_module;
-use lab_lines::found_json::names;
+use lab_lines::found_json::names_json;
 use lab_lines::offers::signals_of_names;
 use lab_lines::request::{Request, Scope};
 use lab_lines::statements::kernel_told;
@@ -281,8 +281,8 @@ fn loaded_told(alloc: Global, loaded: &Module) -> Result<Value, AllocError>
     ensures { IfOk result (λ v. IsLoadedTold loaded.now (view v)) }
 {
     let interface = loaded.kernel.interface();
-    let inputs = names(alloc, interface, interface.offerable())?;
-    let outputs = names(alloc, interface, interface.emittable())?;
+    let inputs = names_json(alloc, interface, interface.offerable())?;
+    let outputs = names_json(alloc, interface, interface.emittable())?;
     json!(in alloc; {"inputs": inputs, "ok": "load", "outputs": outputs})
 }
 

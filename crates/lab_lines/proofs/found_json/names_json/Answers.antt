@@ -5,8 +5,8 @@ use Rattle.est_kernel.specs.declared.interface.Kind.TheVariants.{Input}
 use Rattle.serde_json.specs.View.{items_of, view}
 use Rattle.lab_lines.specs.FoundJson.{names_from}
 use Rattle.lab_lines.proofs.NameLemmas.{names_there, names_later, one_more, none_left}
-use Rattle.lab_lines.proofs.found_json.names.Goals.{then-has+in_ok-name+in_ok-push, else-has}
-use Rattle.lab_lines.proofs.found_json.names.Goals as goal
+use Rattle.lab_lines.proofs.found_json.names_json.Goals.{then-has+in_ok-name+in_ok-push, else-has}
+use Rattle.lab_lines.proofs.found_json.names_json.Goals as goal
 
 pub loop-place-preserved : goal.loop-place-preserved
 loop-place-preserved c = elim c.if-has.branch [
