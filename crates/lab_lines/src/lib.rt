@@ -5,7 +5,8 @@
 //! `comparing` compares two modules, and `table_json` gives the closed table; each answers a JSON
 //! value, of which `found_json` makes the parts. `statements` lists the statements of a kernel.
 //! `inside` writes the line of an instant from inside, with the `ties` of one that is stuck, token
-//! by token; `line_parts` writes the names and the state in it.
+//! by token; `line_parts` writes the names and the state in it. `refusal` has the numbers of the
+//! lab's own refusals.
 #![tactic(auto)]
 
 pub mod asked_test;
@@ -17,6 +18,7 @@ mod line_parts;
 pub mod offers;
 mod pauses;
 pub mod reading;
+pub mod refusal;
 pub mod request;
 pub mod statements;
 pub mod table_json;

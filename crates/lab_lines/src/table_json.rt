@@ -11,6 +11,7 @@ ghost use Rattle.lab_lines.specs.TableJson.{place_json, row_json, state_json};
 
 use crate::found_json::names_json;
 use crate::pauses::pause_numbers;
+use crate::refusal::TOO_MANY_CODE;
 use est_cover::all_lawful::AllLawful;
 use est_cover::asked::Asked;
 use est_explore::judge::explore;
@@ -135,7 +136,9 @@ fn too_large_told(alloc: Global, reactions: usize, states: usize) -> Result<Valu
         (member (codes "reactions") (number (unsigned reactions))
         (member (codes "states") (number (unsigned states)) no_members))))) }
 {
-    json!(in alloc; {"code": 83, "fault": "TooMany", "reactions": reactions, "states": states})
+    json!(in alloc; {
+        "code": TOO_MANY_CODE, "fault": "TooMany", "reactions": reactions, "states": states
+    })
 }
 
 /// The table of a module; or that there are too many states or reactions.

@@ -30,6 +30,7 @@ use lab_lines::comparing::{are_same, compare_modules};
 use lab_lines::exploring::judge_module;
 use lab_lines::found_json::names_json;
 use lab_lines::offers::signals_of_names;
+use lab_lines::refusal::{CLAIM_CODE, INTERFACE_CODE};
 use lab_lines::request::{Request, Scope};
 use lab_lines::statements::kernel_told;
 use lab_lines::table_json::find_table;
@@ -105,7 +106,7 @@ fn bad_claim_told(alloc: Global, bad: BadClaim) -> Result<Value, AllocError>
 {
     let number = bad.number;
     let why = refusal_told(alloc, Refusal::from(bad.why))?;
-    json!(in alloc; {"claim": number, "code": 81, "fault": "Claim", "why": why})
+    json!(in alloc; {"claim": number, "code": CLAIM_CODE, "fault": "Claim", "why": why})
 }
 
 /// The verdicts on tests of a module that is offered these inputs alone.
@@ -198,7 +199,7 @@ fn other_interface(alloc: Global, loaded: &Module, other: &Module) -> Result<Val
     requires { other.now.kernel.interface ≢ loaded.now.kernel.interface }
     ensures { IfOk result (λ v. IsOtherInterface loaded.now other.now (view v)) }
 {
-    json!(in alloc; {"code": 82, "fault": "Interface"})
+    json!(in alloc; {"code": INTERFACE_CODE, "fault": "Interface"})
 }
 
 /// Compares a module with another, which are offered these inputs alone.
