@@ -13,14 +13,14 @@ use wire_reader::serving::{Answerer, Text};
 
 /// The server's side of one connection: its login, if it holds one, what reads its lines, and the
 /// worker that answers them through a gate.
-pub(crate) struct Client<'g, G> {
+pub(crate) struct LineAnswerer<'g, G> {
     pub(crate) login: Option<Login>,
     pub(crate) requests: RequestReader,
     pub(crate) gate: &'g G,
     pub(crate) worker: usize,
 }
 
-impl<'g, D: Desk, G: Gate> Answerer<D> for Client<'g, G> {
+impl<'g, D: Desk, G: Gate> Answerer<D> for LineAnswerer<'g, G> {
     ghost tells = { λ before line text after.
         Tells D.answers line (seen_of before) text (seen_of after) };
 

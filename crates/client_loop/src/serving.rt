@@ -6,7 +6,7 @@ ghost use Rattle.client_loop.specs.LineSteps.{with_login};
 ghost use Rattle.client_loop.specs.Logins.{session_of, Leaves};
 ghost use Rattle.client_loop.specs.Serving.{too_long_text, ServesLines, ServesDesk};
 
-use crate::client::Client;
+use crate::client::LineAnswerer;
 use crate::desk::Desk;
 use crate::gate::{Gate, OpenGate};
 use crate::login::Login;
@@ -54,7 +54,7 @@ fn answer_lines<R: Read, W: Write, D: Desk, G: Gate>(
     ensures unfailed_writer { (result.0 ≡ why.WriteFault → ⊥) →
         writer.new.faults ≡ writer.old.faults }
 {
-    let mut client = Client {
+    let mut answerer = LineAnswerer {
         login: None,
         requests: RequestReader::new(memory.allocator()),
         gate,
@@ -64,16 +64,16 @@ fn answer_lines<R: Read, W: Write, D: Desk, G: Gate>(
         memory,
         reader,
         writer,
-        &mut client,
+        &mut answerer,
         desk,
         too_long_line(),
     );
-    let Client {
+    let LineAnswerer {
         login,
         requests: _,
         gate: _,
         worker: _,
-    } = client;
+    } = answerer;
     (why, login)
 }
 

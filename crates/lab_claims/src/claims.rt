@@ -14,6 +14,12 @@ use lab_lines::asked_test::AskedTest;
 use reactor_core::refusal::{ModuleRefusal, Refusal};
 use std::alloc::{AllocError, Global};
 
+/// How many bytes stand before the test of `always T`.
+const ALWAYS_BYTES: u64 = "always ".len() as u64;
+
+/// How many bytes stand before the test of `never T`.
+const NEVER_BYTES: u64 = "never ".len() as u64;
+
 /// The place in a claim, of that in its test, before which so many bytes stand.
 fn moved(place: Place, before: u64) -> Place
     ensures { result ≡ moved place before }
@@ -88,13 +94,13 @@ pub fn read_claim(alloc: Global, interface: &Interface, claim: &str) -> Result<A
     ensures fault { IfErr result (IsClaimFault interface.now claim.now) }
 {
     if let Some(text) = after(claim, "always ") {
-        let test = read_part(alloc, interface, text, 7)?;
+        let test = read_part(alloc, interface, text, ALWAYS_BYTES)?;
         return Ok(test);
     }
     let Some(text) = after(claim, "never ") else {
         return Err(at_start());
     };
-    let _part = read_part(alloc, interface, text, 6)?;
+    let _part = read_part(alloc, interface, text, NEVER_BYTES)?;
     let denial = denial(alloc, text)?;
     let test = read_test(alloc, interface, denial.as_str())?;
     Ok(test)

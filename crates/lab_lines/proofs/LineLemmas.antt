@@ -11,8 +11,8 @@ use Rattle.serde_json.specs.Written.{outline, members_outline}
 use Rattle.est_kernel.specs.Bits.{bits}
 use Rattle.est_kernel.specs.declared.interface.Declaration.{Declaration}
 use Rattle.wire_lines.specs.Inner.ReplyTokens.{value_tokens, member_tokens, item_tokens}
-use Rattle.lab_lines.specs.Parts.{names_left}
-use Rattle.lab_lines.specs.Told.{names_from}
+use Rattle.lab_lines.specs.LineParts.{names_left}
+use Rattle.lab_lines.specs.FoundJson.{names_from}
 use Rattle.lab_lines.proofs.NameLemmas.{names_there, names_later}
 
 -- the tokens of an object after its first brace

@@ -7,7 +7,7 @@ use Rattle.serde_json.specs.View.{view}
 use Rattle.serde_json.specs.declared.value.Value.{Value}
 use Rattle.est_kernel.specs.Bits.{bits}
 use Rattle.est_kernel.specs.declared.interface.Declaration.{Declaration}
-use Rattle.lab_lines.specs.Told.{names_from}
+use Rattle.lab_lines.specs.FoundJson.{names_from}
 
 -- a signal that is in the set is named, and then the later ones
 pub names_there : (ds : List Declaration) (place : ℕ) (d : Declaration) (signals : ℕ) → place < length ds

@@ -3,7 +3,7 @@ use Rattle.std.proofs.Common.{◌≡◌, ◌∙◌, ℕ, zero, suc, ◌+◌, ◌
 use Rattle.std.proofs.Common.{add-one, append-nil, arith}
 use Rattle.est_kernel.specs.Pauses.{pauses_of, some_from}
 use Rattle.est_kernel.specs.declared.pause_set.PauseSet.{PauseSet}
-use Rattle.lab_lines.specs.Tables.{pauses_below}
+use Rattle.lab_lines.specs.TableJson.{pauses_below}
 
 -- no pause has a number below 0
 pub none_below : (s : PauseSet) → pauses_below s 0 ≡ []

@@ -10,7 +10,7 @@ use Rattle.est_explore.specs.declared.two_modules.Both.{Both}
 use Rattle.est_explore.specs.declared.two_modules.Positions.{Positions}
 use Rattle.state_search.specs.Table.{HasEnded}
 use Rattle.state_search.specs.declared.found.Found.{Found}
-use Rattle.lab_lines.specs.Told.{comparison_json}
+use Rattle.lab_lines.specs.FoundJson.{comparison_json}
 
 -- what is told of two modules: how many pairs of states and reactions a search of both has found that has ended, and
 -- whether they do the same

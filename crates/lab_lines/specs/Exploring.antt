@@ -13,7 +13,7 @@ use Rattle.est_explore.specs.declared.one_module.Position.{Position}
 use Rattle.est_explore.specs.declared.verdict.Verdict.{Verdict}
 use Rattle.state_search.specs.Table.{HasEnded}
 use Rattle.state_search.specs.declared.found.Found.{Found}
-use Rattle.lab_lines.specs.Told.{verdict_json, exploration_json}
+use Rattle.lab_lines.specs.FoundJson.{verdict_json, exploration_json}
 
 -- what is told of a claim is a right verdict on it
 pub record IsTold (m : Module) (claim : Claim) (states steps : ℕ) (d : Data) : Type 0 where

@@ -11,9 +11,9 @@ use Rattle.lab_instant.specs.declared.seen.Instant.{Instant}
 use Rattle.lab_instant.specs.declared.seen.Instant.TheVariants.{Reaction, Stuck}
 use Rattle.lab_instant.specs.declared.seen.Local.{Local}
 use Rattle.lab_ties.specs.declared.tie.Tie.{Tie}
-use Rattle.lab_lines.specs.Tables.{state_json}
+use Rattle.lab_lines.specs.TableJson.{state_json}
 use Rattle.lab_lines.specs.Ties.{incarnation_json, ties_json}
-use Rattle.lab_lines.specs.Told.{names_json}
+use Rattle.lab_lines.specs.FoundJson.{names_json}
 
 -- whether it is present; null where that is not decided
 abbrev pub status_json : Status → Data

@@ -1,12 +1,12 @@
 pub mod AskedTests
 pub mod Comparing
 pub mod Exploring
+pub mod FoundJson
 pub mod Inside
+pub mod LineParts
 pub mod Offers
-pub mod Parts
 pub mod Requests
 pub mod Statements
-pub mod Tables
+pub mod TableJson
 pub mod Tests
 pub mod Ties
-pub mod Told

@@ -5,9 +5,9 @@ ghost use Rattle.serde_json.specs.View.{view};
 ghost use Rattle.est_explore.specs.Inner.Pairs.{AreFor};
 ghost use Rattle.est_explore.specs.Views.{module_of};
 ghost use Rattle.lab_lines.specs.Comparing.{IsComparison};
-ghost use Rattle.lab_lines.specs.Told.{comparison_json};
+ghost use Rattle.lab_lines.specs.FoundJson.{comparison_json};
 
-use crate::told::word_of_both;
+use crate::found_json::word_of_both_json;
 use est_cover::all_lawful::AllLawful;
 use est_explore::same::{Comparison, compare, explore_both};
 use est_explore::two_modules::{Engines, TwoModules};
@@ -60,7 +60,7 @@ fn comparison_told(
             "ok": "same", "reactions": reactions, "states": states, "verdict": "toomany"
         }),
         Comparison::Differ { word } => {
-            let word = word_of_both(alloc, interface, word.as_slice())?;
+            let word = word_of_both_json(alloc, interface, word.as_slice())?;
             json!(in alloc; {
                 "ok": "same",
                 "reactions": reactions,

@@ -10,10 +10,10 @@ ghost use Rattle.est_explore.specs.Explored.{IsExplored};
 ghost use Rattle.est_explore.specs.Views.{module_of};
 ghost use Rattle.lab_lines.specs.Tests.{test_of};
 ghost use Rattle.lab_lines.specs.Exploring.{AreTold, IsExploration};
-ghost use Rattle.lab_lines.specs.Told.{exploration_json};
+ghost use Rattle.lab_lines.specs.FoundJson.{exploration_json};
 
 use crate::asked_test::AskedTest;
-use crate::told::verdict;
+use crate::found_json::verdict_json;
 use est_cover::all_lawful::AllLawful;
 use est_cover::asked::Asked;
 use est_explore::claim::Claim;
@@ -39,7 +39,7 @@ fn watched_by(tests: &[AskedTest]) -> u64
 }
 
 /// The verdicts on tests.
-fn judge_tests<E: PartEngine>(
+fn verdicts_on<E: PartEngine>(
     alloc: Global,
     subject: &AllLawful<'_, OneModule<'_, E>>,
     found: &Found<Position, Asked<Answer>>,
@@ -59,7 +59,7 @@ fn judge_tests<E: PartEngine>(
     for test in tests {
         let claim = Claim::Always(test.test());
         let given = judge(alloc, subject, found, &claim)?;
-        let told = verdict(alloc, subject.reactive.kernel.interface(), &given)?;
+        let told = verdict_json(alloc, subject.reactive.kernel.interface(), &given)?;
         verdicts.push(told)?;
     }
     Ok(verdicts)
@@ -106,8 +106,8 @@ pub fn judge_module<E: PartEngine>(
     };
     let found = explore(alloc, &watching, engine, limits)?;
     let given = judge(alloc, &watching, &found, &Claim::NeverStuck)?;
-    let stuck = verdict(alloc, subject.reactive.kernel.interface(), &given)?;
-    let verdicts = judge_tests(alloc, &watching, &found, tests, limits)?;
+    let stuck = verdict_json(alloc, subject.reactive.kernel.interface(), &given)?;
+    let verdicts = verdicts_on(alloc, &watching, &found, tests, limits)?;
     let reactions = found.rows.len();
     let states = found.nodes.len();
     let told = exploration_told(alloc, reactions, states, stuck, verdicts)?;

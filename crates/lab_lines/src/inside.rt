@@ -7,10 +7,10 @@ ghost use Rattle.lab_instant.specs.declared.seen.Instant.TheVariants as told;
 ghost use Rattle.wire_lines.specs.Inner.ReplyTokens.{item_tokens, member_tokens, value_tokens};
 ghost use Rattle.lab_lines.specs.Inside.{back_json, inside_json, local_json, locals_json};
 ghost use Rattle.lab_lines.specs.Inside.{statements_json, status_json};
-ghost use Rattle.lab_lines.specs.Parts.{members_in};
+ghost use Rattle.lab_lines.specs.LineParts.{members_in};
 ghost use Rattle.lab_lines.specs.Ties.{incarnation_json};
 
-use crate::parts::{names, state};
+use crate::line_parts::{names, state};
 use crate::ties::{incarnation, incarnation_under, ties};
 use est_kernel::interface::Interface;
 use est_kernel::state::{Outcome, State, Stuck};

@@ -1,7 +1,7 @@
 //! The numbers of the pauses of a set.
 
 ghost use Rattle.std.specs.Prelude.{◌≡◌, ◌≤◌, ◌+◌, IfOk, OnOk};
-ghost use Rattle.lab_lines.specs.Tables.{pauses_below};
+ghost use Rattle.lab_lines.specs.TableJson.{pauses_below};
 
 use est_kernel::limits::MOST_STATEMENTS;
 use est_kernel::pause_set::PauseSet;

@@ -23,8 +23,8 @@ use Rattle.lab_lines.specs.Comparing.{IsComparison}
 use Rattle.lab_lines.specs.Exploring.{IsExploration}
 use Rattle.lab_lines.specs.Offers.{AreNamed, AreNotNamed}
 use Rattle.lab_lines.specs.Statements.{IsKernelTold}
-use Rattle.lab_lines.specs.Tables.{IsTableTold, IsTooLarge}
-use Rattle.lab_lines.specs.Told.{names_json}
+use Rattle.lab_lines.specs.TableJson.{IsTableTold, IsTooLarge}
+use Rattle.lab_lines.specs.FoundJson.{names_json}
 use Rattle.lab_lines.specs.declared.request.Request.{Request}
 use Rattle.lab_lines.specs.declared.request.Request.TheVariants.{Load, Kernel, Explore, Same, Table}
 use Rattle.lab_lines.specs.declared.request.Request.TheVariants.{Instant, Try, Back}

@@ -78,9 +78,9 @@ pub fn line_of(alloc: Global, told: Told) -> Result<Text, AllocError>
 
 /// Answers the lines of a connection by the lab.
 #[derive(Clone, Copy, Drop)]
-pub struct Clerk;
+pub struct LineAnswerer;
 
-impl Answerer<Lab> for Clerk {
+impl Answerer<Lab> for LineAnswerer {
     ghost tells = { λ before line text after. IsAnswer before.1.loaded line text after.1.loaded };
 
     ghost fails = { λ before line after. HasNoText before.1.loaded line after.1.loaded };

@@ -7,7 +7,7 @@ ghost use Rattle.est_explore.specs.Views.{module_of};
 ghost use Rattle.est_micro.specs.Engine.{IsNetOf};
 ghost use Rattle.lab_lines.specs.Comparing.{IsComparison};
 ghost use Rattle.lab_lines.specs.Exploring.{IsExploration};
-ghost use Rattle.lab_lines.specs.Tables.{IsTableTold, IsTooLarge};
+ghost use Rattle.lab_lines.specs.TableJson.{IsTableTold, IsTooLarge};
 ghost use Rattle.lab_lines.specs.Tests.{test_of};
 ghost use Rattle.lab_run.specs.Walking.{GoesBackIf, MakesIf, TriesIf};
 ghost use Rattle.lab_run.specs.Answers.{IsBadClaimTold, IsLoadedTold, IsOtherInterface, Loads};
@@ -28,11 +28,12 @@ use lab_claims::claims::{BadClaim, read_claims};
 use lab_lines::asked_test::AskedTest;
 use lab_lines::comparing::{are_same, compare_modules};
 use lab_lines::exploring::judge_module;
+use lab_lines::found_json::names_json;
 use lab_lines::offers::signals_of_names;
+use lab_lines::refusal::{CLAIM_CODE, INTERFACE_CODE};
 use lab_lines::request::{Request, Scope};
 use lab_lines::statements::kernel_told;
-use lab_lines::tables::find_table;
-use lab_lines::told::names;
+use lab_lines::table_json::find_table;
 use reactor_core::loaded::Module;
 use reactor_core::reading::read_module;
 use serde_json::{Value, json};
@@ -105,7 +106,7 @@ fn bad_claim_told(alloc: Global, bad: BadClaim) -> Result<Value, AllocError>
 {
     let number = bad.number;
     let why = refusal_told(alloc, Refusal::from(bad.why))?;
-    json!(in alloc; {"claim": number, "code": 81, "fault": "Claim", "why": why})
+    json!(in alloc; {"claim": number, "code": CLAIM_CODE, "fault": "Claim", "why": why})
 }
 
 /// The verdicts on tests of a module that is offered these inputs alone.
@@ -198,7 +199,7 @@ fn other_interface(alloc: Global, loaded: &Module, other: &Module) -> Result<Val
     requires { other.now.kernel.interface ≢ loaded.now.kernel.interface }
     ensures { IfOk result (λ v. IsOtherInterface loaded.now other.now (view v)) }
 {
-    json!(in alloc; {"code": 82, "fault": "Interface"})
+    json!(in alloc; {"code": INTERFACE_CODE, "fault": "Interface"})
 }
 
 /// Compares a module with another, which are offered these inputs alone.
@@ -281,8 +282,8 @@ fn loaded_told(alloc: Global, loaded: &Module) -> Result<Value, AllocError>
     ensures { IfOk result (λ v. IsLoadedTold loaded.now (view v)) }
 {
     let interface = loaded.kernel.interface();
-    let inputs = names(alloc, interface, interface.offerable())?;
-    let outputs = names(alloc, interface, interface.emittable())?;
+    let inputs = names_json(alloc, interface, interface.offerable())?;
+    let outputs = names_json(alloc, interface, interface.emittable())?;
     json!(in alloc; {"inputs": inputs, "ok": "load", "outputs": outputs})
 }
 

@@ -71,8 +71,8 @@ fn prove_words<'a>(alloc: Global) -> Result<Command<'a>, AllocError> {
         .arg(most)
 }
 
-/// The words of the program.
-fn program_words<'a>(alloc: Global) -> Result<Command<'a>, AllocError> {
+/// The command line of the program, as `clap` is told it.
+fn command_line<'a>(alloc: Global) -> Result<Command<'a>, AllocError> {
     Command::new(alloc, "estlab")
         .about("What all runs of a Pure Esterel module have in common")
         .version(VERSION)
@@ -132,7 +132,7 @@ pub enum WordFault {
 impl<'a> Order<'a> {
     /// The order that the words give, of which the first is the program's own name.
     pub fn from_words<S: AsStr>(alloc: Global, words: &'a [S]) -> Result<Order<'a>, WordFault> {
-        let Ok(command) = program_words(alloc) else {
+        let Ok(command) = command_line(alloc) else {
             return Err(WordFault::Memory);
         };
         let matches = match command.try_get_matches_from(words) {

@@ -7,7 +7,7 @@ ghost use Rattle.lab_run.specs.Proving.{IsAmong, TellsOfModule, TellsOfText};
 ghost use Rattle.lab_run.specs.Runs.{Proves, ProvesText, Runs, ServesAll, TellsSo};
 ghost use Rattle.lab_run.specs.Runs.{status_of_end};
 
-use crate::answer::{Clerk, line_of};
+use crate::answer::{LineAnswerer, line_of};
 use crate::lab::{Lab, Told, explore_among, limits};
 use crate::order::{Order, Proof, WordFault};
 use crate::status::{FAILS, UNKNOWN, UNREAD, status_of};
@@ -49,13 +49,13 @@ fn serve<I: Read, O: Write>(
     let Ok(refusal) = line_of(memory.allocator(), Told::Refused(Refusal::TooLong)) else {
         return UNKNOWN;
     };
-    let mut clerk = Clerk;
+    let mut answerer = LineAnswerer;
     let mut lab = Lab::new();
     let why = answer_connection(
         memory,
         input,
         output,
-        &mut clerk,
+        &mut answerer,
         &mut lab,
         refusal.as_slice(),
     );

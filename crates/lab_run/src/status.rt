@@ -42,7 +42,7 @@ fn is_told_by(verdict: &Value, word: &str) -> bool
 }
 
 /// Whether one of the verdicts is told by this word.
-fn is_one(verdicts: &[Value], word: &str) -> bool
+fn any_told_by(verdicts: &[Value], word: &str) -> bool
     ensures { result
         ≡ list_any (λ (v : JsonValue). is_told_by word.now (view v)) verdicts.now }
 {
@@ -50,7 +50,7 @@ fn is_one(verdicts: &[Value], word: &str) -> bool
 }
 
 /// Whether each of the verdicts is told by this word.
-fn are_all(verdicts: &[Value], word: &str) -> bool
+fn all_told_by(verdicts: &[Value], word: &str) -> bool
     ensures { result
         ≡ list_all (λ (v : JsonValue). is_told_by word.now (view v)) verdicts.now }
 {
@@ -58,31 +58,31 @@ fn are_all(verdicts: &[Value], word: &str) -> bool
 }
 
 /// The same, of the items that they stand for.
-fn one_is(verdicts: &[Value], word: &str) -> bool
+fn any_item_told_by(verdicts: &[Value], word: &str) -> bool
     ensures { result ≡ any_item (is_told_by word.now) (items_view verdicts.now) }
 {
-    is_one(verdicts, word)
+    any_told_by(verdicts, word)
 }
 
 /// The same, of the items that they stand for.
-fn each_is(verdicts: &[Value], word: &str) -> bool
+fn all_items_told_by(verdicts: &[Value], word: &str) -> bool
     ensures { result ≡ all_items (is_told_by word.now) (items_view verdicts.now) }
 {
-    are_all(verdicts, word)
+    all_told_by(verdicts, word)
 }
 
 /// Whether a claim fails: that no instant is Stuck, or another.
 fn one_fails(stuck: &Value, verdicts: &[Value]) -> bool
     ensures { result ≡ one_fails (view stuck.now) (items_view verdicts.now) }
 {
-    is_told_by(stuck, "fails") || one_is(verdicts, "fails")
+    is_told_by(stuck, "fails") || any_item_told_by(verdicts, "fails")
 }
 
 /// Whether each claim holds: that no instant is Stuck, and the others.
 fn each_holds(stuck: &Value, verdicts: &[Value]) -> bool
     ensures { result ≡ each_holds (view stuck.now) (items_view verdicts.now) }
 {
-    is_told_by(stuck, "holds") && each_is(verdicts, "holds")
+    is_told_by(stuck, "holds") && all_items_told_by(verdicts, "holds")
 }
 
 /// The status of these verdicts: on the claim that no instant is Stuck, and on the others.

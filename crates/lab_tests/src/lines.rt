@@ -11,7 +11,7 @@ use est_rounds::rounds::Rounds;
 use lab_lines::reading::request_of;
 use lab_lines::request::Request;
 use lab_lines::statements::kernel_told;
-use lab_lines::tables::find_table;
+use lab_lines::table_json::find_table;
 use serde_json::Value;
 use state_search::search::Limits;
 use std::alloc::Global;

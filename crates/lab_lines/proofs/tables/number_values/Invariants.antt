@@ -1,7 +1,0 @@
-use Rattle.std.proofs.Common.{◌≡◌, take, map}
-use Rattle.serde_json.specs.View.{view}
-use Rattle.lab_lines.specs.Tables.{number_json}
-use Rattle.lab_lines.proofs.tables.number_values.Given as goal
-
-abbrev pub invariant-loop-number : goal.invariant-loop-number
-invariant-loop-number l = map view l.values.items ≡ map number_json (take l.number-index l.numbers)

@@ -1,7 +1,0 @@
-use Rattle.std.proofs.Common.{◌≡◌, take, map}
-use Rattle.serde_json.specs.View.{view}
-use Rattle.lab_lines.specs.Tables.{row_json}
-use Rattle.lab_lines.proofs.tables.rows.Given as goal
-
-abbrev pub invariant-loop-each : goal.invariant-loop-each
-invariant-loop-each l = map view l.values.items ≡ map (row_json l.interface) (take l.each-index l.rows)
