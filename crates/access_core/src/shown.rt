@@ -71,7 +71,7 @@ pub fn list_statuses(
 pub fn keep_seen(seen: u64, signals: u64) -> u64
     ensures { (place : ℕ) → bits result place ≡ (bits seen place && bits signals place) }
 {
-    mask::common(seen, signals)
+    mask::intersection(seen, signals)
 }
 
 /// The names of the signals, in the order of declaration.

@@ -21,7 +21,7 @@ fn offered(kernel: &Kernel, present: u64) -> Inputs
     ensures { AreInputs kernel.now result }
 {
     Inputs {
-        signals: mask::common(present, kernel.interface().offerable()),
+        signals: mask::intersection(present, kernel.interface().offerable()),
     }
 }
 

@@ -52,12 +52,12 @@ impl<'a, R: Reactive> TransitionSystem for AllLawful<'a, R> {
     ) -> Result<bool, AllocError> {
         let interface = self.reactive.interface();
         let offerable = interface.offerable();
-        let may = mask::common(offerable, self.among);
+        let may = mask::intersection(offerable, self.among);
         let sets = InputSets {
             relations: self.relations.as_slice(),
             offerable,
             may,
-            watched: mask::either(interface.emittable(), self.watched),
+            watched: mask::union(interface.emittable(), self.watched),
         };
         let all = Part {
             unasked: may,

@@ -51,7 +51,7 @@ fn step_of<S: Copy + Drop, A: Copy + Drop>(
     Step {
         label: Asked {
             inputs: part.inputs,
-            asked: mask::minus(may, part.unasked),
+            asked: mask::difference(may, part.unasked),
             answer: step.label,
         },
         next: step.next,
@@ -77,14 +77,14 @@ fn react<R: Reactive>(
         (bits sets.now.may) sets.now.relations.now (bits sets.now.watched) part.unasked part.inputs
         result }
 {
-    if let Some(place) = first_in(mask::common(part.unasked, sets.watched)) {
+    if let Some(place) = first_in(mask::intersection(part.unasked, sets.watched)) {
         return Next::Split(place);
     }
     let Some(first) = first_in(part.unasked) else {
         let step = reactive.react(scratch, state, part.inputs);
         return Next::Step(step_of(sets.may, part, step));
     };
-    let asked = mask::minus(sets.offerable, part.unasked);
+    let asked = mask::difference(sets.offerable, part.unasked);
     match reactive.react_to_part(scratch, state, asked, part.inputs) {
         Ok(step) => Next::Step(step_of(sets.may, part, step)),
         Err(unsettled) => match unsettled.waits_for {

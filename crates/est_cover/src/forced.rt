@@ -30,7 +30,7 @@ fn forced_by_exclusion(members: &Members, part: Part) -> Option<Forced>
     let Some(first) = members.first_in(part.inputs) else {
         return None;
     };
-    let all = mask::either(part.inputs, part.unasked);
+    let all = mask::union(part.inputs, part.unasked);
     let Some(other) = members.first_in(mask::without(all, first.index)) else {
         return None;
     };

@@ -60,7 +60,7 @@ impl<'a> Claim<'a> {
             (Claim::NeverStuck, Answer::Reaction { .. }) => false,
             (Claim::Always(_), Answer::Stuck { .. }) => false,
             (Claim::Always(test), Answer::Reaction { outputs }) => {
-                !holds(test, mask::either(asked.inputs, outputs))
+                !holds(test, mask::union(asked.inputs, outputs))
             }
         }
     }

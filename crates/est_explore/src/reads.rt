@@ -46,9 +46,9 @@ fn read_by(test: &Test) -> u64
 fn read_by_joint(operands: &Operands) -> u64
     ensures { IsJointReadBy (joint_of operands.now) (bits result) }
 {
-    let mut signals = mask::either(read_by(&operands.first), read_by(&operands.second));
+    let mut signals = mask::union(read_by(&operands.first), read_by(&operands.second));
     for test in &operands.later {
-        signals = mask::either(signals, read_by(test));
+        signals = mask::union(signals, read_by(test));
     }
     signals
 }

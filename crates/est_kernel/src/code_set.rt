@@ -43,7 +43,7 @@ impl CodeSet {
     }
 
     /// The codes of both sets.
-    pub fn either(self, other: CodeSet) -> Self
+    pub fn union(self, other: CodeSet) -> Self
         ensures { codes_of result ≡ either_code (codes_of self) (codes_of other) }
     {
         CodeSet {

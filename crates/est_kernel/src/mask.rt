@@ -20,7 +20,7 @@ pub fn single(n: u8) -> u64
 }
 
 /// The numbers of both sets.
-pub fn either(a: u64, b: u64) -> u64
+pub fn union(a: u64, b: u64) -> u64
     ensures { (n : ℕ) → bits result n ≡ (bits a n || bits b n) }
 {
     a | b
@@ -45,14 +45,14 @@ pub fn without(mask: u64, n: u8) -> u64
 }
 
 /// The numbers in both sets.
-pub fn common(a: u64, b: u64) -> u64
+pub fn intersection(a: u64, b: u64) -> u64
     ensures { (n : ℕ) → bits result n ≡ (bits a n && bits b n) }
 {
     a & b
 }
 
 /// The numbers of the first set that are not in the second.
-pub fn minus(a: u64, b: u64) -> u64
+pub fn difference(a: u64, b: u64) -> u64
     ensures { (n : ℕ) → bits result n ≡ (bits a n && not (bits b n)) }
 {
     a & !b

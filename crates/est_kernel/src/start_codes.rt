@@ -22,13 +22,13 @@ pub fn start_codes(s: &Statement) -> Option<CodeSet>
         Statement::Nothing | Statement::Emit(_) => Some(CodeSet::single(Completion::End)),
         Statement::Pause(_) => Some(CodeSet::single(Completion::Pause)),
         Statement::Exit(trap) => Some(CodeSet::single(Completion::Exit(*trap))),
-        Statement::Present(_, p, q) => Some(start_codes(p)?.either(start_codes(q)?)),
+        Statement::Present(_, p, q) => Some(start_codes(p)?.union(start_codes(q)?)),
         Statement::Suspend(_, p) | Statement::Local(_, p) => start_codes(p),
         Statement::Seq(p, q) => {
             let first = start_codes(p)?;
             let second = start_codes(q)?;
             if first.has(Completion::End) {
-                Some(first.without_zero().either(second))
+                Some(first.without_zero().union(second))
             } else {
                 Some(first)
             }

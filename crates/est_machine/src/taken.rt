@@ -15,7 +15,7 @@ fn has_one_at_most(members: &Members, inputs: u64) -> bool
 {
     match members.first_in(inputs) {
         Some(first) => members
-            .first_in(mask::minus(inputs, mask::single(first.index)))
+            .first_in(mask::difference(inputs, mask::single(first.index)))
             .is_none(),
         None => true,
     }
@@ -47,7 +47,7 @@ pub fn check(interface: &Interface, relations: &Relations, inputs: u64) -> Resul
     ensures taken { IfOk result (λ _. AreTaken interface.now relations.now inputs) }
     ensures refused { IfErr result (AreNotTaken interface.now relations.now inputs) }
 {
-    let others = mask::minus(inputs, interface.offerable());
+    let others = mask::difference(inputs, interface.offerable());
     if others != 0 {
         return Err(Refusal::NotInputs(others));
     }

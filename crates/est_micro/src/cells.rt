@@ -90,7 +90,7 @@ pub fn with_code(codes: CodeSet, code: usize, is_in: bool) -> CodeSet
     ensures others { (k : ℕ) → k ≢ code → codes_of result k ≡ codes_of codes k }
 {
     if is_in {
-        codes.either(CodeSet::single(completion_of(code)))
+        codes.union(CodeSet::single(completion_of(code)))
     } else {
         codes
     }
@@ -288,7 +288,7 @@ fn acts_then(first: Acts, second: Acts) -> Acts
 {
     Acts {
         signals: signal_set::union_of(first.signals, second.signals),
-        codes: first.codes.without_zero().either(second.codes),
+        codes: first.codes.without_zero().union(second.codes),
     }
 }
 
@@ -310,7 +310,7 @@ fn acts_or(first: Acts, second: Acts) -> Acts
 {
     Acts {
         signals: signal_set::union_of(first.signals, second.signals),
-        codes: first.codes.either(second.codes),
+        codes: first.codes.union(second.codes),
     }
 }
 
@@ -390,11 +390,11 @@ pub fn with_codes(body: &Judgement, more: &Judgement) -> Judgement
     Judgement {
         must: Acts {
             signals: body.must.signals,
-            codes: body.must.codes.either(more.must.codes),
+            codes: body.must.codes.union(more.must.codes),
         },
         can: Acts {
             signals: body.can.signals,
-            codes: body.can.codes.either(more.can.codes),
+            codes: body.can.codes.union(more.can.codes),
         },
     }
 }
@@ -481,7 +481,7 @@ pub fn with_emitted(env: &Env, signals: SignalSet) -> Env
 fn with_possible(present: u64, more: u64, possible: u64) -> u64
     ensures { (n : ℕ) → bits result n ≡ (bits present n || (bits more n && bits possible n)) }
 {
-    mask::either(present, mask::common(more, possible))
+    mask::union(present, mask::intersection(more, possible))
 }
 
 /// Tells a statement's code cells what is judged of it, and reads them.

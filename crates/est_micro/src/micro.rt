@@ -187,7 +187,7 @@ impl Micro {
         match read_outcome(&self.net, kernel, outputs_count, state, &settled.found) {
             Some(outcome) => Ok(outcome),
             None => Err(Stuck {
-                undecided: mask::minus(
+                undecided: mask::difference(
                     settled.env.possible.interface,
                     settled.env.present.interface,
                 ),

@@ -136,11 +136,11 @@ pub fn exchange(
     let read = exchange_all(net, signals, kernel.interface().len(), inputs, judged);
     Env {
         present: SignalSet {
-            interface: mask::minus(mask::either(inputs, read.sure), unasked),
+            interface: mask::difference(mask::union(inputs, read.sure), unasked),
             local: 0,
         },
         possible: SignalSet {
-            interface: mask::either(mask::either(inputs, read.possible), unasked),
+            interface: mask::union(mask::union(inputs, read.possible), unasked),
             local: 0,
         },
     }

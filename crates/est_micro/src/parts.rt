@@ -46,7 +46,7 @@ fn told_if_decided(
 fn unasked_inputs(kernel: &Kernel, asked: u64) -> u64
     ensures { bits result ≡ not_asked kernel.now.interface (bits asked) }
 {
-    mask::minus(kernel.interface().offerable(), asked)
+    mask::difference(kernel.interface().offerable(), asked)
 }
 
 impl PartEngine for Micro {

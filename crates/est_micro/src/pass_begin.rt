@@ -43,7 +43,7 @@ pub fn is_new(go: Status, gate: Status) -> bool {
 pub fn is_reader(net: &Net, number: usize, fresh: u64) -> bool
     requires { number < length net.now.extents.items }
 {
-    mask::common(net.extent(number).reads, fresh) != 0
+    mask::intersection(net.extent(number).reads, fresh) != 0
 }
 
 /// Sweeps a statement, as a pass.

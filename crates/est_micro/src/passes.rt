@@ -37,9 +37,9 @@ use est_rounds::signal_set::{Env, SignalSet};
 
 /// The signals that one environment decides, and the other does not.
 pub fn newly_decided(old: &Env, new: &Env) -> u64 {
-    mask::either(
-        mask::minus(new.present.interface, old.present.interface),
-        mask::minus(old.possible.interface, new.possible.interface),
+    mask::union(
+        mask::difference(new.present.interface, old.present.interface),
+        mask::difference(old.possible.interface, new.possible.interface),
     )
 }
 

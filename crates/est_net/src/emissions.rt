@@ -76,8 +76,8 @@ impl Emitted {
             ≡ (bits self.possible n || (nat_eq signal.index n && is_possible go)) }
     {
         Emitted {
-            sure: mask::either(self.sure, single_if(is_true(go), signal)),
-            possible: mask::either(self.possible, single_if(may_be_true(go), signal)),
+            sure: mask::union(self.sure, single_if(is_true(go), signal)),
+            possible: mask::union(self.possible, single_if(may_be_true(go), signal)),
         }
     }
 }

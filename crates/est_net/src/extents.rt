@@ -102,7 +102,7 @@ fn with_test(rest: Extent, test: &Test) -> Extent
     ensures pauses { result.pauses ≡ rest.pauses }
 {
     Extent {
-        reads: mask::either(rest.reads, read_by(test)),
+        reads: mask::union(rest.reads, read_by(test)),
         ..rest
     }
 }
@@ -162,7 +162,7 @@ fn with_parts(own: usize, p: &Extent, q: &Extent, reads: u64) -> Extent
         again: own + p.again + q.again,
         statements: 1 + p.statements + q.statements,
         pauses: joined(p.pauses, q.pauses),
-        reads: mask::either(reads, mask::either(p.reads, q.reads)),
+        reads: mask::union(reads, mask::union(p.reads, q.reads)),
     }
 }
 

@@ -71,7 +71,7 @@ fn inside_trap(later: Later) -> Later
 {
     Later {
         end: later.end,
-        exit: mask::either(later.end, later.exit),
+        exit: mask::union(later.end, later.exit),
     }
 }
 
@@ -84,9 +84,9 @@ fn begun(s: &Statement, later: Later) -> u64
         Statement::Nothing => later.end,
         Statement::Pause(_) => no_signal(),
         Statement::Exit(_) => later.exit,
-        Statement::Emit(signal) => mask::either(of_interface(*signal), later.end),
+        Statement::Emit(signal) => mask::union(of_interface(*signal), later.end),
         Statement::Present(_, p, q) | Statement::Par(p, q) => {
-            mask::either(begun(p, later), begun(q, later))
+            mask::union(begun(p, later), begun(q, later))
         }
         Statement::Suspend(_, p) | Statement::Loop(p) | Statement::Local(_, p) => begun(p, later),
         Statement::Seq(p, q) => {
@@ -131,7 +131,7 @@ fn add_pauses_of_two(
 {
     let first = add_pauses(pauses, p, later)?;
     let second = add_pauses(pauses, q, later)?;
-    Ok(mask::either(first, second))
+    Ok(mask::union(first, second))
 }
 
 /// Adds the pauses of a `;`, or memory was refused.
@@ -218,7 +218,7 @@ impl Reach {
     {
         let mut signals = no_signal();
         for from in &self.pauses {
-            signals = mask::either(signals, share(*from, pauses));
+            signals = mask::union(signals, share(*from, pauses));
         }
         signals
     }

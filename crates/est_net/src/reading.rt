@@ -26,9 +26,9 @@ pub fn read_by(test: &Test) -> u64 {
 /// The signals that operands read.
 #[cycle(read)]
 fn read_by_joint(operands: &Operands) -> u64 {
-    let mut found = mask::either(read_by(&operands.first), read_by(&operands.second));
+    let mut found = mask::union(read_by(&operands.first), read_by(&operands.second));
     for test in &operands.later {
-        found = mask::either(found, read_by(test));
+        found = mask::union(found, read_by(test));
     }
     found
 }

@@ -52,7 +52,7 @@ impl Acts {
     {
         Acts {
             signals: signal_set::union_of(self.signals, other.signals),
-            codes: self.codes.either(other.codes),
+            codes: self.codes.union(other.codes),
         }
     }
 
@@ -93,7 +93,7 @@ impl Acts {
     {
         Acts {
             signals: self.signals,
-            codes: self.codes.either(CodeSet::single(Completion::Pause)),
+            codes: self.codes.union(CodeSet::single(Completion::Pause)),
         }
     }
 
@@ -120,7 +120,7 @@ impl Acts {
     {
         Acts {
             signals: signal_set::union_of(self.signals, next.signals),
-            codes: self.codes.without_zero().either(next.codes),
+            codes: self.codes.without_zero().union(next.codes),
         }
     }
 

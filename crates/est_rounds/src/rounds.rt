@@ -35,7 +35,7 @@ fn judged_signals(kernel: &Kernel, inputs: u64) -> JudgedSignals
     let interface = kernel.interface();
     JudgedSignals {
         places: interface.len() as u8,
-        signals: mask::minus(interface.emittable(), inputs),
+        signals: mask::difference(interface.emittable(), inputs),
     }
 }
 
@@ -58,11 +58,11 @@ fn first_known(judged: JudgedSignals, inputs: u64) -> Env
 {
     Env {
         present: SignalSet {
-            interface: mask::minus(inputs, judged.signals),
+            interface: mask::difference(inputs, judged.signals),
             local: 0,
         },
         possible: SignalSet {
-            interface: mask::either(judged.signals, inputs),
+            interface: mask::union(judged.signals, inputs),
             local: 0,
         },
     }
@@ -89,9 +89,9 @@ fn judge(kernel: &Kernel, state: &State, env: &Env) -> Judgement
 fn judged_again(judged: JudgedSignals, before: u64, now: u64) -> u64
     ensures { (n : ℕ) → bits result n ≡ cond (bits judged.signals n) (bits now n) (bits before n) }
 {
-    mask::either(
-        mask::minus(before, judged.signals),
-        mask::common(judged.signals, now),
+    mask::union(
+        mask::difference(before, judged.signals),
+        mask::intersection(judged.signals, now),
     )
 }
 
@@ -133,8 +133,8 @@ fn last_known(kernel: &Kernel, state: &State, judged: JudgedSignals, inputs: u64
 fn undecided_of(judged: JudgedSignals, env: &Env) -> u64
     ensures { (n : ℕ) → bits result n ≡ is_left_open judged env.now n }
 {
-    mask::minus(
-        mask::common(judged.signals, env.possible.interface),
+    mask::difference(
+        mask::intersection(judged.signals, env.possible.interface),
         env.present.interface,
     )
 }

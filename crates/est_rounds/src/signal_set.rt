@@ -54,8 +54,8 @@ pub fn union_of(a: SignalSet, b: SignalSet) -> SignalSet
     ensures { set_of result ≡ union (set_of a) (set_of b) }
 {
     SignalSet {
-        interface: mask::either(a.interface, b.interface),
-        local: mask::either(a.local, b.local),
+        interface: mask::union(a.interface, b.interface),
+        local: mask::union(a.local, b.local),
     }
 }
 

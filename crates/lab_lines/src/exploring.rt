@@ -33,7 +33,7 @@ fn watched_by(tests: &[AskedTest]) -> u64
 {
     let mut signals = 0;
     for test in tests {
-        signals = mask::either(signals, signals_of(test.test()));
+        signals = mask::union(signals, signals_of(test.test()));
     }
     signals
 }

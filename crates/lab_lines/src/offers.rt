@@ -39,7 +39,7 @@ pub fn signals_of_names(interface: &Interface, names: &[&str]) -> Result<u64, Pe
     let mut signals = 0;
     for name in names {
         let signal = offered(interface, name)?;
-        signals = mask::either(signals, signal);
+        signals = mask::union(signals, signal);
     }
     Ok(signals)
 }

@@ -8,7 +8,7 @@ ghost use Rattle.est_rounds.specs.Parts.{AreInputOutputsAsked};
 use crate::literature::loads::{engine_of, offered, step};
 use crate::openers::kernel_of;
 use est_kernel::kernel::Kernel;
-use est_kernel::mask::{either, with};
+use est_kernel::mask::{union, with};
 use est_kernel::state::State;
 use est_micro::micro::Micro;
 use est_rounds::part_engine::PartEngine;
@@ -22,7 +22,7 @@ type Told = Result<u64, Option<u8>>;
 fn asked_with(kernel: &Kernel, asked: u64) -> u64
     ensures { AreInputOutputsAsked kernel.now.interface (bits result) }
 {
-    either(kernel.interface().emittable(), asked)
+    union(kernel.interface().emittable(), asked)
 }
 
 /// What an engine tells by a part of the inputs.

@@ -123,7 +123,7 @@ impl NumberSet {
             || (nat_eq (i / 64) place && bits word (i % 64)))) }
     {
         self.make_room(place)?;
-        self.words[place] = mask::either(self.word(place), word);
+        self.words[place] = mask::union(self.word(place), word);
         Ok(())
     }
 
@@ -153,7 +153,7 @@ impl NumberSet {
             || (numbers_of first.now i && not (numbers_of second.now i)))) }
     {
         for place in 0..first.words.len() {
-            self.add_word(place, mask::minus(first.word(place), second.word(place)))?;
+            self.add_word(place, mask::difference(first.word(place), second.word(place)))?;
         }
         Ok(())
     }
@@ -164,8 +164,8 @@ impl NumberSet {
             → (numbers_of first.now i || numbers_of second.now i) ≡ true) }
     {
         for place in 0..self.words.len() {
-            let left = mask::minus(self.word(place), first.word(place));
-            let rest = mask::minus(left, second.word(place));
+            let left = mask::difference(self.word(place), first.word(place));
+            let rest = mask::difference(left, second.word(place));
             if rest != 0 {
                 return false;
             }

@@ -8,7 +8,7 @@ use crate::openers::{kernel_of, name};
 use crate::told::expect_holds;
 use est_kernel::interface::Interface;
 use est_kernel::kernel::Kernel;
-use est_kernel::mask::{common, with};
+use est_kernel::mask::{intersection, with};
 use est_kernel::state::{Inputs, Outcome, State, Stuck};
 use est_micro::micro::Micro;
 use est_net::net::Net;
@@ -25,7 +25,7 @@ pub fn offered(kernel: &Kernel, present: u64) -> Inputs
     ensures { AreInputs kernel.now result }
 {
     Inputs {
-        signals: common(present, kernel.interface().offerable()),
+        signals: intersection(present, kernel.interface().offerable()),
     }
 }
 

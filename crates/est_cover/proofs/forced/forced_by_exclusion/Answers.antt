@@ -13,7 +13,7 @@ returns-in_default-first_in c =
     one_alone c.args.part.unasked c.args.part.inputs c.without.result c.args.members.now c.in-Some.first.index
     (record {
       out = c.without.ensures.same;
-      other = λ k d. c.without.ensures.other k d ∙ c.either-all.ensures k;
+      other = λ k d. c.without.ensures.other k d ∙ c.union-all.ensures k;
     })
     (sym c.in-Some.ensures) (sym c.in_default-first_in.ensures)
 
@@ -37,7 +37,7 @@ returns c = λ set has one.
     c.in-Some-first_in.other.index
     (record {
       out = c.without.ensures.same;
-      other = λ k d. c.without.ensures.other k d ∙ c.either-all.ensures k;
+      other = λ k d. c.without.ensures.other k d ∙ c.union-all.ensures k;
     })
     (sym c.in-Some-first_in.ensures) out in
     false≢true (sym no ∙ (has c.in-Some-first_in.other.index out ∙ yes))

@@ -12,7 +12,7 @@ read_by_joint-loop-test-preserved t c =
     let parts = out-Operands c.args.operands.now in
     read_next (query_of parts.first.value) (query_of parts.second.value) c.deref-test-items.result.now
     c.loop-test.test-index c.test-item.result c.loop-test.signals c.read_by-in-loop-test.result
-    c.either-signals-in-loop-test.result c.loop-test-test.true c.test-item.is c.either-signals-in-loop-test.ensures
+    c.union-signals-in-loop-test.result c.loop-test-test.true c.test-item.is c.union-signals-in-loop-test.ensures
     c.loop-test.invariant c.read_by-in-loop-test.ensures
 
 pub read_by_joint-returns : goal.read_by_joint-returns

@@ -5,9 +5,9 @@ use Rattle.est_machine.proofs.taken.has_one_at_most.Goals as goal
 
 pub returns-in-Some : goal.returns-in-Some
 returns-in-Some c =
-    one_or_two (bits c.args.inputs) (bits c.minus.result) c.args.members.now c.in-Some.first.index
+    one_or_two (bits c.args.inputs) (bits c.difference.result) c.args.members.now c.in-Some.first.index
     c.first_in-in-Some.result
-    c.is_none.result c.minus.ensures c.single.ensures (sym c.first_in.ensures ∙ rw c.in-Some.is refl)
+    c.is_none.result c.difference.ensures c.single.ensures (sym c.first_in.ensures ∙ rw c.in-Some.is refl)
     c.first_in-in-Some.ensures c.is_none.ensures
 
 pub returns-in-None : goal.returns-in-None

@@ -44,5 +44,5 @@ returns-clause-exchanged c =
     let r = c.exchange_all-read.ensures in
     exchanged c.args.kernel.now.interface (bits c.args.unasked) _ _ c.args.inputs c.args.judged.now _ _ _ f m r.told
     (known_is (bits c.args.unasked) _ _ (bits c.args.inputs) (bits c.exchange_all-read.result.sure)
-    (bits c.exchange_all-read.result.possible) _ _ _ _ (inside c.args.kernel.now.interface _ _ f m) c.either.ensures
-    c.either-2.ensures c.minus.ensures c.either-3.ensures r.sure r.possible refl refl)
+    (bits c.exchange_all-read.result.possible) _ _ _ _ (inside c.args.kernel.now.interface _ _ f m) c.union.ensures
+    c.union-2.ensures c.difference.ensures c.union-3.ensures r.sure r.possible refl refl)

@@ -6,5 +6,5 @@ use Rattle.est_micro.proofs.parts.unasked_inputs.Goals as goal
 
 pub returns : goal.returns
 returns c =
-    unasked_is c.args.kernel.now.interface (bits c.minus.result) _ (bits c.args.asked) c.minus.ensures
+    unasked_is c.args.kernel.now.interface (bits c.difference.result) _ (bits c.args.asked) c.difference.ensures
     (c.offerable.ensures ∙ ap offerable c.interface.ensures)

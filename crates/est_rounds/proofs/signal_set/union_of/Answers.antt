@@ -6,4 +6,4 @@ use Rattle.est_rounds.proofs.signal_set.union_of.Goals as goal
 
 pub returns : goal.returns
 unfolding set_of union
-returns c = fun_ext (elim [ outer n ↦ c.either.ensures n | inner n ↦ c.either-2.ensures n ])
+returns c = fun_ext (elim [ outer n ↦ c.union.ensures n | inner n ↦ c.union-2.ensures n ])

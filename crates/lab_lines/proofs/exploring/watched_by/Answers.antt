@@ -11,7 +11,7 @@ use Rattle.lab_lines.proofs.exploring.watched_by.Goals as goal
 pub loop-test-preserved : goal.loop-test-preserved
 loop-test-preserved c =
     watched_next c.args.tests.now c.loop-test.test-index c.test-item.result c.loop-test.signals c.signals_of.result
-    c.either-signals.result c.loop-test-test.true c.test-item.is c.either-signals.ensures c.loop-test.invariant
+    c.union-signals.result c.loop-test-test.true c.test-item.is c.union-signals.ensures c.loop-test.invariant
     (rw c.test.ensures at c.signals_of.ensures)
 
 pub returns : goal.returns

@@ -14,9 +14,9 @@ loop-name-init c = record {
 
 pub loop-name-preserved : goal.loop-name-preserved
 loop-name-preserved c = named_next c.args.interface.now c.args.names.now c.loop-name.name-index
-    (record { ref_ptr = (0, 0); now = [] }) c.loop-name.signals c.in_ok-signal.signal c.either-signals.result
+    (record { ref_ptr = (0, 0); now = [] }) c.loop-name.signals c.in_ok-signal.signal c.union-signals.result
     c.loop-name-test.true c.loop-name.invariant c.in_ok-signal.ensures.offered c.in_ok-signal.ensures.only
-    c.either-signals.ensures
+    c.union-signals.ensures
 
 pub returns-in_err-signal-clause-fault : goal.returns-in_err-signal-clause-fault
 returns-in_err-signal-clause-fault c =

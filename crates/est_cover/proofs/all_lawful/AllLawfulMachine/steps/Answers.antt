@@ -6,18 +6,18 @@ use Rattle.est_cover.proofs.PartLemmas.{part_begins}
 use Rattle.est_cover.proofs.all_lawful.AllLawfulMachine.steps.Goals as goal
 
 pub cover-requires-clause-part : goal.cover-requires-clause-part
-cover-requires-clause-part g c = part_begins (bits c.common-may.result) c.common-may.result refl
+cover-requires-clause-part g c = part_begins (bits c.intersection-may.result) c.intersection-may.result refl
 
 pub returns-clause-sound : goal.returns-clause-sound
 returns-clause-sound g c =
-    let may = rw c.interface-interface.ensures at (may_is _ _ _ _ c.offerable-offerable.ensures c.common-may.ensures) in
+    let may = rw c.interface-interface.ensures at (may_is _ _ _ _ c.offerable-offerable.ensures c.intersection-may.ensures) in
     on_ok c.cover.result _ _ (λ whole e.
-    all_sound _ _ _ _ _ _ _ _ _ c.either.ensures _ whole _ may
+    all_sound _ _ _ _ _ _ _ _ _ c.union.ensures _ whole _ may
     (rw (c.requires.empty, c.as_slice.ensures.all) at e)) c.cover.ensures.covered
 
 pub returns-clause-whole : goal.returns-clause-whole
 returns-clause-whole g c =
-    let may = rw c.interface-interface.ensures at (may_is _ _ _ _ c.offerable-offerable.ensures c.common-may.ensures) in
+    let may = rw c.interface-interface.ensures at (may_is _ _ _ _ c.offerable-offerable.ensures c.intersection-may.ensures) in
     IfOk-weaker c.cover.result _ _ (λ whole e.
-    all_whole _ _ _ _ _ _ _ _ _ c.either.ensures _ whole _ refl may
+    all_whole _ _ _ _ _ _ _ _ _ c.union.ensures _ whole _ refl may
     (rw (c.requires.empty, c.as_slice.ensures.all) at e)) c.cover.ensures.covered

@@ -46,4 +46,4 @@ returns-in-None-clause-stuck c =
     c.args.kernel.now.loop_safe c.requires.state none.lives s
     (none_knows (bits 0) c.args.kernel.now c.args.state.now inputs _ _ bits_zero
     (c.settle_by-settled.ensures.settled inputs (λ n h. refl)))
-    none.ends none.pauses c.minus.ensures
+    none.ends none.pauses c.difference.ensures

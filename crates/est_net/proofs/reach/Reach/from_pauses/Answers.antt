@@ -13,7 +13,7 @@ loop-from-preserved c = λ n.
     let within : at < length items = omega (arith, c.loop-from-test.true) in
     let is = c.from-item.is in
     let read : from ≡ get_or items at from = cc in
-    c.either-signals.ensures n
+    c.union-signals.ensures n
     ∙ (ap (λ (b : Bool). b || bits c.share.result n) (c.loop-from.invariant n)
     ∙ (ap (λ (b : Bool). from_pauses (take at items) (pauses_of c.args.pauses.now) n || b) (c.share.ensures n)
     ∙ sym (next_told items at from (pauses_of c.args.pauses.now) n within read)))

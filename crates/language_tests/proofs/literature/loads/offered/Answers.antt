@@ -6,4 +6,4 @@ use Rattle.language_tests.proofs.literature.loads.offered.Goals as goal
 
 pub returns : goal.returns
 returns c n h = sym (ap (λ f. f n) (c.offerable.ensures ∙ ap offerable c.interface.ensures))
-    ∙ (and_parts (bits c.args.present n) (bits c.offerable.result n) (sym (c.common.ensures n) ∙ h)).1
+    ∙ (and_parts (bits c.args.present n) (bits c.offerable.result n) (sym (c.intersection.ensures n) ∙ h)).1

@@ -12,11 +12,11 @@ loop-place-preserved c =
     let b = c.args.first.now.words.items in
     let d = c.args.second.now.words.items in
     let place = c.loop-place.place in
-    covered_next a b d place c.minus-left.result c.minus-rest.result
-    (minus_at a b place c.word.result c.word-in-loop-place.result c.minus-left.result c.word.ensures
-    c.word-in-loop-place.ensures c.minus-left.ensures)
-    (λ k. c.minus-rest.ensures k
-    ∙ ap (λ w. bits c.minus-left.result k && not (bits w k)) c.word-in-loop-place-2.ensures)
+    covered_next a b d place c.difference-left.result c.difference-rest.result
+    (minus_at a b place c.word.result c.word-in-loop-place.result c.difference-left.result c.word.ensures
+    c.word-in-loop-place.ensures c.difference-left.ensures)
+    (λ k. c.difference-rest.ensures k
+    ∙ ap (λ w. bits c.difference-left.result k && not (bits w k)) c.word-in-loop-place-2.ensures)
     c.if-rest-ne0.false c.loop-place.invariant
 
 pub returns-then-rest-ne0 : goal.returns-then-rest-ne0
@@ -26,13 +26,13 @@ returns-then-rest-ne0 c =
     let b = c.args.first.now.words.items in
     let d = c.args.second.now.words.items in
     let place = c.loop-place.place in
-    let some : 0 < c.minus-rest.result = omega (arith, c.if-rest-ne0.true) in (
+    let some : 0 < c.difference-rest.result = omega (arith, c.if-rest-ne0.true) in (
       λ h. absurd (false≢true h),
-      λ all. absurd (word_uncovered a b d place c.minus-left.result c.minus-rest.result
-          (minus_at a b place c.word.result c.word-in-loop-place.result c.minus-left.result c.word.ensures
-          c.word-in-loop-place.ensures c.minus-left.ensures)
-          (λ k. c.minus-rest.ensures k
-          ∙ ap (λ w. bits c.minus-left.result k && not (bits w k)) c.word-in-loop-place-2.ensures)
+      λ all. absurd (word_uncovered a b d place c.difference-left.result c.difference-rest.result
+          (minus_at a b place c.word.result c.word-in-loop-place.result c.difference-left.result c.word.ensures
+          c.word-in-loop-place.ensures c.difference-left.ensures)
+          (λ k. c.difference-rest.ensures k
+          ∙ ap (λ w. bits c.difference-left.result k && not (bits w k)) c.word-in-loop-place-2.ensures)
           some (omega arith) all),
     )
 

@@ -1,5 +1,5 @@
 use Rattle.est_kernel.proofs.Masks.{bits_and}
-use Rattle.est_kernel.proofs.mask.common.Goals as goal
+use Rattle.est_kernel.proofs.mask.intersection.Goals as goal
 
 pub returns : goal.returns
 returns c n = bits_and c.args.a c.args.b n
