@@ -15,7 +15,7 @@ use Rattle.est_modules.specs.declared.head.Declared.{Declared}
 use Rattle.est_modules.proofs.Lists.{any_map}
 use Rattle.est_modules.proofs.Testing.{found_passes, none_found, other_fails, same_bytes}
 use Rattle.est_checks.specs.Emissions.{is_refused, is_refused_in_run, refused_in_run}
-use Rattle.est_checks.specs.Inner.Emitted.{sent_in}
+use Rattle.est_checks.specs.Inner.Emitted.{names_emitted_in}
 use Rattle.est_checks.proofs.Leaving.{and_false, stands_left}
 use Rattle.est_checks.proofs.Noting.{keeps_name}
 use Rattle.est_checks.proofs.Unbinding.{none_at_fault}
@@ -44,11 +44,11 @@ renamed_found em test rs n (Some r) e so h =
 -- ---- any name
 
 -- an emission of a name that is local, or that may be emitted
-free : (sent local input declared : Bool) → ((local || false) || (not input && declared)) ≡ true
-    → (sent && (not local && input)) ≡ false
-free sent true input declared h = and_false sent
-free sent false true declared h = absurd (false≢true h)
-free sent false false declared h = and_false sent
+free : (emitted local input declared : Bool) → ((local || false) || (not input && declared)) ≡ true
+    → (emitted && (not local && input)) ≡ false
+free emitted true input declared h = and_false emitted
+free emitted false true declared h = absurd (false≢true h)
+free emitted false false declared h = and_false emitted
 
 allowed_by : (em : List ℕ → Bool) (p : Program) (bs : List Binder) (rs : List RenamingTree) (s : List ℕ) (b : Bool)
     → is_renamed rs s ≡ b → list_any (λ (r : RenamingTree). is_refused p bs r.outer && em r.inner) rs ≡ false
@@ -78,7 +78,7 @@ allowed em p bs rs m s none h =
 -- a name that the module doesn't emit, and one that it does
 one_allowed : (em : List ℕ → List ℕ → Bool) (p : Program) (bs : List Binder) (rs : List RenamingTree) (m : List ℕ)
     (q : Program) (s : List ℕ) (b : Bool) → em m s ≡ b
-    → (stands_in (sent_in (em m) (Some q)) s ≡ true → is_refused_in_run em p bs rs m s ≡ false)
+    → (stands_in (names_emitted_in (em m) (Some q)) s ≡ true → is_refused_in_run em p bs rs m s ≡ false)
     → stands_in (map (λ (d : Declared). d.name) q.interface) s ≡ true → is_refused_in_run em p bs rs m s ≡ false
 unfolding is_refused_in_run
 one_allowed em p bs rs m q s true so all here =
@@ -89,7 +89,7 @@ one_allowed em p bs rs m q s false so all here = ap (λ b. b && is_refused p bs 
 -- where the run is refused for none of the names that the module emits, it is not refused
 pub run_allowed : (em : List ℕ → List ℕ → Bool) (p : Program) (bs : List Binder) (rs : List RenamingTree) (m : List ℕ)
     (q : Program)
-    → ((s : List ℕ) → stands_in (sent_in (em m) (Some q)) s ≡ true → is_refused_in_run em p bs rs m s ≡ false)
+    → ((s : List ℕ) → stands_in (names_emitted_in (em m) (Some q)) s ≡ true → is_refused_in_run em p bs rs m s ≡ false)
     → None ≡ refused_in_run em p bs rs m (Some q)
 run_allowed em p bs rs m q all =
     sym (ap (option_map (λ (d : Declared). renamed rs d.name))

@@ -20,7 +20,7 @@ use Rattle.est_modules.proofs.Ordering.{run_is_run}
 use Rattle.est_modules.proofs.Standing.{found_place, program_at}
 use Rattle.est_modules.proofs.Testing.{place_passes, same_bytes, some_same}
 use Rattle.est_checks.proofs.OneName.{first_of_name}
-use Rattle.est_checks.proofs.Sending.{place_of_name}
+use Rattle.est_checks.proofs.EmittingAlong.{place_of_name}
 
 -- ---- from names to places
 

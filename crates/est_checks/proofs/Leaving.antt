@@ -51,8 +51,8 @@ named_so p (d ∷ ds) s =
     ∙ one_left p d.name s (is_declared ds s) (bytes_eq d.name s) refl
 
 -- the interface names that a module emits are those that a run of it emits without renamings
-pub names_sent : (em : List ℕ → List ℕ → Bool) (m : List ℕ) (q : Program) (s : List ℕ) → q.name ≡ m
+pub names_emitted : (em : List ℕ → List ℕ → Bool) (m : List ℕ) (q : Program) (s : List ℕ) → q.name ≡ m
     → (em m s && is_declared q.interface s) ≡ emits_in_run em s [] (Some q)
-names_sent em m q s named =
+names_emitted em m q s named =
     sym (named_so (em m) q.interface s)
     ∙ ap (λ k. list_any (λ (d : Declared). em k d.name && bytes_eq d.name s) q.interface) (sym named)

@@ -3,6 +3,7 @@ pub mod Chains
 pub mod Deciding
 pub mod Declaring
 pub mod Emitting
+pub mod EmittingAlong
 pub mod Filling
 pub mod Finding
 pub mod First
@@ -13,7 +14,6 @@ pub mod Noting
 pub mod OneName
 pub mod RunsThere
 pub mod Seeing
-pub mod Sending
 pub mod Sums
 pub mod Unbinding
 pub mod Twice

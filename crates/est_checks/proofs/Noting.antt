@@ -30,9 +30,9 @@ use Rattle.est_modules.proofs.TellingNumbers.{passes_and, unnamed}
 use Rattle.est_modules.proofs.Testing.{or_other, same_bytes, same_or, or_assoc}
 use Rattle.est_modules.proofs.Testing.{or_turned, equal_bytes, found_passes, same_tests}
 use Rattle.est_checks.specs.Emissions.{emits_by, emits_in_run, emits_here}
-use Rattle.est_checks.specs.Inner.Noted.{is_noted, sends, sends_renamed, noted_after}
+use Rattle.est_checks.specs.Inner.Noted.{is_noted, emits_inner, emits_renamed, noted_after}
 use Rattle.est_checks.proofs.Deciding.{both, either}
-use Rattle.est_checks.proofs.Leaving.{and_false, distributed, names_sent}
+use Rattle.est_checks.proofs.Leaving.{and_false, distributed, names_emitted}
 use Rattle.est_order.proofs.SearchLemmas.{not_false}
 
 -- ---- tests
@@ -70,10 +70,10 @@ keeps_name rs n h = ap (λ o. callers_name o n) (none_any (λ (r : RenamingTree)
 
 -- ---- what a run emits: names that it doesn't rename, and others by its renamings
 
-sent_apart : (em : List ℕ → List ℕ → Bool) (q : Program) (rs : List RenamingTree) (s : List ℕ)
+emitted_apart : (em : List ℕ → List ℕ → Bool) (q : Program) (rs : List RenamingTree) (s : List ℕ)
     → emits_in_run em s rs (Some q) ≡ true
-    → ((not (is_renamed rs s) && emits_in_run em s [] (Some q)) || sends_renamed em q rs rs s) ≡ true
-sent_apart em q rs s h =
+    → ((not (is_renamed rs s) && emits_in_run em s [] (Some q)) || emits_renamed em q rs rs s) ≡ true
+emitted_apart em q rs s h =
     let f = any_found (λ (d : Declared). em q.name d.name && bytes_eq (renamed rs d.name) s) q.interface h in
     let d : Declared = f.1 in
     let parts = both (em q.name d.name) (bytes_eq (renamed rs d.name) s) f.3 in
@@ -85,14 +85,14 @@ sent_apart em q rs s h =
           let declared : is_declared q.interface r.inner ≡ true =
           any_passes_from_place (λ (e : Declared). bytes_eq e.name r.inner) q.interface f.0 d f.2
           (subst (λ n. bytes_eq d.name n ≡ true) (sym same) (equal_bytes d.name)) in
-          let sends : em q.name r.inner ≡ true = subst (λ n. em q.name n ≡ true) (sym same) parts.0 in
+          let emitted : em q.name r.inner ≡ true = subst (λ n. em q.name n ≡ true) (sym same) parts.0 in
           let named : bytes_eq (renamed rs r.inner) s ≡ true =
           subst (λ n. bytes_eq (renamed rs n) s ≡ true) (sym same) parts.1 in
-          or_right (not (is_renamed rs s) && emits_in_run em s [] (Some q)) (sends_renamed em q rs rs s)
+          or_right (not (is_renamed rs s) && emits_in_run em s [] (Some q)) (emits_renamed em q rs rs s)
           (any_passes_from_place (λ (r : RenamingTree). (is_declared q.interface r.inner && em q.name r.inner)
           && bytes_eq (renamed rs r.inner) s) rs g.0 r g.2
           (and_from (is_declared q.interface r.inner && em q.name r.inner) (bytes_eq (renamed rs r.inner) s)
-          (and_from (is_declared q.interface r.inner) (em q.name r.inner) declared sends) named))
+          (and_from (is_declared q.interface r.inner) (em q.name r.inner) declared emitted) named))
       | inr not_so ↦
           let is_s : d.name ≡ s = sym (keeps_name rs d.name not_so) ∙ same_bytes (renamed rs d.name) s parts.1 in
           let free : not (is_renamed rs s) ≡ true = not_from_false (is_renamed rs s)
@@ -101,15 +101,15 @@ sent_apart em q rs s h =
           any_passes_from_place (λ (e : Declared). em q.name e.name && bytes_eq e.name s) q.interface f.0 d f.2
           (and_from (em q.name d.name) (bytes_eq d.name s) parts.0
           (subst (λ n. bytes_eq d.name n ≡ true) is_s (equal_bytes d.name))) in
-          or_left (not (is_renamed rs s) && emits_in_run em s [] (Some q)) (sends_renamed em q rs rs s)
+          or_left (not (is_renamed rs s) && emits_in_run em s [] (Some q)) (emits_renamed em q rs rs s)
           (and_from (not (is_renamed rs s)) (emits_in_run em s [] (Some q)) free plain)
     ]
 
-sent_whole : (em : List ℕ → List ℕ → Bool) (q : Program) (rs : List RenamingTree) (s : List ℕ)
-    → ((not (is_renamed rs s) && emits_in_run em s [] (Some q)) || sends_renamed em q rs rs s) ≡ true
+emitted_whole : (em : List ℕ → List ℕ → Bool) (q : Program) (rs : List RenamingTree) (s : List ℕ)
+    → ((not (is_renamed rs s) && emits_in_run em s [] (Some q)) || emits_renamed em q rs rs s) ≡ true
     → emits_in_run em s rs (Some q) ≡ true
-sent_whole em q rs s h =
-    elim (either (not (is_renamed rs s) && emits_in_run em s [] (Some q)) (sends_renamed em q rs rs s) h) [
+emitted_whole em q rs s h =
+    elim (either (not (is_renamed rs s) && emits_in_run em s [] (Some q)) (emits_renamed em q rs rs s) h) [
       | inl own ↦
           let parts = both (not (is_renamed rs s)) (emits_in_run em s [] (Some q)) own in
           let f = any_found (λ (d : Declared). em q.name d.name && bytes_eq d.name s) q.interface parts.1 in
@@ -129,13 +129,13 @@ sent_whole em q rs s h =
           let r : RenamingTree = g.1 in
           let parts = both (is_declared q.interface r.inner && em q.name r.inner)
           (bytes_eq (renamed rs r.inner) s) g.3 in
-          let sends = both (is_declared q.interface r.inner) (em q.name r.inner) parts.0 in
-          let f = any_found (λ (d : Declared). bytes_eq d.name r.inner) q.interface sends.0 in
+          let emitted = both (is_declared q.interface r.inner) (em q.name r.inner) parts.0 in
+          let f = any_found (λ (d : Declared). bytes_eq d.name r.inner) q.interface emitted.0 in
           let d : Declared = f.1 in
           let same : r.inner ≡ d.name = sym (same_bytes d.name r.inner f.3) in
           any_passes_from_place (λ (e : Declared). em q.name e.name && bytes_eq (renamed rs e.name) s) q.interface f.0 d
           f.2
-          (and_from (em q.name d.name) (bytes_eq (renamed rs d.name) s) (subst (λ n. em q.name n ≡ true) same sends.1)
+          (and_from (em q.name d.name) (bytes_eq (renamed rs d.name) s) (subst (λ n. em q.name n ≡ true) same emitted.1)
           (subst (λ n. bytes_eq (renamed rs n) s ≡ true) same parts.1))
     ]
 
@@ -181,26 +181,26 @@ name_unnumbered t bs n set is none i =
 -- the renamings of a run, one after another
 pub renamed_next : (em : List ℕ → List ℕ → Bool) (q : Program) (bs : List Binder) (rs : List RenamingTree)
     (all : List Renaming) (k : ℕ) (r : Renaming) (s : List ℕ) → r ≡ get_or all k r → k < length all
-    → ((not (is_local bs s) && sends_renamed em q rs (map renaming_view (take k all)) s)
-    || (not (is_local bs s) && (sends em q (renaming_view r) && bytes_eq (renamed rs r.inner) s)))
-    ≡ (not (is_local bs s) && sends_renamed em q rs (map renaming_view (take (k + 1) all)) s)
+    → ((not (is_local bs s) && emits_renamed em q rs (map renaming_view (take k all)) s)
+    || (not (is_local bs s) && (emits_inner em q (renaming_view r) && bytes_eq (renamed rs r.inner) s)))
+    ≡ (not (is_local bs s) && emits_renamed em q rs (map renaming_view (take (k + 1) all)) s)
 renamed_next em q bs rs all k r s at room =
-    let test = λ (r : RenamingTree). sends em q r && bytes_eq (renamed rs r.inner) s in
-    distributed (not (is_local bs s)) (sends_renamed em q rs (map renaming_view (take k all)) s)
+    let test = λ (r : RenamingTree). emits_inner em q r && bytes_eq (renamed rs r.inner) s in
+    distributed (not (is_local bs s)) (emits_renamed em q rs (map renaming_view (take k all)) s)
     (test (renaming_view r))
     ∙ ap (λ b. not (is_local bs s) && b)
     (ap (λ b. b || test (renaming_view r)) (any_map test renaming_view (take k all))
     ∙ any_next (λ (r : Renaming). test (renaming_view r)) all k r at room
     ∙ sym (any_map test renaming_view (take (k + 1) all)))
 
--- a renaming whose signal is sent, and one whose signal is not
-pub sent_is : (bs : List Binder) (n s : List ℕ) (b : Bool) → b ≡ true
+-- a renaming whose signal is emitted, and one whose signal is not
+pub emitted_is : (bs : List Binder) (n s : List ℕ) (b : Bool) → b ≡ true
     → (not (is_local bs s) && bytes_eq n s) ≡ (not (is_local bs s) && (b && bytes_eq n s))
-sent_is bs n s b h = sym (ap (λ x. not (is_local bs s) && (x && bytes_eq n s)) h)
+emitted_is bs n s b h = sym (ap (λ x. not (is_local bs s) && (x && bytes_eq n s)) h)
 
-pub unsent_is : (bs : List Binder) (n s : List ℕ) (b : Bool) → b ≡ false
+pub unemitted_is : (bs : List Binder) (n s : List ℕ) (b : Bool) → b ≡ false
     → (not (is_local bs s) && (b && bytes_eq n s)) ≡ false
-unsent_is bs n s b h = ap (λ x. not (is_local bs s) && (x && bytes_eq n s)) h ∙ and_false (not (is_local bs s))
+unemitted_is bs n s b h = ap (λ x. not (is_local bs s) && (x && bytes_eq n s)) h ∙ and_false (not (is_local bs s))
 
 -- ---- what is noted after a run
 
@@ -213,18 +213,18 @@ both_ways false false true x = refl
 both_ways false false false x = refl
 
 -- what a run emits by itself, and by its renamings
-pub run_sent : (ps : List Program) (em : List ℕ → List ℕ → Bool) (bs : List Binder) (rs : List RenamingTree)
+pub run_emitted : (ps : List Program) (em : List ℕ → List ℕ → Bool) (bs : List Binder) (rs : List RenamingTree)
     (m : List ℕ) (q : Program) (s : List ℕ) → program_named ps m ≡ Some q
     → (((em m s && is_declared q.interface s) && not (is_local bs s || is_renamed rs s))
-    || (not (is_local bs s) && sends_renamed em q rs rs s))
+    || (not (is_local bs s) && emits_renamed em q rs rs s))
     ≡ (not (is_local bs s) && emits_in_run em s rs (Some q))
-run_sent ps em bs rs m q s found =
+run_emitted ps em bs rs m q s found =
     let named : q.name ≡ m = same_bytes q.name m (found_passes (λ (p : Program). bytes_eq p.name m) ps q found) in
-    both_ways (is_local bs s) (is_renamed rs s) (em m s && is_declared q.interface s) (sends_renamed em q rs rs s)
-    ∙ ap (λ b. not (is_local bs s) && ((not (is_renamed rs s) && b) || sends_renamed em q rs rs s))
-    (names_sent em m q s named)
+    both_ways (is_local bs s) (is_renamed rs s) (em m s && is_declared q.interface s) (emits_renamed em q rs rs s)
+    ∙ ap (λ b. not (is_local bs s) && ((not (is_renamed rs s) && b) || emits_renamed em q rs rs s))
+    (names_emitted em m q s named)
     ∙ ap (λ b. not (is_local bs s) && b)
-    (sym (same_tests (emits_in_run em s rs (Some q)) _ (sent_apart em q rs s) (sent_whole em q rs s)))
+    (sym (same_tests (emits_in_run em s rs (Some q)) _ (emitted_apart em q rs s) (emitted_whole em q rs s)))
 
 -- ---- what is noted after an act
 

@@ -64,8 +64,8 @@ bound_name p bs rs n false not_so none bound =
 seen_in_run : (em : List ℕ → List ℕ → Bool) (p : Program) (bs : List Binder) (s : List ℕ) (rs : List RenamingTree)
     (found : Option Program) → unknown_in_run p bs rs found ≡ None → is_local bs s ≡ false
     → emits_in_run em s rs found ≡ true → is_outer p s ≡ true
-seen_in_run em p bs s rs None h free sent = absurd (false≢true sent)
-seen_in_run em p bs s rs (Some q) h free sent =
+seen_in_run em p bs s rs None h free emitted = absurd (false≢true emitted)
+seen_in_run em p bs s rs (Some q) h free emitted =
     let parts = or_none_parts (unknown_renaming p bs rs)
     (option_map (λ (d : Declared). d.name) (find (λ (d : Declared). is_unbound p bs rs d.name) q.interface)) h in
     let lefts = none_found (λ (r : RenamingTree). not (is_visible p bs r.outer)) rs
@@ -73,7 +73,7 @@ seen_in_run em p bs s rs (Some q) h free sent =
     parts.0) in
     let names = none_found (λ (d : Declared). is_unbound p bs rs d.name) q.interface
     (map_none (λ (d : Declared). d.name) (find (λ (d : Declared). is_unbound p bs rs d.name) q.interface) parts.1) in
-    let f = any_found (λ (d : Declared). em q.name d.name && bytes_eq (renamed rs d.name) s) q.interface sent in
+    let f = any_found (λ (d : Declared). em q.name d.name && bytes_eq (renamed rs d.name) s) q.interface emitted in
     let d : Declared = f.1 in
     let at = both (em q.name d.name) (bytes_eq (renamed rs d.name) s) f.3 in
     let bound = none_at (λ (d : Declared). is_unbound p bs rs d.name) q.interface f.0 d names f.2 in
@@ -85,18 +85,18 @@ seen_in_run em p bs s rs (Some q) h free sent =
 
 seen_by : (ps : List Program) (em : List ℕ → List ℕ → Bool) (p : Program) (bs : List Binder) (act : Act) (s : List ℕ)
     → unknown_act ps p bs act ≡ None → is_local bs s ≡ false → emits_by ps em s act ≡ true → is_outer p s ≡ true
-seen_by ps em p bs (emits n) s h free sent =
-    outer p bs s (ap (is_visible p bs) (sym (same_bytes n s sent)) ∙ known (is_visible p bs n) n h) free
-seen_by ps em p bs (tests n) s h free sent = absurd (false≢true sent)
-seen_by ps em p bs (exits n) s h free sent = absurd (false≢true sent)
-seen_by ps em p bs (binds ns) s h free sent = absurd (false≢true sent)
-seen_by ps em p bs (runs m rs) s h free sent = seen_in_run em p bs s rs (program_named ps m) h free sent
+seen_by ps em p bs (emits n) s h free emitted =
+    outer p bs s (ap (is_visible p bs) (sym (same_bytes n s emitted)) ∙ known (is_visible p bs n) n h) free
+seen_by ps em p bs (tests n) s h free emitted = absurd (false≢true emitted)
+seen_by ps em p bs (exits n) s h free emitted = absurd (false≢true emitted)
+seen_by ps em p bs (binds ns) s h free emitted = absurd (false≢true emitted)
+seen_by ps em p bs (runs m rs) s h free emitted = seen_in_run em p bs s rs (program_named ps m) h free emitted
 
 -- what is emitted along occurrences at which no name is unknown
 pub seen_along : (ps : List Program) (em : List ℕ → List ℕ → Bool) (p : Program) (os : List Occurrence) (s : List ℕ)
     → first_of (unknown_at ps p) os ≡ None → list_any (emits_here ps em s) os ≡ true → is_outer p s ≡ true
-seen_along ps em p os s none sent =
-    let f = any_found (emits_here ps em s) os sent in
+seen_along ps em p os s none emitted =
+    let f = any_found (emits_here ps em s) os emitted in
     let o : Occurrence = f.1 in
     let parts = both (not (is_local o.around s)) (emits_by ps em s o.act) f.3 in
     seen_by ps em p o.around o.act s (first_none (unknown_at ps p) os f.0 o none f.2)

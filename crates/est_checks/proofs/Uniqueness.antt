@@ -38,7 +38,7 @@ use Rattle.est_modules.proofs.Descending.{by_modules}
 use Rattle.est_modules.proofs.Standing.{first_none, found_place}
 use Rattle.est_checks.proofs.RunsThere.{run_is_there}
 use Rattle.est_modules.proofs.Ordering.{IsRunOf}
-use Rattle.est_checks.proofs.Sending.{same_any, same_here}
+use Rattle.est_checks.proofs.EmittingAlong.{same_any, same_here}
 use Rattle.est_checks.proofs.RunsThere.{none_missing}
 use Rattle.est_modules.proofs.Testing.{some_same, same_bytes, found_passes}
 use Rattle.est_order.specs.PlaceOrders.{NoneIsRecursive}

@@ -1,4 +1,5 @@
 pub mod Barring
+pub mod EmissionsBefore
 pub mod Emitted
 pub mod InterfaceNames
 pub mod Keeping
@@ -7,6 +8,5 @@ pub mod Noted
 pub mod Numbers
 pub mod Offers
 pub mod Recursion
-pub mod Sent
 pub mod EmittedNumbers
 pub mod Stages

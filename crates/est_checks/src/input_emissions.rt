@@ -11,12 +11,12 @@ ghost use Rattle.est_checks.specs.Emissions.{is_refused, is_refused_in_run, refu
 ghost use Rattle.est_checks.specs.Emissions.{refused_at, emitted_of};
 ghost use Rattle.est_modules.specs.Visible.{stands_in};
 ghost use Rattle.est_checks.specs.Inner.Barring.{Bars};
-ghost use Rattle.est_checks.specs.Inner.Emitted.{sent_by};
+ghost use Rattle.est_checks.specs.Inner.Emitted.{names_emitted_by};
 
 use crate::allowed_names::{allowed_names, inputs_of};
 use crate::emission::Emissions;
 use crate::place_check::{Check, first_in_body};
-use crate::run_emissions::sent_of;
+use crate::run_emissions::emitted_names;
 use est_modules::head::Head;
 use est_modules::head_tree::Heads;
 use est_modules::names::kept::KeptNames;
@@ -134,8 +134,9 @@ fn are_allowed(
     name: &Identifier,
 ) -> Result<bool, AllocError>
     requires { IsOpen (Bars check.now) (binders_of scope.now) kept.now }
-    ensures { IfOk result (λ allowed. IsTrue allowed → (s : List ℕ) → stands_in (sent_by (map
-        program_of check.now.heads.now) (emitted_of check.now.table.now) name.now) s ≡ true
+    ensures { IfOk result (λ allowed. IsTrue allowed → (s : List ℕ)
+        → stands_in (names_emitted_by (map program_of check.now.heads.now)
+        (emitted_of check.now.table.now) name.now) s ≡ true
         → is_refused_in_run (emitted_of check.now.table.now) (program_of check.now.home.now)
         (binders_of scope.now) (map renaming_view renamings.now) name.now s ≡ false) }
 {
@@ -143,7 +144,7 @@ fn are_allowed(
         return Ok(false);
     }
     match kept.named(name) {
-        Some(sent) => kept.are_bound(sent, renamings, check.allowed),
+        Some(emitted) => kept.are_bound(emitted, renamings, check.allowed),
         None => Ok(false),
     }
 }
@@ -250,8 +251,8 @@ fn refused_in<'a, 'b>(
     table: &'a Emissions<'_>,
 ) -> Result<Option<Identifier>, AllocError>
     requires names { IsTable names.now }
-    requires kept { AreKept names.now (sent_by (map program_of heads.now) (emitted_of table.now))
-        kept.now }
+    requires kept { AreKept names.now (names_emitted_by (map program_of heads.now)
+        (emitted_of table.now)) kept.now }
     ensures { IfOk result (λ name. name ≡ first_of (refused_at (map program_of heads.now)
         (emitted_of table.now) (program_of home.now)) (occurrences [] (program_of home.now).body)) }
 {
@@ -284,7 +285,7 @@ pub fn first_refused<'a>(
     ensures { IfOk result (λ name. name ≡ first_in_bodies (refused_at (map program_of heads.now)
         (emitted_of table.now)) (map program_of heads.now)) }
 {
-    let kept = sent_of(alloc, names, &*heads, &*table)?;
+    let kept = emitted_names(alloc, names, &*heads, &*table)?;
     for home in heads.modules() {
         if let Some(name) = refused_in(alloc, names, &kept, &*heads, &*home, &*table)? {
             return Ok(Some(name));

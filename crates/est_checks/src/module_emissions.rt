@@ -18,7 +18,7 @@ ghost use Rattle.est_modules.specs.Visible.{is_local, is_tick};
 ghost use Rattle.est_checks.specs.Duplicates.{first_duplicate};
 ghost use Rattle.est_checks.specs.Emissions.{emitted_of, emits_here, emits_in_run, AreEmissions};
 ghost use Rattle.est_checks.specs.Inner.Keeping.{Keeps};
-ghost use Rattle.est_checks.specs.Inner.Noted.{is_noted, sends_renamed};
+ghost use Rattle.est_checks.specs.Inner.Noted.{is_noted, emits_renamed};
 ghost use Rattle.est_checks.specs.Inner.EmittedNumbers.{AreEmittedNumbers};
 ghost use Rattle.est_checks.specs.UnknownNames.{unknown_at};
 
@@ -62,19 +62,20 @@ fn note_name(
 /// `signal` around it declares them.
 fn note_own(
     noted: &mut NumberSet,
-    sent: &Sent<'_, '_, '_, '_, '_, '_>,
+    visitor: &EmissionNotes<'_, '_, '_, '_, '_, '_>,
     kept: &OpenNames<'_, '_, '_>,
     scope: &Scope<'_>,
     renamings: &[Renaming],
     name: &Identifier,
 ) -> Result<(), AllocError>
-    requires { IsOpen (Keeps sent.now) (binders_of scope.now) kept.now }
-    ensures { OnOk result ((q : Program) → program_named (map program_of sent.now.heads.now)
-        name.now ≡ Some q → Adds kept.now.table.now (λ s. (emitted_of sent.now.table.now name.now s
-        && is_declared q.interface s) && not (is_local (binders_of scope.now) s
+    requires { IsOpen (Keeps visitor.now) (binders_of scope.now) kept.now }
+    ensures { OnOk result ((q : Program) → program_named (map program_of visitor.now.heads.now)
+        name.now ≡ Some q → Adds kept.now.table.now
+        (λ s. (emitted_of visitor.now.table.now name.now s && is_declared q.interface s)
+        && not (is_local (binders_of scope.now) s
         || is_renamed (map renaming_view renamings.now) s)) noted.old noted.new) }
 {
-    if let Some(emitted) = sent.numbers.of_module(name) {
+    if let Some(emitted) = visitor.numbers.of_module(name) {
         noted.add_difference(emitted, &kept.hidden_or_renamed(renamings)?)?;
     }
     Ok(())
@@ -93,7 +94,7 @@ fn note_renamed(
     requires { renamed.now ≡ renamings.now }
     ensures { OnOk result ((bs : List Binder) → IsTable kept.now.table.now
         → Tells kept.now.table.now (is_local bs) kept.now.hidden → Adds kept.now.table.now
-        (λ s. not (is_local bs s) && sends_renamed (emitted_of table.now) (program_of run.now)
+        (λ s. not (is_local bs s) && emits_renamed (emitted_of table.now) (program_of run.now)
         (map renaming_view renamings.now) (map renaming_view renamings.now) s) noted.old
         noted.new) }
 {
@@ -108,28 +109,28 @@ fn note_renamed(
 /// Notes what a run emits, if its module is there.
 fn note_run(
     noted: &mut NumberSet,
-    sent: &Sent<'_, '_, '_, '_, '_, '_>,
+    visitor: &EmissionNotes<'_, '_, '_, '_, '_, '_>,
     kept: &OpenNames<'_, '_, '_>,
     scope: &Scope<'_>,
     name: &Identifier,
     renamings: &[Renaming],
 ) -> Result<(), AllocError>
-    requires { IsOpen (Keeps sent.now) (binders_of scope.now) kept.now }
+    requires { IsOpen (Keeps visitor.now) (binders_of scope.now) kept.now }
     ensures { OnOk result (Adds kept.now.table.now (λ s. not (is_local (binders_of scope.now) s)
-        && emits_in_run (emitted_of sent.now.table.now) s (map renaming_view renamings.now)
-        (program_named (map program_of sent.now.heads.now) name.now)) noted.old noted.new) }
+        && emits_in_run (emitted_of visitor.now.table.now) s (map renaming_view renamings.now)
+        (program_named (map program_of visitor.now.heads.now) name.now)) noted.old noted.new) }
 {
-    if let Some(run) = sent.heads.named(name) {
-        let renamed = RunRenamings::of(sent.alloc, renamings)?;
-        note_own(noted, sent, kept, scope, renamings, name)?;
-        note_renamed(noted, sent.table, kept, renamings, &renamed, run)?;
+    if let Some(run) = visitor.heads.named(name) {
+        let renamed = RunRenamings::of(visitor.alloc, renamings)?;
+        note_own(noted, visitor, kept, scope, renamings, name)?;
+        note_renamed(noted, visitor.table, kept, renamings, &renamed, run)?;
     }
     Ok(())
 }
 
 /// Notes what a module emits.
 #[derive(Clone, Copy)]
-struct Sent<'a, 'b, 'c, 'd, 'e, 'f> {
+struct EmissionNotes<'a, 'b, 'c, 'd, 'e, 'f> {
     alloc: Global,
     heads: &'a Heads<'b>,
     table: &'a Emissions<'c>,
@@ -137,7 +138,7 @@ struct Sent<'a, 'b, 'c, 'd, 'e, 'f> {
     names: &'d NameTable<'e>,
 }
 
-impl Visitor for Sent<'_, '_, '_, '_, '_, '_> {
+impl Visitor for EmissionNotes<'_, '_, '_, '_, '_, '_> {
     ghost use Rattle.std.specs.Prelude.{ℕ, Bool, map};
     ghost use Rattle.est_modules.specs.Modules.{program_of};
     ghost use Rattle.est_modules.specs.NumberSets.{numbers_of};
@@ -237,14 +238,14 @@ fn emissions_of<'a, 'b>(
 {
     let none = KeptNames::none(alloc);
     let mut noted = NumberSet::new(alloc);
-    let sent = Sent {
+    let visitor = EmissionNotes {
         alloc,
         heads: &*heads,
         table: &*table,
         numbers: &*numbers,
         names: &*names,
     };
-    walk_body(&sent, &mut noted, alloc, names, &none, home.body)?;
+    walk_body(&visitor, &mut noted, alloc, names, &none, home.body)?;
     let mut set = NameSet::new(alloc);
     add_noted(&mut set, names, &noted, &tick())?;
     add_signals(&mut set, names, &noted, home.interface.signals())?;
@@ -279,8 +280,8 @@ fn add_module<'a>(
     let home = &heads.modules()[place];
     let signals = emissions_of(alloc, names, &*heads, &*table, &*numbers, home)?;
     let own = names_in(alloc, &signals, home.interface.signals())?;
-    let sent = numbers_among(alloc, names, &own)?;
-    numbers.add(&home.name, sent)?;
+    let own_numbers = numbers_among(alloc, names, &own)?;
+    numbers.add(&home.name, own_numbers)?;
     table.add(&home.name, signals)
 }
 

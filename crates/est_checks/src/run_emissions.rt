@@ -1,7 +1,7 @@
 //! For each module of a library: the interface names that it emits.
 ghost use Rattle.std.specs.Prelude.{◌≡◌, filter, map, IfOk};
 ghost use Rattle.est_checks.specs.Emissions.{emitted_of};
-ghost use Rattle.est_checks.specs.Inner.Emitted.{sent_by};
+ghost use Rattle.est_checks.specs.Inner.Emitted.{names_emitted_by};
 ghost use Rattle.est_modules.specs.Modules.{program_of};
 ghost use Rattle.est_modules.specs.NameSets.{has};
 ghost use Rattle.est_modules.specs.NameTables.{IsTable};
@@ -68,9 +68,9 @@ impl Choice for Emitted<'_, '_, '_> {
     ghost use Rattle.std.specs.Prelude.{map};
     ghost use Rattle.est_modules.specs.Modules.{program_of};
     ghost use Rattle.est_checks.specs.Emissions.{emitted_of};
-    ghost use Rattle.est_checks.specs.Inner.Emitted.{sent_by};
+    ghost use Rattle.est_checks.specs.Inner.Emitted.{names_emitted_by};
 
-    ghost chosen = { λ c. sent_by (map program_of c.heads.now) (emitted_of c.table.now) };
+    ghost chosen = { λ c. names_emitted_by (map program_of c.heads.now) (emitted_of c.table.now) };
 
     fn choose(&self, alloc: Global, name: &Identifier) -> Result<Vec<Identifier>, AllocError> {
         match self.heads.named(name) {
@@ -85,14 +85,14 @@ impl Choice for Emitted<'_, '_, '_> {
 /// # Errors
 ///
 /// `AllocError` where memory is refused for names.
-pub fn sent_of<'a>(
+pub fn emitted_names<'a>(
     alloc: Global,
     names: &NameTable<'_>,
     heads: &'a Heads<'_>,
     table: &'a Emissions<'_>,
 ) -> Result<KeptNames<'a>, AllocError>
     requires { IsTable names.now }
-    ensures { IfOk result (λ kept. AreKept names.now (sent_by (map program_of heads.now)
+    ensures { IfOk result (λ kept. AreKept names.now (names_emitted_by (map program_of heads.now)
         (emitted_of table.now)) kept) }
 {
     let choice = Emitted {

@@ -8,13 +8,13 @@ use Rattle.est_modules.specs.Visible.{is_tick}
 use Rattle.est_modules.specs.declared.names.kept.Kept.{Kept}
 use Rattle.est_modules.specs.declared.names.table.NameTable.{NameTable}
 use Rattle.est_checks.specs.Emissions.{emitted_of}
-use Rattle.est_checks.specs.Inner.Emitted.{sent_by}
+use Rattle.est_checks.specs.Inner.Emitted.{names_emitted_by}
 use Rattle.est_checks.specs.declared.input_emissions.EmitInput.{EmitInput}
 
 -- the kept names of each module are those that it emits, the inputs of the check are those of its module, and what it
 -- allows are the names that this module declares and that are neither inputs nor `tick`
 pub record Bars (c : EmitInput) (t : NameTable) (ks : List Kept) : Type 0 where
   pub inputs : (s : List ℕ) → has c.inputs.now s ≡ is_input (program_of c.home.now).interface s
-  pub kept : AreKept t (sent_by (map program_of c.heads.now) (emitted_of c.table.now)) ks
+  pub kept : AreKept t (names_emitted_by (map program_of c.heads.now) (emitted_of c.table.now)) ks
   pub allowed : Tells t (λ s. not (is_input (program_of c.home.now).interface s || is_tick s)
       && is_declared (program_of c.home.now).interface s) c.allowed.now

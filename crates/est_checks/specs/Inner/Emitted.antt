@@ -4,10 +4,10 @@ use Rattle.est_modules.specs.Modules.{Program, program_named}
 use Rattle.est_modules.specs.declared.head.Declared.{Declared}
 
 -- those of a module that is asked for by a name
-abbrev pub sent_in : (List ℕ → Bool) → Option Program → List (List ℕ)
-sent_in emitted None = []
-sent_in emitted (Some q) = filter emitted (map (λ (d : Declared). d.name) q.interface)
+abbrev pub names_emitted_in : (List ℕ → Bool) → Option Program → List (List ℕ)
+names_emitted_in emitted None = []
+names_emitted_in emitted (Some q) = filter emitted (map (λ (d : Declared). d.name) q.interface)
 
 -- the same of the module of a name
-abbrev pub sent_by : List Program → (List ℕ → List ℕ → Bool) → List ℕ → List (List ℕ)
-sent_by ps emitted m = sent_in (emitted m) (program_named ps m)
+abbrev pub names_emitted_by : List Program → (List ℕ → List ℕ → Bool) → List ℕ → List (List ℕ)
+names_emitted_by ps emitted m = names_emitted_in (emitted m) (program_named ps m)

@@ -17,10 +17,10 @@ has_number None i = false
 has_number (Some set) i = numbers_of set i
 
 -- the module of a name has the number
-abbrev pub sends_number : EmittedNumbers → List ℕ → ℕ → Bool
-sends_number n m i = has_number (get_by (λ (k : Bor (List ℕ)). slice_cmp nat_cmp m k.now) n.modules) i
+abbrev pub emits_number : EmittedNumbers → List ℕ → ℕ → Bool
+emits_number n m i = has_number (get_by (λ (k : Bor (List ℕ)). slice_cmp nat_cmp m k.now) n.modules) i
 
 -- each module has the numbers of the interface names that it emits
 abbrev pub AreEmittedNumbers : NameTable → List Program → (List ℕ → List ℕ → Bool) → EmittedNumbers → Type 0
 AreEmittedNumbers t ps emitted n = (m : List ℕ) (q : Program) → program_named ps m ≡ Some q → (i : ℕ)
-    → sends_number n m i ≡ is_number_of t (λ s. emitted m s && is_declared q.interface s) i
+    → emits_number n m i ≡ is_number_of t (λ s. emitted m s && is_declared q.interface s) i

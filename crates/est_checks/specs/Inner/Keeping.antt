@@ -5,9 +5,9 @@ use Rattle.est_modules.specs.declared.names.table.NameTable.{NameTable}
 use Rattle.est_modules.specs.declared.names.kept.Kept.{Kept}
 use Rattle.est_checks.specs.Emissions.{emitted_of}
 use Rattle.est_checks.specs.Inner.EmittedNumbers.{AreEmittedNumbers}
-use Rattle.est_checks.specs.declared.module_emissions.Sent.{Sent}
+use Rattle.est_checks.specs.declared.module_emissions.EmissionNotes.{EmissionNotes}
 
 -- the walk's table of names is the visitor's, whose sets have, for each module, the numbers of the names that it emits
-abbrev pub Keeps : Sent → NameTable → List Kept → Type 0
+abbrev pub Keeps : EmissionNotes → NameTable → List Kept → Type 0
 Keeps v t ks = (t ≡ v.names.now)
     × AreEmittedNumbers t (map program_of v.heads.now) (emitted_of v.table.now) v.numbers.now

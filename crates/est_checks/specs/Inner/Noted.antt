@@ -18,13 +18,13 @@ is_noted noted None = false
 is_noted noted (Some i) = numbers_of noted i
 
 -- the module that is run emits the signal that a renaming names
-abbrev pub sends : (List ℕ → List ℕ → Bool) → Program → RenamingTree → Bool
-sends emitted q r = is_declared q.interface r.inner && emitted q.name r.inner
+abbrev pub emits_inner : (List ℕ → List ℕ → Bool) → Program → RenamingTree → Bool
+emits_inner emitted q r = is_declared q.interface r.inner && emitted q.name r.inner
 
 -- one of these renamings, among those of a run, binds to the name what the module that is run emits
-abbrev pub sends_renamed : (List ℕ → List ℕ → Bool) → Program → List RenamingTree → List RenamingTree → List ℕ → Bool
-sends_renamed emitted q rs some s =
-    list_any (λ (r : RenamingTree). sends emitted q r && bytes_eq (renamed rs r.inner) s) some
+abbrev pub emits_renamed : (List ℕ → List ℕ → Bool) → Program → List RenamingTree → List RenamingTree → List ℕ → Bool
+emits_renamed emitted q rs some s =
+    list_any (λ (r : RenamingTree). emits_inner emitted q r && bytes_eq (renamed rs r.inner) s) some
 
 -- what is noted after an occurrence: also the number of a name that it emits
 abbrev pub noted_after : List Program → (List ℕ → List ℕ → Bool) → NameTable → (ℕ → Bool) → Occurrence → ℕ → Bool

@@ -4,7 +4,7 @@ use Rattle.est_modules.specs.Modules.{program_of}
 use Rattle.est_modules.specs.Scopes.{binders_of}
 use Rattle.est_modules.specs.Visible.{stands_in}
 use Rattle.est_checks.specs.Emissions.{emitted_of}
-use Rattle.est_checks.specs.Inner.Emitted.{sent_in}
+use Rattle.est_checks.specs.Inner.Emitted.{names_emitted_in}
 use Rattle.est_checks.proofs.Barring.{run_allowed}
 use Rattle.est_checks.proofs.input_emissions.refused_of.Goals as goal
 
@@ -17,4 +17,4 @@ returns-then-allowed c =
     let m = c.args.name.now in
     run_allowed em p bs rs m (program_of c.args.run.now)
     (λ s here. c.in_ok-allowed.ensures c.if-allowed.true s
-    (ap (λ o. stands_in (sent_in (em m) o) s) c.requires.named ∙ here))
+    (ap (λ o. stands_in (names_emitted_in (em m) o) s) c.requires.named ∙ here))

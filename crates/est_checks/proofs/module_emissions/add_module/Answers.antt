@@ -13,7 +13,7 @@ use Rattle.est_modules.proofs.Standing.{first_none}
 use Rattle.est_modules.proofs.Testing.{some_same}
 use Rattle.est_checks.specs.Emissions.{emitted_of, emits_here}
 use Rattle.est_checks.specs.UnknownNames.{unknown_at}
-use Rattle.est_checks.proofs.Emitting.{sent_more}
+use Rattle.est_checks.proofs.Emitting.{emitted_more}
 use Rattle.est_checks.proofs.Seeing.{head_at, numbered_here}
 use Rattle.est_checks.proofs.module_emissions.add_module.Goals as goal
 
@@ -56,15 +56,15 @@ returns-clause-numbers c =
     let home = c.index-modules-place.result in
     let t = c.args.names.now in
     let signals = c.in_ok-signals.signals in
-    let numbers = c.in_ok-sent.sent in
+    let numbers = c.in_ok-own_numbers.own_numbers in
     on_ok_weaker c.add-2.result
-    (λ emitted. sent_more t ps (program_of home) c.args.place (emitted_of c.args.table.now)
+    (λ emitted. emitted_more t ps (program_of home) c.args.place (emitted_of c.args.table.now)
     (emitted_of c.add-2.new.self) c.args.numbers.now c.add.new.self signals numbers c.requires.distinct
     (head_at c.args.heads.now c.modules.result.now c.args.place home c.modules.ensures c.requires.place
     c.index-modules-place.is)
     (subst (λ (ns : List (List ℕ)). Tells t (stands_in ns) numbers)
     (c.deref.ensures.value ∙ c.in_ok-own.ensures
     ∙ ap (λ (ds : List Declared). filter (has signals) (map (λ (d : Declared). d.name) ds)) c.signals.ensures)
-    c.in_ok-sent.ensures)
+    c.in_ok-own_numbers.ensures)
     emitted c.in_ok-add.ensures c.requires.numbers)
     c.add-2.ensures

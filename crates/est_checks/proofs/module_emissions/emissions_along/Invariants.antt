@@ -1,6 +1,6 @@
 use Rattle.std.proofs.Common.{map}
 use Rattle.est_checks.specs.Emissions.{emitted_of}
-use Rattle.est_checks.specs.Inner.Sent.{AreSent}
+use Rattle.est_checks.specs.Inner.EmissionsBefore.{AreEmissionsBefore}
 use Rattle.est_checks.specs.Inner.EmittedNumbers.{AreEmittedNumbers}
 use Rattle.est_modules.specs.Modules.{program_of}
 use Rattle.est_checks.proofs.module_emissions.emissions_along.Given as goal
@@ -8,6 +8,6 @@ use Rattle.est_checks.proofs.module_emissions.emissions_along.Given as goal
 abbrev pub invariant-loop-place : goal.invariant-loop-place
 invariant-loop-place l =
     record {
-      sent : AreSent (map program_of l.heads) l.order l.place-index (emitted_of l.table);
+      emitted : AreEmissionsBefore (map program_of l.heads) l.order l.place-index (emitted_of l.table);
       numbers : AreEmittedNumbers l.names (map program_of l.heads) (emitted_of l.table) l.numbers;
     }

@@ -14,11 +14,11 @@ use Rattle.est_checks.proofs.module_emissions.note_own.Goals as goal
 
 pub returns-in_ok-add_difference : goal.returns-in_ok-add_difference
 returns-in_ok-add_difference c q found i =
-    let sent = c.args.sent.now in
+    let visitor = c.args.visitor.now in
     let t = c.args.kept.now.table.now in
     let bs = binders_of c.args.scope.now in
     let rs = map renaming_view c.args.renamings.now in
-    let own = λ (s : List ℕ). emitted_of sent.table.now c.args.name.now s && is_declared q.interface s in
+    let own = λ (s : List ℕ). emitted_of visitor.table.now c.args.name.now s && is_declared q.interface s in
     let passed = λ (s : List ℕ). is_local bs s || is_renamed rs s in
     let old = numbers_of c.args.noted.now i in
     c.in_ok-add_difference.ensures i
@@ -29,11 +29,11 @@ returns-in_ok-add_difference c q found i =
 
 pub returns-in_default : goal.returns-in_default
 returns-in_default c q found i =
-    let sent = c.args.sent.now in
+    let visitor = c.args.visitor.now in
     let t = c.args.kept.now.table.now in
     let bs = binders_of c.args.scope.now in
     let rs = map renaming_view c.args.renamings.now in
-    let own = λ (s : List ℕ). emitted_of sent.table.now c.args.name.now s && is_declared q.interface s in
+    let own = λ (s : List ℕ). emitted_of visitor.table.now c.args.name.now s && is_declared q.interface s in
     let passed = λ (s : List ℕ). is_local bs s || is_renamed rs s in
     let old = numbers_of c.args.noted.now i in
     let o = slice_get t.names.items i in

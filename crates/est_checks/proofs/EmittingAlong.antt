@@ -14,7 +14,7 @@ use Rattle.est_syntax.specs.Tree.{RenamingTree}
 use Rattle.est_modules.specs.Visible.{stands_in}
 use Rattle.est_checks.specs.Duplicates.{duplicate_of, duplicate_after, first_duplicate}
 use Rattle.est_checks.specs.Emissions.{emits_in_run, emits_by, emits_here, IsEmitted, AreEmissions}
-use Rattle.est_checks.specs.Inner.Sent.{AreSent, StandsBefore}
+use Rattle.est_checks.specs.Inner.EmissionsBefore.{AreEmissionsBefore, StandsBefore}
 use Rattle.est_modules.specs.Modules.{Program, program_named}
 use Rattle.est_modules.specs.Occurrences.{Act, emits, tests, exits, binds, runs, Occurrence, occurrences}
 use Rattle.est_modules.specs.ModuleOrders.{IsOrderOf, run_rows, places_run, place_named}
@@ -140,9 +140,9 @@ same_module ps distinct i j p q p_at q_at e =
 
 one_more : (ps : List Program) (order : List ℕ) (f g : List ℕ → List ℕ → Bool) (k : ℕ) (q : Program)
     → IsOrderOf ps order → first_duplicate ps ≡ None → k < length order → slice_get ps (slice_index order k) ≡ Some q
-    → IsMore ps f g q → AreSent ps order k f
+    → IsMore ps f g q → AreEmissionsBefore ps order k f
     → (i : ℕ) → i < k + 1 → (p : Program) → slice_get ps (slice_index order i) ≡ Some p → IsEmitted ps g p
-one_more ps order f g k q up distinct k_in q_at more sent i below p p_at s =
+one_more ps order f g k q up distinct k_in q_at more emitted i below p p_at s =
     let same = same_emissions ps order f g k i p q up distinct k_in below
     (omega (arith, below, k_in)) q_at p_at more s in
     let added : Bool = list_any (emits_here ps f s) (occurrences [] q.body) in
@@ -154,7 +154,7 @@ one_more ps order f g k q up distinct k_in q_at more sent i below p p_at s =
           (same_bytes q.name p.name named))
           ∙ same
       | inr other ↦ (elim (cases_lt i k) [
-        | inl earlier ↦ ap (λ b. cond b added (f p.name s)) other ∙ sent.each i earlier p p_at s ∙ same
+        | inl earlier ↦ ap (λ b. cond b added (f p.name s)) other ∙ emitted.each i earlier p p_at s ∙ same
         | inr last ↦
             let is_k : k ≡ i = omega (arith, below, last) in
             let is_p : q ≡ p = some_same q p (sym q_at ∙ ap (λ j. slice_get ps (slice_index order j)) is_k ∙ p_at) in
@@ -164,9 +164,9 @@ one_more ps order f g k q up distinct k_in q_at more sent i below p p_at s =
     ]
 
 one_only : (ps : List Program) (order : List ℕ) (f g : List ℕ → List ℕ → Bool) (k : ℕ) (q : Program)
-    → slice_get ps (slice_index order k) ≡ Some q → IsMore ps f g q → AreSent ps order k f → (m s : List ℕ)
+    → slice_get ps (slice_index order k) ≡ Some q → IsMore ps f g q → AreEmissionsBefore ps order k f → (m s : List ℕ)
     → g m s ≡ true → StandsBefore ps order (k + 1) m
-one_only ps order f g k q q_at more sent m s said = elim (cases_bool (bytes_eq q.name m)) [
+one_only ps order f g k q q_at more emitted m s said = elim (cases_bool (bytes_eq q.name m)) [
   | inl new ↦
       record {
         place = k;
@@ -176,7 +176,7 @@ one_only ps order f g k q q_at more sent m s said = elim (cases_bool (bytes_eq q
         named = same_bytes q.name m new;
       }
   | inr other ↦
-      let w = sent.only m s
+      let w = emitted.only m s
       (sym (ap (λ b. cond b (list_any (emits_here ps f s) (occurrences [] q.body)) (f m s)) other)
       ∙ sym (more m s) ∙ said) in
       record {
@@ -189,27 +189,27 @@ one_only ps order f g k q q_at more sent m s said = elim (cases_bool (bytes_eq q
 ]
 
 -- one more module's emissions are said
-pub sending_goes_on : (ps : List Program) (order : List ℕ) (f g : List ℕ → List ℕ → Bool) (k : ℕ) (q : Program)
+pub emitting_goes_on : (ps : List Program) (order : List ℕ) (f g : List ℕ → List ℕ → Bool) (k : ℕ) (q : Program)
     → IsOrderOf ps order → first_duplicate ps ≡ None → k < length order → slice_get ps (slice_index order k) ≡ Some q
-    → IsMore ps f g q → AreSent ps order k f → AreSent ps order (k + 1) g
-sending_goes_on ps order f g k q up distinct k_in q_at more sent = record {
-  each = one_more ps order f g k q up distinct k_in q_at more sent;
-  only = one_only ps order f g k q q_at more sent;
+    → IsMore ps f g q → AreEmissionsBefore ps order k f → AreEmissionsBefore ps order (k + 1) g
+emitting_goes_on ps order f g k q up distinct k_in q_at more emitted = record {
+  each = one_more ps order f g k q up distinct k_in q_at more emitted;
+  only = one_only ps order f g k q q_at more emitted;
 }
 
 -- before the first module nothing is said
-pub sending_begins : (ps : List Program) (order : List ℕ) (f : List ℕ → List ℕ → Bool)
-    → ((m s : List ℕ) → f m s ≡ false) → AreSent ps order 0 f
-sending_begins ps order f none = record {
+pub emitting_begins : (ps : List Program) (order : List ℕ) (f : List ℕ → List ℕ → Bool)
+    → ((m s : List ℕ) → f m s ≡ false) → AreEmissionsBefore ps order 0 f
+emitting_begins ps order f none = record {
   each = λ i below p p_at. absurd (omega (arith, below));
   only = λ m s said. absurd (false≢true (sym (none m s) ∙ said));
 }
 
 -- behind the last one, what each module emits
-pub sending_ends : (ps : List Program) (order : List ℕ) (f : List ℕ → List ℕ → Bool) (n : ℕ) → IsOrderOf ps order
-    → length order ≤ n → AreSent ps order n f → AreEmissions ps f
-sending_ends ps order f n up long sent m p found =
+pub emitting_ends : (ps : List Program) (order : List ℕ) (f : List ℕ → List ℕ → Bool) (n : ℕ) → IsOrderOf ps order
+    → length order ≤ n → AreEmissionsBefore ps order n f → AreEmissions ps f
+emitting_ends ps order f n up long emitted m p found =
     let place = found_place (λ (q : Program). bytes_eq q.name m) ps p found in
     let stood = each_stands (run_rows ps) order up place.0
     (omega (arith, slice_get_within ps place.0 p place.2, length-map ps (places_run ps))) in
-    sent.each stood.0 (omega (arith, stood.1, long)) p (ap (slice_get ps) stood.2 ∙ place.2)
+    emitted.each stood.0 (omega (arith, stood.1, long)) p (ap (slice_get ps) stood.2 ∙ place.2)

@@ -13,6 +13,7 @@ pub record StandsBefore (ps : List Program) (order : List ℕ) (n : ℕ) (m : Li
   pub named : program.name ≡ m
 
 -- what the first n modules of an order emit, and no other module emits anything
-pub record AreSent (ps : List Program) (order : List ℕ) (n : ℕ) (emitted : List ℕ → List ℕ → Bool) : Type 0 where
+pub record AreEmissionsBefore (ps : List Program) (order : List ℕ) (n : ℕ)
+    (emitted : List ℕ → List ℕ → Bool) : Type 0 where
   pub each : (i : ℕ) → i < n → (p : Program) → slice_get ps (slice_index order i) ≡ Some p → IsEmitted ps emitted p
   pub only : (m s : List ℕ) → emitted m s ≡ true → StandsBefore ps order n m

@@ -5,7 +5,7 @@ use Rattle.est_modules.specs.Scopes.{act_of, binders_of}
 use Rattle.est_modules.specs.declared.scope.Act.{Act}
 use Rattle.est_checks.specs.Emissions.{emitted_of, emits_by}
 use Rattle.est_checks.proofs.Noting.{act_noted, none_noted}
-use Rattle.est_checks.proofs.module_emissions.SentVisitor.visit.Goals as goal
+use Rattle.est_checks.proofs.module_emissions.EmissionNotesVisitor.visit.Goals as goal
 
 pub returns-in-Emits : goal.returns-in-Emits
 returns-in-Emits c =
