@@ -16,7 +16,7 @@ use policy_board::history::BoardName;
 use policy_board::reader::SlotReader;
 use policy_board::seat::Seat;
 use policy_board::sharing::boards_are_shared;
-use server_threads::workers::{Back, Turn, Work, run_each};
+use server_threads::workers::{ReturnedSeats, Turn, Work, run_each};
 use slot_table::table::SlotTable;
 use std::alloc::{AllocError, Global};
 use std::marker::PhantomData;
@@ -109,7 +109,7 @@ fn run_over<
     service: &Service<'_, B, L, T, S, G>,
     seats: Vec<Seat<B>>,
     connections: u64,
-) -> Result<Back<Seat<B>>, AllocError>
+) -> Result<ReturnedSeats<Seat<B>>, AllocError>
     ensures { IfOk result (λ back. AreBack (λ worker number before after.
         ServesNext S.Reader.remaining S.Writer.contents S.gave S.took worker number before after)
         connections back.all_taken seats.items back.seats.items) }
@@ -141,7 +141,7 @@ pub fn run_workers<
     source: &S,
     gate: &G,
     connections: u64,
-) -> Result<Back<Seat<B>>, Refusal>
+) -> Result<ReturnedSeats<Seat<B>>, Refusal>
     ensures { MatchResult result
         (λ back. AreBack (λ worker number before after. ServesNext S.Reader.remaining
         S.Writer.contents S.gave S.took worker number before after)

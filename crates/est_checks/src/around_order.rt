@@ -52,7 +52,7 @@ pub fn check_before_order(
 }
 
 /// The number of the first lawless relation of the main module.
-fn lawless_number(alloc: Global, main: Option<&Head<'_>>) -> Result<Option<usize>, AllocError>
+fn main_lawless_number(alloc: Global, main: Option<&Head<'_>>) -> Result<Option<usize>, AllocError>
     ensures { IfOk result (λ number. number ≡ lawless_number (option_map (λ h. program_of h.now)
         main.entry)) }
 {
@@ -111,7 +111,7 @@ pub fn fault_of_emissions<'a>(
     if let Some(name) = first_refused(alloc, names, &*heads, &*table)? {
         return Ok(Some(LinkFault::EmitInput(name)));
     }
-    match lawless_number(alloc, heads.named(main))? {
+    match main_lawless_number(alloc, heads.named(main))? {
         Some(number) => Ok(Some(LinkFault::Semantics(number))),
         None => Ok(None),
     }

@@ -6,7 +6,7 @@ ghost use Rattle.est_modules.specs.Modules.{program_of};
 ghost use Rattle.est_modules.specs.NameSets.{has};
 ghost use Rattle.est_checks.specs.BadRenamings.{is_renamed_twice, is_misnamed, bad_in_run};
 
-use crate::place_check::Check;
+use crate::place_check::PlaceCheck;
 use est_modules::head::Head;
 use est_modules::head_tree::Heads;
 use est_modules::names::open::OpenNames;
@@ -86,7 +86,7 @@ pub struct BadRename<'a, 'b> {
     pub heads: &'a Heads<'b>,
 }
 
-impl Check for BadRename<'_, '_> {
+impl PlaceCheck for BadRename<'_, '_> {
     ghost use Rattle.std.specs.Prelude.{⊤, map};
     ghost use Rattle.est_modules.specs.Modules.{program_of};
     ghost use Rattle.est_checks.specs.BadRenamings.{bad_renaming_at};

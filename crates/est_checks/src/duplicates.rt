@@ -9,7 +9,7 @@ ghost use Rattle.est_checks.specs.Duplicates.{redeclared, redeclared_in, duplica
 ghost use Rattle.est_checks.specs.Duplicates.{first_duplicate};
 
 use crate::declared_names::declared_names;
-use crate::place_check::{Check, first_in_body};
+use crate::place_check::{PlaceCheck, first_in_body};
 use est_modules::head::{Declared, Head};
 use est_modules::head_tree::Heads;
 use est_modules::names::kept::KeptNames;
@@ -61,7 +61,7 @@ struct DuplicateLocal {
     alloc: Global,
 }
 
-impl Check for DuplicateLocal {
+impl PlaceCheck for DuplicateLocal {
     ghost use Rattle.std.specs.Prelude.{⊤};
     ghost use Rattle.est_checks.specs.Duplicates.{redeclared_at};
 

@@ -15,7 +15,7 @@ ghost use Rattle.est_checks.specs.Inner.Emitted.{names_emitted_by};
 
 use crate::allowed_names::{allowed_names, inputs_of};
 use crate::emission::Emissions;
-use crate::place_check::{Check, first_in_body};
+use crate::place_check::{PlaceCheck, first_in_body};
 use crate::run_emissions::emitted_names;
 use est_modules::head::Head;
 use est_modules::head_tree::Heads;
@@ -209,7 +209,7 @@ pub struct EmitInput<'a, 'b, 'c, 'd> {
     pub allowed: &'a NumberSet,
 }
 
-impl Check for EmitInput<'_, '_, '_, '_> {
+impl PlaceCheck for EmitInput<'_, '_, '_, '_> {
     ghost use Rattle.std.specs.Prelude.{map};
     ghost use Rattle.est_modules.specs.Modules.{program_of};
     ghost use Rattle.est_checks.specs.Emissions.{refused_at, emitted_of};

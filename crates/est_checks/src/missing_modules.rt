@@ -3,7 +3,7 @@ ghost use Rattle.std.specs.Prelude.{◌≡◌, map, IfOk};
 ghost use Rattle.est_modules.specs.Modules.{program_of};
 ghost use Rattle.est_checks.specs.MissingModules.{first_missing};
 
-use crate::place_check::{Check, first_in_bodies};
+use crate::place_check::{PlaceCheck, first_in_bodies};
 use est_modules::head::Head;
 use est_modules::head_tree::Heads;
 use est_modules::names::kept::KeptNames;
@@ -19,7 +19,7 @@ struct UnknownModule<'a, 'b> {
     heads: &'a Heads<'b>,
 }
 
-impl Check for UnknownModule<'_, '_> {
+impl PlaceCheck for UnknownModule<'_, '_> {
     ghost use Rattle.std.specs.Prelude.{⊤, map};
     ghost use Rattle.est_modules.specs.Modules.{program_of};
     ghost use Rattle.est_checks.specs.MissingModules.{missing_at};

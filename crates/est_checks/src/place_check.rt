@@ -16,7 +16,7 @@ use est_text::identifier::Identifier;
 use std::alloc::{AllocError, Global};
 
 /// A check of the places in the bodies of modules.
-pub trait Check {
+pub trait PlaceCheck {
     ghost use Rattle.std.specs.Prelude.{ℕ, List, Option, IfOk};
     ghost use Rattle.est_modules.specs.Modules.{Program, program_of};
     ghost use Rattle.est_modules.specs.Occurrences.{Occurrence};
@@ -50,12 +50,12 @@ pub trait Check {
 
 /// Keeps the first fault that a check finds in a module.
 #[derive(Drop)]
-struct First<'a, 'b, C> {
+struct FirstFaultFinder<'a, 'b, C> {
     check: &'a C,
     home: &'a Head<'b>,
 }
 
-impl<C: Check> Visitor for First<'_, '_, C> {
+impl<C: PlaceCheck> Visitor for FirstFaultFinder<'_, '_, C> {
     ghost use Rattle.std.specs.Prelude.{ℕ, List, Option};
     ghost use Rattle.std.specs.Option.{option_or};
     ghost use Rattle.est_modules.specs.Modules.{program_of};
@@ -89,7 +89,7 @@ impl<C: Check> Visitor for First<'_, '_, C> {
 /// # Errors
 ///
 /// `AllocError` where memory is refused for what is looked up.
-pub fn first_in_body<'a, C: Check>(
+pub fn first_in_body<'a, C: PlaceCheck>(
     check: &'a C,
     alloc: Global,
     table: &NameTable<'_>,
@@ -102,7 +102,7 @@ pub fn first_in_body<'a, C: Check>(
         (occurrences [] (program_of home.now).body)) }
 {
     let mut found = None;
-    let first = First {
+    let first = FirstFaultFinder {
         check: &*check,
         home: &*home,
     };
@@ -115,7 +115,7 @@ pub fn first_in_body<'a, C: Check>(
 /// # Errors
 ///
 /// `AllocError` where memory is refused for what is looked up.
-pub fn first_in_bodies<'a, C: Check>(
+pub fn first_in_bodies<'a, C: PlaceCheck>(
     alloc: Global,
     table: &NameTable<'_>,
     kept: &KeptNames<'_>,

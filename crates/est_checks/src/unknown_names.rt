@@ -15,7 +15,7 @@ ghost use Rattle.est_checks.specs.Inner.Looking.{LooksFor};
 ghost use Rattle.est_checks.specs.UnknownNames.{is_unbound, unknown_in_run, unknown_at};
 
 use crate::interface_names::{interfaces_of, own_names};
-use crate::place_check::{Check, first_in_body};
+use crate::place_check::{PlaceCheck, first_in_body};
 use est_modules::head::{Declared, Head};
 use est_modules::head_tree::Heads;
 use est_modules::names::kept::KeptNames;
@@ -145,7 +145,7 @@ pub struct UnknownName<'a, 'b> {
     pub own: &'a NumberSet,
 }
 
-impl Check for UnknownName<'_, '_> {
+impl PlaceCheck for UnknownName<'_, '_> {
     ghost use Rattle.std.specs.Prelude.{map};
     ghost use Rattle.est_modules.specs.Modules.{program_of};
     ghost use Rattle.est_checks.specs.Inner.Looking.{LooksFor};

@@ -22,7 +22,7 @@ use Rattle.est_explore.specs.declared.claim.Claim.TheVariants.{NeverStuck, Alway
 use Rattle.est_explore.specs.declared.one_module.Answer.{Answer}
 use Rattle.est_explore.specs.declared.one_module.Answer.TheVariants.{Reaction, Stuck}
 use Rattle.est_explore.specs.declared.one_module.Position.{Position}
-use Rattle.state_search.specs.Table.{Is, IsRow, Came}
+use Rattle.state_search.specs.Table.{IsNodeAt, IsRow, IsReachedByRow}
 use Rattle.state_search.specs.Words.{Path, LedTo}
 use Rattle.state_search.specs.declared.found.Found.{Found}
 use Rattle.state_search.specs.declared.found.Node.{Node}
@@ -91,7 +91,7 @@ pairs_mapped P g xs x h i j d l w =
 
 module _ (m : Module) (watched : ℕ → Bool) (f : Found Position (Asked Answer)) (e : IsExplored m watched f) where
   -- nodes come after those of fewer steps
-  deeper : (p q : ℕ) (a b : Node Position) → Is f.nodes.items p a → Is f.nodes.items q b → p ≤ q → a.depth ≤ b.depth
+  deeper : (p q : ℕ) (a b : Node Position) → IsNodeAt f.nodes.items p a → IsNodeAt f.nodes.items q b → p ≤ q → a.depth ≤ b.depth
   deeper p q a b i j l = elim (cases_lt p q) [
     | inl lt ↦ subst (λ (o : Node Position). o.depth ≤ b.depth) (i.is a)
         (subst (λ (o : Node Position). (get_or f.nodes.items p a).depth ≤ o.depth) (j.is a)
@@ -116,7 +116,7 @@ module _ (m : Module) (watched : ℕ → Bool) (f : Found Position (Asked Answer
   pub cleared_before : (claim : Claim) (at : ℕ) (r : Row (Asked Answer)) (n : Node Position) → at < length f.rows.items
       → ((d : Row (Asked Answer)) (k : ℕ) → k < at
       → fails claim (get_or f.rows.items k d).label.inputs (get_or f.rows.items k d).label.answer ≡ false)
-      → get_or f.rows.items at r ≡ r → Is f.nodes.items r.from n → IsCleared m watched f e claim n.depth
+      → get_or f.rows.items at r ≡ r → IsNodeAt f.nodes.items r.from n → IsCleared m watched f e claim n.depth
   cleared_before claim at r n w pass is here = record {
     done = λ k o i l. elim (cases_lt k r.from) [
       | inl lt ↦ let turn : r.from ≤ f.done = subst (λ (a : Row (Asked Answer)). a.from ≤ f.done) is
@@ -186,7 +186,7 @@ module _ (m : Module) (watched : ℕ → Bool) (f : Found Position (Asked Answer
 
   -- ---- what is reached
 
-  reached_upto : (b k : ℕ) (n : Node Position) → k < b → Is f.nodes.items k n → IsReached m n.state
+  reached_upto : (b k : ℕ) (n : Node Position) → k < b → IsNodeAt f.nodes.items k n → IsReached m n.state
   reached_upto zero k n l here = absurd (omega arith)
   reached_upto (suc b) k n l here = elim (cases_eq k 0) [
     | inl z ↦
@@ -195,7 +195,7 @@ module _ (m : Module) (watched : ℕ → Bool) (f : Found Position (Asked Answer
         subst (λ (x : Position). IsReached m x) (sym fresh) (record { is_state = tt; run = []; runs = refl })
     | inr d ↦ by (λ j o w i. reached_upto b j o w i) (e.found.tree.came k n (omega arith) here)
   ] where
-    by : ((j : ℕ) (o : Node Position) → j < b → Is f.nodes.items j o → IsReached m o.state) → Came f.nodes.items
+    by : ((j : ℕ) (o : Node Position) → j < b → IsNodeAt f.nodes.items j o → IsReached m o.state) → IsReachedByRow f.nodes.items
         f.rows.items k n
         → IsReached m n.state
     by before came =
@@ -221,7 +221,7 @@ module _ (m : Module) (watched : ℕ → Bool) (f : Found Position (Asked Answer
               (own m watched row.before.state came.row.label (Some n.state) step));
         }
 
-  pub reached : (k : ℕ) (n : Node Position) → Is f.nodes.items k n → IsReached m n.state
+  pub reached : (k : ℕ) (n : Node Position) → IsNodeAt f.nodes.items k n → IsReached m n.state
   reached k n here = reached_upto (suc k) k n (omega arith) here
 
   pub more_states : (most : ℕ) → most < length f.nodes.items → HasMoreStates m most

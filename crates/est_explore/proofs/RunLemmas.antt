@@ -25,7 +25,7 @@ use Rattle.est_explore.specs.declared.claim.Claim.TheVariants.{NeverStuck, Alway
 use Rattle.est_explore.specs.declared.one_module.Answer.{Answer}
 use Rattle.est_explore.specs.declared.one_module.Answer.TheVariants.{Reaction, Stuck}
 use Rattle.est_explore.specs.declared.one_module.Position.{Position}
-use Rattle.state_search.specs.Table.{Is, Leads, nowhere, there, IsRow, HasRow}
+use Rattle.state_search.specs.Table.{IsNodeAt, Leads, nowhere, there, IsRow, HasRow}
 use Rattle.state_search.specs.declared.found.Found.{Found}
 use Rattle.state_search.specs.declared.found.Node.{Node}
 use Rattle.state_search.specs.declared.found.Row.{Row}
@@ -67,7 +67,7 @@ module _ (m : Module) (watched : ℕ → Bool) (f : Found Position (Asked Answer
     pub step : DoesSo m watched n.state row.label after
     pub answer : AnswersSo m.kernel n.state inputs row.label.answer after
 
-  pub row_for : (k : ℕ) (n : Node Position) (inputs : InputSet) → Is f.nodes.items k n → k < f.done → IsLawful m inputs
+  pub row_for : (k : ℕ) (n : Node Position) (inputs : InputSet) → IsNodeAt f.nodes.items k n → k < f.done → IsLawful m inputs
       → RowFor k n inputs
   row_for k n inputs here l lawful =
       let all = e.found.all k n l here in
@@ -98,7 +98,7 @@ module _ (m : Module) (watched : ℕ → Bool) (f : Found Position (Asked Answer
     pub shows : bits emitted ≡ outputs
     pub place : ℕ
     pub node : Node Position
-    pub here : Is f.nodes.items place node
+    pub here : IsNodeAt f.nodes.items place node
     pub few : node.depth ≤ most
     pub term : term_of_position m node.state ≡ v
 
@@ -121,8 +121,8 @@ module _ (m : Module) (watched : ℕ → Bool) (f : Found Position (Asked Answer
 
   -- all nodes of fewer steps than d have all their rows, and the claim fails in none of these
   pub record IsCleared (claim : Claim) (d : ℕ) : Type 0 where
-    pub done : (k : ℕ) (n : Node Position) → Is f.nodes.items k n → n.depth < d → k < f.done
-    pub passes : (row : Row (Asked Answer)) → Contains f.rows.items row → (n : Node Position) → Is f.nodes.items
+    pub done : (k : ℕ) (n : Node Position) → IsNodeAt f.nodes.items k n → n.depth < d → k < f.done
+    pub passes : (row : Row (Asked Answer)) → Contains f.rows.items row → (n : Node Position) → IsNodeAt f.nodes.items
         row.from n
         → n.depth < d → fails claim row.label.inputs row.label.answer ≡ false
 
@@ -130,11 +130,11 @@ module _ (m : Module) (watched : ℕ → Bool) (f : Found Position (Asked Answer
   pub record GoneTo (most : ℕ) (t : Term) : Type 0 where
     pub place : ℕ
     pub node : Node Position
-    pub here : Is f.nodes.items place node
+    pub here : IsNodeAt f.nodes.items place node
     pub few : node.depth ≤ most
     pub term : term_of_position m node.state ≡ t
 
-  pub run_goes : (claim : Claim) (d : ℕ) → IsCleared claim d → (k : ℕ) (n : Node Position) → Is f.nodes.items k n
+  pub run_goes : (claim : Claim) (d : ℕ) → IsCleared claim d → (k : ℕ) (n : Node Position) → IsNodeAt f.nodes.items k n
       → (run : List Instant) (t : Term) → Runs m (term_of_position m n.state) run t → n.depth + length run ≤ d
       → GoneTo (n.depth + length run) t
   run_goes claim d c k n here [] t run l =
@@ -172,7 +172,7 @@ module _ (m : Module) (watched : ℕ → Bool) (f : Found Position (Asked Answer
         like n t = rw (b n t, c) refl
 
   pub run_passes : (test : Bor Test) → IsToldBy test.now watched → (d : ℕ) → IsCleared (Always test) d → (k : ℕ)
-      (n : Node Position) → Is f.nodes.items k n
+      (n : Node Position) → IsNodeAt f.nodes.items k n
       → (run : List Instant) (t : Term) → Runs m (term_of_position m n.state) run t → n.depth + length run ≤ d
       → All (λ i. holds test.now (is_present i) ≡ true) run
   run_passes test told d c k n here [] t run l = All-nil (λ i. holds test.now (is_present i) ≡ true)

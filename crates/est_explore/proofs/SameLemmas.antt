@@ -17,9 +17,9 @@ use Rattle.est_cover.specs.declared.asked.Asked.{Asked}
 use Rattle.est_explore.specs.declared.one_module.Answer.{Answer}
 use Rattle.est_explore.specs.declared.one_module.Answer.TheVariants.{Reaction, Stuck}
 use Rattle.est_explore.specs.declared.one_module.Position.{Position}
-use Rattle.est_explore.specs.declared.two_modules.Both.{Both}
-use Rattle.est_explore.specs.declared.two_modules.Positions.{Positions}
-use Rattle.state_search.specs.Table.{Is, Leads, nowhere, there, IsRow, HasRow}
+use Rattle.est_explore.specs.declared.two_modules.AnswerPair.{AnswerPair}
+use Rattle.est_explore.specs.declared.two_modules.PositionPair.{PositionPair}
+use Rattle.state_search.specs.Table.{IsNodeAt, Leads, nowhere, there, IsRow, HasRow}
 use Rattle.state_search.specs.declared.found.Found.{Found}
 use Rattle.state_search.specs.declared.found.Node.{Node}
 use Rattle.state_search.specs.declared.found.Row.{Row}
@@ -27,18 +27,18 @@ use Rattle.state_search.proofs.Nodes.{is_one}
 use Rattle.est_explore.proofs.RunLemmas.{same, term_of_position}
 
 -- what both do with some inputs: neither reacts, or both react, with the same outputs
-pub data BothDo (m l : Module) (t u : Term) (inputs : InputSet) (nodes : List (Node Positions)) (most : ℕ) : Type 0
+pub data BothDo (m l : Module) (t u : Term) (inputs : InputSet) (nodes : List (Node PositionPair)) (most : ℕ) : Type 0
   where
     are_stuck : ((o : ℕ → Bool) (v : Term) → Goes m t inputs o v → ⊥) →
         ((o : ℕ → Bool) (v : Term) → Goes l u inputs o v → ⊥)
         → BothDo m l t u inputs nodes most
-    go_on : (o : ℕ → Bool) (place : ℕ) (n : Node Positions) → Is nodes place n → n.depth ≤ most
+    go_on : (o : ℕ → Bool) (place : ℕ) (n : Node PositionPair) → IsNodeAt nodes place n → n.depth ≤ most
         → Goes m t inputs o (term_of_position m n.state.first) → Goes l u inputs o (term_of_position l n.state.second)
         → BothDo m l t u inputs nodes most
 
-both_do : (m l : Module) (x : Positions) (inputs : InputSet) (p q : Answer) (a b : Option Position)
+both_do : (m l : Module) (x : PositionPair) (inputs : InputSet) (p q : Answer) (a b : Option Position)
     → AnswersSo m.kernel x.first inputs p a → AnswersSo l.kernel x.second inputs q b → agree p q ≡ true
-    → (nodes : List (Node Positions)) (most : ℕ) (place : Option ℕ) (after : Option Positions) → Leads nodes most place
+    → (nodes : List (Node PositionPair)) (most : ℕ) (place : Option ℕ) (after : Option PositionPair) → Leads nodes most place
     after
     → after ≡ joined (agree p q) a b
     → BothDo m l (term_of_position m x.first) (term_of_position l x.second) inputs nodes most
@@ -52,13 +52,13 @@ both_do m l x inputs (Reaction o) (Reaction p) None b f g h nodes most place aft
 both_do m l x inputs (Reaction o) (Reaction p) (Some y) None f g h nodes most place after leads j = absurd g
 both_do m l x inputs (Reaction o) (Reaction p) (Some y) (Some z) f g h nodes most place after nowhere j = absurd
     (none (rw h at j)) where
-      none : ◌≡◌ {A = Option Positions} None (Some (record { first = y; second = z })) → ⊥
+      none : ◌≡◌ {A = Option PositionPair} None (Some (record { first = y; second = z })) → ⊥
       none k = cc
 both_do m l x inputs (Reaction o) (Reaction p) (Some y) (Some z) f g h nodes most place after (there k n is few) j =
     go_on (bits o) k n is few
-    (subst (λ (w : Positions). Goes m (term_of_position m x.first) inputs (bits o)
+    (subst (λ (w : PositionPair). Goes m (term_of_position m x.first) inputs (bits o)
     (term_of_position m w.first)) (sym one) f.reacts)
-    (subst (λ (w : Positions). Goes l (term_of_position l x.second) inputs (bits o)
+    (subst (λ (w : PositionPair). Goes l (term_of_position l x.second) inputs (bits o)
     (term_of_position l w.second)) (sym one)
     (subst (λ (r : ℕ). Goes l (term_of_position l x.second) inputs (bits r) (term_of_position l z))
     (sym (nat_same o p h)) g.reacts)) where
@@ -87,16 +87,16 @@ lawful_for_second m l t inputs h = record {
   kept = rw t.relations h.kept;
 }
 
-module _ (m l : Module) (twins : AreTwins m l) (watched : ℕ → Bool) (f : Found Positions (Asked Both))
+module _ (m l : Module) (twins : AreTwins m l) (watched : ℕ → Bool) (f : Found PositionPair (Asked AnswerPair))
     (e : IsExploredBoth m l watched f) where
   -- all nodes of fewer steps than d have all their rows, and in none of these the two differ
   pub record AgreeFor (d : ℕ) : Type 0 where
-    pub done : (k : ℕ) (n : Node Positions) → Is f.nodes.items k n → n.depth < d → k < f.done
-    pub agrees : (row : Row (Asked Both)) → Contains f.rows.items row → (n : Node Positions) → Is f.nodes.items row.from
+    pub done : (k : ℕ) (n : Node PositionPair) → IsNodeAt f.nodes.items k n → n.depth < d → k < f.done
+    pub agrees : (row : Row (Asked AnswerPair)) → Contains f.rows.items row → (n : Node PositionPair) → IsNodeAt f.nodes.items row.from
         n
         → n.depth < d → agree row.label.answer.first row.label.answer.second ≡ true
 
-  do_at : (d k : ℕ) (n : Node Positions) (inputs : InputSet) → AgreeFor d → Is f.nodes.items k n → n.depth < d
+  do_at : (d k : ℕ) (n : Node PositionPair) (inputs : InputSet) → AgreeFor d → IsNodeAt f.nodes.items k n → n.depth < d
       → IsLawful m inputs
       → BothDo m l (term_of_position m n.state.first) (term_of_position l n.state.second) inputs f.nodes.items
       (n.depth + 1)
@@ -110,14 +110,14 @@ module _ (m l : Module) (twins : AreTwins m l) (watched : ℕ → Bool) (f : Fou
       let same_node : row.before ≡ n = is_one f.nodes.items k row.before n (rw has.from at row.from) here in
       let step : DoesBoth m l watched n.state has.row.label row.after = rw same_node at row.step in
       let is : Agrees (bits has.row.label.asked) (bits has.row.label.inputs) inputs =
-      subst (λ (a : Asked Both). Agrees (bits a.asked) (bits a.inputs) inputs) (sym has.label) one.agrees in
+      subst (λ (a : Asked AnswerPair). Agrees (bits a.asked) (bits a.inputs) inputs) (sym has.label) one.agrees in
       let answer = step.answer inputs lawful.offered is in
       both_do m l n.state inputs has.row.label.answer.first has.row.label.answer.second answer.first_next
       answer.second_next answer.first answer.second (c.agrees has.row has.listed n (rw has.from here) w)
       f.nodes.items (n.depth + 1) has.row.next row.after (rw same_node at row.leads) answer.next_is
 
   -- what one does, the other does
-  second_runs : (d : ℕ) → AgreeFor d → (k : ℕ) (n : Node Positions) → Is f.nodes.items k n → (run : List Instant)
+  second_runs : (d : ℕ) → AgreeFor d → (k : ℕ) (n : Node PositionPair) → IsNodeAt f.nodes.items k n → (run : List Instant)
       (t : Term)
       → Runs m (term_of_position m n.state.first) run t → n.depth + length run ≤ d
       → (u : Term) × Runs l (term_of_position l n.state.second) run u
@@ -126,7 +126,7 @@ module _ (m l : Module) (twins : AreTwins m l) (watched : ℕ → Bool) (f : Fou
       (λ p o q few v. second_runs d c p o q run t v (omega arith)) where
         by : BothDo m l (term_of_position m n.state.first) (term_of_position l n.state.second) i.inputs f.nodes.items
             (n.depth + 1)
-            → ((p : ℕ) (o : Node Positions) → Is f.nodes.items p o → o.depth ≤ n.depth + 1
+            → ((p : ℕ) (o : Node PositionPair) → IsNodeAt f.nodes.items p o → o.depth ≤ n.depth + 1
             → Runs m (term_of_position m o.state.first) run t → (u : Term) × Runs l (term_of_position l o.state.second)
             run u)
             → (u : Term) × Runs l (term_of_position l n.state.second) (i ∷ run) u
@@ -145,7 +145,7 @@ module _ (m l : Module) (twins : AreTwins m l) (watched : ℕ → Bool) (f : Fou
               ),
             )
 
-  first_runs : (d : ℕ) → AgreeFor d → (k : ℕ) (n : Node Positions) → Is f.nodes.items k n → (run : List Instant)
+  first_runs : (d : ℕ) → AgreeFor d → (k : ℕ) (n : Node PositionPair) → IsNodeAt f.nodes.items k n → (run : List Instant)
       (t : Term)
       → Runs l (term_of_position l n.state.second) run t → n.depth + length run ≤ d
       → (u : Term) × Runs m (term_of_position m n.state.first) run u
@@ -155,7 +155,7 @@ module _ (m l : Module) (twins : AreTwins m l) (watched : ℕ → Bool) (f : Fou
       (λ p o q few v. first_runs d c p o q run t v (omega arith)) where
         by : BothDo m l (term_of_position m n.state.first) (term_of_position l n.state.second) i.inputs f.nodes.items
             (n.depth + 1)
-            → ((p : ℕ) (o : Node Positions) → Is f.nodes.items p o → o.depth ≤ n.depth + 1
+            → ((p : ℕ) (o : Node PositionPair) → IsNodeAt f.nodes.items p o → o.depth ≤ n.depth + 1
             → Runs l (term_of_position l o.state.second) run t → (u : Term) × Runs m (term_of_position m o.state.first)
             run u)
             → (u : Term) × Runs m (term_of_position m n.state.first) (i ∷ run) u
@@ -176,13 +176,13 @@ module _ (m l : Module) (twins : AreTwins m l) (watched : ℕ → Bool) (f : Fou
             )
 
   begin_first : term_of_position m e.begins.node.state.first ≡ start m
-  begin_first = ap (λ (x : Positions). term_of_position m x.first) e.begins.state
+  begin_first = ap (λ (x : PositionPair). term_of_position m x.first) e.begins.state
 
   begin_second : term_of_position l e.begins.node.state.second ≡ start l
-  begin_second = ap (λ (x : Positions). term_of_position l x.second) e.begins.state
+  begin_second = ap (λ (x : PositionPair). term_of_position l x.second) e.begins.state
 
   begin_depth : e.begins.node.depth ≡ 0
-  begin_depth = ap (λ (n : Node Positions). n.depth) (is_one f.nodes.items 0 e.begins.node e.found.tree.first
+  begin_depth = ap (λ (n : Node PositionPair). n.depth) (is_one f.nodes.items 0 e.begins.node e.found.tree.first
       e.begins.is e.found.tree.begins)
       ∙ e.found.tree.none
 

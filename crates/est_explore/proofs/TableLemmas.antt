@@ -13,7 +13,7 @@ use Rattle.est_cover.specs.declared.asked.Asked.{Asked}
 use Rattle.est_explore.specs.declared.one_module.Answer.{Answer}
 use Rattle.est_explore.specs.declared.one_module.Answer.TheVariants.{Reaction, Stuck}
 use Rattle.est_explore.specs.declared.one_module.Position.{Position}
-use Rattle.state_search.specs.Table.{Is, Leads, nowhere, there, IsRow}
+use Rattle.state_search.specs.Table.{IsNodeAt, Leads, nowhere, there, IsRow}
 use Rattle.state_search.specs.declared.found.Found.{Found}
 use Rattle.state_search.specs.declared.found.Node.{Node}
 use Rattle.state_search.specs.declared.found.Row.{Row}
@@ -24,7 +24,7 @@ use Rattle.est_explore.proofs.RunLemmas.{term_of_position, DoesSo, row_for, foll
 module _ (m : Module) (watched : ℕ → Bool) (f : Found Position (Asked Answer)) (e : IsExplored m watched f)
     (all : length f.nodes.items ≤ f.done) where
   -- every run leads to a node
-  leads_to : (k : ℕ) (n : Node Position) → Is f.nodes.items k n → (run : List Instant) (t : Term)
+  leads_to : (k : ℕ) (n : Node Position) → IsNodeAt f.nodes.items k n → (run : List Instant) (t : Term)
       → Runs m (term_of_position m n.state) run t → (place : ℕ) × StandsFor m f.nodes.items place t
   leads_to k n here [] t run = (k, record { node = n; is = here; term = run })
   leads_to k n here (i ∷ run) t runs =

@@ -7,24 +7,24 @@ use Rattle.est_explore.specs.Runs.{Module, IsLawful, Instant, Runs, start}
 use Rattle.est_explore.specs.Same.{Same, DifferBy}
 use Rattle.est_explore.specs.declared.same.Comparison.{Comparison}
 use Rattle.est_explore.specs.declared.same.Comparison.TheVariants.{Same as AreSame, Differ, TooMany}
-use Rattle.est_explore.specs.declared.two_modules.Positions.{Positions}
+use Rattle.est_explore.specs.declared.two_modules.PositionPair.{PositionPair}
 
 -- one run leads both to these positions
-pub record IsReachedByBoth (m l : Module) (x : Positions) : Type 0 where
+pub record IsReachedByBoth (m l : Module) (x : PositionPair) : Type 0 where
   pub run : List Instant
   pub first_runs : Runs m (start m) run (state_term m.kernel.root x.first.state)
   pub second_runs : Runs l (start l) run (state_term l.kernel.root x.second.state)
 
 -- more pairs of positions than that are reached
 pub record HasMorePairs (m l : Module) (most : ℕ) : Type 0 where
-  pub positions : List Positions
+  pub positions : List PositionPair
   pub more : most < length positions
   pub distinct : AllPairs (λ x y. x ≢ y) positions
   pub reached : All (IsReachedByBoth m l) positions
 
 -- lawful inputs at a pair of positions
 pub record PairTrial : Type 0 where
-  pub positions : Positions
+  pub positions : PositionPair
   pub inputs : ℕ
 
 -- at the pairs that are reached there are more lawful sets of inputs than that

@@ -13,12 +13,12 @@ use Rattle.est_explore.specs.declared.claim.Claim.TheVariants.{NeverStuck, Alway
 use Rattle.est_explore.specs.declared.one_module.Answer.{Answer}
 use Rattle.est_explore.specs.declared.one_module.Answer.TheVariants.{Reaction, Stuck}
 use Rattle.est_explore.specs.declared.one_module.Position.{Position}
-use Rattle.state_search.specs.Table.{At, IsFound}
+use Rattle.state_search.specs.Table.{HasStateAt, IsFound}
 use Rattle.state_search.specs.declared.found.Found.{Found}
 
 -- the positions and steps are what a search of the module has found, each with these signals asked
 pub record IsExplored (m : Module) (watched : ℕ → Bool) (f : Found Position (Asked Answer)) : Type 0 where
-  pub begins : At f.nodes.items 0 (record { state = Fresh })
+  pub begins : HasStateAt f.nodes.items 0 (record { state = Fresh })
   pub found : IsFound (λ x. IsState m.kernel.root x.state)
       (λ x i next. IsAsked (AnswersSo m.kernel x) (may_offer m.kernel.interface m.among) m.relations watched i next)
       (λ x steps. HaveAllInputs (may_offer m.kernel.interface m.among) m.relations steps) (λ a b. a.inputs ≢ b.inputs)

@@ -10,7 +10,7 @@ use Rattle.est_explore.specs.Verdicts.{outputs_of}
 use Rattle.est_cover.specs.declared.asked.Asked.{Asked}
 use Rattle.est_explore.specs.declared.one_module.Answer.{Answer}
 use Rattle.est_explore.specs.declared.one_module.Answer.TheVariants.{Reaction, Stuck}
-use Rattle.est_explore.specs.declared.two_modules.Both.{Both}
+use Rattle.est_explore.specs.declared.two_modules.AnswerPair.{AnswerPair}
 
 -- the two do the same in the first n instants: each run of so many is one of both. So they emit the same in each, and
 -- where
@@ -28,15 +28,15 @@ AnswersAt m t i (Reaction outputs) = (u : Term) × Goes m t (bits i) (bits outpu
 AnswersAt m t i (Stuck undecided) = CannotReact (judged_signals m.kernel.interface (bits i)) (bits i) t
 
 -- an instant of both, by what the first does
-abbrev pub shown_first : Asked Both → Instant
+abbrev pub shown_first : Asked AnswerPair → Instant
 shown_first a = record { inputs = bits a.inputs; outputs = outputs_of a.answer.first }
 
 -- a shortest word by which they differ: all its instants but the last one are a run of both, and in the last one the
 -- two
 -- answer otherwise
-pub record DifferBy (m l : Module) (word : List (Asked Both)) : Type 0 where
-  pub before : List (Asked Both)
-  pub last : Asked Both
+pub record DifferBy (m l : Module) (word : List (Asked AnswerPair)) : Type 0 where
+  pub before : List (Asked AnswerPair)
+  pub last : Asked AnswerPair
   pub split : word ≡ before ++ last ∷ []
   pub first_left : Term
   pub second_left : Term

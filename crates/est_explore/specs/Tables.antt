@@ -13,7 +13,7 @@ use Rattle.est_cover.specs.declared.asked.Asked.{Asked}
 use Rattle.est_explore.specs.declared.one_module.Answer.{Answer}
 use Rattle.est_explore.specs.declared.one_module.Answer.TheVariants.{Reaction, Stuck}
 use Rattle.est_explore.specs.declared.one_module.Position.{Position}
-use Rattle.state_search.specs.Table.{Is}
+use Rattle.state_search.specs.Table.{IsNodeAt}
 use Rattle.state_search.specs.declared.found.Found.{Found}
 use Rattle.state_search.specs.declared.found.Node.{Node}
 use Rattle.state_search.specs.declared.found.Row.{Row}
@@ -21,7 +21,7 @@ use Rattle.state_search.specs.declared.found.Row.{Row}
 -- the term of the position at this place is u
 pub record StandsFor (m : Module) (nodes : List (Node Position)) (place : ℕ) (u : Term) : Type 0 where
   pub node : Node Position
-  pub is : Is nodes place node
+  pub is : IsNodeAt nodes place node
   pub term : state_term m.kernel.root node.state.state ≡ u
 
 -- what a row says of the term before it and of inputs that it is for: the term reacts so, and the row leads to where it
@@ -51,7 +51,7 @@ pub record IsClosedTable (m : Module) (f : Found Position (Asked Answer)) : Type
   pub begins : StandsFor m f.nodes.items 0 (start m)
   pub reached : (run : List Instant) (t : Term) → Runs m (start m) run t
       → (place : ℕ) × StandsFor m f.nodes.items place t
-  pub only : (place : ℕ) (n : Node Position) → Is f.nodes.items place n → IsReached m n.state
+  pub only : (place : ℕ) (n : Node Position) → IsNodeAt f.nodes.items place n → IsReached m n.state
   pub complete : (place : ℕ) (t : Term) → StandsFor m f.nodes.items place t → (inputs : InputSet) → IsLawful m inputs
       → HasRowFor f.rows.items place inputs
   pub lawful : (row : Row (Asked Answer)) → Contains f.rows.items row → IsLawful m (bits row.label.inputs)

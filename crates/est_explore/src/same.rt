@@ -9,10 +9,10 @@ ghost use Rattle.est_explore.specs.ExploredBoth.{IsExploredBoth};
 ghost use Rattle.est_explore.specs.Comparisons.{IsRightOfBoth};
 ghost use Rattle.est_explore.specs.Views.{module_of};
 ghost use Rattle.est_cover.specs.declared.asked.Asked.{Asked as AskedValue};
-ghost use Rattle.est_explore.specs.declared.two_modules.Both.{Both as BothValue};
+ghost use Rattle.est_explore.specs.declared.two_modules.AnswerPair.{AnswerPair as AnswerPairValue};
 
 use crate::one_module::Position;
-use crate::two_modules::{Both, Engines, Positions, TwoModules, agree};
+use crate::two_modules::{AnswerPair, EnginePair, PositionPair, TwoModules, agree};
 use est_cover::all_lawful::AllLawful;
 use est_cover::asked::Asked;
 use est_kernel::state::State;
@@ -30,23 +30,23 @@ pub enum Comparison {
     /// They differ in the last of these instants, and in no fewer.
     Differ {
         /// What happens.
-        word: Vec<Asked<Both>>,
+        word: Vec<Asked<AnswerPair>>,
     },
     /// There are more states, or more steps, than were to be looked at.
     TooMany,
 }
 
 /// The place of the first row by which the two differ.
-fn first_difference(rows: &[Row<Asked<Both>>]) -> Option<usize>
+fn first_difference(rows: &[Row<Asked<AnswerPair>>]) -> Option<usize>
     ensures { MatchOption result
-        ((d : RowValue (AskedValue BothValue)) (k : ℕ) → k < length rows.now
+        ((d : RowValue (AskedValue AnswerPairValue)) (k : ℕ) → k < length rows.now
         → agree (slice_index_or rows.now k d).label.answer.first
         (slice_index_or rows.now k d).label.answer.second ≡ true)
         (λ at. (at < length rows.now)
-        × ((d : RowValue (AskedValue BothValue))
+        × ((d : RowValue (AskedValue AnswerPairValue))
         → agree (slice_index_or rows.now at d).label.answer.first
         (slice_index_or rows.now at d).label.answer.second ≡ false)
-        × ((d : RowValue (AskedValue BothValue)) (k : ℕ) → k < at
+        × ((d : RowValue (AskedValue AnswerPairValue)) (k : ℕ) → k < at
         → agree (slice_index_or rows.now k d).label.answer.first
         (slice_index_or rows.now k d).label.answer.second ≡ true)) }
 {
@@ -63,9 +63,9 @@ fn first_difference(rows: &[Row<Asked<Both>>]) -> Option<usize>
 pub fn explore_both<E: PartEngine, F: PartEngine>(
     alloc: Global,
     subject: &AllLawful<'_, TwoModules<'_, E, F>>,
-    engines: &mut Engines<E, F>,
+    engines: &mut EnginePair<E, F>,
     limits: Limits,
-) -> Result<Found<Positions, Asked<Both>>, AllocError>
+) -> Result<Found<PositionPair, Asked<AnswerPair>>, AllocError>
     requires engines { AreFor (E.is_for engines.old.first subject.now.reactive.now.first.kernel.now)
         (F.is_for engines.old.second subject.now.reactive.now.second.kernel.now)
         subject.now.reactive.now.first.kernel.now subject.now.reactive.now.second.kernel.now }
@@ -80,7 +80,7 @@ pub fn explore_both<E: PartEngine, F: PartEngine>(
     let fresh = Position {
         state: State::Fresh,
     };
-    let start = Positions {
+    let start = PositionPair {
         first: fresh,
         second: fresh,
     };
@@ -91,7 +91,7 @@ pub fn explore_both<E: PartEngine, F: PartEngine>(
 pub fn compare<E: PartEngine, F: PartEngine>(
     alloc: Global,
     subject: &AllLawful<'_, TwoModules<'_, E, F>>,
-    found: &Found<Positions, Asked<Both>>,
+    found: &Found<PositionPair, Asked<AnswerPair>>,
 ) -> Result<Comparison, AllocError>
     requires interface { subject.now.reactive.now.second.kernel.now.interface
         ≡ subject.now.reactive.now.first.kernel.now.interface }

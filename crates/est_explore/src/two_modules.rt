@@ -12,25 +12,25 @@ use state_search::transition_system::{Standing, Step};
 
 /// What two modules answer to the same inputs.
 #[derive(Clone, Copy, PartialEq, Eq, Debug)]
-pub struct Both {
+pub struct AnswerPair {
     pub first: Answer,
     pub second: Answer,
 }
 
 /// Where two modules stand between two instants.
 #[derive(Clone, Copy, PartialEq, Eq, Hash)]
-pub struct Positions {
+pub struct PositionPair {
     pub first: Position,
     pub second: Position,
 }
 
-impl Standing for Positions {
+impl Standing for PositionPair {
     ghost exact = { Prim.search rules };
 }
 
 /// The engines of two modules.
 #[derive(Drop)]
-pub struct Engines<E, F> {
+pub struct EnginePair<E, F> {
     pub first: E,
     pub second: F,
 }
@@ -54,21 +54,21 @@ pub fn agree(first: Answer, second: Answer) -> bool
 }
 
 /// Where both stand, if each goes on and they do the same.
-fn joined(same: bool, first: Option<Position>, second: Option<Position>) -> Option<Positions>
+fn joined(same: bool, first: Option<Position>, second: Option<Position>) -> Option<PositionPair>
     ensures { result ≡ joined same first second }
 {
     match (same, first, second) {
-        (true, Some(first), Some(second)) => Some(Positions { first, second }),
+        (true, Some(first), Some(second)) => Some(PositionPair { first, second }),
         _ => None,
     }
 }
 
 impl<'a, E: PartEngine, F: PartEngine> Reactive for TwoModules<'a, E, F> {
-    type State = Positions;
+    type State = PositionPair;
 
-    type Answer = Both;
+    type Answer = AnswerPair;
 
-    type Scratch = Engines<E, F>;
+    type Scratch = EnginePair<E, F>;
 
     ghost fits = { λ s e. AreFor (E.is_for e.first s.first.kernel.now)
         (F.is_for e.second s.second.kernel.now)
@@ -87,15 +87,15 @@ impl<'a, E: PartEngine, F: PartEngine> Reactive for TwoModules<'a, E, F> {
 
     fn react(
         &self,
-        engines: &mut Engines<E, F>,
-        at: &Positions,
+        engines: &mut EnginePair<E, F>,
+        at: &PositionPair,
         inputs: u64,
-    ) -> Step<Positions, Both> {
+    ) -> Step<PositionPair, AnswerPair> {
         let first = self.first.react(&mut engines.first, &at.first, inputs);
         let second = self.second.react(&mut engines.second, &at.second, inputs);
         let same = agree(first.label, second.label);
         Step {
-            label: Both {
+            label: AnswerPair {
                 first: first.label,
                 second: second.label,
             },
@@ -105,11 +105,11 @@ impl<'a, E: PartEngine, F: PartEngine> Reactive for TwoModules<'a, E, F> {
 
     fn react_to_part(
         &self,
-        engines: &mut Engines<E, F>,
-        at: &Positions,
+        engines: &mut EnginePair<E, F>,
+        at: &PositionPair,
         asked: u64,
         inputs: u64,
-    ) -> Result<Step<Positions, Both>, Unsettled> {
+    ) -> Result<Step<PositionPair, AnswerPair>, Unsettled> {
         let first = self
             .first
             .react_to_part(&mut engines.first, &at.first, asked, inputs)?;
@@ -118,7 +118,7 @@ impl<'a, E: PartEngine, F: PartEngine> Reactive for TwoModules<'a, E, F> {
             .react_to_part(&mut engines.second, &at.second, asked, inputs)?;
         let same = agree(first.label, second.label);
         Ok(Step {
-            label: Both {
+            label: AnswerPair {
                 first: first.label,
                 second: second.label,
             },

@@ -15,7 +15,7 @@ use Rattle.est_rounds.specs.Contract.{HasNoReaction, IsReaction}
 use Rattle.est_micro.specs.Engine.{HasValues, IsAsMeant, IsNetOf}
 use Rattle.lab_instant.specs.OwnCells.{cells_of}
 use Rattle.lab_instant.specs.Seen.{all_begun, all_locals, all_resumed}
-use Rattle.lab_instant.specs.declared.instant.Inside.{Inside}
+use Rattle.lab_instant.specs.declared.instant.InstantReader.{InstantReader}
 use Rattle.lab_instant.specs.declared.seen.Instant.{Instant}
 use Rattle.lab_instant.specs.declared.seen.Instant.TheVariants.{Reaction, Stuck}
 use Rattle.lab_instant.specs.declared.seen.Seen.{Seen}
@@ -51,6 +51,6 @@ IsInstant k x i cells (Reaction o told) = IsReactionSeen k x i cells o told
 IsInstant k x i cells (Stuck s told) = IsStuckSeen k x i cells s told
 
 -- it reads the instants of this kernel
-pub record IsFor (inside : Inside) (k : Kernel) : Type 0 where
+pub record IsFor (inside : InstantReader) (k : Kernel) : Type 0 where
   pub net : IsNetOf inside.engine.net k
   pub owners : cells_of inside.owners.items ≡ statement_cells k

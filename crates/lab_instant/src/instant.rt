@@ -27,17 +27,17 @@ fn seen_in(alloc: Global, net: &Net, owners: &[OwnCells]) -> Result<Seen, AllocE
 
 /// What reads the instants of a kernel from inside.
 #[derive(Drop)]
-pub struct Inside {
+pub struct InstantReader {
     engine: Micro,
     owners: Vec<OwnCells>,
 }
 
-impl Inside {
+impl InstantReader {
     /// What reads the instants of this kernel, or memory was refused.
-    pub fn new(alloc: Global, kernel: &Kernel) -> Result<Inside, AllocError>
+    pub fn new(alloc: Global, kernel: &Kernel) -> Result<InstantReader, AllocError>
         ensures { IfOk result (λ inside. IsFor inside kernel.now) }
     {
-        Ok(Inside {
+        Ok(InstantReader {
             engine: Micro::new(Net::build(alloc, kernel)?),
             owners: owners_of(alloc, kernel)?,
         })

@@ -7,7 +7,7 @@ use Rattle.est_kernel.specs.declared.interface.Declaration.{Declaration}
 use Rattle.est_cover.specs.declared.asked.Asked.{Asked}
 use Rattle.est_explore.specs.declared.one_module.Answer.{Answer}
 use Rattle.est_explore.specs.declared.one_module.Answer.TheVariants.{Reaction, Stuck}
-use Rattle.est_explore.specs.declared.two_modules.Both.{Both}
+use Rattle.est_explore.specs.declared.two_modules.AnswerPair.{AnswerPair}
 use Rattle.est_explore.specs.declared.verdict.Verdict.{Verdict}
 use Rattle.est_explore.specs.declared.verdict.Verdict.TheVariants.{Holds, Fails, TooMany}
 use Rattle.est_explore.specs.declared.same.Comparison.{Comparison}
@@ -41,7 +41,7 @@ verdict_json interface (Fails word) = object (member (codes "verdict") (string (
     (member (codes "word") (array (items_of (map (instant_json interface) word.items))) no_members))
 
 -- an instant of two modules
-abbrev pub instant_of_both_json : List Declaration → Asked Both → Data
+abbrev pub instant_of_both_json : List Declaration → Asked AnswerPair → Data
 instant_of_both_json interface a =
     object (member (codes "first") (object (answer_members interface a.answer.first))
     (member (codes "inputs") (names_json interface a.inputs)

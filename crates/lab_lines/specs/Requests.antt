@@ -6,7 +6,7 @@ use Rattle.serde_json.specs.View.{items_of}
 use Rattle.lab_lines.specs.declared.request.Request.{Request}
 use Rattle.lab_lines.specs.declared.request.Request.TheVariants.{Load, Kernel, Explore, Same, Table}
 use Rattle.lab_lines.specs.declared.request.Request.TheVariants.{Instant, Try, Back}
-use Rattle.lab_lines.specs.declared.request.Scope.{Scope}
+use Rattle.lab_lines.specs.declared.request.SearchBounds.{SearchBounds}
 
 -- how many members
 abbrev pub member_count : Members → ℕ
@@ -30,7 +30,7 @@ abbrev pub HasNumber : Data → (key : List ℕ) → ℕ → Type 0
 HasNumber d key n = get key d ≡ Some (number (unsigned n))
 
 -- the value says that this is looked at
-pub record HasScope (d : Data) (scope : Scope) : Type 0 where
+pub record HasScope (d : Data) (scope : SearchBounds) : Type 0 where
   pub inputs : HasTexts d (codes "inputs") (map (λ t. t.now) scope.inputs.items)
   pub most : HasNumber d (codes "most") scope.most
 

@@ -10,7 +10,7 @@ ghost use Rattle.lab_lines.specs.FoundJson.{comparison_json};
 use crate::found_json::word_of_both_json;
 use est_cover::all_lawful::AllLawful;
 use est_explore::same::{Comparison, compare, explore_both};
-use est_explore::two_modules::{Engines, TwoModules};
+use est_explore::two_modules::{EnginePair, TwoModules};
 use est_kernel::interface::{Declaration, Interface};
 use est_rounds::part_engine::PartEngine;
 use serde_json::{Value, json};
@@ -76,7 +76,7 @@ fn comparison_told(
 pub fn compare_modules<E: PartEngine, F: PartEngine>(
     alloc: Global,
     subject: &AllLawful<'_, TwoModules<'_, E, F>>,
-    engines: &mut Engines<E, F>,
+    engines: &mut EnginePair<E, F>,
     limits: Limits,
 ) -> Result<Value, AllocError>
     requires engines { AreFor (E.is_for engines.old.first subject.now.reactive.now.first.kernel.now)

@@ -8,7 +8,7 @@ ghost use Rattle.lab_lines.specs.FoundJson.{instant_of_both_json};
 
 use est_cover::asked::Asked;
 use est_explore::one_module::Answer;
-use est_explore::two_modules::Both;
+use est_explore::two_modules::AnswerPair;
 use est_explore::verdict::Verdict;
 use est_kernel::interface::Interface;
 use est_kernel::mask;
@@ -102,7 +102,7 @@ pub fn verdict_json(
 fn instant_of_both_json(
     alloc: Global,
     interface: &Interface,
-    asked: &Asked<Both>,
+    asked: &Asked<AnswerPair>,
 ) -> Result<Value, AllocError>
     ensures { IfOk result (λ v. view v ≡ instant_of_both_json interface.now asked.now) }
 {
@@ -116,7 +116,7 @@ fn instant_of_both_json(
 pub fn word_of_both_json(
     alloc: Global,
     interface: &Interface,
-    word: &[Asked<Both>],
+    word: &[Asked<AnswerPair>],
 ) -> Result<Value, AllocError>
     ensures { IfOk result (λ v.
         view v ≡ array (items_of (map (instant_of_both_json interface.now) word.now))) }

@@ -4,11 +4,11 @@ ghost use Rattle.std.specs.Prelude.{◌≡◌, ◌↔◌, ℕ, List, IfOk, IsTru
 ghost use Rattle.std.specs.Option.{MatchOption};
 ghost use Rattle.serde_json.specs.Data.{string};
 ghost use Rattle.serde_json.specs.View.{view};
-ghost use Rattle.lab_lines.specs.declared.request.Scope.{Scope as ScopeValue};
+ghost use Rattle.lab_lines.specs.declared.request.SearchBounds.{SearchBounds as ScopeValue};
 ghost use Rattle.lab_lines.specs.Requests.{HasMembers, HasNumber, HasScope, HasText, HasTexts};
 ghost use Rattle.lab_lines.specs.Requests.{Says, SaysNothing};
 
-use crate::request::{Request, Scope};
+use crate::request::{Request, SearchBounds};
 use serde_json::Value;
 use std::alloc::{AllocError, Global};
 
@@ -80,7 +80,7 @@ fn texts_at<'v>(
 }
 
 /// What a search looks at.
-fn scope_of<'v>(alloc: Global, value: &'v Value) -> Result<Option<Scope<'v>>, AllocError>
+fn scope_of<'v>(alloc: Global, value: &'v Value) -> Result<Option<SearchBounds<'v>>, AllocError>
     ensures { IfOk result (λ read. MatchOption read
         ((scope : ScopeValue) → HasScope (view value.now) scope → ⊥) (HasScope (view value.now))) }
 {
@@ -88,7 +88,7 @@ fn scope_of<'v>(alloc: Global, value: &'v Value) -> Result<Option<Scope<'v>>, Al
         return Ok(None);
     };
     match number_at(value, "most") {
-        Some(most) => Ok(Some(Scope { inputs, most })),
+        Some(most) => Ok(Some(SearchBounds { inputs, most })),
         None => Ok(None),
     }
 }

@@ -16,7 +16,7 @@ use Rattle.est_relations.specs.declared.refusal.PendingRefusal.{PendingRefusal}
 use Rattle.lab_instant.specs.Instants.{IsInstant}
 use Rattle.lab_instant.specs.declared.seen.Instant.{Instant}
 use Rattle.lab_instant.specs.declared.seen.Instant.TheVariants.{Reaction, Stuck}
-use Rattle.lab_instant.specs.declared.instant.Inside.{Inside}
+use Rattle.lab_instant.specs.declared.instant.InstantReader.{InstantReader}
 use Rattle.reactor_core.specs.declared.loaded.Module.{Module}
 use Rattle.lab_run.specs.Walking.{AreLoaded, AreOffered, IsInstantOf, NameAnswer, Standing, states_after}
 
@@ -58,7 +58,7 @@ some_after states (Reaction o seen) some = let l = length-append states (o.next 
 some_after states (Stuck s seen) some = some
 
 -- what is loaded after an instant
-pub loaded_after : (before : Standing) (m : Module) (inside : Inside) (states new : List State) (signals : ℕ)
+pub loaded_after : (before : Standing) (m : Module) (inside : InstantReader) (states new : List State) (signals : ℕ)
     (instant : Instant) (line : List ℕ) → before ≡ record { walked = m; states = states }
     → IsInstantOf before signals instant line → AreLoaded m inside states → new ≡ states_after states instant
     → AreLoaded m inside new

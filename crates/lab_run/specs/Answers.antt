@@ -28,12 +28,12 @@ use Rattle.lab_lines.specs.FoundJson.{names_json}
 use Rattle.lab_lines.specs.declared.request.Request.{Request}
 use Rattle.lab_lines.specs.declared.request.Request.TheVariants.{Load, Kernel, Explore, Same, Table}
 use Rattle.lab_lines.specs.declared.request.Request.TheVariants.{Instant, Try, Back}
-use Rattle.lab_lines.specs.declared.request.Scope.{Scope}
+use Rattle.lab_lines.specs.declared.request.SearchBounds.{SearchBounds}
 use Rattle.lab_claims.specs.Claims.{AreClaimTexts}
 use Rattle.lab_claims.specs.Refused.{IsFirstBad}
 use Rattle.lab_claims.specs.declared.claims.BadClaim.{BadClaim}
-use Rattle.lab_run.specs.declared.lab.Told.{Told}
-use Rattle.lab_run.specs.declared.lab.Told.TheVariants.{Refused, Says, Written}
+use Rattle.lab_run.specs.declared.lab.LabReply.{LabReply}
+use Rattle.lab_run.specs.declared.lab.LabReply.TheVariants.{Refused, Json, Line}
 use Rattle.lab_run.specs.Walking.{Standing, at_start, GoesBackIf, MakesIf, TriesIf}
 
 -- ---- what is loaded
@@ -62,10 +62,10 @@ pub record IsLoaded (main text : List ℕ) (d : Data) (after : Option Standing) 
   pub said : IsLoadedTold loaded d
 
 -- a module is loaded; or it is told why there is none, and what was loaded stays
-abbrev pub Loads : (main text : List ℕ) → (before : Option Standing) → Told → (after : Option Standing) → Type 0
+abbrev pub Loads : (main text : List ℕ) → (before : Option Standing) → LabReply → (after : Option Standing) → Type 0
 Loads main text before (Refused given) after = IsNotLoaded main text given × (after ≡ before)
-Loads main text before (Says v) after = IsLoaded main text (view v) after
-Loads main text before (Written line) after = ⊥
+Loads main text before (Json v) after = IsLoaded main text (view v) after
+Loads main text before (Line line) after = ⊥
 
 -- ---- what is asked of it
 
@@ -76,7 +76,7 @@ pub record IsNotOffered (interface : List Declaration) (names : List (List ℕ))
   pub first : AreNotNamed interface names fault
 
 -- the same of what is looked at
-abbrev pub IsNoScope : Module → Scope → (given : Refusal) → Type 0
+abbrev pub IsNoScope : Module → SearchBounds → (given : Refusal) → Type 0
 IsNoScope m scope given = IsNotOffered m.kernel.interface (map (λ t. t.now) scope.inputs.items) given
 
 -- what is told of a claim that can't be read: its number, and the server's refusal
@@ -106,16 +106,16 @@ TellsAmong m claims among states steps d =
     IsExplorationAmong m claims among states steps d ⊎ IsBadClaim m.kernel.interface claims d
 
 -- the same, where only the inputs of these names are offered
-pub record IsExplorationOf (m : Module) (claims : List (List ℕ)) (scope : Scope) (d : Data) : Type 0 where
+pub record IsExplorationOf (m : Module) (claims : List (List ℕ)) (scope : SearchBounds) (d : Data) : Type 0 where
   pub among : ℕ
   pub named : AreNamed m.kernel.interface (map (λ t. t.now) scope.inputs.items) among
   pub right : TellsAmong m claims among scope.most scope.most d
 
 -- what is answered to claims of the module
-abbrev pub TellsOfClaims : Module → (claims : List (List ℕ)) → Scope → Told → Type 0
+abbrev pub TellsOfClaims : Module → (claims : List (List ℕ)) → SearchBounds → LabReply → Type 0
 TellsOfClaims m claims scope (Refused given) = IsNoScope m scope given
-TellsOfClaims m claims scope (Says v) = IsExplorationOf m claims scope (view v)
-TellsOfClaims m claims scope (Written line) = ⊥
+TellsOfClaims m claims scope (Json v) = IsExplorationOf m claims scope (view v)
+TellsOfClaims m claims scope (Line line) = ⊥
 
 -- the two have one interface, and it is told whether they do the same
 pub record IsComparisonAmong (m other : Module) (among states steps : ℕ) (d : Data) : Type 0 where
@@ -134,7 +134,7 @@ abbrev pub TellsOfTwo : (m other : Module) → (among states steps : ℕ) → Da
 TellsOfTwo m other among states steps d = IsComparisonAmong m other among states steps d ⊎ IsOtherInterface m other d
 
 -- the same of the module and that of a text, where only the inputs of these names are offered
-pub record IsComparisonOf (m : Module) (main text : List ℕ) (scope : Scope) (d : Data) : Type 0 where
+pub record IsComparisonOf (m : Module) (main text : List ℕ) (scope : SearchBounds) (d : Data) : Type 0 where
   pub other : Module
   pub gives : Gives main text (given_by other)
   pub among : ℕ
@@ -142,39 +142,39 @@ pub record IsComparisonOf (m : Module) (main text : List ℕ) (scope : Scope) (d
   pub right : TellsOfTwo m other among scope.most scope.most d
 
 -- what is answered to the question whether the module and that of a text do the same
-abbrev pub TellsOfBoth : Module → (main text : List ℕ) → Scope → Told → Type 0
+abbrev pub TellsOfBoth : Module → (main text : List ℕ) → SearchBounds → LabReply → Type 0
 TellsOfBoth m main text scope (Refused given) = IsNoScope m scope given ⊎ IsNotLoaded main text given
-TellsOfBoth m main text scope (Says v) = IsComparisonOf m main text scope (view v)
-TellsOfBoth m main text scope (Written line) = ⊥
+TellsOfBoth m main text scope (Json v) = IsComparisonOf m main text scope (view v)
+TellsOfBoth m main text scope (Line line) = ⊥
 
 -- the table of the module in which only those inputs are offered, or that it is too large
-pub record IsTableOf (m : Module) (scope : Scope) (d : Data) : Type 0 where
+pub record IsTableOf (m : Module) (scope : SearchBounds) (d : Data) : Type 0 where
   pub among : ℕ
   pub named : AreNamed m.kernel.interface (map (λ t. t.now) scope.inputs.items) among
   pub right : IsTableTold (module_of m.kernel m.relations among) d
       ⊎ IsTooLarge (module_of m.kernel m.relations among) scope.most scope.most d
 
 -- what is answered to the question for the table
-abbrev pub TellsOfTable : Module → Scope → Told → Type 0
+abbrev pub TellsOfTable : Module → SearchBounds → LabReply → Type 0
 TellsOfTable m scope (Refused given) = IsNoScope m scope given
-TellsOfTable m scope (Says v) = IsTableOf m scope (view v)
-TellsOfTable m scope (Written line) = ⊥
+TellsOfTable m scope (Json v) = IsTableOf m scope (view v)
+TellsOfTable m scope (Line line) = ⊥
 
 -- ---- what a request does
 
 -- what is answered to the question for the statements
-abbrev pub TellsOfKernel : Module → Told → Type 0
+abbrev pub TellsOfKernel : Module → LabReply → Type 0
 TellsOfKernel m (Refused given) = ⊥
-TellsOfKernel m (Says v) = IsKernelTold m.kernel (view v)
-TellsOfKernel m (Written line) = ⊥
+TellsOfKernel m (Json v) = IsKernelTold m.kernel (view v)
+TellsOfKernel m (Line line) = ⊥
 
 -- what is told of the module that is loaded, where one is
-abbrev pub TellsIf : Option Standing → (Module → Told → Type 0) → Told → Type 0
+abbrev pub TellsIf : Option Standing → (Module → LabReply → Type 0) → LabReply → Type 0
 TellsIf None tells told = told ≡ Refused refusal.Empty
 TellsIf (Some s) tells told = tells s.walked told
 
 -- a request is done: what is loaded before it, what is told, and what is loaded afterwards
-abbrev pub Obeys : (before : Option Standing) → Request → Told → (after : Option Standing) → Type 0
+abbrev pub Obeys : (before : Option Standing) → Request → LabReply → (after : Option Standing) → Type 0
 Obeys before (Load main text) told after = Loads main.now text.now before told after
 Obeys before Kernel told after = TellsIf before TellsOfKernel told × (after ≡ before)
 Obeys before (Explore claims scope) told after =

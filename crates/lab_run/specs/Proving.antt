@@ -10,9 +10,9 @@ use Rattle.reactor_core.specs.declared.loaded.Module.{Module}
 use Rattle.access_core.specs.declared.refusal.Refusal.{Refusal}
 use Rattle.lab_lines.specs.Offers.{AreNamed}
 use Rattle.lab_run.specs.Answers.{IsNotLoaded, IsNotOffered, TellsAmong}
-use Rattle.lab_run.specs.declared.lab.Told.{Told}
-use Rattle.lab_run.specs.declared.lab.Told.TheVariants.{Refused, Says, Written}
-use Rattle.lab_run.specs.declared.order.Proof.{Proof}
+use Rattle.lab_run.specs.declared.lab.LabReply.{LabReply}
+use Rattle.lab_run.specs.declared.lab.LabReply.TheVariants.{Refused, Json, Line}
+use Rattle.lab_run.specs.declared.order.ProveOrder.{ProveOrder}
 
 -- these signals may be offered: all that the interface lets be, where all may be, or those of these names
 abbrev pub IsAmongIf : (all : Bool) → List Declaration → (names : List (List ℕ)) → (among : ℕ) → Type 0
@@ -24,24 +24,24 @@ abbrev pub IsAmong : List Declaration → (names : List (List ℕ)) → (among :
 IsAmong interface names among = IsAmongIf (length names == 0) interface names among
 
 -- what is told of the claims of the order on the module
-abbrev pub TellsOfModule : Module → Proof → Told → Type 0
+abbrev pub TellsOfModule : Module → ProveOrder → LabReply → Type 0
 TellsOfModule m p (Refused given) = IsNotOffered m.kernel.interface (map (λ t. t.now) p.inputs.items) given
-TellsOfModule m p (Says v) = (among : ℕ) × IsAmong m.kernel.interface (map (λ t. t.now) p.inputs.items) among
+TellsOfModule m p (Json v) = (among : ℕ) × IsAmong m.kernel.interface (map (λ t. t.now) p.inputs.items) among
     × TellsAmong m (map string_bytes p.claims.items) among p.most p.most (view v)
-TellsOfModule m p (Written line) = ⊥
+TellsOfModule m p (Line line) = ⊥
 
 -- the text gives this module, and what is told of it
-pub record IsOfModule (p : Proof) (text : List ℕ) (told : Told) : Type 0 where
+pub record IsOfModule (p : ProveOrder) (text : List ℕ) (told : LabReply) : Type 0 where
   pub given : Module
   pub gives : Gives p.main.now text (given_by given)
   pub right : TellsOfModule given p told
 
 -- the text gives no module, and it is told why
-pub record IsOfNone (p : Proof) (text : List ℕ) (told : Told) : Type 0 where
+pub record IsOfNone (p : ProveOrder) (text : List ℕ) (told : LabReply) : Type 0 where
   pub why : Refusal
   pub is : told ≡ Refused why
   pub right : IsNotLoaded p.main.now text why
 
 -- what is told of the claims of the order on the module of a text
-abbrev pub TellsOfText : Proof → (text : List ℕ) → Told → Type 0
+abbrev pub TellsOfText : ProveOrder → (text : List ℕ) → LabReply → Type 0
 TellsOfText p text told = IsOfModule p text told ⊎ IsOfNone p text told

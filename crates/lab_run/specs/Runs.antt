@@ -12,8 +12,8 @@ use Rattle.lab_run.specs.Proving.{TellsOfText}
 use Rattle.lab_run.specs.Statuses.{status_of}
 use Rattle.lab_run.specs.declared.answer.LineAnswerer.{LineAnswerer}
 use Rattle.lab_run.specs.declared.lab.Lab.{Lab}
-use Rattle.lab_run.specs.declared.lab.Told.{Told}
-use Rattle.lab_run.specs.declared.order.Proof.{Proof}
+use Rattle.lab_run.specs.declared.lab.LabReply.{LabReply}
+use Rattle.lab_run.specs.declared.order.ProveOrder.{ProveOrder}
 
 -- the status after the end of the lines
 abbrev pub status_of_end : EndReason → ℕ
@@ -46,33 +46,33 @@ abbrev pub ServesAll : (ahead : Option (List ℕ)) → (status : ℕ) → (writt
 ServesAll ahead status written after = ServesLines ahead status written after ⊎ ((status ≡ 3) × (after ≡ written))
 
 -- the line of what is told is written
-pub record IsTold (told : Told) (status : ℕ) (written after : Option (List ℕ)) : Type 0 where
+pub record IsWrittenLine (told : LabReply) (status : ℕ) (written after : Option (List ℕ)) : Type 0 where
   pub line : List ℕ
   pub is : IsTextOf told line
   pub appends : Appends written after line
   pub ends : status ≡ status_of told
 
 -- the same, or memory was refused or the writer failed
-abbrev pub TellsSo : Told → (status : ℕ) → (written after : Option (List ℕ)) → Type 0
-TellsSo told status written after = IsTold told status written after ⊎ (status ≡ 3)
+abbrev pub TellsSo : LabReply → (status : ℕ) → (written after : Option (List ℕ)) → Type 0
+TellsSo told status written after = IsWrittenLine told status written after ⊎ (status ≡ 3)
 
 -- the claims of the order are judged on the module of a text, and what is told of them is written
-pub record IsProved (p : Proof) (text : List ℕ) (status : ℕ) (written after : Option (List ℕ)) : Type 0 where
-  pub told : Told
+pub record IsProved (p : ProveOrder) (text : List ℕ) (status : ℕ) (written after : Option (List ℕ)) : Type 0 where
+  pub told : LabReply
   pub right : TellsOfText p text told
   pub said : TellsSo told status written after
 
 -- the same, or memory was refused
-abbrev pub ProvesText : Proof → (text : List ℕ) → (status : ℕ) → (written after : Option (List ℕ)) → Type 0
+abbrev pub ProvesText : ProveOrder → (text : List ℕ) → (status : ℕ) → (written after : Option (List ℕ)) → Type 0
 ProvesText p text status written after = IsProved p text status written after ⊎ (status ≡ 3)
 
 -- an order to prove is done on some text; or the file can't be read, and nothing is written
-abbrev pub Proves : Proof → (status : ℕ) → (written after : Option (List ℕ)) → Type 0
+abbrev pub Proves : ProveOrder → (status : ℕ) → (written after : Option (List ℕ)) → Type 0
 Proves p status written after =
     ((text : List ℕ) × ProvesText p text status written after) ⊎ ((status ≡ 2) × (after ≡ written))
 
 -- a run of the program: lines are answered; an order to prove is done; or the words can't be read, and nothing is
 -- written
 abbrev pub Runs : (ahead : Option (List ℕ)) → (status : ℕ) → (written after : Option (List ℕ)) → Type 0
-Runs ahead status written after = ServesAll ahead status written after ⊎ (((p : Proof) × Proves p status written after)
+Runs ahead status written after = ServesAll ahead status written after ⊎ (((p : ProveOrder) × Proves p status written after)
     ⊎ (((status ≡ 2) ⊎ (status ≡ 3)) × (after ≡ written)))

@@ -6,8 +6,8 @@ use Rattle.serde_json.specs.Data.{Data, null, boolean, number, string, array, ob
 use Rattle.serde_json.specs.Find.{get}
 use Rattle.serde_json.specs.View.{view}
 use Rattle.access_core.specs.declared.refusal.Refusal.TheVariants as refusal
-use Rattle.lab_run.specs.declared.lab.Told.{Told}
-use Rattle.lab_run.specs.declared.lab.Told.TheVariants.{Refused, Says, Written}
+use Rattle.lab_run.specs.declared.lab.LabReply.{LabReply}
+use Rattle.lab_run.specs.declared.lab.LabReply.TheVariants.{Refused, Json, Line}
 
 -- the value is this text
 abbrev pub is_text : (word : List ℕ) → Data → Bool
@@ -55,8 +55,8 @@ status_in d = status_if (get (codes "stuck") d) (get (codes "verdicts") d)
 
 -- the status of what is told: 0 where each claim holds, 1 where one fails, 3 where it is not known, and 2 where
 -- something can't be read
-abbrev pub status_of : Told → ℕ
+abbrev pub status_of : LabReply → ℕ
 status_of (Refused refusal.Memory) = 3
 status_of (Refused _) = 2
-status_of (Says v) = status_in (view v)
-status_of (Written line) = 2
+status_of (Json v) = status_in (view v)
+status_of (Line line) = 2

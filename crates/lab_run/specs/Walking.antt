@@ -16,13 +16,13 @@ use Rattle.reactor_core.specs.declared.refusal.ModuleRefusal.TheVariants as of_m
 use Rattle.access_core.specs.declared.refusal.Refusal.{Refusal}
 use Rattle.access_core.specs.declared.refusal.Refusal.TheVariants as refusal
 use Rattle.lab_instant.specs.Instants.{IsFor, IsInstant}
-use Rattle.lab_instant.specs.declared.instant.Inside.{Inside}
+use Rattle.lab_instant.specs.declared.instant.InstantReader.{InstantReader}
 use Rattle.lab_instant.specs.declared.seen.Instant.{Instant}
 use Rattle.lab_instant.specs.declared.seen.Instant.TheVariants.{Reaction, Stuck}
 use Rattle.lab_ties.specs.Stuck.{instant_ties}
 use Rattle.lab_lines.specs.Inside.{back_json, inside_json}
-use Rattle.lab_run.specs.declared.lab.Told.{Told}
-use Rattle.lab_run.specs.declared.lab.Told.TheVariants.{Refused, Says, Written}
+use Rattle.lab_run.specs.declared.lab.LabReply.{LabReply}
+use Rattle.lab_run.specs.declared.lab.LabReply.TheVariants.{Refused, Json, Line}
 
 -- what is loaded: a module, and where it stood at the start and after each instant, of which the last is where it
 -- stands
@@ -43,7 +43,7 @@ abbrev pub StandsAt : List State → State → Type 0
 StandsAt states x = slice_get states (length states - 1) ≡ Some x
 
 -- what reads instants is for the module's kernel, and each state is one of its root; there is one
-pub record AreLoaded (m : Module) (inside : Inside) (states : List State) : Type 0 where
+pub record AreLoaded (m : Module) (inside : InstantReader) (states : List State) : Type 0 where
   pub engine : IsFor inside m.kernel
   pub fit : (x : State) → Contains states x → IsState m.kernel.root x
   pub some : 0 < length states
@@ -110,17 +110,17 @@ states_after states (Reaction o seen) = states ++ o.next ∷ []
 states_after states (Stuck undecided seen) = states
 
 -- the instant is made
-abbrev pub Makes : (before : Standing) → (names : List (List ℕ)) → Told → (after : Standing) → Type 0
+abbrev pub Makes : (before : Standing) → (names : List (List ℕ)) → LabReply → (after : Standing) → Type 0
 Makes before names (Refused given) after = MayNotTake before.walked names given × (after ≡ before)
-Makes before names (Says v) after = ⊥
-Makes before names (Written line) after = (instant : Instant) × IsInstantTold before names instant line.items
+Makes before names (Json v) after = ⊥
+Makes before names (Line line) after = (instant : Instant) × IsInstantTold before names instant line.items
     × (after ≡ standing_at before (states_after before.states instant))
 
 -- the instant is told, and the module stays where it stands
-abbrev pub Tries : (before : Standing) → (names : List (List ℕ)) → Told → (after : Standing) → Type 0
+abbrev pub Tries : (before : Standing) → (names : List (List ℕ)) → LabReply → (after : Standing) → Type 0
 Tries before names (Refused given) after = MayNotTake before.walked names given × (after ≡ before)
-Tries before names (Says v) after = ⊥
-Tries before names (Written line) after =
+Tries before names (Json v) after = ⊥
+Tries before names (Line line) after =
     ((instant : Instant) × IsInstantTold before names instant line.items) × (after ≡ before)
 
 -- ---- the way back
@@ -133,30 +133,30 @@ pub record IsBack (before : Standing) (to : ℕ) (line : List ℕ) (after : Stan
   pub said : line ≡ compact_text (back_json state) ++ 10 ∷ []
 
 -- the same, or there were not so many
-abbrev pub GoesBack : (before : Standing) → (to : ℕ) → Told → (after : Standing) → Type 0
+abbrev pub GoesBack : (before : Standing) → (to : ℕ) → LabReply → (after : Standing) → Type 0
 GoesBack before to (Refused given) after =
     (given ≡ refusal.Module of_module.NoInstant) × (length before.states ≤ to) × (after ≡ before)
-GoesBack before to (Says v) after = ⊥
-GoesBack before to (Written line) after = IsBack before to line.items after
+GoesBack before to (Json v) after = ⊥
+GoesBack before to (Line line) after = IsBack before to line.items after
 
 -- ---- where nothing may be loaded
 
 -- nothing is loaded, and that is told
-abbrev pub IsEmpty : Told → (after : Option Standing) → Type 0
+abbrev pub IsEmpty : LabReply → (after : Option Standing) → Type 0
 IsEmpty told after = (told ≡ Refused refusal.Empty) × (after ≡ None)
 
 -- the same, or what is done with what is loaded, which is loaded afterwards too
-abbrev pub MakesIf : (before : Option Standing) → (names : List (List ℕ)) → Told → (after : Option Standing) → Type 0
+abbrev pub MakesIf : (before : Option Standing) → (names : List (List ℕ)) → LabReply → (after : Option Standing) → Type 0
 MakesIf None names told after = IsEmpty told after
 MakesIf (Some s) names told None = ⊥
 MakesIf (Some s) names told (Some t) = Makes s names told t
 
-abbrev pub TriesIf : (before : Option Standing) → (names : List (List ℕ)) → Told → (after : Option Standing) → Type 0
+abbrev pub TriesIf : (before : Option Standing) → (names : List (List ℕ)) → LabReply → (after : Option Standing) → Type 0
 TriesIf None names told after = IsEmpty told after
 TriesIf (Some s) names told None = ⊥
 TriesIf (Some s) names told (Some t) = Tries s names told t
 
-abbrev pub GoesBackIf : (before : Option Standing) → (to : ℕ) → Told → (after : Option Standing) → Type 0
+abbrev pub GoesBackIf : (before : Option Standing) → (to : ℕ) → LabReply → (after : Option Standing) → Type 0
 GoesBackIf None to told after = IsEmpty told after
 GoesBackIf (Some s) to told None = ⊥
 GoesBackIf (Some s) to told (Some t) = GoesBack s to told t

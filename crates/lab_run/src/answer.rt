@@ -6,7 +6,7 @@ ghost use Rattle.serde_json.specs.View.{view};
 ghost use Rattle.lab_run.specs.Lines.{HasNoText, IsAnswer, IsLineOf, IsTextOf, IsTold};
 ghost use Rattle.lab_run.specs.Lines.{IsReadAs, IsValueTold};
 
-use crate::lab::{Lab, Told};
+use crate::lab::{Lab, LabReply};
 use access_core::refusal::Refusal;
 use access_core::reply::Reply;
 use lab_lines::reading::request_of;
@@ -29,7 +29,7 @@ fn value_of(alloc: Global, line: &[u8]) -> Result<Value, Refusal>
 }
 
 /// What a value is told.
-fn told_of_value(alloc: Global, lab: &mut Lab, value: &Value) -> Result<Told, AllocError>
+fn answer_value(alloc: Global, lab: &mut Lab, value: &Value) -> Result<LabReply, AllocError>
     ensures done { IfOk result (λ told. IsValueTold lab.old.loaded (view value.now) told
         lab.new.loaded) }
     ensures kept { IfErr result (λ _. lab.new ≡ lab.old) }
@@ -39,20 +39,20 @@ fn told_of_value(alloc: Global, lab: &mut Lab, value: &Value) -> Result<Told, Al
             let told = lab.obey(alloc, &request)?;
             Ok(told)
         }
-        None => Ok(Told::Refused(Refusal::NotARequest)),
+        None => Ok(LabReply::Refused(Refusal::NotARequest)),
     }
 }
 
 /// What a line is told.
-fn answer_line(alloc: Global, lab: &mut Lab, line: &[u8]) -> Told
+fn answer_line(alloc: Global, lab: &mut Lab, line: &[u8]) -> LabReply
     ensures { IsTold lab.old.loaded line.now result lab.new.loaded }
 {
     match value_of(alloc, line) {
-        Ok(value) => match told_of_value(alloc, lab, &value) {
+        Ok(value) => match answer_value(alloc, lab, &value) {
             Ok(told) => told,
-            Err(_) => Told::Refused(Refusal::Memory),
+            Err(_) => LabReply::Refused(Refusal::Memory),
         },
-        Err(refusal) => Told::Refused(refusal),
+        Err(refusal) => LabReply::Refused(refusal),
     }
 }
 
@@ -66,13 +66,13 @@ fn value_line(alloc: Global, value: &Value) -> Result<Vec<u8>, AllocError>
 }
 
 /// The line of what is told, with its LF. Want of memory takes none.
-pub fn line_of(alloc: Global, told: Told) -> Result<Text, AllocError>
+pub fn line_of(alloc: Global, told: LabReply) -> Result<Text, AllocError>
     ensures { IfOk result (λ text. IsTextOf told (cow_slice_items text)) }
 {
     match told {
-        Told::Refused(refusal) => reply_text(alloc, &Reply::Refused(refusal)),
-        Told::Says(value) => Ok(CowSlice::Owned(value_line(alloc, &value)?)),
-        Told::Written(line) => Ok(CowSlice::Owned(line)),
+        LabReply::Refused(refusal) => reply_text(alloc, &Reply::Refused(refusal)),
+        LabReply::Json(value) => Ok(CowSlice::Owned(value_line(alloc, &value)?)),
+        LabReply::Line(line) => Ok(CowSlice::Owned(line)),
     }
 }
 

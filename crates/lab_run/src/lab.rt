@@ -21,7 +21,7 @@ use access_core::refusal::Refusal;
 use access_core::reply::Reply;
 use est_cover::all_lawful::AllLawful;
 use est_explore::one_module::OneModule;
-use est_explore::two_modules::{Engines, TwoModules};
+use est_explore::two_modules::{EnginePair, TwoModules};
 use est_micro::micro::Micro;
 use est_net::net::Net;
 use lab_claims::claims::{BadClaim, read_claims};
@@ -31,7 +31,7 @@ use lab_lines::exploring::judge_module;
 use lab_lines::found_json::names_json;
 use lab_lines::offers::signals_of_names;
 use lab_lines::refusal::{CLAIM_CODE, INTERFACE_CODE};
-use lab_lines::request::{Request, Scope};
+use lab_lines::request::{Request, SearchBounds};
 use lab_lines::statements::kernel_told;
 use lab_lines::table_json::find_table;
 use reactor_core::loaded::Module;
@@ -44,13 +44,13 @@ use wire_lines::reply::reply_line;
 
 /// What a request is answered.
 #[derive(Drop)]
-pub enum Told {
+pub enum LabReply {
     /// A refusal, which has the line that the server gives it.
     Refused(Refusal),
     /// A value, which is the line.
-    Says(Value),
+    Json(Value),
     /// The line itself, with its LF.
-    Written(Vec<u8>),
+    Line(Vec<u8>),
 }
 
 /// What is loaded.
@@ -153,16 +153,16 @@ fn explore_claims(
     alloc: Global,
     loaded: &Module,
     claims: &[&str],
-    scope: &Scope<'_>,
-) -> Result<Told, AllocError>
+    scope: &SearchBounds<'_>,
+) -> Result<LabReply, AllocError>
     ensures { IfOk result (TellsOfClaims loaded.now (map (λ t. t.now) claims.now) scope.now) }
 {
     let among = match signals_of_names(loaded.kernel.interface(), scope.inputs.as_slice()) {
         Ok(among) => among,
-        Err(fault) => return Ok(Told::Refused(refusal_of(fault))),
+        Err(fault) => return Ok(LabReply::Refused(refusal_of(fault))),
     };
     let value = explore_among(alloc, loaded, claims, among, limits(scope.most))?;
-    Ok(Told::Says(value))
+    Ok(LabReply::Json(value))
 }
 
 /// Compares two modules of one interface, which are offered these inputs alone.
@@ -177,7 +177,7 @@ fn compare_both(
     ensures { IfOk result (λ v. IsComparison (module_of one.now.kernel one.now.relations among)
         (module_of other.now.kernel one.now.relations among) limits.states limits.steps (view v)) }
 {
-    let mut engines = Engines {
+    let mut engines = EnginePair {
         first: engine_of(alloc, one)?,
         second: engine_of(alloc, other)?,
     };
@@ -226,20 +226,20 @@ fn compare_text(
     loaded: &Module,
     main: &str,
     text: &str,
-    scope: &Scope<'_>,
-) -> Result<Told, AllocError>
+    scope: &SearchBounds<'_>,
+) -> Result<LabReply, AllocError>
     ensures { IfOk result (TellsOfBoth loaded.now main.now text.now scope.now) }
 {
     let among = match signals_of_names(loaded.kernel.interface(), scope.inputs.as_slice()) {
         Ok(among) => among,
-        Err(fault) => return Ok(Told::Refused(refusal_of(fault))),
+        Err(fault) => return Ok(LabReply::Refused(refusal_of(fault))),
     };
     let other = match read_module(alloc, main, text) {
         Ok(other) => other,
-        Err(refusal) => return Ok(Told::Refused(Refusal::from(refusal))),
+        Err(refusal) => return Ok(LabReply::Refused(Refusal::from(refusal))),
     };
     let value = compare_modules_of(alloc, loaded, &other, among, limits(scope.most))?;
-    Ok(Told::Says(value))
+    Ok(LabReply::Json(value))
 }
 
 /// The table of a module that is offered these inputs alone.
@@ -266,15 +266,15 @@ fn table_among(
 }
 
 /// The table of a module.
-fn table_of(alloc: Global, loaded: &Module, scope: &Scope<'_>) -> Result<Told, AllocError>
+fn table_of(alloc: Global, loaded: &Module, scope: &SearchBounds<'_>) -> Result<LabReply, AllocError>
     ensures { IfOk result (TellsOfTable loaded.now scope.now) }
 {
     let among = match signals_of_names(loaded.kernel.interface(), scope.inputs.as_slice()) {
         Ok(among) => among,
-        Err(fault) => return Ok(Told::Refused(refusal_of(fault))),
+        Err(fault) => return Ok(LabReply::Refused(refusal_of(fault))),
     };
     let value = table_among(alloc, loaded, among, limits(scope.most))?;
-    Ok(Told::Says(value))
+    Ok(LabReply::Json(value))
 }
 
 /// What is told of a module that was loaded.
@@ -288,10 +288,10 @@ fn loaded_told(alloc: Global, loaded: &Module) -> Result<Value, AllocError>
 }
 
 /// The statements of a module.
-fn kernel_of(alloc: Global, loaded: &Module) -> Result<Told, AllocError>
+fn kernel_of(alloc: Global, loaded: &Module) -> Result<LabReply, AllocError>
     ensures { IfOk result (TellsOfKernel loaded.now) }
 {
-    Ok(Told::Says(kernel_told(alloc, &loaded.kernel)?))
+    Ok(LabReply::Json(kernel_told(alloc, &loaded.kernel)?))
 }
 
 impl Lab {
@@ -303,38 +303,38 @@ impl Lab {
     }
 
     /// Loads the module `main` of a text.
-    fn load(&mut self, alloc: Global, main: &str, text: &str) -> Result<Told, AllocError>
+    fn load(&mut self, alloc: Global, main: &str, text: &str) -> Result<LabReply, AllocError>
         ensures done { IfOk result (λ told. Loads main.now text.now self.old.loaded told
             self.new.loaded) }
         ensures kept { IfErr result (λ _. self.new ≡ self.old) }
     {
         let loaded = match read_module(alloc, main, text) {
             Ok(loaded) => loaded,
-            Err(refusal) => return Ok(Told::Refused(Refusal::from(refusal))),
+            Err(refusal) => return Ok(LabReply::Refused(Refusal::from(refusal))),
         };
         let value = loaded_told(alloc, &loaded)?;
         self.loaded = Some(Walk::begin(alloc, loaded)?);
-        Ok(Told::Says(value))
+        Ok(LabReply::Json(value))
     }
 
     /// Tells the statements of the module that is loaded.
-    fn tell_kernel(&self, alloc: Global) -> Result<Told, AllocError>
+    fn tell_kernel(&self, alloc: Global) -> Result<LabReply, AllocError>
         ensures { IfOk result (TellsIf self.now.loaded TellsOfKernel) }
     {
         match &self.loaded {
             Some(walk) => kernel_of(alloc, walk.module()),
-            None => Ok(Told::Refused(Refusal::Empty)),
+            None => Ok(LabReply::Refused(Refusal::Empty)),
         }
     }
 
     /// Judges claims on all runs of the module that is loaded.
-    fn explore(&self, alloc: Global, claims: &[&str], scope: &Scope<'_>) -> Result<Told, AllocError>
+    fn explore(&self, alloc: Global, claims: &[&str], scope: &SearchBounds<'_>) -> Result<LabReply, AllocError>
         ensures { IfOk result (TellsIf self.now.loaded (λ m. TellsOfClaims m
             (map (λ t. t.now) claims.now) scope.now)) }
     {
         match &self.loaded {
             Some(walk) => explore_claims(alloc, walk.module(), claims, scope),
-            None => Ok(Told::Refused(Refusal::Empty)),
+            None => Ok(LabReply::Refused(Refusal::Empty)),
         }
     }
 
@@ -344,29 +344,29 @@ impl Lab {
         alloc: Global,
         main: &str,
         text: &str,
-        scope: &Scope<'_>,
-    ) -> Result<Told, AllocError>
+        scope: &SearchBounds<'_>,
+    ) -> Result<LabReply, AllocError>
         ensures { IfOk result (TellsIf self.now.loaded (λ m. TellsOfBoth m main.now text.now
             scope.now)) }
     {
         match &self.loaded {
             Some(walk) => compare_text(alloc, walk.module(), main, text, scope),
-            None => Ok(Told::Refused(Refusal::Empty)),
+            None => Ok(LabReply::Refused(Refusal::Empty)),
         }
     }
 
     /// Tells the table of the module that is loaded.
-    fn tabulate(&self, alloc: Global, scope: &Scope<'_>) -> Result<Told, AllocError>
+    fn tabulate(&self, alloc: Global, scope: &SearchBounds<'_>) -> Result<LabReply, AllocError>
         ensures { IfOk result (TellsIf self.now.loaded (λ m. TellsOfTable m scope.now)) }
     {
         match &self.loaded {
             Some(walk) => table_of(alloc, walk.module(), scope),
-            None => Ok(Told::Refused(Refusal::Empty)),
+            None => Ok(LabReply::Refused(Refusal::Empty)),
         }
     }
 
     /// Makes the next instant of the module that is loaded.
-    fn make_instant(&mut self, alloc: Global, names: &[&str]) -> Result<Told, AllocError>
+    fn make_instant(&mut self, alloc: Global, names: &[&str]) -> Result<LabReply, AllocError>
         ensures done { IfOk result (λ told. MakesIf self.old.loaded (map (λ t. t.now) names.now)
             told self.new.loaded) }
         ensures kept { IfErr result (λ _. self.new ≡ self.old) }
@@ -376,12 +376,12 @@ impl Lab {
                 let told = walk.make(alloc, names)?;
                 Ok(told)
             }
-            None => Ok(Told::Refused(Refusal::Empty)),
+            None => Ok(LabReply::Refused(Refusal::Empty)),
         }
     }
 
     /// Tries the next instant of the module that is loaded.
-    fn try_instant(&mut self, alloc: Global, names: &[&str]) -> Result<Told, AllocError>
+    fn try_instant(&mut self, alloc: Global, names: &[&str]) -> Result<LabReply, AllocError>
         ensures done { IfOk result (λ told. TriesIf self.old.loaded (map (λ t. t.now) names.now)
             told self.new.loaded) }
         ensures kept { IfErr result (λ _. self.new ≡ self.old) }
@@ -391,12 +391,12 @@ impl Lab {
                 let told = walk.try_instant(alloc, names)?;
                 Ok(told)
             }
-            None => Ok(Told::Refused(Refusal::Empty)),
+            None => Ok(LabReply::Refused(Refusal::Empty)),
         }
     }
 
     /// Goes back with the module that is loaded.
-    fn go_back(&mut self, alloc: Global, to: u64) -> Result<Told, AllocError>
+    fn go_back(&mut self, alloc: Global, to: u64) -> Result<LabReply, AllocError>
         ensures done { IfOk result (λ told. GoesBackIf self.old.loaded to told self.new.loaded) }
         ensures kept { IfErr result (λ _. self.new ≡ self.old) }
     {
@@ -405,12 +405,12 @@ impl Lab {
                 let told = walk.go_back(alloc, to)?;
                 Ok(told)
             }
-            None => Ok(Told::Refused(Refusal::Empty)),
+            None => Ok(LabReply::Refused(Refusal::Empty)),
         }
     }
 
     /// Does what is asked.
-    pub fn obey(&mut self, alloc: Global, request: &Request<'_>) -> Result<Told, AllocError>
+    pub fn obey(&mut self, alloc: Global, request: &Request<'_>) -> Result<LabReply, AllocError>
         ensures done { IfOk result (λ told. Obeys self.old.loaded request.now told
             self.new.loaded) }
         ensures kept { IfErr result (λ _. self.new ≡ self.old) }

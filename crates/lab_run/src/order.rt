@@ -14,7 +14,7 @@ const USUAL_MOST: u64 = 1_000_000;
 
 /// A proof of claims on a module of a file.
 #[derive(Drop)]
-pub struct Proof<'a> {
+pub struct ProveOrder<'a> {
     pub file: &'a str,
     pub main: &'a str,
     /// Each is `never T` or `always T`.
@@ -31,7 +31,7 @@ pub enum Order<'a> {
     /// To answer the lines of standard input.
     Serve,
     /// To prove claims.
-    Prove(Proof<'a>),
+    Prove(ProveOrder<'a>),
 }
 
 /// An option of this name, which may be given several times.
@@ -107,11 +107,11 @@ fn inputs_of<'a>(alloc: Global, matches: &ArgMatches<'a>) -> Result<Vec<&'a str>
 }
 
 /// The proof that the words after `prove` ask for.
-fn proof_of<'a>(alloc: Global, matches: &ArgMatches<'a>) -> Result<Proof<'a>, AllocError> {
+fn proof_of<'a>(alloc: Global, matches: &ArgMatches<'a>) -> Result<ProveOrder<'a>, AllocError> {
     let mut claims = Vec::new(alloc);
     add_claims(alloc, matches, "never", &mut claims)?;
     add_claims(alloc, matches, "always", &mut claims)?;
-    Ok(Proof {
+    Ok(ProveOrder {
         file: matches.get_str("FILE").unwrap_or(""),
         main: matches.get_str("main").unwrap_or(""),
         claims,

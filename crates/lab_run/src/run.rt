@@ -8,8 +8,8 @@ ghost use Rattle.lab_run.specs.Runs.{Proves, ProvesText, Runs, ServesAll, TellsS
 ghost use Rattle.lab_run.specs.Runs.{status_of_end};
 
 use crate::answer::{LineAnswerer, line_of};
-use crate::lab::{Lab, Told, explore_among, limits};
-use crate::order::{Order, Proof, WordFault};
+use crate::lab::{Lab, LabReply, explore_among, limits};
+use crate::order::{Order, ProveOrder, WordFault};
 use crate::status::{FAILS, UNKNOWN, UNREAD, status_of};
 use crate::walk::refusal_of;
 use access_core::refusal::Refusal;
@@ -46,7 +46,7 @@ fn serve<I: Read, O: Write>(
     ensures { ServesAll (I.remaining input.old.device) result (O.contents output.old.device)
         (O.contents output.new.device) }
 {
-    let Ok(refusal) = line_of(memory.allocator(), Told::Refused(Refusal::TooLong)) else {
+    let Ok(refusal) = line_of(memory.allocator(), LabReply::Refused(Refusal::TooLong)) else {
         return UNKNOWN;
     };
     let mut answerer = LineAnswerer;
@@ -87,20 +87,20 @@ fn offered_of(interface: &Interface, names: &[&str]) -> Result<u64, PendingRefus
 }
 
 /// Judges the claims on a module.
-fn prove_module(alloc: Global, proof: &Proof<'_>, loaded: &Module) -> Result<Told, AllocError>
+fn prove_module(alloc: Global, proof: &ProveOrder<'_>, loaded: &Module) -> Result<LabReply, AllocError>
     ensures { IfOk result (TellsOfModule loaded.now proof.now) }
 {
     let among = match offered_of(loaded.kernel.interface(), proof.inputs.as_slice()) {
         Ok(among) => among,
-        Err(fault) => return Ok(Told::Refused(refusal_of(fault))),
+        Err(fault) => return Ok(LabReply::Refused(refusal_of(fault))),
     };
     let claims = texts_of(alloc, proof.claims.as_slice())?;
     let value = explore_among(alloc, loaded, claims.as_slice(), among, limits(proof.most))?;
-    Ok(Told::Says(value))
+    Ok(LabReply::Json(value))
 }
 
 /// Judges the claims on the module of a text.
-fn prove_text(alloc: Global, proof: &Proof<'_>, text: &str) -> Result<Told, AllocError>
+fn prove_text(alloc: Global, proof: &ProveOrder<'_>, text: &str) -> Result<LabReply, AllocError>
     ensures { IfOk result (TellsOfText proof.now text.now) }
 {
     match read_module(alloc, proof.main, text) {
@@ -108,7 +108,7 @@ fn prove_text(alloc: Global, proof: &Proof<'_>, text: &str) -> Result<Told, Allo
             let told = prove_module(alloc, proof, &loaded)?;
             Ok(told)
         }
-        Err(refusal) => Ok(Told::Refused(Refusal::from(refusal))),
+        Err(refusal) => Ok(LabReply::Refused(Refusal::from(refusal))),
     }
 }
 
@@ -129,7 +129,7 @@ fn write_line<O: Write>(
 }
 
 /// Writes what is told, and answers its status.
-fn tell<O: Write>(memory: &mut MeteredMemory, output: &mut MeteredWriter<O>, told: Told) -> u8
+fn tell<O: Write>(memory: &mut MeteredMemory, output: &mut MeteredWriter<O>, told: LabReply) -> u8
     ensures { TellsSo told result (O.contents output.old.device) (O.contents output.new.device) }
 {
     let status = status_of(&told);
@@ -145,7 +145,7 @@ fn tell<O: Write>(memory: &mut MeteredMemory, output: &mut MeteredWriter<O>, tol
 /// Judges the claims on the module of a text, and writes what is told.
 fn prove_and_tell<O: Write>(
     memory: &mut MeteredMemory,
-    proof: &Proof<'_>,
+    proof: &ProveOrder<'_>,
     text: &str,
     output: &mut MeteredWriter<O>,
 ) -> u8
@@ -162,7 +162,7 @@ fn prove_and_tell<O: Write>(
 fn prove<R: Files + Alloc<A = Global> + Sync, O: Write, E: Write>(
     rt: &R,
     memory: &mut MeteredMemory,
-    proof: &Proof<'_>,
+    proof: &ProveOrder<'_>,
     output: &mut MeteredWriter<O>,
     errors: &mut E,
 ) -> u8

@@ -8,7 +8,7 @@ ghost use Rattle.lab_run.specs.Statuses.{all_items, any_item, each_holds, is_tex
 ghost use Rattle.lab_run.specs.Statuses.{is_told_by, one_fails, status_by};
 ghost use Rattle.lab_run.specs.Statuses.{status_by_list, status_in, status_of};
 
-use crate::lab::Told;
+use crate::lab::LabReply;
 use access_core::refusal::Refusal;
 use serde_json::Value;
 
@@ -120,13 +120,13 @@ fn status_in(answer: &Value) -> u8
 
 /// The status of what is told: 0 where each claim holds, 1 where one fails, 3 where it is not
 /// known, and 2 where something can't be read.
-pub fn status_of(told: &Told) -> u8
+pub fn status_of(told: &LabReply) -> u8
     ensures { result ≡ status_of told.now }
 {
     match told {
-        Told::Refused(Refusal::Memory) => UNKNOWN,
-        Told::Refused(_) => UNREAD,
-        Told::Says(answer) => status_in(answer),
-        Told::Written(_) => UNREAD,
+        LabReply::Refused(Refusal::Memory) => UNKNOWN,
+        LabReply::Refused(_) => UNREAD,
+        LabReply::Json(answer) => status_in(answer),
+        LabReply::Line(_) => UNREAD,
     }
 }

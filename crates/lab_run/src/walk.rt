@@ -11,13 +11,13 @@ ghost use Rattle.lab_run.specs.Walking.{AreOffered, GoesBack, IsInstantAt, IsIns
 ghost use Rattle.lab_run.specs.Walking.{MayTake, NameAnswer, StandsAt, Tries, at_start, pending_of};
 ghost use Rattle.lab_run.specs.Walking.{states_after};
 
-use crate::lab::Told;
+use crate::lab::LabReply;
 use access_core::refusal::Refusal;
 use est_kernel::state::{Inputs, State};
 use est_relations::pending::Pending;
 use est_relations::refusal::PendingRefusal;
 use est_text::identifier::Identifier;
-use lab_instant::instant::Inside;
+use lab_instant::instant::InstantReader;
 use lab_instant::seen::Instant;
 use lab_lines::inside::{back_line, instant_line};
 use lab_ties::stuck::ties_after;
@@ -31,7 +31,7 @@ use std::marker::Model;
 #[derive(Drop)]
 pub struct Walk {
     walked: Module,
-    inside: Inside,
+    inside: InstantReader,
     states: Vec<State>,
 }
 
@@ -99,7 +99,7 @@ fn last_of(states: &[State]) -> State
 /// The instant of a module in a state with these inputs, and the line that tells it.
 fn look_inside(
     alloc: Global,
-    inside: &mut Inside,
+    inside: &mut InstantReader,
     walked: &Module,
     state: &State,
     signals: u64,
@@ -138,7 +138,7 @@ impl Walk {
     pub fn begin(alloc: Global, walked: Module) -> Result<Walk, AllocError>
         ensures { IfOk result (λ begun. begun ≡ at_start walked) }
     {
-        let inside = Inside::new(alloc, &walked.kernel)?;
+        let inside = InstantReader::new(alloc, &walked.kernel)?;
         let states = vec![in alloc; State::Fresh]?;
         Ok(Walk {
             walked,
@@ -164,45 +164,45 @@ impl Walk {
     }
 
     /// Makes the next instant, with the inputs of these names.
-    pub fn make(&mut self, alloc: Global, names: &[&str]) -> Result<Told, AllocError>
+    pub fn make(&mut self, alloc: Global, names: &[&str]) -> Result<LabReply, AllocError>
         ensures done { IfOk result (λ told. Makes self.old (map (λ t. t.now) names.now) told
             self.new) }
         ensures kept { IfErr result (λ _. self.new ≡ self.old) }
     {
         let signals = match inputs_of(&self.walked, names) {
             Ok(signals) => signals,
-            Err(fault) => return Ok(Told::Refused(refusal_of(fault))),
+            Err(fault) => return Ok(LabReply::Refused(refusal_of(fault))),
         };
         let (instant, line) = self.look(alloc, signals)?;
         advance(&mut self.states, &instant)?;
-        Ok(Told::Written(line))
+        Ok(LabReply::Line(line))
     }
 
     /// Tells the next instant, with the inputs of these names, and stays where it stands.
-    pub fn try_instant(&mut self, alloc: Global, names: &[&str]) -> Result<Told, AllocError>
+    pub fn try_instant(&mut self, alloc: Global, names: &[&str]) -> Result<LabReply, AllocError>
         ensures done { IfOk result (λ told. Tries self.old (map (λ t. t.now) names.now) told
             self.new) }
         ensures kept { IfErr result (λ _. self.new ≡ self.old) }
     {
         let signals = match inputs_of(&self.walked, names) {
             Ok(signals) => signals,
-            Err(fault) => return Ok(Told::Refused(refusal_of(fault))),
+            Err(fault) => return Ok(LabReply::Refused(refusal_of(fault))),
         };
         let (_, line) = self.look(alloc, signals)?;
-        Ok(Told::Written(line))
+        Ok(LabReply::Line(line))
     }
 
     /// Goes back to where it stood after so many instants.
-    pub fn go_back(&mut self, alloc: Global, to: u64) -> Result<Told, AllocError>
+    pub fn go_back(&mut self, alloc: Global, to: u64) -> Result<LabReply, AllocError>
         ensures done { IfOk result (λ told. GoesBack self.old to told self.new) }
         ensures kept { IfErr result (λ _. self.new ≡ self.old) }
     {
         if to >= self.states.len() as u64 {
-            return Ok(Told::Refused(Refusal::Module(ModuleRefusal::NoInstant)));
+            return Ok(LabReply::Refused(Refusal::Module(ModuleRefusal::NoInstant)));
         }
         let to = to as usize;
         let line = back_line(alloc, &self.states[to])?;
         self.states.truncate(to + 1);
-        Ok(Told::Written(line))
+        Ok(LabReply::Line(line))
     }
 }

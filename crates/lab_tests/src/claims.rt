@@ -10,7 +10,7 @@ use est_explore::claim::Claim;
 use est_explore::judge::{explore, judge};
 use est_explore::one_module::{Answer, OneModule};
 use est_explore::same::{Comparison, compare, explore_both};
-use est_explore::two_modules::{Engines, TwoModules};
+use est_explore::two_modules::{EnginePair, TwoModules};
 use est_explore::verdict::Verdict;
 use est_kernel::kernel::Kernel;
 use est_micro::micro::Micro;
@@ -239,7 +239,7 @@ fn instants_alike(rt: &impl Abort, alloc: Global, first: &Kernel, second: &Kerne
         among: ALL,
         watched: 0,
     };
-    let mut engines = Engines {
+    let mut engines = EnginePair {
         first: engine_of(rt, alloc, first),
         second: engine_of(rt, alloc, second),
     };

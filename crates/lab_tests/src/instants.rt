@@ -6,7 +6,7 @@ ghost use Rattle.lab_instant.specs.Instants.{IsFor};
 use est_kernel::kernel::Kernel;
 use est_kernel::state::{Inputs, State};
 use est_meaning::status::Status;
-use lab_instant::instant::Inside;
+use lab_instant::instant::InstantReader;
 use lab_instant::seen::{Incarnation, Instant, Local, Seen};
 use reactor_core::reading::read_module;
 use std::alloc::Global;
@@ -98,7 +98,7 @@ fn add_seen(rt: &impl Abort, alloc: Global, told: &mut String, seen: &Seen) {
 fn add_instant(
     rt: &impl Abort,
     alloc: Global,
-    inside: &mut Inside,
+    inside: &mut InstantReader,
     kernel: &Kernel,
     state: &mut State,
     told: &mut String,
@@ -128,7 +128,7 @@ fn add_instant(
 
 /// What is seen inside the first two instants of a kernel.
 fn two_instants(rt: &impl Abort, alloc: Global, kernel: &Kernel) -> String {
-    let mut inside = Inside::new(alloc, kernel).expect(rt, "room");
+    let mut inside = InstantReader::new(alloc, kernel).expect(rt, "room");
     let mut state = State::Fresh;
     let mut told = String::new(alloc);
     add_instant(rt, alloc, &mut inside, kernel, &mut state, &mut told);

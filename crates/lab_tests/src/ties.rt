@@ -5,7 +5,7 @@ ghost use Rattle.lab_instant.specs.Instants.{IsFor};
 
 use est_kernel::kernel::Kernel;
 use est_kernel::state::{Inputs, State};
-use lab_instant::instant::Inside;
+use lab_instant::instant::InstantReader;
 use lab_instant::seen::{Incarnation, Instant};
 use lab_ties::stuck::ties_after;
 use lab_ties::tie::{OpenSignal, Tie, TieKind};
@@ -141,7 +141,7 @@ fn add_tie(rt: &impl Abort, alloc: Global, told: &mut String, tie: Tie) {
 fn next_state(
     rt: &impl Abort,
     alloc: Global,
-    inside: &mut Inside,
+    inside: &mut InstantReader,
     kernel: &Kernel,
     state: State,
 ) -> State
@@ -160,7 +160,7 @@ fn next_state(
 
 /// The ties of the second instant of a kernel: of the first, where that is stuck.
 fn ties_told(rt: &impl Abort, alloc: Global, kernel: &Kernel) -> String {
-    let mut inside = Inside::new(alloc, kernel).expect(rt, "room");
+    let mut inside = InstantReader::new(alloc, kernel).expect(rt, "room");
     let state = next_state(rt, alloc, &mut inside, kernel, State::Fresh);
     let inputs = Inputs { signals: 0 };
     let instant = inside.look(alloc, kernel, &state, &inputs);

@@ -20,7 +20,7 @@ use std::alloc::AllocError;
 
 /// Adds the ties of two parts, the second after the first.
 #[cycle(locals)]
-fn tie_two(
+fn tie_locals_of_two(
     net: &Net,
     first: Place,
     p: &Statement,
@@ -53,7 +53,7 @@ fn tie_two(
 
 /// Adds the ties of the body of a loop that can go on, and of the body as the restart begins it.
 #[cycle(locals)]
-fn tie_loop(
+fn tie_locals_of_loop(
     net: &Net,
     body: Place,
     p: &Statement,
@@ -176,15 +176,15 @@ pub fn tie_locals(
         Statement::Emit(_) => Ok(next),
         Statement::Exit(_) => Ok(next),
         Statement::Present(_, p, q) => {
-            let branches = tie_two(net, parts, p, q, found)?;
+            let branches = tie_locals_of_two(net, parts, p, q, found)?;
             Ok(branches.after)
         }
         Statement::Seq(p, q) => {
-            let both = tie_two(net, parts, p, q, found)?;
+            let both = tie_locals_of_two(net, parts, p, q, found)?;
             Ok(both.after)
         }
         Statement::Par(p, q) => {
-            let sides = tie_two(net, parts, p, q, found)?;
+            let sides = tie_locals_of_two(net, parts, p, q, found)?;
             Ok(sides.after)
         }
         Statement::Suspend(_, p) => {
@@ -193,7 +193,7 @@ pub fn tie_locals(
         }
         Statement::Loop(p) => {
             if main {
-                let after_loop = tie_loop(net, parts, p, found)?;
+                let after_loop = tie_locals_of_loop(net, parts, p, found)?;
                 Ok(after_loop)
             } else {
                 let body = Place {

@@ -14,7 +14,7 @@ use est_kernel::kernel::Kernel;
 use est_kernel::mask;
 use est_kernel::statement::{InterfaceSignal, Signal};
 use est_net::net::Net;
-use lab_instant::instant::Inside;
+use lab_instant::instant::InstantReader;
 use lab_instant::seen::{Incarnation, Instant};
 use std::alloc::{AllocError, Global};
 
@@ -120,7 +120,7 @@ pub fn ties_of(
 /// there are none.
 pub fn ties_after(
     alloc: Global,
-    inside: &Inside,
+    inside: &InstantReader,
     kernel: &Kernel,
     instant: &Instant,
 ) -> Result<Vec<Tie>, AllocError>

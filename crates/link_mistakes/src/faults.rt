@@ -18,7 +18,7 @@ use est_checks::fault::LinkFault;
 use est_checks::interface_names::{interfaces_of, own_names};
 use est_checks::lawless_relations::first_lawless;
 use est_checks::missing_modules::first_missing;
-use est_checks::place_check::{Check, first_in_bodies, first_in_body};
+use est_checks::place_check::{PlaceCheck, first_in_bodies, first_in_body};
 use est_checks::unknown_names::UnknownName;
 use est_checks::{duplicates, input_emissions};
 use est_modules::head::Head;
@@ -78,7 +78,7 @@ pub struct Unknown<'a, 'b> {
     pub own: &'a NumberSet,
 }
 
-impl Check for Unknown<'_, '_> {
+impl PlaceCheck for Unknown<'_, '_> {
     ghost use Rattle.std.specs.Prelude.{map};
     ghost use Rattle.est_modules.specs.Modules.{program_of};
     ghost use Rattle.est_checks.specs.Inner.Looking.{LooksFor};

@@ -3,7 +3,7 @@ use Rattle.std.proofs.Common.{◌≡◌, ◌∙◌, ◌+◌, ℕ, Bool, true, Li
 use Rattle.std.proofs.Common.{arith}
 use Rattle.std.specs.List.{AllZip}
 use Rattle.server_threads.specs.declared.workers.Job.{Job}
-use Rattle.server_threads.specs.declared.workers.Done.{Done}
+use Rattle.server_threads.specs.declared.workers.FinishedJob.{FinishedJob}
 use Rattle.server_threads.specs.Inner.Jobs.{HasWorked, jobs_of}
 use Rattle.server_threads.specs.Turns.{AreBackFrom}
 
@@ -49,7 +49,7 @@ ended_long Ends worker turns (seat ∷ seats) (one ∷ ended) back =
 
 module _ {Seat : Type 0} (turn : (worker number : ℕ) → Seat → Seat → Type 0) where
   -- the seats of workers that ended, each of which was to take this number of turns
-  pub each_took : (turns : ℕ) (all : Bool) (worker : ℕ) (seats : List Seat) (ended : List (Done Seat))
+  pub each_took : (turns : ℕ) (all : Bool) (worker : ℕ) (seats : List Seat) (ended : List (FinishedJob Seat))
       → AllZip (λ job done. HasWorked turn job done) (jobs_of worker turns seats) ended
       → (all ≡ true → All (λ done. done.taken ≡ turns) ended)
       → AreBackFrom turn turns all worker seats (map (λ done. done.seat) ended)

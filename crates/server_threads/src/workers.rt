@@ -52,7 +52,7 @@ struct Job<S: Drop> {
 
 /// A worker's seat when it has ended, and how many turns it took.
 #[derive(Drop)]
-struct Done<S: Drop> {
+struct FinishedJob<S: Drop> {
     seat: S,
     taken: u64,
 }
@@ -70,12 +70,12 @@ impl<W: Work> Drop for GivesBack<W> {
     }
 }
 
-impl<W: Work> Promise<Done<W::Seat>> for GivesBack<W> {
+impl<W: Work> Promise<FinishedJob<W::Seat>> for GivesBack<W> {
     ghost kept_by = { λ promise done. HasWorked W.turn promise.job.value done };
 }
 
 /// Takes the turns of a worker, or as many as there are.
-fn work_on<W: Work, R: Wait>(rt: &R, work: &W, job: Job<W::Seat>) -> Done<W::Seat>
+fn take_turns<W: Work, R: Wait>(rt: &R, work: &W, job: Job<W::Seat>) -> FinishedJob<W::Seat>
     ensures { HasWorked W.turn job result }
 {
     let Job {
@@ -87,10 +87,10 @@ fn work_on<W: Work, R: Wait>(rt: &R, work: &W, job: Job<W::Seat>) -> Done<W::Sea
     for taken in 0..turns {
         match work.take_turn(rt, worker, taken, seat) {
             Turn::Taken(next) => seat = next,
-            Turn::Over(last) => return Done { seat: last, taken },
+            Turn::Over(last) => return FinishedJob { seat: last, taken },
         }
     }
-    Done { seat, taken: turns }
+    FinishedJob { seat, taken: turns }
 }
 
 /// Waits until it is told whether all threads were started. If they were, takes the turns of a
@@ -100,13 +100,13 @@ fn begin<W: Work, R: Wait>(
     all_started: &Mutex<bool>,
     work: &W,
     job: Job<W::Seat>,
-) -> Done<W::Seat>
+) -> FinishedJob<W::Seat>
     ensures { HasWorked W.turn job result }
 {
     if *all_started.lock(rt) {
-        work_on(rt, work, job)
+        take_turns(rt, work, job)
     } else {
-        Done {
+        FinishedJob {
             seat: job.seat,
             taken: 0,
         }
@@ -114,7 +114,7 @@ fn begin<W: Work, R: Wait>(
 }
 
 /// A thread that was started for a worker.
-type Started<W> = PromisedHandle<Done<<W as Work>::Seat>, GivesBack<W>>;
+type Started<W> = PromisedHandle<FinishedJob<<W as Work>::Seat>, GivesBack<W>>;
 
 /// Starts a thread for a worker, which promises to give its seat back.
 fn start<'s, E, W: Work + Sync, R: Threads + Wait + Sync>(
@@ -166,8 +166,8 @@ fn start_each<'s, E, W: Work + Sync, R: Threads + Wait + Sync>(
 fn join_each<W: Work, R: Threads>(
     rt: &R,
     threads: Vec<Started<W>>,
-    room: Vec<Done<W::Seat>>,
-) -> Vec<Done<W::Seat>>
+    room: Vec<FinishedJob<W::Seat>>,
+) -> Vec<FinishedJob<W::Seat>>
     requires room { (room.items ≡ []) × (vec_len threads ≤ vec_capacity room) }
     ensures { AllZip (λ job done. HasWorked W.turn job done)
         (map (λ thread. thread.promise.job.value) threads.items) result.items }
@@ -186,7 +186,7 @@ fn run_all<W: Work + Sync, R: Threads + Wait + Sync>(
     alloc: Global,
     work: &W,
     jobs: Vec<Job<W::Seat>>,
-) -> Result<Vec<Done<W::Seat>>, AllocError>
+) -> Result<Vec<FinishedJob<W::Seat>>, AllocError>
     ensures { IfOk result (λ ended. AllZip (λ job done. HasWorked W.turn job done) jobs.items
         ended.items) }
 {
@@ -197,7 +197,7 @@ fn run_all<W: Work + Sync, R: Threads + Wait + Sync>(
     thread::scope(
         thread::scope_env(),
         rt,
-        |scope| -> Result<Vec<Done<W::Seat>>, AllocError>
+        |scope| -> Result<Vec<FinishedJob<W::Seat>>, AllocError>
             requires { (thread_room.items ≡ []) × (vec_len jobs ≤ vec_capacity thread_room)
                 × (ended_room.items ≡ []) × (vec_len jobs ≤ vec_capacity ended_room) }
             ensures { IfOk result (λ ended. AllZip (λ job done. HasWorked W.turn job done)
@@ -231,7 +231,7 @@ fn give_turns<S: Drop>(seats: Vec<S>, turns: u64, room: Vec<Job<S>>) -> Vec<Job<
 
 /// The seats that came back.
 #[derive(Drop)]
-pub struct Back<S: Drop> {
+pub struct ReturnedSeats<S: Drop> {
     /// The seats, in order.
     pub seats: Vec<S>,
     /// Whether each worker took as many turns as it was to take. If not, one found no turn to take.
@@ -239,7 +239,7 @@ pub struct Back<S: Drop> {
 }
 
 /// Takes the seats back, in room that was made for them.
-fn take_back<S: Drop>(ended: Vec<Done<S>>, turns: u64, room: Vec<S>) -> Back<S>
+fn take_back<S: Drop>(ended: Vec<FinishedJob<S>>, turns: u64, room: Vec<S>) -> ReturnedSeats<S>
     requires room { (room.items ≡ []) × (vec_len ended ≤ vec_capacity room) }
     ensures seats { result.seats.items ≡ map (λ done. done.seat) ended.items }
     ensures all { result.all_taken ≡ true → All (λ done. done.taken ≡ turns) ended.items }
@@ -247,11 +247,11 @@ fn take_back<S: Drop>(ended: Vec<Done<S>>, turns: u64, room: Vec<S>) -> Back<S>
     let mut seats = room;
     let mut all_taken = true;
     for done in ended {
-        let Done { seat, taken } = done;
+        let FinishedJob { seat, taken } = done;
         seats.push_reserved(seat);
         all_taken = all_taken && taken == turns;
     }
-    Back { seats, all_taken }
+    ReturnedSeats { seats, all_taken }
 }
 
 /// Starts a thread for each seat, lets each worker take this number of turns once all are started,
@@ -267,7 +267,7 @@ pub fn run_each<W: Work + Sync, R: Threads + Wait + Sync>(
     work: &W,
     seats: Vec<W::Seat>,
     turns: u64,
-) -> Result<Back<W::Seat>, AllocError>
+) -> Result<ReturnedSeats<W::Seat>, AllocError>
     ensures { IfOk result (λ back. AreBack W.turn turns back.all_taken seats.items
         back.seats.items) }
 {

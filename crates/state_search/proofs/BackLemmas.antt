@@ -4,7 +4,7 @@ use Rattle.std.proofs.Common.{Option, Some, None}
 use Rattle.std.proofs.lemmas.List.{get_or_default}
 use Rattle.std.proofs.lemmas.List.Elements.{All-get_or}
 use Rattle.state_search.specs.Inner.Back.{GoneBack}
-use Rattle.state_search.specs.Table.{Is, At, Leads, nowhere, there, IsRow, Came, IsTree}
+use Rattle.state_search.specs.Table.{IsNodeAt, HasStateAt, Leads, nowhere, there, IsRow, IsReachedByRow, IsTree}
 use Rattle.state_search.specs.Words.{LedTo, Path}
 use Rattle.state_search.specs.declared.found.Node.{Node}
 use Rattle.state_search.specs.declared.found.Row.{Row}
@@ -14,12 +14,12 @@ module _ {S L : Type 0} (is_state : S → Type 0) (does : S → L → Option S �
   -- where a row leads that leads to a place
   pub leads_there : (nodes : List (Node S)) (most p : ℕ) (n : Node S) (place : Option ℕ) (after : Option S) → Leads
       nodes most place after
-      → place ≡ Some p → Is nodes p n → after ≡ Some n.state
+      → place ≡ Some p → IsNodeAt nodes p n → after ≡ Some n.state
   leads_there nodes most p n place after nowhere e i = absurd (none_is e) where
     none_is : None ≡ Some p → ⊥
     none_is h = cc
   leads_there nodes most p n place after (there q m is few) e i =
-      ap (λ (o : Node S). Some o.state) (is_one nodes p m n (subst (λ (k : ℕ). Is nodes k m) (same q e) is) i) where
+      ap (λ (o : Node S). Some o.state) (is_one nodes p m n (subst (λ (k : ℕ). IsNodeAt nodes k m) (same q e) is) i) where
         same : (q : ℕ) → Some q ≡ Some p → q ≡ p
         same q h = cc
 
@@ -60,7 +60,7 @@ module _ {S L : Type 0} (is_state : S → Type 0) (does : S → L → Option S �
         path = (gone.here.state, step, gone.path);
         steps = let d = came.depth in let s = gone.steps in omega arith;
       }) where
-        came : Came nodes rows place gone.here
+        came : IsReachedByRow nodes rows place gone.here
         came = tree.came place gone.here after gone.at
 
         is_here : node ≡ gone.here
@@ -98,7 +98,7 @@ module _ {S L : Type 0} (is_state : S → Type 0) (does : S → L → Option S �
 
   -- at the first node
   pub all_back : (nodes : List (Node S)) (rows : List (Row L)) (r : Row L) (word : List L) (start : S)
-      → IsTree is_state does apart nodes rows → GoneBack does nodes r 0 word → At nodes 0 start → LedTo does start nodes
+      → IsTree is_state does apart nodes rows → GoneBack does nodes r 0 word → HasStateAt nodes 0 start → LedTo does start nodes
       r word
   all_back nodes rows r word start tree gone begin = record {
     before = gone.before;

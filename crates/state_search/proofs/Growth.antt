@@ -3,7 +3,7 @@ use Rattle.std.proofs.Common.{◌∙◌, ℕ, List, ◌++◌, arith}
 use Rattle.std.proofs.Common.{Option}
 use Rattle.std.proofs.lemmas.List.{get_or_append_left, length-append}
 use Rattle.std.proofs.lemmas.List.Elements.{All-weaker, Contains-append_left}
-use Rattle.state_search.specs.Table.{IsRow, HasRow, IsDone, Came}
+use Rattle.state_search.specs.Table.{IsRow, HasRow, IsDone, IsReachedByRow}
 use Rattle.state_search.specs.declared.found.Node.{Node}
 use Rattle.state_search.specs.declared.found.Row.{Row}
 use Rattle.state_search.specs.declared.transition_system.Step.{Step}
@@ -39,8 +39,8 @@ module _ {S L : Type 0} where
         (λ s. has_stays nodes more rows extra p n s) h.steps h.listed;
   }
 
-  pub came_stays : (nodes more : List (Node S)) (rows extra : List (Row L)) (k : ℕ) (n : Node S) → Came nodes rows k n
-      → Came (nodes ++ more) (rows ++ extra) k n
+  pub came_stays : (nodes more : List (Node S)) (rows extra : List (Row L)) (k : ℕ) (n : Node S) → IsReachedByRow nodes rows k n
+      → IsReachedByRow (nodes ++ more) (rows ++ extra) k n
   came_stays nodes more rows extra k n h = record {
     row = h.row;
     within = let w = h.within in omega (arith, length-append rows extra);

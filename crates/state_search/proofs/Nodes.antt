@@ -4,37 +4,37 @@ use Rattle.std.proofs.Common.{Option}
 use Rattle.std.proofs.lemmas.Bool.{cases_lt}
 use Rattle.std.proofs.lemmas.List.{get_or_append_left, get_or_push, length_push, get_or_default, length-append}
 use Rattle.state_search.specs.Inner.Places.{Puts, had, comes}
-use Rattle.state_search.specs.Table.{Is, At, Leads, nowhere, there}
+use Rattle.state_search.specs.Table.{IsNodeAt, HasStateAt, Leads, nowhere, there}
 use Rattle.state_search.specs.declared.found.Node.{Node}
 
 module _ {S : Type 0} where
-  pub is_stays : (nodes more : List (Node S)) (p : ℕ) (n : Node S) → Is nodes p n → Is (nodes ++ more) p n
+  pub is_stays : (nodes more : List (Node S)) (p : ℕ) (n : Node S) → IsNodeAt nodes p n → IsNodeAt (nodes ++ more) p n
   is_stays nodes more p n h = record {
     within = let w = h.within in omega (arith, length-append nodes more);
     is = λ d. get_or_append_left nodes more d p h.within ∙ h.is d;
   }
 
-  pub is_last : (nodes : List (Node S)) (n : Node S) (p : ℕ) → p ≡ length nodes → Is (nodes ++ n ∷ []) p n
+  pub is_last : (nodes : List (Node S)) (n : Node S) (p : ℕ) → p ≡ length nodes → IsNodeAt (nodes ++ n ∷ []) p n
   is_last nodes n p e = record {
     within = omega (arith, e, length_push nodes n);
     is = λ d. get_or_push nodes n d p (sym e);
   }
 
-  pub is_one : (nodes : List (Node S)) (p : ℕ) (m n : Node S) → Is nodes p m → Is nodes p n → m ≡ n
+  pub is_one : (nodes : List (Node S)) (p : ℕ) (m n : Node S) → IsNodeAt nodes p m → IsNodeAt nodes p n → m ≡ n
   is_one nodes p m n a b = sym (a.is m) ∙ b.is m
 
-  pub is_there : (nodes : List (Node S)) (p : ℕ) (d : Node S) → p < length nodes → Is nodes p (get_or nodes p d)
+  pub is_there : (nodes : List (Node S)) (p : ℕ) (d : Node S) → p < length nodes → IsNodeAt nodes p (get_or nodes p d)
   is_there nodes p d h = record { within = h; is = λ e. get_or_default nodes p e d h }
 
-  pub is_old : (nodes more : List (Node S)) (p : ℕ) (n : Node S) → p < length nodes → Is (nodes ++ more) p n → Is nodes
+  pub is_old : (nodes more : List (Node S)) (p : ℕ) (n : Node S) → p < length nodes → IsNodeAt (nodes ++ more) p n → IsNodeAt nodes
       p n
   is_old nodes more p n h i = record {
     within = h;
     is = λ d. sym (get_or_append_left nodes more d p h) ∙ i.is d;
   }
 
-  pub is_cases : (nodes : List (Node S)) (n : Node S) (p : ℕ) (m : Node S) → Is (nodes ++ n ∷ []) p m
-      → Is nodes p m ⊎ ((p ≡ length nodes) × (m ≡ n))
+  pub is_cases : (nodes : List (Node S)) (n : Node S) (p : ℕ) (m : Node S) → IsNodeAt (nodes ++ n ∷ []) p m
+      → IsNodeAt nodes p m ⊎ ((p ≡ length nodes) × (m ≡ n))
   is_cases nodes n p m h = elim (cases_lt p (length nodes)) [
     | inl lt ↦ inl (is_old nodes (n ∷ []) p m lt h)
     | inr ge ↦
@@ -42,7 +42,7 @@ module _ {S : Type 0} where
         inr (last, is_one (nodes ++ n ∷ []) p m n h (is_last nodes n p last))
   ]
 
-  pub at_stays : (nodes more : List (Node S)) (p : ℕ) (x : S) → At nodes p x → At (nodes ++ more) p x
+  pub at_stays : (nodes more : List (Node S)) (p : ℕ) (x : S) → HasStateAt nodes p x → HasStateAt (nodes ++ more) p x
   at_stays nodes more p x h = record { node = h.node; is = is_stays nodes more p h.node h.is; state = h.state }
 
   pub leads_stays : (nodes more : List (Node S)) (most : ℕ) (p : Option ℕ) (x : Option S) → Leads nodes most p x
@@ -50,7 +50,7 @@ module _ {S : Type 0} where
   leads_stays nodes more most p x nowhere = nowhere
   leads_stays nodes more most p x (there q n is few) = there q n (is_stays nodes more q n is) few
 
-  pub is_read : (nodes : List (Node S)) (p : ℕ) (n : Node S) → p < length nodes → n ≡ get_or nodes p n → Is nodes p n
+  pub is_read : (nodes : List (Node S)) (p : ℕ) (n : Node S) → p < length nodes → n ≡ get_or nodes p n → IsNodeAt nodes p n
   is_read nodes p n h e = record { within = h; is = λ d. get_or_default nodes p d n h ∙ sym e }
 
   -- the first node

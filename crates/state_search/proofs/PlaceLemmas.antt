@@ -7,7 +7,7 @@ use Rattle.std.proofs.lemmas.List.{get_or_append_left, get_or_push, length_push}
 use Rattle.std.specs.HashMap.{get}
 use Rattle.state_search.specs.Inner.Numbers.{count_to, IsLastOf, IsSought, NoneHas, number_of}
 use Rattle.state_search.specs.Inner.Places.{IsPlaced}
-use Rattle.state_search.specs.Table.{Is}
+use Rattle.state_search.specs.Table.{IsNodeAt}
 use Rattle.state_search.specs.declared.found.Node.{Node}
 use Rattle.state_search.specs.declared.places.Places.{Places}
 use Rattle.state_search.proofs.Nodes.{is_cases, is_last, is_old, is_one, is_stays, is_there}
@@ -75,14 +75,14 @@ module _ {S : Type 0} (number : S → ℕ) where
     passed = λ p n few is e. h.2 p n few is.within is (ap number e);
   }
 
-  same_number : (nodes : List (Node S)) (x : S) (at : ℕ) (m : Node S) → Is nodes at m
+  same_number : (nodes : List (Node S)) (x : S) (at : ℕ) (m : Node S) → IsNodeAt nodes at m
       → IsSought number nodes x (Some at) → number m.state ≡ number x
   same_number nodes x at m here h =
       ap (λ (k : Node S). number k.state) (is_one nodes at m h.here.node here h.here.is) ∙ h.here.number_is
 
-  none_from : (nodes : List (Node S)) (x : S) (at : ℕ) (m : Node S) → Is nodes at m → m.state ≢ x
+  none_from : (nodes : List (Node S)) (x : S) (at : ℕ) (m : Node S) → IsNodeAt nodes at m → m.state ≢ x
       → IsSought number nodes x (Some at) → (least : ℕ) → NoneHas number nodes least at (number m.state)
-      → (p : ℕ) (n : Node S) → least ≤ p → Is nodes p n → n.state ≢ x
+      → (p : ℕ) (n : Node S) → least ≤ p → IsNodeAt nodes p n → n.state ≢ x
   none_from nodes x at m here other h least none p n few is e = elim (cases_lt p at) [
     | inl lt ↦ none p n few lt is (ap number e ∙ sym (same_number nodes x at m here h))
     | inr ge ↦ elim (cases_lt at p) [
@@ -94,7 +94,7 @@ module _ {S : Type 0} (number : S → ℕ) where
   ]
 
   -- it isn't here, and goes on
-  pub sought_on : (nodes : List (Node S)) (x : S) (at : ℕ) (m : Node S) → Is nodes at m → m.state ≢ x
+  pub sought_on : (nodes : List (Node S)) (x : S) (at : ℕ) (m : Node S) → IsNodeAt nodes at m → m.state ≢ x
       → IsSought number nodes x (Some at) → (next : Option ℕ) → IsLastOf number nodes at (number m.state) next
       → IsSought number nodes x next
   sought_on nodes x at m here other h None last = record {

@@ -10,7 +10,7 @@ use Rattle.std.proofs.lemmas.List.Quantifiers.{all_pairs_push}
 use Rattle.std.specs.List.{All, AllPairs}
 use Rattle.state_search.specs.Inner.Places.{had, comes}
 use Rattle.state_search.specs.Inner.Searching.{Adds, stops, goes, HasLabel, IsExpanding, IsSearching}
-use Rattle.state_search.specs.Table.{Is, At, Leads, nowhere, there, IsRow, HasRow, IsDone, Came, IsTree}
+use Rattle.state_search.specs.Table.{IsNodeAt, HasStateAt, Leads, nowhere, there, IsRow, HasRow, IsDone, IsReachedByRow, IsTree}
 use Rattle.state_search.specs.declared.found.Node.{Node}
 use Rattle.state_search.specs.declared.found.Row.{Row}
 use Rattle.state_search.specs.declared.transition_system.Step.{Step}
@@ -41,7 +41,7 @@ module _ {S L : Type 0} (is_state : S → Type 0) (does : S → L → Option S �
     states = t.states;
     distinct = t.distinct;
     ordered = t.ordered;
-    came = λ k n l i. subst (λ (ns : List (Node S)). Came ns (rows ++ r ∷ []) k n) (append-nil nodes)
+    came = λ k n l i. subst (λ (ns : List (Node S)). IsReachedByRow ns (rows ++ r ∷ []) k n) (append-nil nodes)
         (came_stays nodes [] rows (r ∷ []) k n (t.came k n l i));
     sound = All-push (IsRow does nodes) rows r t.sound j.row;
     in_turn = all_before (λ a b. a.from ≤ b.from) rows r t.in_turn j.in_turn;
@@ -53,17 +53,17 @@ module _ {S L : Type 0} (is_state : S → Type 0) (does : S → L → Option S �
     pub state : is_state m.state
     pub fresh : All (λ n. n.state ≢ m.state) nodes
     pub later : All (λ n. n.depth ≤ m.depth) nodes
-    pub came : Came (nodes ++ m ∷ []) (rows ++ r ∷ []) (length nodes) m
+    pub came : IsReachedByRow (nodes ++ m ∷ []) (rows ++ r ∷ []) (length nodes) m
 
   shallow_again : (nodes : List (Node S)) (rows : List (Row L)) (r : Row L) (m : Node S)
-      → ((k : ℕ) (n : Node S) → Is nodes k n → n.depth ≤ k) → MayCome nodes rows r m
-      → (k : ℕ) (n : Node S) → Is (nodes ++ m ∷ []) k n → n.depth ≤ k
+      → ((k : ℕ) (n : Node S) → IsNodeAt nodes k n → n.depth ≤ k) → MayCome nodes rows r m
+      → (k : ℕ) (n : Node S) → IsNodeAt (nodes ++ m ∷ []) k n → n.depth ≤ k
   shallow_again nodes rows r m h c k n i = elim (is_cases nodes m k n i) [
     | inl old ↦ h k n old
     | inr new ↦
         let came = c.came in
         let lt = came.earlier in
-        let old : Is nodes came.row.from came.before = is_old nodes (m ∷ []) came.row.from came.before lt came.from in
+        let old : IsNodeAt nodes came.row.from came.before = is_old nodes (m ∷ []) came.row.from came.before lt came.from in
         let deep = h came.row.from came.before old in
         let e = came.depth in
         rw (new.1, new.0) (omega arith)
@@ -133,7 +133,7 @@ module _ {S L : Type 0} (is_state : S → Type 0) (does : S → L → Option S �
   }
 
   may_join : (nodes : List (Node S)) (rows : List (Row L)) (at : ℕ) (n : Node S) (done : List (Step S L)) (s : Step S L)
-      (next : Option ℕ) → Is nodes at n → Leads nodes (n.depth + 1) next s.next → MayAdd n done s
+      (next : Option ℕ) → IsNodeAt nodes at n → Leads nodes (n.depth + 1) next s.next → MayAdd n done s
       → All (λ r. r.from ≤ at) rows → All (λ r. r.from ≡ at → HasLabel done r.label) rows
       → MayJoin nodes rows (record { from = at; label = s.label; next = next })
   may_join nodes rows at n done s next here leads may froms mine = record {
@@ -219,14 +219,14 @@ module _ {S L : Type 0} (is_state : S → Type 0) (does : S → L → Option S �
     more : List (Node S)
     more = nodes ++ m ∷ []
 
-    here : Is more at n
+    here : IsNodeAt more at n
     here = is_stays nodes (m ∷ []) at n h.here
 
     leads : Leads more (n.depth + 1) (Some (length nodes)) s.next
     leads = subst (λ (x : Option S). Leads more (n.depth + 1) (Some (length nodes)) x) (sym to)
         (there (length nodes) m (is_last nodes m (length nodes) refl) (omega arith))
 
-  old_leads : (nodes : List (Node S)) (n : Node S) (y : S) (p : ℕ) → All (λ m. m.depth ≤ n.depth + 1) nodes → At nodes p
+  old_leads : (nodes : List (Node S)) (n : Node S) (y : S) (p : ℕ) → All (λ m. m.depth ≤ n.depth + 1) nodes → HasStateAt nodes p
       y
       → Leads nodes (n.depth + 1) (Some p) (Some y)
   old_leads nodes n y p near a = subst (λ (x : S). Leads nodes (n.depth + 1) (Some p) (Some x)) a.state
@@ -284,7 +284,7 @@ module _ {S L : Type 0} (is_state : S → Type 0) (does : S → L → Option S �
 
   -- nodes stay
   pub adds_stay : (nodes : List (Node S)) (rows : List (Row L)) (at depth : ℕ) (s : Step S L) (nodes' : List (Node S))
-      (rows' : List (Row L)) → Adds nodes rows at depth s nodes' rows' → (p : ℕ) (x : S) → At nodes p x → At nodes' p x
+      (rows' : List (Row L)) → Adds nodes rows at depth s nodes' rows' → (p : ℕ) (x : S) → HasStateAt nodes p x → HasStateAt nodes' p x
   adds_stay nodes rows at depth s nodes' rows' (stops e f g) p x h = rw f h
   adds_stay nodes rows at depth s nodes' rows' (goes y q e (had a f) g) p x h = rw f h
   adds_stay nodes rows at depth s nodes' rows' (goes y q e (comes i j f) g) p x h = rw f (at_stays nodes (_ ∷ []) p x h)
@@ -319,7 +319,7 @@ module _ {S L : Type 0} (is_state : S → Type 0) (does : S → L → Option S �
     at_first k d w = let e : k ≡ 0 = omega arith in rw (e, none) (omega arith)
 
   pub expands : (nodes : List (Node S)) (rows : List (Row L)) (at : ℕ) (n : Node S)
-      → IsSearching is_state does covers apart nodes rows at → Is nodes at n
+      → IsSearching is_state does covers apart nodes rows at → IsNodeAt nodes at n
       → IsExpanding is_state does covers apart nodes rows at n []
   expands nodes rows at n h here = record {
     found = h.found;
@@ -344,12 +344,12 @@ module _ {S L : Type 0} (is_state : S → Type 0) (does : S → L → Option S �
     near = λ m i. All-weaker (λ o. o.depth ≤ n.depth + 1) (λ o. o.depth ≤ m.depth + 1)
         (λ o l. let up = deeper m i in omega arith) nodes h.near;
   } where
-    deeper : (m : Node S) → Is nodes (at + 1) m → n.depth ≤ m.depth
+    deeper : (m : Node S) → IsNodeAt nodes (at + 1) m → n.depth ≤ m.depth
     deeper m i = subst (λ (o : Node S). n.depth ≤ o.depth) (i.is n)
         (subst (λ (o : Node S). o.depth ≤ (get_or nodes (at + 1) n).depth) (h.here.is n)
         (h.found.tree.ordered at (at + 1) n (omega arith) i.within))
 
-    all_again : (k : ℕ) (m : Node S) → k < at + 1 → Is nodes k m → IsDone covers nodes rows k m
+    all_again : (k : ℕ) (m : Node S) → k < at + 1 → IsNodeAt nodes k m → IsDone covers nodes rows k m
     all_again k m l i = elim (cases_eq k at) [
       | inl e ↦
           let same : m ≡ n = is_one nodes at m n (rw e at i) h.here in

@@ -4,7 +4,7 @@ use Rattle.std.proofs.Common.{Some, sym, refl, ap, subst}
 use Rattle.std.proofs.Common.{arith, inl, inr}
 use Rattle.std.proofs.lemmas.Bool.{cases_eq}
 use Rattle.std.proofs.lemmas.List.Elements.{All-get_or}
-use Rattle.state_search.specs.Table.{Is, At, IsRow, Came, IsTree}
+use Rattle.state_search.specs.Table.{IsNodeAt, HasStateAt, IsRow, IsReachedByRow, IsTree}
 use Rattle.state_search.specs.Words.{Path}
 use Rattle.state_search.specs.declared.found.Node.{Node}
 use Rattle.state_search.specs.declared.found.Row.{Row}
@@ -24,8 +24,8 @@ module _ {S L : Type 0} (does : S → L → Option S → Type 0) where
 
 module _ {S L : Type 0} (is_state : S → Type 0) (does : S → L → Option S → Type 0) (apart : L → L → Type 0) (start : S)
     (nodes : List (Node S)) (rows : List (Row L)) (tree : IsTree is_state does apart nodes rows)
-    (begin : At nodes 0 start) where
-  way_upto : (b k : ℕ) (n : Node S) → k < b → Is nodes k n → Way does start n.state
+    (begin : HasStateAt nodes 0 start) where
+  way_upto : (b k : ℕ) (n : Node S) → k < b → IsNodeAt nodes k n → Way does start n.state
   way_upto zero k n l here = absurd (omega arith)
   way_upto (suc b) k n l here = elim (cases_eq k 0) [
     | inl z ↦
@@ -33,7 +33,7 @@ module _ {S L : Type 0} (is_state : S → Type 0) (does : S → L → Option S �
         record { word = []; path = sym (ap (λ (o : Node S). o.state) one ∙ begin.state) }
     | inr d ↦ by (λ j o w i. way_upto b j o w i) (tree.came k n (omega arith) here)
   ] where
-    by : ((j : ℕ) (o : Node S) → j < b → Is nodes j o → Way does start o.state) → Came nodes rows k n → Way does start
+    by : ((j : ℕ) (o : Node S) → j < b → IsNodeAt nodes j o → Way does start o.state) → IsReachedByRow nodes rows k n → Way does start
         n.state
     by before came =
         let row : IsRow does nodes came.row = subst (λ (a : Row L). IsRow does nodes a)
@@ -48,5 +48,5 @@ module _ {S L : Type 0} (is_state : S → Type 0) (does : S → L → Option S �
         }
 
   -- each node is reached
-  pub way_to : (k : ℕ) (n : Node S) → Is nodes k n → Way does start n.state
+  pub way_to : (k : ℕ) (n : Node S) → IsNodeAt nodes k n → Way does start n.state
   way_to k n here = way_upto (suc k) k n (omega arith) here

@@ -1,6 +1,6 @@
 -- Ways from one state to another (this project's own form).
 use Rattle.std.specs.Prelude.{◌≡◌, Option, Some, List, [], ◌∷◌, ◌++◌, length}
-use Rattle.state_search.specs.Table.{Is}
+use Rattle.state_search.specs.Table.{IsNodeAt}
 use Rattle.state_search.specs.declared.found.Node.{Node}
 use Rattle.state_search.specs.declared.found.Row.{Row}
 
@@ -15,6 +15,6 @@ pub record LedTo {S L : Type 0} (does : S → L → Option S → Type 0) (start 
   pub before : List L
   pub split : word ≡ before ++ r.label ∷ []
   pub node : Node S
-  pub from : Is nodes r.from node
+  pub from : IsNodeAt nodes r.from node
   pub path : Path does start before node.state
   pub shortest : length before ≡ node.depth

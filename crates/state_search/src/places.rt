@@ -5,7 +5,7 @@ ghost use Rattle.std.specs.Prelude.{◌≡◌, ◌≢◌, [], IfOk, MatchOption,
 ghost use Rattle.std.specs.List.{All};
 ghost use Rattle.state_search.specs.Inner.Numbers.{AreBefore, IsLastOf, number_of};
 ghost use Rattle.state_search.specs.Inner.Places.{IsPlaced, Puts};
-ghost use Rattle.state_search.specs.Table.{At};
+ghost use Rattle.state_search.specs.Table.{HasStateAt};
 
 use crate::found::Node;
 use crate::transition_system::Standing;
@@ -55,7 +55,7 @@ fn find<S: Standing>(
     requires last { IsLastOf (number_of S.hash_input) nodes.now (length nodes.now)
         (number_of S.hash_input state.now) last }
     ensures { MatchOption result (All (λ n. n.state ≢ state.now) nodes.now)
-        (λ place. At nodes.now place state.now) }
+        (λ place. HasStateAt nodes.now place state.now) }
 {
     let mut place = last;
     while let Some(at) = place {

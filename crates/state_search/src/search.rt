@@ -3,7 +3,7 @@ ghost use Rattle.std.specs.Prelude.{◌≡◌, ◌<◌, ◌+◌, IfOk, OnOk, len
 ghost use Rattle.std.specs.Bool.{MatchBool};
 ghost use Rattle.state_search.specs.Inner.Places.{IsPlaced};
 ghost use Rattle.state_search.specs.Inner.Searching.{Adds, IsSearching};
-ghost use Rattle.state_search.specs.Table.{At, IsFound, HasEnded};
+ghost use Rattle.state_search.specs.Table.{HasStateAt, IsFound, HasEnded};
 
 use crate::found::{Found, Node, Row};
 use crate::transition_system::{TransitionSystem, Standing, Step};
@@ -71,7 +71,7 @@ fn expand<M: TransitionSystem>(
         (M.apart machine.now) found.old.nodes.items found.old.rows.items found.old.done }
     ensures fits { M.fits machine.now scratch.new }
     ensures places { OnOk result (IsPlaced M.State.hash_input places.new found.new.nodes.items) }
-    ensures first { OnOk result ((x : M.State) → At found.old.nodes.items 0 x → At
+    ensures first { OnOk result ((x : M.State) → HasStateAt found.old.nodes.items 0 x → HasStateAt
         found.new.nodes.items 0 x) }
     ensures search { IfOk result (λ whole. MatchBool whole
         ((found.new.done ≡ found.old.done + 1)
@@ -115,7 +115,7 @@ pub fn search<M: TransitionSystem>(
     requires fits { M.fits machine.now scratch.old }
     requires state { M.is_state machine.now start }
     ensures fits { M.fits machine.now scratch.new }
-    ensures first { IfOk result (λ f. At f.nodes.items 0 start) }
+    ensures first { IfOk result (λ f. HasStateAt f.nodes.items 0 start) }
     ensures found { IfOk result (λ f. IsFound (M.is_state machine.now) (M.does machine.now)
         (M.covers machine.now)
         (M.apart machine.now) f.nodes.items f.rows.items f.done) }

@@ -1,6 +1,6 @@
 //! How a state was reached.
 ghost use Rattle.std.specs.Prelude.{◌≡◌, ◌<◌, IfOk, length, reverse, slice_index_or};
-ghost use Rattle.state_search.specs.Table.{At, IsTree};
+ghost use Rattle.state_search.specs.Table.{HasStateAt, IsTree};
 ghost use Rattle.state_search.specs.declared.found.Row.{Row as RowValue};
 ghost use Rattle.state_search.specs.Words.{LedTo};
 
@@ -26,7 +26,7 @@ pub fn word_to<M: TransitionSystem>(
     requires within { at < length found.now.rows.items }
     requires tree { IsTree (M.is_state machine.now) (M.does machine.now) (M.apart machine.now)
         found.now.nodes.items found.now.rows.items }
-    ensures { IfOk result (λ word. (start : M.State) → At found.now.nodes.items 0 start
+    ensures { IfOk result (λ word. (start : M.State) → HasStateAt found.now.nodes.items 0 start
         → (r : RowValue M.Label) → LedTo (M.does machine.now) start found.now.nodes.items
         (slice_index_or found.now.rows.items at r) word.items) }
 {

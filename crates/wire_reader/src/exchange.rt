@@ -71,7 +71,7 @@ fn read_line<R: Read>(
 /// # Errors
 ///
 /// Where the writer failed or took nothing, and then a beginning of what waited was written.
-pub fn next_line<R: Read, W: Write>(
+pub fn write_then_read_line<R: Read, W: Write>(
     lines: &mut LineReader,
     replies: &mut Replies,
     reader: &mut MeteredReader<R>,

@@ -150,7 +150,7 @@ impl LineReader {
     }
 
     /// The place of the first LF that is held, if one is.
-    fn look(&mut self) -> Option<usize>
+    fn find_line_end(&mut self) -> Option<usize>
         ensures same { (self.new.bytes ≡ self.old.bytes) × (self.new.start ≡ self.old.start)
             × (self.new.end ≡ self.old.end) × (self.new.ending ≡ self.old.ending)
             × (last_line self.new ≡ last_line self.old) }
@@ -227,7 +227,7 @@ impl LineReader {
     }
 
     /// Tells what is held at the end, which no LF ends.
-    fn tell_last(&mut self) -> Line
+    fn cut_last(&mut self) -> Line
         ensures tells { TellsLast (held_bytes self.old) result (last_line self.new)
             (held_bytes self.new) }
         ensures ending { self.new.ending ≡ Some ending.End }
@@ -261,7 +261,7 @@ impl LineReader {
         ensures unread { ¬ (HasNoEnd (held_bytes self.old)) → reader.new ≡ reader.old }
     {
         loop {
-            if let Some(at) = self.look() {
+            if let Some(at) = self.find_line_end() {
                 return self.cut(at);
             }
             if self.end - self.start > LINE_BYTES {
@@ -273,7 +273,7 @@ impl LineReader {
                     self.ending = Some(Ending::Read);
                     return Err(LineFault::Read);
                 }
-                Some(0) => return Ok(self.tell_last()),
+                Some(0) => return Ok(self.cut_last()),
                 Some(_) => {}
             }
         }
@@ -319,7 +319,7 @@ impl LineReader {
             × (last_line self.new ≡ last_line self.old) × (self.new.ending ≡ self.old.ending) }
         ensures ready { IsTrue result ↔ IsReady self.new }
     {
-        self.ending.is_some() || self.look().is_some()
+        self.ending.is_some() || self.find_line_end().is_some()
     }
 }
 

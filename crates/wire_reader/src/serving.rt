@@ -15,7 +15,7 @@ ghost use Rattle.wire_reader.specs.declared.serving.EndReason.TheVariants as why
 ghost use Rattle.wire_reader.specs.declared.lines.Line.TheVariants as line;
 ghost use Rattle.wire_reader.specs.declared.lines.LineFault.TheVariants as fault;
 
-use crate::exchange::next_line;
+use crate::exchange::write_then_read_line;
 use crate::lines::{Line, LineFault, LineReader};
 use crate::meter::{MeteredMemory, MeteredReader, MeteredWriter};
 use crate::replies::{Replies, WriteFault};
@@ -90,11 +90,11 @@ fn take_line<R: Read, W: Write>(
     ensures unfailed { OnOk result (writer.new.faults ≡ writer.old.faults) }
     ensures failed { OnErr result (has_failed writer.old.faults writer.new.faults ≡ true) }
 {
-    next_line(lines, replies, reader, writer)
+    write_then_read_line(lines, replies, reader, writer)
 }
 
 /// Answers the next line, or says why the connection ends.
-fn turn<R: Read, W: Write, D, A: Answerer<D>>(
+fn answer_next<R: Read, W: Write, D, A: Answerer<D>>(
     alloc: Global,
     lines: &mut LineReader,
     replies: &mut Replies,
@@ -173,7 +173,7 @@ fn answer_all<R: Read, W: Write, D, A: Answerer<D>>(
         writer.new.faults ≡ writer.old.faults }
 {
     loop {
-        if let Err(why) = turn(
+        if let Err(why) = answer_next(
             alloc, lines, replies, reader, writer, answerer, desk, refusal,
         ) {
             return why;

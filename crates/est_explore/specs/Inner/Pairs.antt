@@ -7,8 +7,8 @@ use Rattle.est_explore.specs.Inner.Answers.{AnswersSo}
 use Rattle.est_explore.specs.declared.one_module.Answer.{Answer}
 use Rattle.est_explore.specs.declared.one_module.Answer.TheVariants.{Reaction, Stuck}
 use Rattle.est_explore.specs.declared.one_module.Position.{Position}
-use Rattle.est_explore.specs.declared.two_modules.Both.{Both}
-use Rattle.est_explore.specs.declared.two_modules.Positions.{Positions}
+use Rattle.est_explore.specs.declared.two_modules.AnswerPair.{AnswerPair}
+use Rattle.est_explore.specs.declared.two_modules.PositionPair.{PositionPair}
 
 -- whether two answers are the same: the same outputs, or none
 abbrev pub agree : Answer → Answer → Bool
@@ -18,14 +18,14 @@ agree (Stuck u) (Reaction b) = false
 agree (Stuck u) (Stuck v) = true
 
 -- where both stand, if they do the same and each goes on
-abbrev pub joined : Bool → Option Position → Option Position → Option Positions
+abbrev pub joined : Bool → Option Position → Option Position → Option PositionPair
 joined true (Some x) (Some y) = Some (record { first = x; second = y })
 joined true (Some x) None = None
 joined true None y = None
 joined false x y = None
 
 -- each module stands at a state of its own
-pub record ArePositions (k l : Kernel) (x : Positions) : Type 0 where
+pub record ArePositions (k l : Kernel) (x : PositionPair) : Type 0 where
   pub first : IsState k.root x.first.state
   pub second : IsState l.root x.second.state
 
@@ -36,7 +36,7 @@ pub record AreFor (first second : Type 0) (k l : Kernel) : Type 0 where
   pub interface : l.interface ≡ k.interface
 
 -- each module answers so, and where they do the same, both go on
-pub record AnswersBoth (k l : Kernel) (x : Positions) (inputs : InputSet) (answer : Both) (next : Option Positions) :
+pub record AnswersBoth (k l : Kernel) (x : PositionPair) (inputs : InputSet) (answer : AnswerPair) (next : Option PositionPair) :
     Type 0 where
   pub first_next : Option Position
   pub second_next : Option Position

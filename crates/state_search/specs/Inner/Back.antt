@@ -1,6 +1,6 @@
 -- The way back from a row; for private clauses (this project's own form).
 use Rattle.std.specs.Prelude.{◌≡◌, ℕ, ◌+◌, Option, List, ◌∷◌, ◌++◌, [], length}
-use Rattle.state_search.specs.Table.{Is}
+use Rattle.state_search.specs.Table.{IsNodeAt}
 use Rattle.state_search.specs.Words.{Path}
 use Rattle.state_search.specs.declared.found.Node.{Node}
 use Rattle.state_search.specs.declared.found.Row.{Row}
@@ -11,8 +11,8 @@ pub record GoneBack {S L : Type 0} (does : S → L → Option S → Type 0) (nod
   pub before : List L
   pub split : word ≡ before ++ r.label ∷ []
   pub node : Node S
-  pub from : Is nodes r.from node
+  pub from : IsNodeAt nodes r.from node
   pub here : Node S
-  pub at : Is nodes place here
+  pub at : IsNodeAt nodes place here
   pub path : Path does here.state before node.state
   pub steps : length before + here.depth ≡ node.depth

@@ -2,7 +2,7 @@
 use Rattle.std.specs.Prelude.{◌≡◌, ◌≢◌, ◌<◌, ◌≤◌, ◌+◌, ℕ, Option, None, Some, List, length, slice_index_or}
 use Rattle.std.specs.List.{fold}
 use Rattle.std.specs.Hash.FoldHasher.{initial, write, finish}
-use Rattle.state_search.specs.Table.{Is}
+use Rattle.state_search.specs.Table.{IsNodeAt}
 use Rattle.state_search.specs.declared.found.Node.{Node}
 
 -- the number of a state, of what it feeds to a hasher
@@ -12,12 +12,12 @@ number_of feed x = finish (fold write initial (feed x))
 -- the node at the place has a state of this number
 pub record HasNumber {S : Type 0} (number : S → ℕ) (nodes : List (Node S)) (p k : ℕ) : Type 0 where
   pub node : Node S
-  pub is : Is nodes p node
+  pub is : IsNodeAt nodes p node
   pub number_is : number node.state ≡ k
 
 -- no node from the one place to before the other has a state of this number
 abbrev pub NoneHas : {S : Type 0} → (number : S → ℕ) → List (Node S) → (least most k : ℕ) → Type 0
-NoneHas number nodes least most k = (p : ℕ) (n : Node _) → least ≤ p → p < most → Is nodes p n → number n.state ≢ k
+NoneHas number nodes least most k = (p : ℕ) (n : Node _) → least ≤ p → p < most → IsNodeAt nodes p n → number n.state ≢ k
 
 -- of the nodes before a place, the last one that has a state of this number; or none has
 abbrev pub IsLastOf : {S : Type 0} → (number : S → ℕ) → List (Node S) → (most k : ℕ) → Option ℕ → Type 0
@@ -28,7 +28,7 @@ IsLastOf number nodes most k (Some p) =
 -- of each node, the last one before it that has a state of the same number
 pub record AreBefore {S : Type 0} (number : S → ℕ) (before : List (Option ℕ)) (nodes : List (Node S)) : Type 0 where
   pub count : length before ≡ length nodes
-  pub each : (p : ℕ) (n : Node S) → Is nodes p n
+  pub each : (p : ℕ) (n : Node S) → IsNodeAt nodes p n
       → IsLastOf number nodes p (number n.state) (slice_index_or before p None)
 
 -- how many nodes stand up to the place, if there is one
@@ -44,4 +44,4 @@ HasNumberIf number nodes (Some p) k = HasNumber number nodes p k
 -- the state is looked for at the place: it has the number of the node there, and is that of none of the later nodes
 pub record IsSought {S : Type 0} (number : S → ℕ) (nodes : List (Node S)) (x : S) (place : Option ℕ) : Type 0 where
   pub here : HasNumberIf number nodes place (number x)
-  pub passed : (p : ℕ) (n : Node S) → count_to place ≤ p → Is nodes p n → n.state ≢ x
+  pub passed : (p : ℕ) (n : Node S) → count_to place ≤ p → IsNodeAt nodes p n → n.state ≢ x

@@ -3,7 +3,7 @@ use Rattle.std.specs.Prelude.{◌≡◌, ◌≢◌, ℕ, nat_eq, List, [], ◌�
 use Rattle.std.specs.List.{All}
 use Rattle.std.specs.HashMap.{get}
 use Rattle.state_search.specs.Inner.Numbers.{AreBefore, IsLastOf, number_of}
-use Rattle.state_search.specs.Table.{At}
+use Rattle.state_search.specs.Table.{HasStateAt}
 use Rattle.state_search.specs.declared.found.Node.{Node}
 use Rattle.state_search.specs.declared.places.Places.{Places}
 
@@ -15,5 +15,5 @@ pub record IsPlaced {S : Type 0} (feed : S → List (List ℕ)) (places : Places
 -- the state of the node has this place: it had it, and nothing changes; or no node had its state, and this one comes at
 -- the end
 pub data Puts {S : Type 0} (old : List (Node S)) (n : Node S) (place : ℕ) (new : List (Node S)) : Type 0 where
-  had : At old place n.state → new ≡ old → Puts old n place new
+  had : HasStateAt old place n.state → new ≡ old → Puts old n place new
   comes : All (λ m. m.state ≢ n.state) old → place ≡ length old → new ≡ old ++ n ∷ [] → Puts old n place new

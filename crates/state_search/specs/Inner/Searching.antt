@@ -2,7 +2,7 @@
 use Rattle.std.specs.Prelude.{◌≡◌, ℕ, ◌<◌, ◌≤◌, ◌+◌, Option, None, Some, List, [], ◌∷◌, ◌++◌, length}
 use Rattle.std.specs.List.{All, Contains}
 use Rattle.state_search.specs.Inner.Places.{Puts}
-use Rattle.state_search.specs.Table.{Is, HasRow, IsFound}
+use Rattle.state_search.specs.Table.{IsNodeAt, HasRow, IsFound}
 use Rattle.state_search.specs.declared.found.Node.{Node}
 use Rattle.state_search.specs.declared.found.Row.{Row}
 use Rattle.state_search.specs.declared.transition_system.Step.{Step}
@@ -31,13 +31,13 @@ module _ {S L : Type 0} (is_state : S → Type 0) (does : S → L → Option S �
   pub record IsSearching (nodes : List (Node S)) (rows : List (Row L)) (at : ℕ) : Type 0 where
     pub found : IsFound is_state does covers apart nodes rows at
     pub froms : All (λ r. r.from < at) rows
-    pub near : (n : Node S) → Is nodes at n → All (λ m. m.depth ≤ n.depth + 1) nodes
+    pub near : (n : Node S) → IsNodeAt nodes at n → All (λ m. m.depth ≤ n.depth + 1) nodes
 
   -- at the node at the place, after these of its steps
   pub record IsExpanding (nodes : List (Node S)) (rows : List (Row L)) (at : ℕ) (n : Node S) (done : List (Step S L))
       : Type 0 where
     pub found : IsFound is_state does covers apart nodes rows at
-    pub here : Is nodes at n
+    pub here : IsNodeAt nodes at n
     pub near : All (λ m. m.depth ≤ n.depth + 1) nodes
     pub froms : All (λ r. r.from ≤ at) rows
     pub listed : All (HasRow nodes rows at n) done

@@ -7,4 +7,4 @@ use Rattle.est_checks.proofs.place_check.first_in_body.Goals as goal
 pub returns : goal.returns
 returns g c =
     let p = program_of c.args.home.now in
-    c.in_ok-walk_body.ensures ∙ fold_first (g.C.Check.fault c.args.check.now p) (occurrences [] p.body)
+    c.in_ok-walk_body.ensures ∙ fold_first (g.C.PlaceCheck.fault c.args.check.now p) (occurrences [] p.body)

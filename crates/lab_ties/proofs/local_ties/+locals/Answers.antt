@@ -3,15 +3,15 @@ use Rattle.lab_ties.specs.Ties.{local_ties_at}
 use Rattle.lab_ties.proofs.Tying.{again_added, both_added, local_loop_tied, local_tied, own_room}
 use Rattle.lab_ties.proofs.local_ties.+locals.Goals as goal
 
-pub tie_two-returns : goal.tie_two-returns
-tie_two-returns t c =
+pub tie_locals_of_two-returns : goal.tie_locals_of_two-returns
+tie_locals_of_two-returns t c =
     let a = c.args in
     both_added (λ p at. local_ties_at p at a.net.now.cells.items) a.first.main a.first.at.number
     a.first.at.statement a.first.cell a.first.traps a.p.now a.q.now a.found.now.items _ _ c.in_ok-next.next
     c.in_ok-end.end c.in_ok-next.ensures c.in_ok-end.ensures
 
-pub tie_loop-returns : goal.tie_loop-returns
-tie_loop-returns t c =
+pub tie_locals_of_loop-returns : goal.tie_locals_of_loop-returns
+tie_locals_of_loop-returns t c =
     let a = c.args in
     again_added (λ p at. local_ties_at p at a.net.now.cells.items) a.body.main a.body.at.number
     a.body.at.statement a.body.cell a.body.traps a.p.now a.found.now.items _ _ c.in_ok-next.next

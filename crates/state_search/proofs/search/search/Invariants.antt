@@ -1,14 +1,14 @@
 use Rattle.std.proofs.Common.{◌-◌, ◌+◌}
 use Rattle.state_search.specs.Inner.Places.{IsPlaced}
 use Rattle.state_search.specs.Inner.Searching.{IsSearching}
-use Rattle.state_search.specs.Table.{At}
+use Rattle.state_search.specs.Table.{HasStateAt}
 use Rattle.state_search.proofs.search.search.Given as goal
 
 abbrev pub invariant-loop-found : goal.invariant-loop-found
 invariant-loop-found g l = record {
   fits : g.M.TransitionSystem.fits l.machine l.scratch;
   places : IsPlaced g.M.State.Hash.hash_input l.places l.found.nodes.items;
-  first : At l.found.nodes.items 0 l.fn.start;
+  first : HasStateAt l.found.nodes.items 0 l.fn.start;
   searching : IsSearching (g.M.TransitionSystem.is_state l.machine) (g.M.TransitionSystem.does l.machine) (g.M.TransitionSystem.covers l.machine)
       (g.M.TransitionSystem.apart l.machine) l.found.nodes.items l.found.rows.items l.found.done;
 }

@@ -4,7 +4,7 @@ use Rattle.std.specs.Io.KnownBytes.{prepend_known}
 use Rattle.wire_reader.specs.Readers.{held_bytes, last_line}
 use Rattle.wire_reader.proofs.Turning.{silent, refused, in_part, front_then}
 use Rattle.wire_reader.proofs.Written.{up_to_more}
-use Rattle.wire_reader.proofs.serving.turn.Goals as goal
+use Rattle.wire_reader.proofs.serving.answer_next.Goals as goal
 
 pub returns-in-Err-clause-turns : goal.returns-in-Err-clause-turns
 returns-in-Err-clause-turns g c = silent _ _ _ _ _ _ _ _ _ _

@@ -4,7 +4,7 @@ use Rattle.est_net.specs.Layout.{cell_count, output_count}
 use Rattle.est_net.specs.declared.net.Net.{Net}
 use Rattle.est_net.proofs.OwnerLists.{owners_length}
 use Rattle.lab_instant.specs.OwnCells.{cells_of}
-use Rattle.lab_instant.proofs.instant.Inside.look.Goals as goal
+use Rattle.lab_instant.proofs.instant.InstantReader.look.Goals as goal
 
 pub seen_in-requires : goal.seen_in-requires
 seen_in-requires c =

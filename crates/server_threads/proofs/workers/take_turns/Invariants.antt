@@ -1,5 +1,5 @@
 use Rattle.server_threads.specs.Turns.{Turns}
-use Rattle.server_threads.proofs.workers.work_on.Given as goal
+use Rattle.server_threads.proofs.workers.take_turns.Given as goal
 
 -- the seat is as the turns so far left it
 abbrev pub invariant-loop-taken : goal.invariant-loop-taken

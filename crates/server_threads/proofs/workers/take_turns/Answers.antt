@@ -1,5 +1,5 @@
 use Rattle.server_threads.specs.Turns.{none_yet, one_more}
-use Rattle.server_threads.proofs.workers.work_on.Goals as goal
+use Rattle.server_threads.proofs.workers.take_turns.Goals as goal
 
 pub loop-taken-init : goal.loop-taken-init
 loop-taken-init g c = none_yet _

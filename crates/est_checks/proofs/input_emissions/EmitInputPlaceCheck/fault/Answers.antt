@@ -2,7 +2,7 @@ use Rattle.std.proofs.Common.{◌≡◌, IfOk, map, sym, subst}
 use Rattle.est_modules.specs.Modules.{program_of}
 use Rattle.est_modules.specs.Scopes.{act_of, binders_of}
 use Rattle.est_checks.specs.Emissions.{emitted_of, refused_at}
-use Rattle.est_checks.proofs.input_emissions.EmitInputCheck.fault.Goals as goal
+use Rattle.est_checks.proofs.input_emissions.EmitInputPlaceCheck.fault.Goals as goal
 
 pub returns-in-Runs : goal.returns-in-Runs
 returns-in-Runs c =

@@ -1,6 +1,6 @@
 use Rattle.wire_reader.proofs.Places.{found, none_found}
 use Rattle.std.proofs.Common.{arith}
-use Rattle.wire_reader.proofs.lines.LineReader.look.Goals as goal
+use Rattle.wire_reader.proofs.lines.LineReader.find_line_end.Goals as goal
 
 pub invariant_of-self-clause-no_end : goal.invariant_of-self-clause-no_end
 invariant_of-self-clause-no_end c =
