@@ -52,7 +52,8 @@ pub serves_map : {A B : Type 0} (f : A → B) (tells : A → List ℕ → List �
     (says : B → List ℕ → List ℕ → B → Type 0) (stops : B → List ℕ → B → Type 0)
     → ((a : A) (line text : List ℕ) (b : A) → tells a line text b → says (f a) line text (f b))
     → ((a : A) (line : List ℕ) (b : A) → fails a line b → stops (f a) line (f b))
-    → (refusal : List ℕ) (ahead : Option (List ℕ)) (before : A) (why : EndReason) (desk : A) (written after : Option (List ℕ))
+    → (refusal : List ℕ) (ahead : Option (List ℕ)) (before : A) (why : EndReason) (desk : A)
+    (written after : Option (List ℕ))
     (waiting left : List ℕ)
     → Serves tells fails refusal (between ahead before) why desk written after waiting left
     → Serves says stops refusal (between ahead (f before)) why (f desk) written after waiting left

@@ -15,8 +15,9 @@ LogsOutLeft answers (Some session) before after = (done : Logout) × LogsOutAtLa
 
 -- a connection to this desk is served to its end, which comes for this reason, and no login of it is held any more
 pub record ServesConnection {D : Type 0} (answers : D → Ask → Reply → D → Type 0) (refused : Bool)
-    (ahead : Option (List ℕ)) (before : D) (why : EndReason) (after : D) (written wrote : Option (List ℕ)) : Type 0 where
-  pub desk : D
-  pub left : Option ℕ
-  pub served : ServesDesk answers refused ahead before why desk left written wrote
-  pub logged_out : LogsOutLeft answers left desk after
+    (ahead : Option (List ℕ)) (before : D) (why : EndReason) (after : D) (written wrote : Option (List ℕ)) : Type 0
+  where
+    pub desk : D
+    pub left : Option ℕ
+    pub served : ServesDesk answers refused ahead before why desk left written wrote
+    pub logged_out : LogsOutLeft answers left desk after

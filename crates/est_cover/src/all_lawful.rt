@@ -9,7 +9,7 @@ use crate::part::Part;
 use crate::reactive::Reactive;
 use est_kernel::mask;
 use est_relations::relations::Relations;
-use state_search::transition_system::{TransitionSystem, Step};
+use state_search::transition_system::{Step, TransitionSystem};
 use std::alloc::AllocError;
 
 /// What something does with the sets of inputs that somebody may offer and that keep the relations.

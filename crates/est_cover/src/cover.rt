@@ -6,9 +6,9 @@ ghost use Rattle.est_relations.specs.Keeping.{AreLawful};
 ghost use Rattle.est_cover.specs.Inner.Parts.{AreWatched, IsCovered, IsNext, IsPart};
 
 use crate::asked::Asked;
+use crate::forced::{Forced, first_forced};
 use crate::part::{Part, first_in, with, without};
 use crate::reactive::Reactive;
-use crate::forced::{Forced, first_forced};
 use est_kernel::mask;
 use est_relations::relations::Relation;
 use state_search::transition_system::Step;

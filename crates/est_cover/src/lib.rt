@@ -8,6 +8,6 @@
 pub mod all_lawful;
 pub mod asked;
 mod cover;
+mod forced;
 mod part;
 pub mod reactive;
-mod forced;

@@ -116,7 +116,8 @@ answers_at m x i (Stuck u) None h = h.cannot
 
 module _ (m l : Module) (twins : AreTwins m l) (watched : ℕ → Bool) (f : Found PositionPair (Asked AnswerPair))
     (e : IsExploredBoth m l watched f) where
-  deeper : (p q : ℕ) (a b : Node PositionPair) → IsNodeAt f.nodes.items p a → IsNodeAt f.nodes.items q b → p ≤ q → a.depth ≤ b.depth
+  deeper : (p q : ℕ) (a b : Node PositionPair) → IsNodeAt f.nodes.items p a → IsNodeAt f.nodes.items q b → p ≤ q
+      → a.depth ≤ b.depth
   deeper p q a b i j w = elim (cases_lt p q) [
     | inl lt ↦ subst (λ (o : Node PositionPair). o.depth ≤ b.depth) (i.is a)
         (subst (λ (o : Node PositionPair). (get_or f.nodes.items p a).depth ≤ o.depth) (j.is a)
@@ -133,7 +134,8 @@ module _ (m l : Module) (twins : AreTwins m l) (watched : ℕ → Bool) (f : Fou
       → length f.nodes.items ≤ f.done → (d : ℕ) → AgreeFor m l twins watched f e d
   agree_all pass all d = record {
     done = λ k n i w. let v = i.within in omega arith;
-    agrees = λ row c n i w. subst (λ (r : Row (Asked AnswerPair)). agree r.label.answer.first r.label.answer.second ≡ true)
+    agrees = λ row c n i w. subst (λ (r : Row (Asked AnswerPair)). agree r.label.answer.first r.label.answer.second
+        ≡ true)
         c.2 (pass row c.0 c.1);
   }
 
@@ -144,7 +146,8 @@ module _ (m l : Module) (twins : AreTwins m l) (watched : ℕ → Bool) (f : Fou
       → get_or f.rows.items at r ≡ r → IsNodeAt f.nodes.items r.from n → AgreeFor m l twins watched f e n.depth
   agree_before at r n w pass is here = record {
     done = λ k o i v. elim (cases_lt k r.from) [
-      | inl lt ↦ let turn : r.from ≤ f.done = subst (λ (a : Row (Asked AnswerPair)). a.from ≤ f.done) is (e.found.turn at r w)
+      | inl lt ↦ let turn : r.from ≤ f.done = subst (λ (a : Row (Asked AnswerPair)). a.from ≤ f.done) is
+      (e.found.turn at r w)
           in omega arith
       | inr ge ↦ absurd (let d = deeper r.from k n o here i ge in omega arith)
     ];
@@ -154,7 +157,8 @@ module _ (m l : Module) (twins : AreTwins m l) (watched : ℕ → Bool) (f : Fou
       | inr ge ↦ absurd (let d = deeper r.from row.from n o here i (later row c.0 c.1 c.2 ge) in omega arith)
     ];
   } where
-    later : (row : Row (Asked AnswerPair)) (k : ℕ) → k < length f.rows.items → get_or f.rows.items k row ≡ row → at ≤ k →
+    later : (row : Row (Asked AnswerPair)) (k : ℕ) → k < length f.rows.items → get_or f.rows.items k row ≡ row
+    → at ≤ k →
         r.from ≤ row.from
     later row k v s g = elim (cases_lt at k) [
       | inl lt ↦ subst (λ (a : Row (Asked AnswerPair)). a.from ≤ row.from) (get_or_default f.rows.items at row r w ∙ is)

@@ -91,7 +91,8 @@ pairs_mapped P g xs x h i j d l w =
 
 module _ (m : Module) (watched : ℕ → Bool) (f : Found Position (Asked Answer)) (e : IsExplored m watched f) where
   -- nodes come after those of fewer steps
-  deeper : (p q : ℕ) (a b : Node Position) → IsNodeAt f.nodes.items p a → IsNodeAt f.nodes.items q b → p ≤ q → a.depth ≤ b.depth
+  deeper : (p q : ℕ) (a b : Node Position) → IsNodeAt f.nodes.items p a → IsNodeAt f.nodes.items q b → p ≤ q
+      → a.depth ≤ b.depth
   deeper p q a b i j l = elim (cases_lt p q) [
     | inl lt ↦ subst (λ (o : Node Position). o.depth ≤ b.depth) (i.is a)
         (subst (λ (o : Node Position). (get_or f.nodes.items p a).depth ≤ o.depth) (j.is a)
@@ -195,7 +196,8 @@ module _ (m : Module) (watched : ℕ → Bool) (f : Found Position (Asked Answer
         subst (λ (x : Position). IsReached m x) (sym fresh) (record { is_state = tt; run = []; runs = refl })
     | inr d ↦ by (λ j o w i. reached_upto b j o w i) (e.found.tree.came k n (omega arith) here)
   ] where
-    by : ((j : ℕ) (o : Node Position) → j < b → IsNodeAt f.nodes.items j o → IsReached m o.state) → IsReachedByRow f.nodes.items
+    by : ((j : ℕ) (o : Node Position) → j < b → IsNodeAt f.nodes.items j o → IsReached m o.state)
+    → IsReachedByRow f.nodes.items
         f.rows.items k n
         → IsReached m n.state
     by before came =

@@ -67,7 +67,8 @@ module _ (m : Module) (watched : ℕ → Bool) (f : Found Position (Asked Answer
     pub step : DoesSo m watched n.state row.label after
     pub answer : AnswersSo m.kernel n.state inputs row.label.answer after
 
-  pub row_for : (k : ℕ) (n : Node Position) (inputs : InputSet) → IsNodeAt f.nodes.items k n → k < f.done → IsLawful m inputs
+  pub row_for : (k : ℕ) (n : Node Position) (inputs : InputSet) → IsNodeAt f.nodes.items k n → k < f.done
+      → IsLawful m inputs
       → RowFor k n inputs
   row_for k n inputs here l lawful =
       let all = e.found.all k n l here in

@@ -38,7 +38,8 @@ pub data BothDo (m l : Module) (t u : Term) (inputs : InputSet) (nodes : List (N
 
 both_do : (m l : Module) (x : PositionPair) (inputs : InputSet) (p q : Answer) (a b : Option Position)
     → AnswersSo m.kernel x.first inputs p a → AnswersSo l.kernel x.second inputs q b → agree p q ≡ true
-    → (nodes : List (Node PositionPair)) (most : ℕ) (place : Option ℕ) (after : Option PositionPair) → Leads nodes most place
+    → (nodes : List (Node PositionPair)) (most : ℕ) (place : Option ℕ) (after : Option PositionPair)
+    → Leads nodes most place
     after
     → after ≡ joined (agree p q) a b
     → BothDo m l (term_of_position m x.first) (term_of_position l x.second) inputs nodes most
@@ -92,7 +93,8 @@ module _ (m l : Module) (twins : AreTwins m l) (watched : ℕ → Bool) (f : Fou
   -- all nodes of fewer steps than d have all their rows, and in none of these the two differ
   pub record AgreeFor (d : ℕ) : Type 0 where
     pub done : (k : ℕ) (n : Node PositionPair) → IsNodeAt f.nodes.items k n → n.depth < d → k < f.done
-    pub agrees : (row : Row (Asked AnswerPair)) → Contains f.rows.items row → (n : Node PositionPair) → IsNodeAt f.nodes.items row.from
+    pub agrees : (row : Row (Asked AnswerPair)) → Contains f.rows.items row → (n : Node PositionPair)
+    → IsNodeAt f.nodes.items row.from
         n
         → n.depth < d → agree row.label.answer.first row.label.answer.second ≡ true
 
@@ -117,7 +119,8 @@ module _ (m l : Module) (twins : AreTwins m l) (watched : ℕ → Bool) (f : Fou
       f.nodes.items (n.depth + 1) has.row.next row.after (rw same_node at row.leads) answer.next_is
 
   -- what one does, the other does
-  second_runs : (d : ℕ) → AgreeFor d → (k : ℕ) (n : Node PositionPair) → IsNodeAt f.nodes.items k n → (run : List Instant)
+  second_runs : (d : ℕ) → AgreeFor d → (k : ℕ) (n : Node PositionPair) → IsNodeAt f.nodes.items k n
+      → (run : List Instant)
       (t : Term)
       → Runs m (term_of_position m n.state.first) run t → n.depth + length run ≤ d
       → (u : Term) × Runs l (term_of_position l n.state.second) run u
@@ -145,7 +148,8 @@ module _ (m l : Module) (twins : AreTwins m l) (watched : ℕ → Bool) (f : Fou
               ),
             )
 
-  first_runs : (d : ℕ) → AgreeFor d → (k : ℕ) (n : Node PositionPair) → IsNodeAt f.nodes.items k n → (run : List Instant)
+  first_runs : (d : ℕ) → AgreeFor d → (k : ℕ) (n : Node PositionPair) → IsNodeAt f.nodes.items k n
+      → (run : List Instant)
       (t : Term)
       → Runs l (term_of_position l n.state.second) run t → n.depth + length run ≤ d
       → (u : Term) × Runs m (term_of_position m n.state.first) run u

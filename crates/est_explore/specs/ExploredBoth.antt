@@ -15,7 +15,8 @@ abbrev pub both_fresh : PositionPair
 both_fresh = record { first = record { state = Fresh }; second = record { state = Fresh } }
 
 -- what a search takes for a step of both
-abbrev pub DoesBoth : Module → Module → (watched : ℕ → Bool) → PositionPair → Asked AnswerPair → Option PositionPair → Type 0
+abbrev pub DoesBoth : Module → Module → (watched : ℕ → Bool) → PositionPair → Asked AnswerPair → Option PositionPair
+    → Type 0
 DoesBoth m l watched x i next =
     IsAsked (AnswersBoth m.kernel l.kernel x) (may_offer m.kernel.interface m.among) m.relations watched i next
 

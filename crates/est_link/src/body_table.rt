@@ -11,7 +11,7 @@ ghost use Rattle.est_link.specs.Inner.Tables.{module_body_of};
 ghost use Rattle.est_modules.specs.Modules.{Program, program_of, first_in_bodies};
 ghost use Rattle.est_modules.specs.ModuleOrders.{IsOrderOf};
 
-use crate::flatten::{Linker, LinkContext, flat_statement};
+use crate::flatten::{LinkContext, Linker, flat_statement};
 use crate::module_bodies::{ModuleBodies, ModuleBody};
 use crate::needed::is_in;
 use crate::open_body::OpenBody;

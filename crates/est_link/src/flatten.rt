@@ -101,7 +101,10 @@ pub struct LinkContext<'a, 'b, 'c> {
 }
 
 /// The signal that a name means.
-pub fn find_signal(place: &LinkContext<'_, '_, '_>, name: &Identifier) -> Result<Meaning, AllocError>
+pub fn find_signal(
+    place: &LinkContext<'_, '_, '_>,
+    name: &Identifier,
+) -> Result<Meaning, AllocError>
     ensures { IfOk result (λ m. meaning_of m ≡ meant (signal_at
         (program_of place.now.linker.now.home.now) (binders_of place.now.scope.now) name.now)) }
 {
@@ -274,7 +277,10 @@ fn beside(alloc: Global, p: OpenBody, rest: Option<Box<OpenBody>>) -> Result<Ope
 
 /// The flat statement of a sequence.
 #[cycle(flat)]
-fn flat_sequence<'b>(at: &LinkContext<'_, 'b, '_>, sequence: &'b Sequence) -> Result<OpenBody, AllocError>
+fn flat_sequence<'b>(
+    at: &LinkContext<'_, 'b, '_>,
+    sequence: &'b Sequence,
+) -> Result<OpenBody, AllocError>
     ensures { IfOk result (λ f. closed_of f ≡ linked (map program_of at.now.linker.now.heads.now)
         (bodies_of at.now.linker.now.bodies.now) (program_of at.now.linker.now.home.now)
         (binders_of at.now.scope.now) (sequence_derived (sequence_view sequence.now))) }

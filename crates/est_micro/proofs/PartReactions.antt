@@ -66,7 +66,8 @@ abbrev pub IsSettledByAll : (u : ℕ → Bool) (k : Kernel) (x : State) (inputs 
 IsSettledByAll u k x inputs cells r = (others : ℕ → Bool) → AgreeBut u inputs others
     → IsSettledBut u k x others cells r
 
-pub settled_for : (u asked : ℕ → Bool) (k : Kernel) (x : State) (inputs : Inputs) (cells : List Status) (r : DecidedCells)
+pub settled_for : (u asked : ℕ → Bool) (k : Kernel) (x : State) (inputs : Inputs) (cells : List Status)
+    (r : DecidedCells)
     → u ≡ not_asked k.interface asked → AreInputs k inputs → IsSettledByAll u k x (bits inputs.signals) cells r
     → (others : Inputs) → AgreeOn k asked (bits inputs.signals) others
     → IsSettledBut u k x (bits others.signals) cells r
@@ -79,7 +80,8 @@ if_named (Some n) h = h n refl
 if_named None h = tt
 
 -- where there is no outcome
-pub left_open : (u asked : ℕ → Bool) (k : Kernel) (x : State) (inputs : ℕ → Bool) (cells : List Status) (r : DecidedCells)
+pub left_open : (u asked : ℕ → Bool) (k : Kernel) (x : State) (inputs : ℕ → Bool) (cells : List Status)
+    (r : DecidedCells)
     (w : Option ℕ) → u ≡ not_asked k.interface asked → IsState k.root x → IsSettledByAll u k x inputs cells r
     → (decided cells ≡ length cells → HasNoCode x r.found)
     → w ≡ waits_for u true k.root (pauses_from x) Present (env_of r.env)

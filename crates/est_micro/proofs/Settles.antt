@@ -109,7 +109,8 @@ round_made unasked way k x inputs e f old new r before now alone ready h before_
     }
 
 pub settled : (unasked : ℕ → Bool) (k : Kernel) (x : State) (inputs : ℕ → Bool) (before now : ℕ) (cells : List Status)
-    (r : DecidedCells) → Settling unasked k x inputs before now cells r.found r.env → (now ≡ before) ⊎ (now ≡ length cells)
+    (r : DecidedCells) → Settling unasked k x inputs before now cells r.found r.env → (now ≡ before)
+    ⊎ (now ≡ length cells)
     → IsSettledBut unasked k x inputs cells r
 settled unasked k x inputs before now cells r h e = record {
   size = h.ready.size;
@@ -121,7 +122,8 @@ settled unasked k x inputs before now cells r h e = record {
 }
 
 -- a table without an open cell is settled
-pub full_settled : (unasked : ℕ → Bool) (k : Kernel) (x : State) (inputs : ℕ → Bool) (cells : List Status) (r : DecidedCells)
+pub full_settled : (unasked : ℕ → Bool) (k : Kernel) (x : State) (inputs : ℕ → Bool) (cells : List Status)
+    (r : DecidedCells)
     → IsSettledBut unasked k x inputs cells r → decided cells ≡ length cells → IsSettled k x inputs cells r.found
 full_settled unasked k x inputs cells r h all = record {
   size = h.size;
@@ -132,7 +134,8 @@ full_settled unasked k x inputs cells r h all = record {
 }
 
 -- and so is one where each input is asked
-pub none_settled : (unasked : ℕ → Bool) (k : Kernel) (x : State) (inputs : ℕ → Bool) (cells : List Status) (r : DecidedCells)
+pub none_settled : (unasked : ℕ → Bool) (k : Kernel) (x : State) (inputs : ℕ → Bool) (cells : List Status)
+    (r : DecidedCells)
     → ((n : ℕ) → unasked n ≡ false) → IsSettledBut unasked k x inputs cells r → IsSettled k x inputs cells r.found
 none_settled unasked k x inputs cells r none h = elim h.closed [
   | inl all ↦ full_settled unasked k x inputs cells r h all
@@ -152,7 +155,8 @@ none_settled unasked k x inputs cells r none h = elim h.closed [
   }
 ]
 
-pub none_knows : (unasked : ℕ → Bool) (k : Kernel) (x : State) (inputs : ℕ → Bool) (cells : List Status) (r : DecidedCells)
+pub none_knows : (unasked : ℕ → Bool) (k : Kernel) (x : State) (inputs : ℕ → Bool) (cells : List Status)
+    (r : DecidedCells)
     → ((n : ℕ) → unasked n ≡ false) → IsSettledBut unasked k x inputs cells r
     → env_of r.env ≡ known (judged_signals k.interface inputs) inputs (output_cells k.interface cells)
 none_knows unasked k x inputs cells r none h = h.knows ∙ none_opened unasked _ none

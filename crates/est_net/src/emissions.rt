@@ -141,7 +141,14 @@ fn add_emissions(
             add_emission(list, *signal, cell)?;
             Ok(cell + traps + 3)
         }
-        Statement::Present(_, p, q) => add_emissions_of_two(list, main, p, q, cell + traps + 3, traps),
+        Statement::Present(_, p, q) => add_emissions_of_two(
+            list,
+            main,
+            p,
+            q,
+            cell + traps + 3,
+            traps,
+        ),
         Statement::Seq(p, q) => add_emissions_of_two(list, main, p, q, cell + traps + 3, traps),
         Statement::Par(p, q) => add_emissions_of_two(list, main, p, q, cell + traps + 3, traps),
         Statement::Suspend(_, p) => add_emissions(list, main, p, cell + traps + 3, traps),

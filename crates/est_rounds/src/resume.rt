@@ -253,7 +253,12 @@ fn resume_trap_sure(p: &Statement, pauses: &PauseSet, env: &Env) -> Option<Judge
 
 /// What `signal s in p end` must do and can do as it goes on.
 #[cycle(sure)]
-fn resume_local_sure(s: LocalSignal, p: &Statement, pauses: &PauseSet, env: &Env) -> Option<Judgement>
+fn resume_local_sure(
+    s: LocalSignal,
+    p: &Statement,
+    pauses: &PauseSet,
+    env: &Env,
+) -> Option<Judgement>
     requires fits { (s.index < 64) × FitsMasks p.now }
     ensures { (x : _) → Judges result (Local' s x p.now) pauses.now env.now }
 {

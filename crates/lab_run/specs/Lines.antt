@@ -50,7 +50,8 @@ abbrev pub IsLeft : (before : Option Standing) → (given : Refusal) → LabRepl
 IsLeft before given told after = (told ≡ Refused given) × (after ≡ before)
 
 -- the value asks for nothing, and is refused as no request
-pub record IsNoRequest (before : Option Standing) (value : Data) (told : LabReply) (after : Option Standing) : Type 0 where
+pub record IsNoRequest (before : Option Standing) (value : Data) (told : LabReply) (after : Option Standing) : Type
+    0 where
   pub right : SaysNothing value
   pub left : IsLeft before refusal.NotARequest told after
 
@@ -67,9 +68,10 @@ pub record IsToldOfValue (before : Option Standing) (line : List ℕ) (told : La
   pub right : IsValueTold before value told after
 
 -- the line has no value
-pub record IsNoJson (before : Option Standing) (line : List ℕ) (told : LabReply) (after : Option Standing) : Type 0 where
-  pub right : HasNoValue line
-  pub left : IsLeft before refusal.NotJson told after
+pub record IsNoJson (before : Option Standing) (line : List ℕ) (told : LabReply) (after : Option Standing) : Type 0
+  where
+    pub right : HasNoValue line
+    pub left : IsLeft before refusal.NotJson told after
 
 -- what a line is told: what its value is, or that it has none, or that memory was refused
 abbrev pub IsTold : (before : Option Standing) → (line : List ℕ) → LabReply → (after : Option Standing) → Type 0

@@ -74,5 +74,6 @@ Proves p status written after =
 -- a run of the program: lines are answered; an order to prove is done; or the words can't be read, and nothing is
 -- written
 abbrev pub Runs : (ahead : Option (List ℕ)) → (status : ℕ) → (written after : Option (List ℕ)) → Type 0
-Runs ahead status written after = ServesAll ahead status written after ⊎ (((p : ProveOrder) × Proves p status written after)
+Runs ahead status written after = ServesAll ahead status written after
+    ⊎ (((p : ProveOrder) × Proves p status written after)
     ⊎ (((status ≡ 2) ⊎ (status ≡ 3)) × (after ≡ written)))

@@ -146,12 +146,14 @@ abbrev pub IsEmpty : LabReply → (after : Option Standing) → Type 0
 IsEmpty told after = (told ≡ Refused refusal.Empty) × (after ≡ None)
 
 -- the same, or what is done with what is loaded, which is loaded afterwards too
-abbrev pub MakesIf : (before : Option Standing) → (names : List (List ℕ)) → LabReply → (after : Option Standing) → Type 0
+abbrev pub MakesIf : (before : Option Standing) → (names : List (List ℕ)) → LabReply → (after : Option Standing)
+    → Type 0
 MakesIf None names told after = IsEmpty told after
 MakesIf (Some s) names told None = ⊥
 MakesIf (Some s) names told (Some t) = Makes s names told t
 
-abbrev pub TriesIf : (before : Option Standing) → (names : List (List ℕ)) → LabReply → (after : Option Standing) → Type 0
+abbrev pub TriesIf : (before : Option Standing) → (names : List (List ℕ)) → LabReply → (after : Option Standing)
+    → Type 0
 TriesIf None names told after = IsEmpty told after
 TriesIf (Some s) names told None = ⊥
 TriesIf (Some s) names told (Some t) = Tries s names told t

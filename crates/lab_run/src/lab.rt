@@ -266,7 +266,11 @@ fn table_among(
 }
 
 /// The table of a module.
-fn table_of(alloc: Global, loaded: &Module, scope: &SearchBounds<'_>) -> Result<LabReply, AllocError>
+fn table_of(
+    alloc: Global,
+    loaded: &Module,
+    scope: &SearchBounds<'_>,
+) -> Result<LabReply, AllocError>
     ensures { IfOk result (TellsOfTable loaded.now scope.now) }
 {
     let among = match signals_of_names(loaded.kernel.interface(), scope.inputs.as_slice()) {
@@ -328,7 +332,12 @@ impl Lab {
     }
 
     /// Judges claims on all runs of the module that is loaded.
-    fn explore(&self, alloc: Global, claims: &[&str], scope: &SearchBounds<'_>) -> Result<LabReply, AllocError>
+    fn explore(
+        &self,
+        alloc: Global,
+        claims: &[&str],
+        scope: &SearchBounds<'_>,
+    ) -> Result<LabReply, AllocError>
         ensures { IfOk result (TellsIf self.now.loaded (λ m. TellsOfClaims m
             (map (λ t. t.now) claims.now) scope.now)) }
     {

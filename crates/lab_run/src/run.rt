@@ -87,7 +87,11 @@ fn offered_of(interface: &Interface, names: &[&str]) -> Result<u64, PendingRefus
 }
 
 /// Judges the claims on a module.
-fn prove_module(alloc: Global, proof: &ProveOrder<'_>, loaded: &Module) -> Result<LabReply, AllocError>
+fn prove_module(
+    alloc: Global,
+    proof: &ProveOrder<'_>,
+    loaded: &Module,
+) -> Result<LabReply, AllocError>
     ensures { IfOk result (TellsOfModule loaded.now proof.now) }
 {
     let among = match offered_of(loaded.kernel.interface(), proof.inputs.as_slice()) {

@@ -44,7 +44,8 @@ CannotWrite why.WriteFault before after = after ≡ before
 CannotWrite other before after = has_failed before after ≡ true
 
 -- what the end of a connection means for the program, with what it has written by then: a fault, or what follows it
-abbrev pub EndsSo : (report : Bool) → EndReason → DeskState → Result ⊤ Fault → (written after : Option (List ℕ)) → Type 0
+abbrev pub EndsSo : (report : Bool) → EndReason → DeskState → Result ⊤ Fault → (written after : Option (List ℕ))
+    → Type 0
 EndsSo report why.Closed desk answer written after = Finishes report desk answer written after
 EndsSo report why.TooLong desk answer written after = Finishes report desk answer written after
 EndsSo report other desk answer written after = IsOutcome other answer × (after ≡ written)

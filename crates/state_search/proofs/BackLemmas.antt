@@ -19,9 +19,10 @@ module _ {S L : Type 0} (is_state : S → Type 0) (does : S → L → Option S �
     none_is : None ≡ Some p → ⊥
     none_is h = cc
   leads_there nodes most p n place after (there q m is few) e i =
-      ap (λ (o : Node S). Some o.state) (is_one nodes p m n (subst (λ (k : ℕ). IsNodeAt nodes k m) (same q e) is) i) where
-        same : (q : ℕ) → Some q ≡ Some p → q ≡ p
-        same q h = cc
+      ap (λ (o : Node S). Some o.state) (is_one nodes p m n (subst (λ (k : ℕ). IsNodeAt nodes k m) (same q e) is) i)
+    where
+      same : (q : ℕ) → Some q ≡ Some p → q ≡ p
+      same q h = cc
 
   -- the row itself
   pub at_row : (nodes : List (Node S)) (rows : List (Row L)) (at : ℕ) (row : Row L) → IsTree is_state does apart nodes
@@ -98,7 +99,8 @@ module _ {S L : Type 0} (is_state : S → Type 0) (does : S → L → Option S �
 
   -- at the first node
   pub all_back : (nodes : List (Node S)) (rows : List (Row L)) (r : Row L) (word : List L) (start : S)
-      → IsTree is_state does apart nodes rows → GoneBack does nodes r 0 word → HasStateAt nodes 0 start → LedTo does start nodes
+      → IsTree is_state does apart nodes rows → GoneBack does nodes r 0 word → HasStateAt nodes 0 start
+      → LedTo does start nodes
       r word
   all_back nodes rows r word start tree gone begin = record {
     before = gone.before;

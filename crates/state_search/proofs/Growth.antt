@@ -39,7 +39,8 @@ module _ {S L : Type 0} where
         (λ s. has_stays nodes more rows extra p n s) h.steps h.listed;
   }
 
-  pub came_stays : (nodes more : List (Node S)) (rows extra : List (Row L)) (k : ℕ) (n : Node S) → IsReachedByRow nodes rows k n
+  pub came_stays : (nodes more : List (Node S)) (rows extra : List (Row L)) (k : ℕ) (n : Node S)
+      → IsReachedByRow nodes rows k n
       → IsReachedByRow (nodes ++ more) (rows ++ extra) k n
   came_stays nodes more rows extra k n h = record {
     row = h.row;

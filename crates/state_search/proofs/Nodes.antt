@@ -26,7 +26,8 @@ module _ {S : Type 0} where
   pub is_there : (nodes : List (Node S)) (p : ℕ) (d : Node S) → p < length nodes → IsNodeAt nodes p (get_or nodes p d)
   is_there nodes p d h = record { within = h; is = λ e. get_or_default nodes p e d h }
 
-  pub is_old : (nodes more : List (Node S)) (p : ℕ) (n : Node S) → p < length nodes → IsNodeAt (nodes ++ more) p n → IsNodeAt nodes
+  pub is_old : (nodes more : List (Node S)) (p : ℕ) (n : Node S) → p < length nodes → IsNodeAt (nodes ++ more) p n
+      → IsNodeAt nodes
       p n
   is_old nodes more p n h i = record {
     within = h;
@@ -50,7 +51,8 @@ module _ {S : Type 0} where
   leads_stays nodes more most p x nowhere = nowhere
   leads_stays nodes more most p x (there q n is few) = there q n (is_stays nodes more q n is) few
 
-  pub is_read : (nodes : List (Node S)) (p : ℕ) (n : Node S) → p < length nodes → n ≡ get_or nodes p n → IsNodeAt nodes p n
+  pub is_read : (nodes : List (Node S)) (p : ℕ) (n : Node S) → p < length nodes → n ≡ get_or nodes p n
+      → IsNodeAt nodes p n
   is_read nodes p n h e = record { within = h; is = λ d. get_or_default nodes p d n h ∙ sym e }
 
   -- the first node

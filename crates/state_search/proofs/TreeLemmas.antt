@@ -10,7 +10,18 @@ use Rattle.std.proofs.lemmas.List.Quantifiers.{all_pairs_push}
 use Rattle.std.specs.List.{All, AllPairs}
 use Rattle.state_search.specs.Inner.Places.{had, comes}
 use Rattle.state_search.specs.Inner.Searching.{Adds, stops, goes, HasLabel, IsExpanding, IsSearching}
-use Rattle.state_search.specs.Table.{IsNodeAt, HasStateAt, Leads, nowhere, there, IsRow, HasRow, IsDone, IsReachedByRow, IsTree}
+use Rattle.state_search.specs.Table.{
+  IsNodeAt,
+  HasStateAt,
+  Leads,
+  nowhere,
+  there,
+  IsRow,
+  HasRow,
+  IsDone,
+  IsReachedByRow,
+  IsTree,
+}
 use Rattle.state_search.specs.declared.found.Node.{Node}
 use Rattle.state_search.specs.declared.found.Row.{Row}
 use Rattle.state_search.specs.declared.transition_system.Step.{Step}
@@ -63,7 +74,8 @@ module _ {S L : Type 0} (is_state : S → Type 0) (does : S → L → Option S �
     | inr new ↦
         let came = c.came in
         let lt = came.earlier in
-        let old : IsNodeAt nodes came.row.from came.before = is_old nodes (m ∷ []) came.row.from came.before lt came.from in
+        let old : IsNodeAt nodes came.row.from came.before = is_old nodes (m ∷ []) came.row.from came.before lt
+        came.from in
         let deep = h came.row.from came.before old in
         let e = came.depth in
         rw (new.1, new.0) (omega arith)
@@ -226,7 +238,8 @@ module _ {S L : Type 0} (is_state : S → Type 0) (does : S → L → Option S �
     leads = subst (λ (x : Option S). Leads more (n.depth + 1) (Some (length nodes)) x) (sym to)
         (there (length nodes) m (is_last nodes m (length nodes) refl) (omega arith))
 
-  old_leads : (nodes : List (Node S)) (n : Node S) (y : S) (p : ℕ) → All (λ m. m.depth ≤ n.depth + 1) nodes → HasStateAt nodes p
+  old_leads : (nodes : List (Node S)) (n : Node S) (y : S) (p : ℕ) → All (λ m. m.depth ≤ n.depth + 1) nodes
+      → HasStateAt nodes p
       y
       → Leads nodes (n.depth + 1) (Some p) (Some y)
   old_leads nodes n y p near a = subst (λ (x : S). Leads nodes (n.depth + 1) (Some p) (Some x)) a.state
@@ -284,7 +297,8 @@ module _ {S L : Type 0} (is_state : S → Type 0) (does : S → L → Option S �
 
   -- nodes stay
   pub adds_stay : (nodes : List (Node S)) (rows : List (Row L)) (at depth : ℕ) (s : Step S L) (nodes' : List (Node S))
-      (rows' : List (Row L)) → Adds nodes rows at depth s nodes' rows' → (p : ℕ) (x : S) → HasStateAt nodes p x → HasStateAt nodes' p x
+      (rows' : List (Row L)) → Adds nodes rows at depth s nodes' rows' → (p : ℕ) (x : S) → HasStateAt nodes p x
+      → HasStateAt nodes' p x
   adds_stay nodes rows at depth s nodes' rows' (stops e f g) p x h = rw f h
   adds_stay nodes rows at depth s nodes' rows' (goes y q e (had a f) g) p x h = rw f h
   adds_stay nodes rows at depth s nodes' rows' (goes y q e (comes i j f) g) p x h = rw f (at_stays nodes (_ ∷ []) p x h)

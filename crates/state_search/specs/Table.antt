@@ -52,15 +52,16 @@ pub record IsDone {S L : Type 0} (covers : S → List (Step S L) → Type 0) (no
   pub listed : All (HasRow nodes rows p n) steps
 
 -- the node at the place k was first reached by an earlier one's row
-pub record IsReachedByRow {S L : Type 0} (nodes : List (Node S)) (rows : List (Row L)) (k : ℕ) (n : Node S) : Type 0 where
-  pub row : Row L
-  pub within : n.by < length rows
-  pub by : (d : Row L) → slice_index_or rows n.by d ≡ row
-  pub to : row.next ≡ Some k
-  pub earlier : row.from < k
-  pub before : Node S
-  pub from : IsNodeAt nodes row.from before
-  pub depth : n.depth ≡ before.depth + 1
+pub record IsReachedByRow {S L : Type 0} (nodes : List (Node S)) (rows : List (Row L)) (k : ℕ) (n : Node S) : Type 0
+  where
+    pub row : Row L
+    pub within : n.by < length rows
+    pub by : (d : Row L) → slice_index_or rows n.by d ≡ row
+    pub to : row.next ≡ Some k
+    pub earlier : row.from < k
+    pub before : Node S
+    pub from : IsNodeAt nodes row.from before
+    pub depth : n.depth ≡ before.depth + 1
 
 -- a tree of distinct nodes, each after those that took fewer steps, and their rows
 pub record IsTree {S L : Type 0} (is_state : S → Type 0) (does : S → L → Option S → Type 0) (apart : L → L → Type 0)

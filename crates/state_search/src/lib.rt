@@ -2,7 +2,7 @@
 #![tactic(auto)]
 
 pub mod found;
-pub mod transition_system;
 mod places;
 pub mod search;
+pub mod transition_system;
 pub mod word;

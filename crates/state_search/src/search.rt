@@ -6,8 +6,8 @@ ghost use Rattle.state_search.specs.Inner.Searching.{Adds, IsSearching};
 ghost use Rattle.state_search.specs.Table.{HasStateAt, IsFound, HasEnded};
 
 use crate::found::{Found, Node, Row};
-use crate::transition_system::{TransitionSystem, Standing, Step};
 use crate::places::{Places, place_of};
+use crate::transition_system::{Standing, Step, TransitionSystem};
 use std::alloc::{AllocError, Global};
 
 /// How far a search goes: it stops once it has found more than this.

@@ -85,7 +85,8 @@ served tells fails refusal before next y desk a m b w waits left r s =
           (puts_more y a m b (w ++ texts r.exchanges) waits (texts s.exchanges ++ s.more) left r.puts s.puts);
     }
 
-all_puts : (y : EndReason) (a b : Option (List ℕ)) (text left : List ℕ) → (y ≡ why.WriteFault → ⊥) → Puts y a b text left
+all_puts : (y : EndReason) (a b : Option (List ℕ)) (text left : List ℕ) → (y ≡ why.WriteFault → ⊥)
+    → Puts y a b text left
     → WritesUpTo a b text left
 all_puts why.Closed a b text left n p = p
 all_puts why.TooLong a b text left n p = p

@@ -36,7 +36,8 @@ pub record AreFor (first second : Type 0) (k l : Kernel) : Type 0 where
   pub interface : l.interface ≡ k.interface
 
 -- each module answers so, and where they do the same, both go on
-pub record AnswersBoth (k l : Kernel) (x : PositionPair) (inputs : InputSet) (answer : AnswerPair) (next : Option PositionPair) :
+pub record AnswersBoth (k l : Kernel) (x : PositionPair) (inputs : InputSet) (answer : AnswerPair)
+    (next : Option PositionPair) :
     Type 0 where
   pub first_next : Option Position
   pub second_next : Option Position

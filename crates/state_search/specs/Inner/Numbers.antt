@@ -17,7 +17,8 @@ pub record HasNumber {S : Type 0} (number : S → ℕ) (nodes : List (Node S)) (
 
 -- no node from the one place to before the other has a state of this number
 abbrev pub NoneHas : {S : Type 0} → (number : S → ℕ) → List (Node S) → (least most k : ℕ) → Type 0
-NoneHas number nodes least most k = (p : ℕ) (n : Node _) → least ≤ p → p < most → IsNodeAt nodes p n → number n.state ≢ k
+NoneHas number nodes least most k = (p : ℕ) (n : Node _) → least ≤ p → p < most → IsNodeAt nodes p n
+    → number n.state ≢ k
 
 -- of the nodes before a place, the last one that has a state of this number; or none has
 abbrev pub IsLastOf : {S : Type 0} → (number : S → ℕ) → List (Node S) → (most k : ℕ) → Option ℕ → Type 0

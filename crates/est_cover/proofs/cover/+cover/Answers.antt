@@ -11,7 +11,8 @@ pub returns-in-Some-Present-clause-covered : goal.returns-in-Some-Present-clause
 returns-in-Some-Present-clause-covered g t c =
     let forced = rw c.in-Some-Present.field-0-is at c.in-Some-Present.ensures in
     IfOk-weaker c.cover.result _ _ (λ whole e.
-    covers_narrower _ _ _ _ _ _ c.in-Some-Present.place true _ _ _ _ whole forced.0 forced.1 c.with-part.ensures.narrower
+    covers_narrower _ _ _ _ _ _ c.in-Some-Present.place true _ _ _ _ whole forced.0 forced.1
+    c.with-part.ensures.narrower
     e) c.cover.ensures.covered
 
 pub returns-in-Some-Absent-clause-covered : goal.returns-in-Some-Absent-clause-covered

@@ -26,7 +26,8 @@ pub add_extents_of_two-returns-clause-present : goal.add_extents_of_two-returns-
 add_extents_of_two-returns-clause-present t c = λ x a b.
     two_added (Present' x a c.args.p.now b c.args.q.now) c.args.p.now c.args.q.now c.args.traps
     c.args.extents.now.items c.add_extents.new.extents.items
-    c.add_extents-2.new.extents.items c.in_ok-first.first c.in_ok-second.second c.with_parts.result refl (λ n f g. (f, g))
+    c.add_extents-2.new.extents.items c.in_ok-first.first c.in_ok-second.second c.with_parts.result refl
+    (λ n f g. (f, g))
     c.in_ok-first.ensures c.in_ok-second.ensures
     (present_extent c.args.p.now c.args.q.now c.args.traps c.in_ok-first.first c.in_ok-second.second c.with_parts.result
     c.in_ok-first.ensures.own c.in_ok-second.ensures.own
@@ -41,7 +42,8 @@ pub add_extents_of_two-returns-clause-seq : goal.add_extents_of_two-returns-clau
 add_extents_of_two-returns-clause-seq t c = λ a b.
     two_added (Seq' a c.args.p.now b c.args.q.now) c.args.p.now c.args.q.now c.args.traps c.args.extents.now.items
     c.add_extents.new.extents.items
-    c.add_extents-2.new.extents.items c.in_ok-first.first c.in_ok-second.second c.with_parts.result refl (λ n f g. (f, g))
+    c.add_extents-2.new.extents.items c.in_ok-first.first c.in_ok-second.second c.with_parts.result refl
+    (λ n f g. (f, g))
     c.in_ok-first.ensures c.in_ok-second.ensures
     (seq_extent c.args.p.now c.args.q.now c.args.traps c.in_ok-first.first c.in_ok-second.second c.with_parts.result
     c.in_ok-first.ensures.own c.in_ok-second.ensures.own
@@ -56,7 +58,8 @@ pub add_extents_of_two-returns-clause-par : goal.add_extents_of_two-returns-clau
 add_extents_of_two-returns-clause-par t c = λ a b.
     two_added (Par' a c.args.p.now b c.args.q.now) c.args.p.now c.args.q.now c.args.traps c.args.extents.now.items
     c.add_extents.new.extents.items
-    c.add_extents-2.new.extents.items c.in_ok-first.first c.in_ok-second.second c.with_parts.result refl (λ n f g. (f, g))
+    c.add_extents-2.new.extents.items c.in_ok-first.first c.in_ok-second.second c.with_parts.result refl
+    (λ n f g. (f, g))
     c.in_ok-first.ensures c.in_ok-second.ensures
     (par_extent c.args.p.now c.args.q.now c.args.traps c.in_ok-first.first c.in_ok-second.second c.with_parts.result
     c.in_ok-first.ensures.own c.in_ok-second.ensures.own

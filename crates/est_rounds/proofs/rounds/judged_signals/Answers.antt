@@ -13,6 +13,7 @@ returns c =
     let interface = c.args.kernel.now.interface in
     let places : c.len.result ≡ length interface = c.len.ensures.len ∙ ap length c.interface-interface.ensures in
     let may_be = c.emittable.ensures ∙ ap emittable c.interface-interface.ensures in
-    let has = judged_signals_are interface (bits c.args.inputs) (bits c.emittable.result) (bits c.difference.result) may_be
+    let has = judged_signals_are interface (bits c.args.inputs) (bits c.emittable.result) (bits c.difference.result)
+    may_be
     c.difference.ensures in
     ap (λ (p : ℕ). judged_with p (bits c.difference.result)) places ∙ ap (judged_with (length interface)) has

@@ -9,7 +9,8 @@ invariant-loop-found g l = record {
   fits : g.M.TransitionSystem.fits l.machine l.scratch;
   places : IsPlaced g.M.State.Hash.hash_input l.places l.found.nodes.items;
   first : HasStateAt l.found.nodes.items 0 l.fn.start;
-  searching : IsSearching (g.M.TransitionSystem.is_state l.machine) (g.M.TransitionSystem.does l.machine) (g.M.TransitionSystem.covers l.machine)
+  searching : IsSearching (g.M.TransitionSystem.is_state l.machine) (g.M.TransitionSystem.does l.machine)
+      (g.M.TransitionSystem.covers l.machine)
       (g.M.TransitionSystem.apart l.machine) l.found.nodes.items l.found.rows.items l.found.done;
 }
 

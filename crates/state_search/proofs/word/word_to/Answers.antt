@@ -18,7 +18,8 @@ pub index-row-requires-in-loop-place : goal.index-row-requires-in-loop-place
 index-row-requires-in-loop-place g c =
     let e = c.args.found.now.rows.ok.0 in
     let w = led_by (g.M.TransitionSystem.is_state c.args.machine.now) (g.M.TransitionSystem.does c.args.machine.now)
-    (g.M.TransitionSystem.apart c.args.machine.now) _ c.args.found.now.rows.items _ c.loop-place.place _ c.index.result.now
+    (g.M.TransitionSystem.apart c.args.machine.now) _ c.args.found.now.rows.items _ c.loop-place.place _
+    c.index.result.now
     c.requires.tree c.loop-place-test.true
     (c.loop-place.invariant.gone c.index-row.result.now) c.index.ensures in
     rw e w
@@ -36,12 +37,14 @@ loop-place-preserved g c =
     let back : reverse c.push-in-loop-place.new.self.items ≡ _ ∷ reverse word =
     ap reverse c.in_ok-push-2.ensures.items ∙ reverse-append word (_ ∷ []) in
     record {
-      within = (one_back (g.M.TransitionSystem.is_state c.args.machine.now) (g.M.TransitionSystem.does c.args.machine.now)
+      within = (one_back (g.M.TransitionSystem.is_state c.args.machine.now)
+          (g.M.TransitionSystem.does c.args.machine.now)
           (g.M.TransitionSystem.apart c.args.machine.now)
           _ _ _ c.loop-place.place _ c.index.result.now c.index-row-in-loop-place.result.now c.requires.tree
           c.loop-place-test.true (c.loop-place.invariant.gone c.index-row.result.now) c.index.ensures
           c.index-row-in-loop-place.ensures).at.within;
-      gone = λ r. rw back (one_back (g.M.TransitionSystem.is_state c.args.machine.now) (g.M.TransitionSystem.does c.args.machine.now)
+      gone = λ r. rw back (one_back (g.M.TransitionSystem.is_state c.args.machine.now)
+          (g.M.TransitionSystem.does c.args.machine.now)
           (g.M.TransitionSystem.apart c.args.machine.now)
           _ _ _ c.loop-place.place _ c.index.result.now c.index-row-in-loop-place.result.now c.requires.tree
           c.loop-place-test.true (c.loop-place.invariant.gone r) c.index.ensures c.index-row-in-loop-place.ensures);

@@ -17,7 +17,8 @@ returns-in-Err-clause-serves g c =
 pub loop-why-preserved : goal.loop-why-preserved
 loop-why-preserved g c = record {
   sound = c.in_default.ensures.sound;
-  reaches = reach_on _ _ _ _ _ _ _ _ _ _ c.loop-why.invariant.reaches (rw c.in_default.is at c.answer_next.ensures.turns);
+  reaches = reach_on _ _ _ _ _ _ _ _ _ _ c.loop-why.invariant.reaches
+      (rw c.in_default.is at c.answer_next.ensures.turns);
   unfailed_reader = c.in_default.ensures.unfailed.0 ∙ c.loop-why.invariant.unfailed_reader;
   unfailed_writer = c.in_default.ensures.unfailed.1 ∙ c.loop-why.invariant.unfailed_writer;
 }
