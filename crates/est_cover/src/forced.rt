@@ -47,7 +47,8 @@ fn forced_by_implication(condition: u8, implied: u8, part: Part) -> Option<Force
     requires implied { implied < 64 }
     requires apart { (n : ℕ) → bits part.unasked n ≡ true → bits part.inputs n ≡ false }
     ensures { MatchOption result (has_implied (bits part.inputs) condition implied ≡ true)
-        (λ s. IsForced s (λ set. has_implied set condition implied ≡ true) part.unasked part.inputs) }
+        (λ s. IsForced s (λ set. has_implied set condition implied ≡ true) part.unasked
+        part.inputs) }
 {
     if mask::has(part.inputs, implied) {
         return None;

@@ -147,7 +147,7 @@ module _ (m l : Module) (twins : AreTwins m l) (watched : ℕ → Bool) (f : Fou
   agree_before at r n w pass is here = record {
     done = λ k o i v. elim (cases_lt k r.from) [
       | inl lt ↦ let turn : r.from ≤ f.done = subst (λ (a : Row (Asked AnswerPair)). a.from ≤ f.done) is
-      (e.found.turn at r w)
+          (e.found.turn at r w)
           in omega arith
       | inr ge ↦ absurd (let d = deeper r.from k n o here i ge in omega arith)
     ];
@@ -158,7 +158,7 @@ module _ (m l : Module) (twins : AreTwins m l) (watched : ℕ → Bool) (f : Fou
     ];
   } where
     later : (row : Row (Asked AnswerPair)) (k : ℕ) → k < length f.rows.items → get_or f.rows.items k row ≡ row
-    → at ≤ k →
+        → at ≤ k →
         r.from ≤ row.from
     later row k v s g = elim (cases_lt at k) [
       | inl lt ↦ subst (λ (a : Row (Asked AnswerPair)). a.from ≤ row.from) (get_or_default f.rows.items at row r w ∙ is)

@@ -197,7 +197,7 @@ module _ (m : Module) (watched : ℕ → Bool) (f : Found Position (Asked Answer
     | inr d ↦ by (λ j o w i. reached_upto b j o w i) (e.found.tree.came k n (omega arith) here)
   ] where
     by : ((j : ℕ) (o : Node Position) → j < b → IsNodeAt f.nodes.items j o → IsReached m o.state)
-    → IsReachedByRow f.nodes.items
+        → IsReachedByRow f.nodes.items
         f.rows.items k n
         → IsReached m n.state
     by before came =

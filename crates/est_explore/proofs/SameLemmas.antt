@@ -94,7 +94,7 @@ module _ (m l : Module) (twins : AreTwins m l) (watched : ℕ → Bool) (f : Fou
   pub record AgreeFor (d : ℕ) : Type 0 where
     pub done : (k : ℕ) (n : Node PositionPair) → IsNodeAt f.nodes.items k n → n.depth < d → k < f.done
     pub agrees : (row : Row (Asked AnswerPair)) → Contains f.rows.items row → (n : Node PositionPair)
-    → IsNodeAt f.nodes.items row.from
+        → IsNodeAt f.nodes.items row.from
         n
         → n.depth < d → agree row.label.answer.first row.label.answer.second ≡ true
 

@@ -147,7 +147,11 @@ fn reduce_in_trap(place: &ReduceContext<'_>, body: &Body) -> Result<Statement, A
 
 /// The kernel statement of a body with `count` more local signals around it.
 #[cycle(statement)]
-fn reduce_in_signals(place: &ReduceContext<'_>, count: u32, body: &Body) -> Result<Statement, AllocError>
+fn reduce_in_signals(
+    place: &ReduceContext<'_>,
+    count: u32,
+    body: &Body,
+) -> Result<Statement, AllocError>
     requires room { place.now.locals + count ≤ 65536 }
     requires small { IsSmall (reduced (leads place.now.exits.now)
         (place.now.locals + count) (body_of body.now)) }

@@ -34,7 +34,7 @@ module _ {S L : Type 0} (is_state : S → Type 0) (does : S → L → Option S �
     | inr d ↦ by (λ j o w i. way_upto b j o w i) (tree.came k n (omega arith) here)
   ] where
     by : ((j : ℕ) (o : Node S) → j < b → IsNodeAt nodes j o → Way does start o.state)
-    → IsReachedByRow nodes rows k n → Way does start
+        → IsReachedByRow nodes rows k n → Way does start
         n.state
     by before came =
         let row : IsRow does nodes came.row = subst (λ (a : Row L). IsRow does nodes a)

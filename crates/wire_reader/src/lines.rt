@@ -189,7 +189,8 @@ impl LineReader {
         requires { length (held_bytes self.old) ≤ LINE_BYTES }
         ensures adds { Adds (held_bytes self.old) (R.remaining reader.old.device) result
             (held_bytes self.new) (R.remaining reader.new.device) }
-        ensures len { length (held_bytes self.new) ≤ length (held_bytes self.old) + LINE_BUFFER_BYTES }
+        ensures len { length (held_bytes self.new)
+            ≤ length (held_bytes self.old) + LINE_BUFFER_BYTES }
         ensures left { reader.new.left ≡ reader.old.left - 1 }
         ensures gave { IfSome result (λ _. (0 < reader.old.left)
             × (reader.new.faults ≡ reader.old.faults)) }
