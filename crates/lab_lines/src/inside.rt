@@ -10,8 +10,8 @@ ghost use Rattle.lab_lines.specs.Inside.{statements_json, status_json};
 ghost use Rattle.lab_lines.specs.LineParts.{members_in};
 ghost use Rattle.lab_lines.specs.Ties.{incarnation_json};
 
-use crate::line_parts::{names, state};
-use crate::ties::{incarnation, incarnation_under, ties};
+use crate::line_parts::{write_names, write_state};
+use crate::ties::{write_incarnation, write_incarnation_under, write_ties};
 use est_kernel::interface::Interface;
 use est_kernel::state::{Outcome, State, Stuck};
 use est_meaning::status::Status;
@@ -21,7 +21,7 @@ use std::alloc::{AllocError, Global};
 use wire_lines::line_writer::LineWriter;
 
 /// Writes whether it is present.
-fn status(line: &mut LineWriter, status: Status) -> Result<(), AllocError>
+fn write_status(line: &mut LineWriter, status: Status) -> Result<(), AllocError>
     ensures { OnOk result (line.new
         ≡ line.old ++ value_tokens (codes "present") (status_json status)) }
 {
@@ -34,61 +34,65 @@ fn status(line: &mut LineWriter, status: Status) -> Result<(), AllocError>
 }
 
 /// Writes what is said of a local signal.
-fn members(line: &mut LineWriter, local: Local) -> Result<(), AllocError>
+fn write_local_members(line: &mut LineWriter, local: Local) -> Result<(), AllocError>
     ensures { OnOk result (line.new ≡ line.old ++ member_tokens (members_in (local_json local))) }
 {
-    incarnation_under(line, "at", local.declared)?;
-    status(line, local.status)
+    write_incarnation_under(line, "at", local.declared)?;
+    write_status(line, local.status)
 }
 
 /// Writes a local signal.
-fn local(line: &mut LineWriter, local: Local) -> Result<(), AllocError>
+fn write_local(line: &mut LineWriter, local: Local) -> Result<(), AllocError>
     ensures { OnOk result (line.new ≡ line.old ++ item_tokens local_json (local ∷ [])) }
 {
     line.begin_object()?;
-    members(line, local)?;
+    write_local_members(line, local)?;
     line.end_object()
 }
 
 /// Writes local signals as items of a list.
-fn each_local(line: &mut LineWriter, seen: &[Local]) -> Result<(), AllocError>
+fn write_each_local(line: &mut LineWriter, seen: &[Local]) -> Result<(), AllocError>
     ensures { OnOk result (line.new ≡ line.old ++ item_tokens local_json seen.now) }
 {
     for each in seen {
-        local(line, *each)?;
+        write_local(line, *each)?;
     }
     Ok(())
 }
 
 /// Writes the list of local signals.
-fn locals(line: &mut LineWriter, seen: &[Local]) -> Result<(), AllocError>
+fn write_locals(line: &mut LineWriter, seen: &[Local]) -> Result<(), AllocError>
     ensures { OnOk result (line.new
         ≡ line.old ++ value_tokens (codes "locals") (locals_json seen.now)) }
 {
     line.key("locals")?;
     line.begin_array()?;
-    each_local(line, seen)?;
+    write_each_local(line, seen)?;
     line.end_array()
 }
 
 /// Writes statements as items of a list.
-fn each_statement(line: &mut LineWriter, seen: &[Incarnation]) -> Result<(), AllocError>
+fn write_each_statement(line: &mut LineWriter, seen: &[Incarnation]) -> Result<(), AllocError>
     ensures { OnOk result (line.new ≡ line.old ++ item_tokens incarnation_json seen.now) }
 {
     for at in seen {
-        incarnation(line, *at)?;
+        write_incarnation(line, *at)?;
     }
     Ok(())
 }
 
 /// Writes a list of statements under this key.
-fn statements(line: &mut LineWriter, name: &str, seen: &[Incarnation]) -> Result<(), AllocError>
+fn write_statements(
+    line: &mut LineWriter,
+    name: &str,
+    seen: &[Incarnation],
+) -> Result<(), AllocError>
     ensures { OnOk result (line.new
         ≡ line.old ++ value_tokens name.now (statements_json seen.now)) }
 {
     line.key(name)?;
     line.begin_array()?;
-    each_statement(line, seen)?;
+    write_each_statement(line, seen)?;
     line.end_array()
 }
 
@@ -104,17 +108,17 @@ fn reaction_line(
         ++ 10 ∷ []) }
 {
     let mut line = LineWriter::begin(alloc)?;
-    statements(&mut line, "began", seen.began.as_slice())?;
-    locals(&mut line, seen.locals.as_slice())?;
-    state(alloc, &mut line, "next", &outcome.next)?;
+    write_statements(&mut line, "began", seen.began.as_slice())?;
+    write_locals(&mut line, seen.locals.as_slice())?;
+    write_state(alloc, &mut line, "next", &outcome.next)?;
     line.text("ok", "instant")?;
-    names(&mut line, "outputs", interface, outcome.outputs)?;
-    statements(&mut line, "went", seen.went_on.as_slice())?;
+    write_names(&mut line, "outputs", interface, outcome.outputs)?;
+    write_statements(&mut line, "went", seen.went_on.as_slice())?;
     line.end()
 }
 
 /// Writes the number and the name of what an instant is that is stuck.
-fn label(line: &mut LineWriter) -> Result<(), AllocError>
+fn write_stuck_label(line: &mut LineWriter) -> Result<(), AllocError>
     ensures { OnOk result
         (line.new ≡ line.old ++ (value_tokens (codes "code") (number (unsigned 50))
         ++ value_tokens (codes "fault") (string (codes "Stuck")))) }
@@ -136,12 +140,12 @@ fn stuck_line(
         stuck_ties.now) ++ 10 ∷ []) }
 {
     let mut line = LineWriter::begin(alloc)?;
-    statements(&mut line, "began", seen.began.as_slice())?;
-    label(&mut line)?;
-    locals(&mut line, seen.locals.as_slice())?;
-    ties(&mut line, interface, stuck_ties)?;
-    names(&mut line, "undecided", interface, stuck.undecided)?;
-    statements(&mut line, "went", seen.went_on.as_slice())?;
+    write_statements(&mut line, "began", seen.began.as_slice())?;
+    write_stuck_label(&mut line)?;
+    write_locals(&mut line, seen.locals.as_slice())?;
+    write_ties(&mut line, interface, stuck_ties)?;
+    write_names(&mut line, "undecided", interface, stuck.undecided)?;
+    write_statements(&mut line, "went", seen.went_on.as_slice())?;
     line.end()
 }
 
@@ -166,7 +170,7 @@ pub fn back_line(alloc: Global, stands: &State) -> Result<Vec<u8>, AllocError>
     ensures { IfOk result (λ line. line.items ≡ compact_text (back_json stands.now) ++ 10 ∷ []) }
 {
     let mut line = LineWriter::begin(alloc)?;
-    state(alloc, &mut line, "next", stands)?;
+    write_state(alloc, &mut line, "next", stands)?;
     line.text("ok", "back")?;
     line.end()
 }

@@ -17,7 +17,7 @@ use wire_lines::line_writer::LineWriter;
 
 /// Writes the name of the signal at this place as an item of a list, if it is in the set: then
 /// those of later places are left.
-fn name_if(
+fn write_name_if(
     line: &mut LineWriter,
     interface: &Interface,
     signals: u64,
@@ -36,18 +36,22 @@ fn name_if(
 }
 
 /// Writes the names of the signals as items of a list, in the order of declaration.
-fn each_name(line: &mut LineWriter, interface: &Interface, signals: u64) -> Result<(), AllocError>
+fn write_each_name(
+    line: &mut LineWriter,
+    interface: &Interface,
+    signals: u64,
+) -> Result<(), AllocError>
     ensures { OnOk result (line.new
         ≡ line.old ++ item_tokens (λ name. name) (names_from 0 interface.now signals)) }
 {
     for place in 0..interface.len() {
-        name_if(line, interface, signals, place)?;
+        write_name_if(line, interface, signals, place)?;
     }
     Ok(())
 }
 
 /// Writes the list of the names of the signals under this key.
-pub(crate) fn names(
+pub(crate) fn write_names(
     line: &mut LineWriter,
     name: &str,
     interface: &Interface,
@@ -58,12 +62,12 @@ pub(crate) fn names(
 {
     line.key(name)?;
     line.begin_array()?;
-    each_name(line, interface, signals)?;
+    write_each_name(line, interface, signals)?;
     line.end_array()
 }
 
 /// Writes numbers as items of a list.
-fn each_number(line: &mut LineWriter, numbers: &[u16]) -> Result<(), AllocError>
+fn write_each_number(line: &mut LineWriter, numbers: &[u16]) -> Result<(), AllocError>
     ensures { OnOk result (line.new ≡ line.old ++ item_tokens number_json numbers.now) }
 {
     for number in numbers {
@@ -73,7 +77,7 @@ fn each_number(line: &mut LineWriter, numbers: &[u16]) -> Result<(), AllocError>
 }
 
 /// Writes the list of the numbers of pauses under this key.
-fn pauses(
+fn write_pauses(
     alloc: Global,
     line: &mut LineWriter,
     name: &str,
@@ -85,12 +89,12 @@ fn pauses(
     let numbers = pause_numbers(alloc, paused)?;
     line.key(name)?;
     line.begin_array()?;
-    each_number(line, numbers.as_slice())?;
+    write_each_number(line, numbers.as_slice())?;
     line.end_array()
 }
 
 /// Writes where a module stands under this key.
-pub(crate) fn state(
+pub(crate) fn write_state(
     alloc: Global,
     line: &mut LineWriter,
     name: &str,
@@ -101,6 +105,6 @@ pub(crate) fn state(
     match state {
         State::Fresh => line.text(name, "start"),
         State::Done => line.text(name, "end"),
-        State::Paused(paused) => pauses(alloc, line, name, paused),
+        State::Paused(paused) => write_pauses(alloc, line, name, paused),
     }
 }

@@ -9,7 +9,7 @@ use std::alloc::{AllocError, Global};
 
 /// Adds the numbers of those among `count` pauses from the number `first` on that are in the set.
 /// Where none is, it looks no further; else it looks at either half.
-fn add(
+fn add_pauses_below(
     numbers: &mut Vec<u16>,
     paused: &PauseSet,
     first: usize,
@@ -27,8 +27,8 @@ fn add(
         return Ok(());
     }
     let half = count / 2;
-    add(numbers, paused, first, half)?;
-    add(numbers, paused, first + half, count - half)
+    add_pauses_below(numbers, paused, first, half)?;
+    add_pauses_below(numbers, paused, first + half, count - half)
 }
 
 /// The numbers of the pauses that are in the set, in order.
@@ -37,6 +37,6 @@ pub fn pause_numbers(alloc: Global, paused: &PauseSet) -> Result<Vec<u16>, Alloc
         ≡ pauses_below paused.now MOST_STATEMENTS) }
 {
     let mut numbers = Vec::new(alloc);
-    add(&mut numbers, paused, 0, MOST_STATEMENTS as usize)?;
+    add_pauses_below(&mut numbers, paused, 0, MOST_STATEMENTS as usize)?;
     Ok(numbers)
 }

@@ -13,35 +13,35 @@ use serde_json::{Value, json};
 use std::alloc::{AllocError, Global};
 
 /// A statement without parts.
-fn plain(alloc: Global, kind: &str) -> Result<Value, AllocError>
+fn plain_json(alloc: Global, kind: &str) -> Result<Value, AllocError>
     ensures { IfOk result (λ v. view v ≡ plain_json kind.now) }
 {
     json!(in alloc; {"kind": kind})
 }
 
 /// A statement with one part.
-fn around(alloc: Global, kind: &str, part: usize) -> Result<Value, AllocError>
+fn around_json(alloc: Global, kind: &str, part: usize) -> Result<Value, AllocError>
     ensures { IfOk result (λ v. view v ≡ around_json kind.now part) }
 {
     json!(in alloc; {"kind": kind, "parts": [part]})
 }
 
 /// A statement with two parts.
-fn both(alloc: Global, kind: &str, first: usize, second: usize) -> Result<Value, AllocError>
+fn both_json(alloc: Global, kind: &str, first: usize, second: usize) -> Result<Value, AllocError>
     ensures { IfOk result (λ v. view v ≡ both_json kind.now first second) }
 {
     json!(in alloc; {"kind": kind, "parts": [first, second]})
 }
 
 /// A pause.
-fn pause(alloc: Global, pause: PauseIndex) -> Result<Value, AllocError>
+fn pause_json(alloc: Global, pause: PauseIndex) -> Result<Value, AllocError>
     ensures { IfOk result (λ v. view v ≡ pause_json pause.index) }
 {
     json!(in alloc; {"kind": "pause", "pause": pause.index})
 }
 
 /// An `emit`.
-fn emit(alloc: Global, interface: &Interface, signal: &Signal) -> Result<Value, AllocError>
+fn emit_json(alloc: Global, interface: &Interface, signal: &Signal) -> Result<Value, AllocError>
     ensures { IfOk result (λ v. view v ≡ emit_json interface.now signal.now) }
 {
     match signal {
@@ -49,12 +49,12 @@ fn emit(alloc: Global, interface: &Interface, signal: &Signal) -> Result<Value, 
             let name = interface.get(*place).name;
             json!(in alloc; {"kind": "emit", "signal": name.as_str()})
         }
-        _ => plain(alloc, "emit"),
+        _ => plain_json(alloc, "emit"),
     }
 }
 
 /// Puts a statement at its place.
-fn put(statements: &mut Vec<Value>, at: usize, statement: Value)
+fn put_statement(statements: &mut Vec<Value>, at: usize, statement: Value)
     requires { at < length statements.old.items }
     ensures { map view statements.new.items
         ≡ slice_set (map view statements.old.items) at (view statement) }
@@ -64,7 +64,7 @@ fn put(statements: &mut Vec<Value>, at: usize, statement: Value)
 
 /// Adds the part of a statement of this kind, and answers the statement.
 #[cycle(listing)]
-fn add_part(
+fn add_one_part(
     alloc: Global,
     interface: &Interface,
     statements: &mut Vec<Value>,
@@ -76,8 +76,8 @@ fn add_part(
     ensures added { OnOk result (map view statements.new.items ≡ map view statements.old.items
         ++ statements_json interface.now (length statements.old.items) part.now) }
 {
-    let part = add(alloc, interface, statements, part)?;
-    around(alloc, kind, part)
+    let part = add_statement(alloc, interface, statements, part)?;
+    around_json(alloc, kind, part)
 }
 
 /// Adds the two parts of a statement of this kind, and answers the statement.
@@ -96,15 +96,15 @@ fn add_parts(
         ++ statements_of_both_json interface.now (length statements.old.items) first.now
         second.now) }
 {
-    let first = add(alloc, interface, statements, first)?;
-    let second = add(alloc, interface, statements, second)?;
-    both(alloc, kind, first, second)
+    let first = add_statement(alloc, interface, statements, first)?;
+    let second = add_statement(alloc, interface, statements, second)?;
+    both_json(alloc, kind, first, second)
 }
 
 /// Adds a statement and then its parts, and answers its number. Recursion is as deep as the
 /// statement.
 #[cycle(listing)]
-fn add(
+fn add_statement(
     alloc: Global,
     interface: &Interface,
     statements: &mut Vec<Value>,
@@ -117,19 +117,19 @@ fn add(
     let at = statements.len();
     statements.push(Value::Null)?;
     let told = match statement {
-        Statement::Nothing => plain(alloc, "nothing")?,
-        Statement::Pause(index) => pause(alloc, *index)?,
-        Statement::Emit(signal) => emit(alloc, interface, signal)?,
+        Statement::Nothing => plain_json(alloc, "nothing")?,
+        Statement::Pause(index) => pause_json(alloc, *index)?,
+        Statement::Emit(signal) => emit_json(alloc, interface, signal)?,
         Statement::Present(_, p, q) => add_parts(alloc, interface, statements, "present", p, q)?,
-        Statement::Suspend(_, p) => add_part(alloc, interface, statements, "suspend", p)?,
+        Statement::Suspend(_, p) => add_one_part(alloc, interface, statements, "suspend", p)?,
         Statement::Seq(p, q) => add_parts(alloc, interface, statements, "seq", p, q)?,
-        Statement::Loop(p) => add_part(alloc, interface, statements, "loop", p)?,
+        Statement::Loop(p) => add_one_part(alloc, interface, statements, "loop", p)?,
         Statement::Par(p, q) => add_parts(alloc, interface, statements, "par", p, q)?,
-        Statement::Trap(p) => add_part(alloc, interface, statements, "trap", p)?,
-        Statement::Exit(_) => plain(alloc, "exit")?,
-        Statement::Local(_, p) => add_part(alloc, interface, statements, "signal", p)?,
+        Statement::Trap(p) => add_one_part(alloc, interface, statements, "trap", p)?,
+        Statement::Exit(_) => plain_json(alloc, "exit")?,
+        Statement::Local(_, p) => add_one_part(alloc, interface, statements, "signal", p)?,
     };
-    put(statements, at, told);
+    put_statement(statements, at, told);
     Ok(at)
 }
 
@@ -138,7 +138,7 @@ pub fn kernel_told(alloc: Global, kernel: &Kernel) -> Result<Value, AllocError>
     ensures { IfOk result (λ v. IsKernelTold kernel.now (view v)) }
 {
     let mut statements = Vec::new(alloc);
-    add(alloc, kernel.interface(), &mut statements, kernel.root())?;
+    add_statement(alloc, kernel.interface(), &mut statements, kernel.root())?;
     let inputs = kernel.interface().offerable().count_ones();
     json!(in alloc; {
         "inputs": inputs,

@@ -14,7 +14,7 @@ use std::alloc::AllocError;
 use wire_lines::line_writer::LineWriter;
 
 /// Writes a statement in one of its incarnations.
-pub(crate) fn incarnation(line: &mut LineWriter, at: Incarnation) -> Result<(), AllocError>
+pub(crate) fn write_incarnation(line: &mut LineWriter, at: Incarnation) -> Result<(), AllocError>
     ensures { OnOk result (line.new ≡ line.old ++ item_tokens incarnation_json (at ∷ [])) }
 {
     line.begin_array()?;
@@ -24,7 +24,7 @@ pub(crate) fn incarnation(line: &mut LineWriter, at: Incarnation) -> Result<(), 
 }
 
 /// Writes a statement in one of its incarnations under this key.
-pub(crate) fn incarnation_under(
+pub(crate) fn write_incarnation_under(
     line: &mut LineWriter,
     name: &str,
     at: Incarnation,
@@ -32,11 +32,11 @@ pub(crate) fn incarnation_under(
     ensures { OnOk result (line.new ≡ line.old ++ value_tokens name.now (incarnation_json at)) }
 {
     line.key(name)?;
-    incarnation(line, at)
+    write_incarnation(line, at)
 }
 
 /// What a statement has to do with a signal.
-fn kind(kind: TieKind) -> &'static str
+fn kind_word(kind: TieKind) -> &'static str
     ensures { result.now ≡ kind_text kind }
 {
     match kind {
@@ -46,7 +46,7 @@ fn kind(kind: TieKind) -> &'static str
 }
 
 /// Writes a signal of the interface: its name.
-fn name_of(line: &mut LineWriter, interface: &Interface, place: usize) -> Result<(), AllocError>
+fn write_name(line: &mut LineWriter, interface: &Interface, place: usize) -> Result<(), AllocError>
     ensures { OnOk result (line.new ≡ line.old
         ++ value_tokens (codes "signal") (signal_json interface.now
         (open_signal.Interface place))) }
@@ -59,7 +59,7 @@ fn name_of(line: &mut LineWriter, interface: &Interface, place: usize) -> Result
 }
 
 /// Writes a signal: the name of one of the interface, or the statement that declares a local one.
-fn signal(
+fn write_signal(
     line: &mut LineWriter,
     interface: &Interface,
     signal: OpenSignal,
@@ -68,44 +68,52 @@ fn signal(
         ++ value_tokens (codes "signal") (signal_json interface.now signal)) }
 {
     match signal {
-        OpenSignal::Interface(place) => name_of(line, interface, place),
-        OpenSignal::Local(declared) => incarnation_under(line, "signal", declared),
+        OpenSignal::Interface(place) => write_name(line, interface, place),
+        OpenSignal::Local(declared) => write_incarnation_under(line, "signal", declared),
     }
 }
 
 /// Writes what is said of a statement that has to do with a signal that is not decided.
-fn members(line: &mut LineWriter, interface: &Interface, tie: Tie) -> Result<(), AllocError>
+fn write_tie_members(
+    line: &mut LineWriter,
+    interface: &Interface,
+    tie: Tie,
+) -> Result<(), AllocError>
     ensures { OnOk result (line.new
         ≡ line.old ++ member_tokens (members_in (tie_json interface.now tie))) }
 {
-    incarnation_under(line, "at", tie.at)?;
-    line.text("kind", kind(tie.kind))?;
-    signal(line, interface, tie.signal)
+    write_incarnation_under(line, "at", tie.at)?;
+    line.text("kind", kind_word(tie.kind))?;
+    write_signal(line, interface, tie.signal)
 }
 
 /// Writes a statement that has to do with a signal that is not decided.
-fn tie(line: &mut LineWriter, interface: &Interface, tie: Tie) -> Result<(), AllocError>
+fn write_tie(line: &mut LineWriter, interface: &Interface, tie: Tie) -> Result<(), AllocError>
     ensures { OnOk result (line.new
         ≡ line.old ++ item_tokens (tie_json interface.now) (tie ∷ [])) }
 {
     line.begin_object()?;
-    members(line, interface, tie)?;
+    write_tie_members(line, interface, tie)?;
     line.end_object()
 }
 
 /// Writes ties as items of a list.
-fn each_tie(line: &mut LineWriter, interface: &Interface, found: &[Tie]) -> Result<(), AllocError>
+fn write_each_tie(
+    line: &mut LineWriter,
+    interface: &Interface,
+    found: &[Tie],
+) -> Result<(), AllocError>
     ensures { OnOk result (line.new
         ≡ line.old ++ item_tokens (tie_json interface.now) found.now) }
 {
     for each in found {
-        tie(line, interface, *each)?;
+        write_tie(line, interface, *each)?;
     }
     Ok(())
 }
 
 /// Writes the list of the ties of an instant.
-pub(crate) fn ties(
+pub(crate) fn write_ties(
     line: &mut LineWriter,
     interface: &Interface,
     found: &[Tie],
@@ -115,6 +123,6 @@ pub(crate) fn ties(
 {
     line.key("ties")?;
     line.begin_array()?;
-    each_tie(line, interface, found)?;
+    write_each_tie(line, interface, found)?;
     line.end_array()
 }

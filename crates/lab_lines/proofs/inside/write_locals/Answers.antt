@@ -1,0 +1,9 @@
+use Rattle.std.proofs.Common.{codes}
+use Rattle.lab_lines.specs.Inside.{local_json}
+use Rattle.wire_lines.proofs.ReplyTokens.{list_is}
+use Rattle.lab_lines.proofs.inside.write_locals.Goals as goal
+
+pub returns : goal.returns
+returns c =
+    list_is local_json c.args.seen.now (codes "locals") _ _ _ _ _ c.end_array.result c.in_ok-key.ensures
+    c.in_ok-begin_array.ensures c.in_ok-each_local.ensures c.end_array.ensures
