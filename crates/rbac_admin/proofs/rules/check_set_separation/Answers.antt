@@ -1,5 +1,5 @@
 use Rattle.std.proofs.Common.{refl}
-use Rattle.rbac_admin.proofs.rules.separated_set.Goals as goal
+use Rattle.rbac_admin.proofs.rules.check_set_separation.Goals as goal
 
 pub returns-in-Some : goal.returns-in-Some
 returns-in-Some c = λ L by st are_roles.

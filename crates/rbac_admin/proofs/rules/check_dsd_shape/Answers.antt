@@ -1,6 +1,6 @@
 use Rattle.std.proofs.Common.{refl, inl, inr, arith}
 use Rattle.rbac_admin.proofs.Shaping.{repeated_twice, none_twice}
-use Rattle.rbac_admin.proofs.rules.is_shape.Goals as goal
+use Rattle.rbac_admin.proofs.rules.check_dsd_shape.Goals as goal
 
 pub returns-in-Some : goal.returns-in-Some
 returns-in-Some c = (refl, inl (repeated_twice c.args.roles.now _ c.in-Some.ensures))

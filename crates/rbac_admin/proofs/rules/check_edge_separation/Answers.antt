@@ -1,5 +1,5 @@
 use Rattle.std.proofs.Common.{refl}
-use Rattle.rbac_admin.proofs.rules.separated_edge.Goals as goal
+use Rattle.rbac_admin.proofs.rules.check_edge_separation.Goals as goal
 
 pub returns-in-Some : goal.returns-in-Some
 returns-in-Some c = λ L by st is_senior is_junior.

@@ -2,9 +2,9 @@ use Rattle.std.proofs.Common.{refl, subst}
 use Rattle.rbac_policy.specs.Facts.{IsAuthorized}
 use Rattle.rbac_policy.proofs.OfReaders.ReadingRoles.{one_user}
 use Rattle.rbac_admin.proofs.Answering.{not_so, is_so}
-use Rattle.rbac_admin.proofs.rules.authorized_role.Goals as goal
-use Rattle.rbac_admin.proofs.rules.authorized_role.Goals.{in_default-via-in-Some+else-is_authorized}
-use Rattle.rbac_admin.proofs.rules.authorized_role.Goals.{in_default-via-in_default}
+use Rattle.rbac_admin.proofs.rules.check_role_authorized.Goals as goal
+use Rattle.rbac_admin.proofs.rules.check_role_authorized.Goals.{in_default-via-in-Some+else-is_authorized}
+use Rattle.rbac_admin.proofs.rules.check_role_authorized.Goals.{in_default-via-in_default}
 
 pub returns-in-Some : goal.returns-in-Some
 returns-in-Some c = λ L user st lives.
