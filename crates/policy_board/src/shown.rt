@@ -21,28 +21,32 @@ pub struct Shown {
 
 /// What the writer does to each of the two copies of the policy.
 #[derive(Drop)]
-pub enum Operation {
+pub enum Publication {
     /// Does nothing. It is put before the first entry, to make room in the log for later ones.
     Room,
     /// An entry, with the list that ends with it.
     Add { entry: Entry, trace: Trace },
 }
 
-impl Absorb<Operation> for Shown {
-    ghost use Rattle.policy_board.specs.Inner.Steps.{after_operation};
+impl Absorb<Publication> for Shown {
+    ghost use Rattle.policy_board.specs.Inner.Steps.{after_publication};
 
     type State = (Policy, Trace);
 
     ghost state = { λ s. (s.policy, s.trace) };
 
-    ghost applied = { λ s operation. after_operation s operation };
+    ghost applied = { λ s publication. after_publication s publication };
 
     ghost never_fails = { Unit {0} };
 
-    fn absorb_first(&mut self, operation: &Operation, _other: &Shown) -> Result<(), AllocError> {
-        match operation {
-            Operation::Room => {}
-            Operation::Add { entry, trace } => {
+    fn absorb_first(
+        &mut self,
+        publication: &Publication,
+        _other: &Shown,
+    ) -> Result<(), AllocError> {
+        match publication {
+            Publication::Room => {}
+            Publication::Add { entry, trace } => {
                 self.policy.absorb(entry);
                 self.trace = trace.again();
             }
@@ -82,4 +86,4 @@ impl<B: BoardName> Outcome<Shown, LinkedList<Entry>> for Sees<B> {
 
 pub type PolicyReader<B> = Reader<Shown, LinkedList<Entry>, Published<B>>;
 
-pub type PolicyWriter<B> = Writer<Shown, Operation, LinkedList<Entry>, Published<B>>;
+pub type PolicyWriter<B> = Writer<Shown, Publication, LinkedList<Entry>, Published<B>>;
