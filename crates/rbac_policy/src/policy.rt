@@ -25,7 +25,7 @@ use crate::tables::{
     grant_of, mask_of, place_of, put, remove_set, remove_user, session_of, take_all_grants,
     take_grant, take_role, take_role_from_all,
 };
-use rbac_closure::rows::Rows;
+use rbac_closure::hierarchy::RoleHierarchy;
 use rbac_closure::sets::RoleSet;
 
 /// What a list of accepted entries says, in tables of fixed size. It takes no memory. Two policies
@@ -36,7 +36,7 @@ pub struct Policy {
     pub(crate) logins: u16,
     pub(crate) users: [Option<User>; USERS],
     pub(crate) roles: [Option<Name>; ROLES],
-    pub(crate) juniors: Rows,
+    pub(crate) juniors: RoleHierarchy,
     pub(crate) grants: [Option<Grant>; GRANTS],
     pub(crate) sessions: [Option<Session>; SESSIONS],
     pub(crate) sets: [Option<DsdSet>; SETS],
@@ -53,7 +53,7 @@ impl Policy {
             logins: 0,
             users: [None; USERS],
             roles: [None; ROLES],
-            juniors: Rows::new(),
+            juniors: RoleHierarchy::new(),
             grants: [None; GRANTS],
             sessions: [None; SESSIONS],
             sets: [None; SETS],

@@ -16,7 +16,7 @@ use crate::names::{Name, RoleNames};
 use crate::objects::{Object, Operation};
 use crate::rows::{DsdSet, Grant, Session, User};
 use crate::sizes::{GRANTS, ROLES, SESSIONS, SETS, USERS};
-use rbac_closure::rows::Rows;
+use rbac_closure::hierarchy::RoleHierarchy;
 use rbac_closure::sets::RoleSet;
 
 /// The first free place of a table.
@@ -327,7 +327,11 @@ pub fn grant_of(
 
 /// Whether the user of the session is authorized for each role that is active in it: the role is
 /// assigned to the user, or lies below one that is.
-fn has_only_authorized(session: &Session, users: &[Option<User>; USERS], juniors: &Rows) -> bool
+fn has_only_authorized(
+    session: &Session,
+    users: &[Option<User>; USERS],
+    juniors: &RoleHierarchy,
+) -> bool
     ensures { result ≡ has_only_authorized users.now juniors.now session.now }
 {
     let authorized = below(juniors, roles_of(users, &session.user));
@@ -337,7 +341,7 @@ fn has_only_authorized(session: &Session, users: &[Option<User>; USERS], juniors
 fn session_kept(
     slot: &Option<Session>,
     users: &[Option<User>; USERS],
-    juniors: &Rows,
+    juniors: &RoleHierarchy,
 ) -> Option<Session>
     ensures { result ≡ session_kept users.now juniors.now slot.now }
 {
@@ -351,7 +355,7 @@ fn session_kept(
 pub fn end_unauthorized(
     sessions: &mut [Option<Session>; SESSIONS],
     users: &[Option<User>; USERS],
-    juniors: &Rows,
+    juniors: &RoleHierarchy,
 )
     ensures { sessions.new ≡ map (session_kept users.now juniors.now) sessions.old }
 {

@@ -5,7 +5,7 @@ use Rattle.rbac_closure.specs.Sets.{without_place}
 use Rattle.rbac_closure.specs.Edges.{IsEdge}
 use Rattle.rbac_closure.specs.Inner.Rows.{IsInTable}
 use Rattle.rbac_closure.proofs.EdgeLemmas.{removed_in_table, edge_absent}
-use Rattle.rbac_closure.proofs.rows.Rows.remove_edge.Goals as goal
+use Rattle.rbac_closure.proofs.hierarchy.RoleHierarchy.remove_edge.Goals as goal
 
 pub rebuild-requires : goal.rebuild-requires
 rebuild-requires c =

@@ -1,7 +1,7 @@
 use Rattle.std.proofs.Common.{arith, ◌<◌, length, ap, sym, ◌∙◌, set, ℕ}
 use Rattle.std.proofs.lemmas.List.Edits.{map_over_more}
 use Rattle.rbac_closure.specs.Sets.{without_place}
-use Rattle.rbac_closure.proofs.rows.take_out.Goals as goal
+use Rattle.rbac_closure.proofs.hierarchy.take_out.Goals as goal
 
 pub loop-role-preserved : goal.loop-role-preserved
 loop-role-preserved c =

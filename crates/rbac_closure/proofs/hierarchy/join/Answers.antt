@@ -3,8 +3,8 @@ use Rattle.std.specs.Prelude.{slice_set}
 use Rattle.std.proofs.lemmas.Grind.{get_or_default_zero}
 use Rattle.rbac_closure.specs.Sets.{either}
 use Rattle.rbac_closure.proofs.EdgeLemmas.{TakenUpTo, taken_in, passed_over}
-use Rattle.rbac_closure.proofs.rows.join.Goals as goal
-use Rattle.rbac_closure.proofs.rows.join.Goals.{then-has, else-has}
+use Rattle.rbac_closure.proofs.hierarchy.join.Goals as goal
+use Rattle.rbac_closure.proofs.hierarchy.join.Goals.{then-has, else-has}
 
 pub loop-role-preserved : goal.loop-role-preserved
 loop-role-preserved c =

@@ -3,8 +3,8 @@ use Rattle.std.specs.Prelude.{slice_index}
 use Rattle.rbac_closure.specs.Sets.{with_place}
 use Rattle.rbac_closure.specs.Inner.Rows.{HasJuniors}
 use Rattle.rbac_closure.proofs.EdgeLemmas.{junior_added, junior_passed}
-use Rattle.rbac_closure.proofs.rows.Rows.add_edges.Goals as goal
-use Rattle.rbac_closure.proofs.rows.Rows.add_edges.Goals.{then-has, else-has}
+use Rattle.rbac_closure.proofs.hierarchy.RoleHierarchy.add_edges.Goals as goal
+use Rattle.rbac_closure.proofs.hierarchy.RoleHierarchy.add_edges.Goals.{then-has, else-has}
 
 pub loop-junior-preserved : goal.loop-junior-preserved
 loop-junior-preserved c =

@@ -3,7 +3,7 @@ use Rattle.rbac_closure.specs.declared.sets.TheConstants.{ROLES}
 use Rattle.rbac_closure.specs.Sets.{Has, IsFirstFrom}
 use Rattle.rbac_closure.specs.Inner.Rows.{IsInTable}
 use Rattle.rbac_closure.proofs.EdgeLemmas.{IsFound, found_begins, found_more, found_past, found_ends, below_in_table}
-use Rattle.rbac_closure.proofs.rows.Rows.below_some.Goals as goal
+use Rattle.rbac_closure.proofs.hierarchy.RoleHierarchy.below_some.Goals as goal
 
 pub loop-role-init : goal.loop-role-init
 loop-role-init c = (omega arith, λ place. found_begins c.args.self.now c.args.roles place)

@@ -3,7 +3,7 @@ use Rattle.std.specs.Prelude.{slice_set}
 use Rattle.rbac_closure.specs.Sets.{without_place}
 use Rattle.rbac_closure.specs.Inner.Rows.{IsInTable}
 use Rattle.rbac_closure.proofs.EdgeLemmas.{cleared_in_table}
-use Rattle.rbac_closure.proofs.rows.Rows.clear_role.Goals as goal
+use Rattle.rbac_closure.proofs.hierarchy.RoleHierarchy.clear_role.Goals as goal
 
 pub rebuild-requires : goal.rebuild-requires
 rebuild-requires c =

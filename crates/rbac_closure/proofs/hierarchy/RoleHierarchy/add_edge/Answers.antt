@@ -5,7 +5,7 @@ use Rattle.rbac_closure.specs.Sets.{with_place}
 use Rattle.rbac_closure.specs.Edges.{IsEdge}
 use Rattle.rbac_closure.specs.Inner.Rows.{IsClosed}
 use Rattle.rbac_closure.proofs.EdgeLemmas.{TakesIn, closed_after, edge_again}
-use Rattle.rbac_closure.proofs.rows.Rows.add_edge.Goals as goal
+use Rattle.rbac_closure.proofs.hierarchy.RoleHierarchy.add_edge.Goals as goal
 
 pub invariant_of-self : goal.invariant_of-self
 invariant_of-self c =

@@ -3,7 +3,7 @@ use Rattle.std.specs.Prelude.{replicate}
 use Rattle.rbac_closure.specs.declared.sets.TheConstants.{ROLES}
 use Rattle.rbac_closure.specs.Inner.Rows.{IsClosed}
 use Rattle.rbac_closure.proofs.EdgeLemmas.{closed_alone}
-use Rattle.rbac_closure.proofs.rows.Rows.new.Goals as goal
+use Rattle.rbac_closure.proofs.hierarchy.RoleHierarchy.new.Goals as goal
 
 pub invariant_of-result : goal.invariant_of-result
 invariant_of-result c =

@@ -16,13 +16,13 @@ use std::marker::Model;
 /// included. A contract sees the edges alone: for each place, the set of the juniors to which an
 /// edge leads from it.
 #[derive(Clone, Drop)]
-pub struct Rows {
+pub struct RoleHierarchy {
     juniors: [RoleSet; ROLES],
     below: [RoleSet; ROLES],
     above: [RoleSet; ROLES],
 }
 
-impl Model for Rows {
+impl Model for RoleHierarchy {
     ghost use Rattle.std.specs.Prelude.{List, ℕ};
     ghost use Rattle.rbac_closure.specs.Inner.Rows.{IsClosed};
 
@@ -33,18 +33,18 @@ impl Model for Rows {
     ghost invariant = { λ r. IsClosed r.juniors r.below r.above };
 }
 
-/// Rows are equal where their edges are.
-impl PartialEq for Rows {
+/// Hierarchies are equal where their edges are.
+impl PartialEq for RoleHierarchy {
     ghost eq = { bytes_eq };
 
     ghost laws = { partial_equiv_from_equiv nat_list_eq_equiv };
 
-    fn eq(&self, other: &Rows) -> bool {
+    fn eq(&self, other: &RoleHierarchy) -> bool {
         self.juniors == other.juniors
     }
 }
 
-impl Eq for Rows {
+impl Eq for RoleHierarchy {
     ghost laws = { nat_list_eq_equiv };
 }
 
@@ -81,12 +81,12 @@ fn take_out(rows: &mut [RoleSet; ROLES], place: usize)
     }
 }
 
-impl Rows {
+impl RoleHierarchy {
     /// No edges.
-    pub fn new() -> Rows
+    pub fn new() -> RoleHierarchy
         ensures { result ≡ replicate ROLES 0 }
     {
-        Rows {
+        RoleHierarchy {
             juniors: [RoleSet::empty(); ROLES],
             below: each_alone(),
             above: each_alone(),
@@ -165,31 +165,31 @@ impl Rows {
         }
     }
 
-    /// The rows of these edges.
-    fn rebuild(juniors: &[RoleSet; ROLES]) -> Rows
+    /// The hierarchy of these edges.
+    fn rebuild(juniors: &[RoleSet; ROLES]) -> RoleHierarchy
         requires { IsInTable juniors.now }
         ensures { result ≡ juniors.now }
     {
-        let mut rows = Rows::new();
+        let mut hierarchy = RoleHierarchy::new();
         for senior in 0..ROLES {
-            rows.add_edges(senior, juniors[senior]);
+            hierarchy.add_edges(senior, juniors[senior]);
         }
-        rows
+        hierarchy
     }
 
-    /// The same with the edge, in rows of their own.
-    pub fn with_edge(&self, senior: usize, junior: usize) -> Rows
+    /// The same with the edge, in a hierarchy of its own.
+    pub fn with_edge(&self, senior: usize, junior: usize) -> RoleHierarchy
         requires senior_is { senior < ROLES }
         requires junior_is { junior < ROLES }
         ensures { result ≡ edge_added senior junior self.now }
     {
-        let mut rows = Rows {
+        let mut hierarchy = RoleHierarchy {
             juniors: self.juniors,
             below: self.below,
             above: self.above,
         };
-        rows.add_edge(senior, junior);
-        rows
+        hierarchy.add_edge(senior, junior);
+        hierarchy
     }
 
     /// Removes the edge. What lies below the senior by other edges stays there.
@@ -201,7 +201,7 @@ impl Rows {
     {
         let mut juniors = self.juniors;
         juniors[senior] = juniors[senior].without(junior);
-        *self = Rows::rebuild(&juniors);
+        *self = RoleHierarchy::rebuild(&juniors);
     }
 
     /// Removes all edges from and to the role.
@@ -212,6 +212,6 @@ impl Rows {
         let mut juniors = self.juniors;
         take_out(&mut juniors, role);
         juniors[role] = RoleSet::empty();
-        *self = Rows::rebuild(&juniors);
+        *self = RoleHierarchy::rebuild(&juniors);
     }
 }
