@@ -119,22 +119,22 @@ abbrev pub set_deleted : NameText → Policy → Policy
 set_deleted set p = record p { sets = map (set_without set) p.sets }
 
 -- the role at this place is active in the session, if both are there
-abbrev pub taken_up_at : Option ℕ → Option ℕ → Policy → Policy
-taken_up_at (Some number) (Some place) p = record p { sessions = map (session_given number place) p.sessions }
-taken_up_at _ _ p = p
+abbrev pub role_activated_at : Option ℕ → Option ℕ → Policy → Policy
+role_activated_at (Some number) (Some place) p = record p { sessions = map (session_given number place) p.sessions }
+role_activated_at _ _ p = p
 
 -- the role is active in the session that gives the command
-abbrev pub taken_up : Option ℕ → NameText → Policy → Policy
-taken_up session role p = taken_up_at session (place_of role p.roles) p
+abbrev pub role_activated : Option ℕ → NameText → Policy → Policy
+role_activated session role p = role_activated_at session (place_of role p.roles) p
 
 -- the role at this place is active in the session no more, if both are there
-abbrev pub laid_down_at : Option ℕ → Option ℕ → Policy → Policy
-laid_down_at (Some number) (Some place) p = record p { sessions = map (session_relieved number place) p.sessions }
-laid_down_at _ _ p = p
+abbrev pub role_dropped_at : Option ℕ → Option ℕ → Policy → Policy
+role_dropped_at (Some number) (Some place) p = record p { sessions = map (session_relieved number place) p.sessions }
+role_dropped_at _ _ p = p
 
 -- the role is active in the session that gives the command no more
-abbrev pub laid_down : Option ℕ → NameText → Policy → Policy
-laid_down session role p = laid_down_at session (place_of role p.roles) p
+abbrev pub role_dropped : Option ℕ → NameText → Policy → Policy
+role_dropped session role p = role_dropped_at session (place_of role p.roles) p
 
 -- the change of the command, given by this session
 abbrev pub changed_by : AdminCommand → Option ℕ → Policy → Policy
@@ -152,8 +152,8 @@ changed_by (AddInheritance senior junior) session p = inherited senior junior p
 changed_by (DeleteInheritance senior junior) session p = disinherited senior junior p
 changed_by (CreateDsdSet set count roles) session p = set_created set count roles p
 changed_by (DeleteDsdSet set) session p = set_deleted set p
-changed_by (AddActiveRole role) session p = taken_up session role p
-changed_by (DropActiveRole role) session p = laid_down session role p
+changed_by (AddActiveRole role) session p = role_activated session role p
+changed_by (DropActiveRole role) session p = role_dropped session role p
 
 -- the change of the entry
 abbrev pub changed : Policy → Entry → Policy

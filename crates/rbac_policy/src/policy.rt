@@ -9,8 +9,8 @@ ghost use Rattle.rbac_policy.specs.Order.{below};
 ghost use Rattle.rbac_policy.specs.Opening.{opening_entries};
 ghost use Rattle.rbac_policy.specs.StandsFor.{StandsFor};
 ghost use Rattle.rbac_policy.specs.Change.{absorbed, assigned, changed, deassigned, disinherited};
-ghost use Rattle.rbac_policy.specs.Change.{granted, inherited, laid_down, logged_in, logged_out};
-ghost use Rattle.rbac_policy.specs.Change.{policy_of, revoked, role_deleted, set_created, taken_up};
+ghost use Rattle.rbac_policy.specs.Change.{granted, inherited, role_dropped, logged_in, logged_out};
+ghost use Rattle.rbac_policy.specs.Change.{policy_of, revoked, role_deleted, set_created, role_activated};
 ghost use Rattle.rbac_policy.specs.Change.{user_deleted};
 
 use crate::closure::below;
@@ -155,16 +155,16 @@ impl Policy {
         put(&mut self.sets, set);
     }
 
-    fn take_up(&mut self, session: Option<SessionId>, role: &Name)
-        ensures { self.new ≡ taken_up session role.now self.old }
+    fn activate_role(&mut self, session: Option<SessionId>, role: &Name)
+        ensures { self.new ≡ role_activated session role.now self.old }
     {
         if let (Some(number), Some(place)) = (session, place_of(&self.roles, role)) {
             activate(&mut self.sessions, number, place);
         }
     }
 
-    fn lay_down(&mut self, session: Option<SessionId>, role: &Name)
-        ensures { self.new ≡ laid_down session role.now self.old }
+    fn drop_role(&mut self, session: Option<SessionId>, role: &Name)
+        ensures { self.new ≡ role_dropped session role.now self.old }
     {
         if let (Some(number), Some(place)) = (session, place_of(&self.roles, role)) {
             deactivate(&mut self.sessions, number, place);
@@ -224,8 +224,8 @@ impl Policy {
             AdminCommand::DeleteInheritance { senior, junior } => self.disinherit(senior, junior),
             AdminCommand::CreateDsdSet { set, count, roles } => self.create_set(set, *count, roles),
             AdminCommand::DeleteDsdSet { set } => remove_set(&mut self.sets, set),
-            AdminCommand::AddActiveRole { role } => self.take_up(entry.session, role),
-            AdminCommand::DropActiveRole { role } => self.lay_down(entry.session, role),
+            AdminCommand::AddActiveRole { role } => self.activate_role(entry.session, role),
+            AdminCommand::DropActiveRole { role } => self.drop_role(entry.session, role),
         }
     }
 

@@ -12,7 +12,7 @@ use Rattle.rbac_policy.specs.declared.commands.Entry.{Entry}
 use Rattle.rbac_policy.specs.declared.rows.Session.{Session}
 use Rattle.rbac_policy.specs.Entries.{logins}
 use Rattle.rbac_policy.specs.Names.{NameText}
-use Rattle.rbac_policy.specs.Facts.{IsActive, CreatesWith, TakesUp, LaysDown, Ends}
+use Rattle.rbac_policy.specs.Facts.{IsActive, CreatesWith, Activates, Drops, Ends}
 use Rattle.rbac_policy.specs.Tables.{At, with_bit, session_given, session_relieved}
 use Rattle.rbac_policy.specs.StandsFor.{InMask, SessionsStand}
 use Rattle.rbac_policy.proofs.Steps.{in_force_push}
@@ -31,8 +31,8 @@ module _ (roles : List (Option NameText)) (unique : (p q : ℕ) (r : NameText) �
 
   dropped : (n : ℕ) (r : NameText) → IsActive (L ++ the_drop ∷ []) n r ↔ (IsActive L n r × ((k ≡ n) × (r0 ≡ r) → ⊥))
   dropped n r =
-      let M : List Entry → Entry → Type 0 = λ before e. CreatesWith n r before e ⊎ TakesUp n r e in
-      let U : Entry → Type 0 = LaysDown n r in (
+      let M : List Entry → Entry → Type 0 = λ before e. CreatesWith n r before e ⊎ Activates n r e in
+      let U : Entry → Type 0 = Drops n r in (
         λ s. elim ((in_force_push M U L the_drop).0 s) [
           | inl m ↦ elim m [ inl a ↦ (let h = a.creates.login in cc) | inr b ↦ (let h = b.1 in cc) ]
           | inr h ↦ (h.0, λ x. h.1 (ap Some x.0, ap DropActiveRole x.1))
@@ -89,8 +89,8 @@ module _ (roles : List (Option NameText)) (unique : (p q : ℕ) (r : NameText) �
 
   pub taken : (n : ℕ) (r : NameText) → IsActive (L ++ the_take ∷ []) n r ↔ (((k ≡ n) × (r0 ≡ r)) ⊎ IsActive L n r)
   taken n r =
-      let M : List Entry → Entry → Type 0 = λ before e. CreatesWith n r before e ⊎ TakesUp n r e in
-      let U : Entry → Type 0 = LaysDown n r in (
+      let M : List Entry → Entry → Type 0 = λ before e. CreatesWith n r before e ⊎ Activates n r e in
+      let U : Entry → Type 0 = Drops n r in (
         λ s. elim ((in_force_push M U L the_take).0 s) [
           | inl m ↦
               elim m [ inl a ↦ (let h = a.creates.login in cc) | inr b ↦ inl (same_Some k n b.0, (let x = b.1 in cc)) ]

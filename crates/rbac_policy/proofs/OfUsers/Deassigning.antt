@@ -14,7 +14,7 @@ use Rattle.rbac_policy.specs.declared.commands.Entry.{Entry}
 use Rattle.rbac_policy.specs.declared.rows.User.{User}
 use Rattle.rbac_policy.specs.declared.rows.Session.{Session}
 use Rattle.rbac_policy.specs.Names.{NameText}
-use Rattle.rbac_policy.specs.Facts.{IsUser, IsAssigned, IsActive, CreatesWith, TakesUp, LaysDown}
+use Rattle.rbac_policy.specs.Facts.{IsUser, IsAssigned, IsActive, CreatesWith, Activates, Drops}
 use Rattle.rbac_policy.specs.Tables.{At, user_relieved, user_without, session_of_other}
 use Rattle.rbac_policy.specs.StandsFor.{InMask, UsersStand, SessionsStand}
 use Rattle.rbac_policy.proofs.Steps.{in_force_push}
@@ -154,7 +154,7 @@ module _ (roles : List (Option NameText)) (L : List Entry) (s : Option ℕ) (u0 
   module _ (unique : (p q : ℕ) (r : NameText) → At roles p r → At roles q r → p ≡ q) (many : length roles ≡ ROLES)
       (sessions : List (Option Session)) (ss : SessionsStand roles sessions L) where
     still_active : (n : ℕ) (r : NameText) → IsActive (L ++ the_removal ∷ []) n r ↔ IsActive L n r
-    still_active n r = untouched (λ before e. CreatesWith n r before e ⊎ TakesUp n r e) (LaysDown n r) L the_removal
+    still_active n r = untouched (λ before e. CreatesWith n r before e ⊎ Activates n r e) (Drops n r) L the_removal
         (λ m. elim m [ inl a ↦ (let h = a.creates.login in cc) | inr b ↦ (let h = b.1 in cc) ])
         (λ u. let h = u.1 in cc)
 
