@@ -15,8 +15,8 @@ use Rattle.rbac_policy.specs.declared.sizes.TheConstants.{USERS, ROLES, GRANTS, 
 use Rattle.rbac_policy.specs.declared.sizes.TheConstants.{LAST_VERSION}
 use Rattle.rbac_policy.specs.Names.{NameText}
 use Rattle.rbac_policy.specs.Tables.{place_of, grants_given, put_free, mask_of, session_without, session_kept}
-use Rattle.rbac_policy.specs.Tables.{user_given, user_relieved, user_cleared, user_without, grant_revoked}
-use Rattle.rbac_policy.specs.Tables.{grant_cleared, session_of_other, session_given, session_relieved, set_without}
+use Rattle.rbac_policy.specs.Tables.{user_assigned, user_deassigned, user_cleared, user_without, grant_revoked}
+use Rattle.rbac_policy.specs.Tables.{grant_cleared, session_of_other, session_activated, session_dropped, set_without}
 use Rattle.rbac_closure.specs.Edges.{edge_added, edge_removed, role_cleared}
 
 -- the pair is granted to the role at this place, if there is one
@@ -46,7 +46,7 @@ logged_out (Some number) p = record p { sessions = map (session_without number) 
 -- the role at this place is assigned to the user, if there is one
 abbrev pub assigned_at : Option ℕ → NameText → Policy → Policy
 assigned_at None user p = p
-assigned_at (Some place) user p = record p { users = map (user_given user place) p.users }
+assigned_at (Some place) user p = record p { users = map (user_assigned user place) p.users }
 
 -- the role of this name is assigned to the user, if there is one
 abbrev pub assigned : NameText → NameText → Policy → Policy
@@ -55,7 +55,7 @@ assigned user role p = assigned_at (place_of role p.roles) user p
 -- the role at this place is taken from the user, if there is one
 abbrev pub deassigned_at : Option ℕ → NameText → Policy → Policy
 deassigned_at None user p = p
-deassigned_at (Some place) user p = record p { users = map (user_relieved user place) p.users }
+deassigned_at (Some place) user p = record p { users = map (user_deassigned user place) p.users }
 
 -- the role of this name is taken from the user, if there is one
 abbrev pub deassigned : NameText → NameText → Policy → Policy
@@ -120,7 +120,7 @@ set_deleted set p = record p { sets = map (set_without set) p.sets }
 
 -- the role at this place is active in the session, if both are there
 abbrev pub role_activated_at : Option ℕ → Option ℕ → Policy → Policy
-role_activated_at (Some number) (Some place) p = record p { sessions = map (session_given number place) p.sessions }
+role_activated_at (Some number) (Some place) p = record p { sessions = map (session_activated number place) p.sessions }
 role_activated_at _ _ p = p
 
 -- the role is active in the session that gives the command
@@ -129,7 +129,7 @@ role_activated session role p = role_activated_at session (place_of role p.roles
 
 -- the role at this place is active in the session no more, if both are there
 abbrev pub role_dropped_at : Option ℕ → Option ℕ → Policy → Policy
-role_dropped_at (Some number) (Some place) p = record p { sessions = map (session_relieved number place) p.sessions }
+role_dropped_at (Some number) (Some place) p = record p { sessions = map (session_dropped number place) p.sessions }
 role_dropped_at _ _ p = p
 
 -- the role is active in the session that gives the command no more

@@ -47,15 +47,15 @@ abbrev pub put_free : {X : Type 0} → X → List (Option X) → List (Option X)
 put_free x slots = put_at x slots (position is_none slots)
 
 -- the user of this name has the role at this place, too
-abbrev pub user_given : NameText → ℕ → Option User → Option User
-user_given name place None = None
-user_given name place (Some user) = if bytes_eq user.name name then Some
+abbrev pub user_assigned : NameText → ℕ → Option User → Option User
+user_assigned name place None = None
+user_assigned name place (Some user) = if bytes_eq user.name name then Some
     (record { name = user.name; roles = with_bit user.roles place }) else Some user
 
 -- the user of this name has the role at this place no more
-abbrev pub user_relieved : NameText → ℕ → Option User → Option User
-user_relieved name place None = None
-user_relieved name place (Some user) = if bytes_eq user.name name then Some
+abbrev pub user_deassigned : NameText → ℕ → Option User → Option User
+user_deassigned name place None = None
+user_deassigned name place (Some user) = if bytes_eq user.name name then Some
     (record { name = user.name; roles = without_place user.roles place }) else Some user
 
 -- the user has the role at this place no more
@@ -132,17 +132,17 @@ session_of_other user None = None
 session_of_other user (Some session) = if bytes_eq session.user user then None else Some session
 
 -- the role at this place is active in the session of this number, too
-abbrev pub session_given : ℕ → ℕ → Option Session → Option Session
-session_given number place None = None
-session_given number place (Some session) =
+abbrev pub session_activated : ℕ → ℕ → Option Session → Option Session
+session_activated number place None = None
+session_activated number place (Some session) =
     if session.number == number then Some
     (record { number = session.number; user = session.user; active = with_bit session.active place }) else Some
     session
 
 -- the role at this place is active in the session of this number no more
-abbrev pub session_relieved : ℕ → ℕ → Option Session → Option Session
-session_relieved number place None = None
-session_relieved number place (Some session) =
+abbrev pub session_dropped : ℕ → ℕ → Option Session → Option Session
+session_dropped number place None = None
+session_dropped number place (Some session) =
     if session.number == number then Some
     (record { number = session.number; user = session.user; active = without_place session.active place }) else Some
     session

@@ -10,8 +10,8 @@ ghost use Rattle.rbac_policy.specs.Opening.{opening_entries};
 ghost use Rattle.rbac_policy.specs.StandsFor.{StandsFor};
 ghost use Rattle.rbac_policy.specs.Change.{absorbed, assigned, changed, deassigned, disinherited};
 ghost use Rattle.rbac_policy.specs.Change.{granted, inherited, role_dropped, logged_in, logged_out};
-ghost use Rattle.rbac_policy.specs.Change.{policy_of, revoked, role_deleted, set_created, role_activated};
-ghost use Rattle.rbac_policy.specs.Change.{user_deleted};
+ghost use Rattle.rbac_policy.specs.Change.{policy_of, revoked, role_deleted, set_created};
+ghost use Rattle.rbac_policy.specs.Change.{role_activated, user_deleted};
 
 use crate::closure::below;
 use crate::commands::{AdminCommand, Entry, SessionId};
@@ -21,9 +21,9 @@ use crate::opening::opening_entries;
 use crate::rows::{DsdSet, Grant, Session, User};
 use crate::sizes::{GRANTS, ROLES, SESSIONS, SETS, USERS};
 use crate::tables::{
-    activate, deactivate, end_session, end_sessions_of, end_unauthorized, give_grant, give_role,
-    grant_of, mask_of, place_of, put, remove_set, remove_user, session_of, take_all_grants,
-    take_grant, take_role, take_role_from_all,
+    activate, assign_role, deactivate, deassign_role, deassign_role_from_all, end_session,
+    end_sessions_of, end_unauthorized, give_grant, grant_of, mask_of, place_of, put, remove_set,
+    remove_user, session_of, take_all_grants, take_grant,
 };
 use rbac_closure::hierarchy::RoleHierarchy;
 use rbac_closure::sets::RoleSet;
@@ -77,7 +77,7 @@ impl Policy {
         ensures { self.new ≡ assigned user.now role.now self.old }
     {
         if let Some(place) = place_of(&self.roles, role) {
-            give_role(&mut self.users, user, place);
+            assign_role(&mut self.users, user, place);
         }
     }
 
@@ -93,7 +93,7 @@ impl Policy {
         ensures { self.new ≡ deassigned user.now role.now self.old }
     {
         if let Some(place) = place_of(&self.roles, role) {
-            take_role(&mut self.users, user, place);
+            deassign_role(&mut self.users, user, place);
         }
     }
 
@@ -119,7 +119,7 @@ impl Policy {
     {
         if let Some(place) = place_of(&self.roles, role) {
             self.roles[place] = None;
-            take_role_from_all(&mut self.users, place);
+            deassign_role_from_all(&mut self.users, place);
             take_all_grants(&mut self.grants, place);
             self.juniors.clear_role(place);
         }

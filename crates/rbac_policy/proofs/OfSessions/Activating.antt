@@ -1,4 +1,4 @@
--- The table of sessions after a role was taken up or laid down, before the sweep.
+-- The table of sessions after a role was activated or dropped, before the sweep.
 use Rattle.std.proofs.Common.{◌≡◌, ℕ, ◌<◌, ◌≤◌, ◌⊎◌, ◌↔◌, List, [], ◌∷◌, ◌++◌, length, map, cond, inl, inr, sym, ◌∙◌}
 use Rattle.std.proofs.Common.{ap, refl, subst, true, false, Bool}
 use Rattle.std.specs.Prelude.{Option, Some, ◌==◌}
@@ -13,7 +13,7 @@ use Rattle.rbac_policy.specs.declared.rows.Session.{Session}
 use Rattle.rbac_policy.specs.Entries.{logins}
 use Rattle.rbac_policy.specs.Names.{NameText}
 use Rattle.rbac_policy.specs.Facts.{IsActive, CreatesWith, Activates, Drops, Ends}
-use Rattle.rbac_policy.specs.Tables.{At, with_bit, session_given, session_relieved}
+use Rattle.rbac_policy.specs.Tables.{At, with_bit, session_activated, session_dropped}
 use Rattle.rbac_policy.specs.StandsFor.{InMask, SessionsStand}
 use Rattle.rbac_policy.proofs.Steps.{in_force_push}
 use Rattle.rbac_policy.proofs.OfSessions.Ended.{Unswept}
@@ -43,12 +43,12 @@ module _ (roles : List (Option NameText)) (unique : (p q : ℕ) (r : NameText) �
   drop_stays : (n : ℕ) (u : NameText) → Ends n u the_drop → ⊥
   drop_stays n u ends = elim ends [ inl a ↦ (let h = a.1 in cc) | inr b ↦ cc ]
 
-  drop_slot : (at : ℕ) (x : Session) → At sessions at x → SessionSlot roles L the_drop (session_relieved k p0) x
+  drop_slot : (at : ℕ) (x : Session) → At sessions at x → SessionSlot roles L the_drop (session_dropped k p0) x
   drop_slot at x there = by_test (x.number == k) refl where
     new : Session
     new = record { number = x.number; user = x.user; active = without_place x.active p0 }
 
-    by_test : (b : Bool) → (x.number == k) ≡ b → SessionSlot roles L the_drop (session_relieved k p0) x
+    by_test : (b : Bool) → (x.number == k) ≡ b → SessionSlot roles L the_drop (session_dropped k p0) x
     by_test true e =
         let same = (Decides-eqb x.number k).0 e in
         inr (
@@ -80,8 +80,8 @@ module _ (roles : List (Option NameText)) (unique : (p q : ℕ) (r : NameText) �
       },
     )
 
-  pub drop_unswept : Unswept roles (map (session_relieved k p0) sessions) L the_drop
-  drop_unswept = sessions_mapped roles sessions L the_drop (session_relieved k p0) refl ss drop_slot refl unique many
+  pub drop_unswept : Unswept roles (map (session_dropped k p0) sessions) L the_drop
+  drop_unswept = sessions_mapped roles sessions L the_drop (session_dropped k p0) refl ss drop_slot refl unique many
       (λ n r a. ss.made n r ((dropped n r).0 a).0)
 
   abbrev pub the_take : Entry
@@ -105,7 +105,7 @@ module _ (roles : List (Option NameText)) (unique : (p q : ℕ) (r : NameText) �
   pub take_stays : (n : ℕ) (u : NameText) → Ends n u the_take → ⊥
   take_stays n u ends = elim ends [ inl a ↦ (let h = a.1 in cc) | inr b ↦ cc ]
 
-  -- the row of the session that takes the role up
+  -- the row of the session that activates the role
   abbrev pub with_role : Session → Session
   with_role x = record { number = x.number; user = x.user; active = with_bit x.active p0 }
 
@@ -121,9 +121,9 @@ module _ (roles : List (Option NameText)) (unique : (p q : ℕ) (r : NameText) �
     named = named_with_bit roles unique p0 r0 there0 low x.active (ss.named at x there);
   }
 
-  take_slot : (at : ℕ) (x : Session) → At sessions at x → SessionSlot roles L the_take (session_given k p0) x
+  take_slot : (at : ℕ) (x : Session) → At sessions at x → SessionSlot roles L the_take (session_activated k p0) x
   take_slot at x there = by_test (x.number == k) refl where
-    by_test : (b : Bool) → (x.number == k) ≡ b → SessionSlot roles L the_take (session_given k p0) x
+    by_test : (b : Bool) → (x.number == k) ≡ b → SessionSlot roles L the_take (session_activated k p0) x
     by_test true e =
         inr (
           with_role x,
@@ -149,7 +149,8 @@ module _ (roles : List (Option NameText)) (unique : (p q : ℕ) (r : NameText) �
       },
     )
 
-  -- the session that takes the role up was made
-  pub take_unswept : k ≤ logins L → Unswept roles (map (session_given k p0) sessions) L the_take
-  take_unswept known = sessions_mapped roles sessions L the_take (session_given k p0) refl ss take_slot refl unique many
+  -- the session that activates the role was made
+  pub take_unswept : k ≤ logins L → Unswept roles (map (session_activated k p0) sessions) L the_take
+  take_unswept known = sessions_mapped roles sessions L the_take
+      (session_activated k p0) refl ss take_slot refl unique many
       (λ n r a. elim ((taken n r).0 a) [ inl s ↦ subst (λ i. i ≤ logins L) s.0 known | inr h ↦ ss.made n r h ])

@@ -15,7 +15,7 @@ use Rattle.rbac_policy.specs.declared.rows.User.{User}
 use Rattle.rbac_policy.specs.declared.rows.Session.{Session}
 use Rattle.rbac_policy.specs.Names.{NameText}
 use Rattle.rbac_policy.specs.Facts.{IsUser, IsAssigned, IsActive, CreatesWith, Activates, Drops}
-use Rattle.rbac_policy.specs.Tables.{At, user_relieved, user_without, session_of_other}
+use Rattle.rbac_policy.specs.Tables.{At, user_deassigned, user_without, session_of_other}
 use Rattle.rbac_policy.specs.StandsFor.{InMask, UsersStand, SessionsStand}
 use Rattle.rbac_policy.proofs.Steps.{in_force_push}
 use Rattle.rbac_policy.proofs.OfSessions.Ended.{Unswept}
@@ -48,7 +48,7 @@ module _ (roles : List (Option NameText)) (unique : (p q : ℕ) (r : NameText) �
             (inr (h.0, λ x. elim x [ inl y ↦ h.1 (cc, cc) | inr z ↦ elim z [ inl y ↦ cc | inr w ↦ cc ] ])),
       )
 
-  slot : (at : ℕ) (x : User) → At users at x → UserSlot roles (L ++ the_deassignment ∷ []) (user_relieved u0 p0) x
+  slot : (at : ℕ) (x : User) → At users at x → UserSlot roles (L ++ the_deassignment ∷ []) (user_deassigned u0 p0) x
   slot at x there = by_test (bytes_eq x.name u0) refl where
     new : User
     new = record { name = x.name; roles = without_place x.roles p0 }
@@ -56,7 +56,8 @@ module _ (roles : List (Option NameText)) (unique : (p q : ℕ) (r : NameText) �
     still : IsUser (L ++ the_deassignment ∷ []) x.name
     still = (user_same x.name).1 ((us.exist x.name).1 (record { at = at; value = x; there = there; fact = refl }))
 
-    by_test : (b : Bool) → bytes_eq x.name u0 ≡ b → UserSlot roles (L ++ the_deassignment ∷ []) (user_relieved u0 p0) x
+    by_test : (b : Bool) → bytes_eq x.name u0 ≡ b → UserSlot roles (L ++ the_deassignment ∷ [])
+        (user_deassigned u0 p0) x
     by_test true e =
         let same = (bytes_eq-Decides x.name u0).0 e in
         inr (
@@ -86,8 +87,8 @@ module _ (roles : List (Option NameText)) (unique : (p q : ℕ) (r : NameText) �
       },
     )
 
-  pub deassigning : UsersStand roles (map (user_relieved u0 p0) users) (L ++ the_deassignment ∷ [])
-  deassigning = users_mapped roles roles users L (L ++ the_deassignment ∷ []) (user_relieved u0 p0) refl us slot
+  pub deassigning : UsersStand roles (map (user_deassigned u0 p0) users) (L ++ the_deassignment ∷ [])
+  deassigning = users_mapped roles roles users L (L ++ the_deassignment ∷ []) (user_deassigned u0 p0) refl us slot
       (λ u h. (user_same u).0 h)
       (λ u r a. (user_same u).1 (us.only_users u r ((taken_push u r).0 a).0))
 
