@@ -5,11 +5,11 @@ ghost use Rattle.std.specs.Option.{ForSome};
 ghost use Rattle.rbac_policy.specs.Tables.{first_of, grant_given, grant_is, grant_of, grants_given};
 ghost use Rattle.rbac_policy.specs.Tables.{has_only_authorized, mask_of, place_of, put_free};
 ghost use Rattle.rbac_policy.specs.Tables.{role_is, roles_of, session_of, session_kept};
-ghost use Rattle.rbac_policy.specs.Tables.{session_without, user_assigned, user_is, with_place};
-ghost use Rattle.rbac_policy.specs.Tables.{grant_cleared, grant_revoked, grant_with};
-ghost use Rattle.rbac_policy.specs.Tables.{session_activated, session_of_other, session_dropped};
-ghost use Rattle.rbac_policy.specs.Tables.{set_without, user_cleared, user_deassigned};
-ghost use Rattle.rbac_policy.specs.Tables.{user_without};
+ghost use Rattle.rbac_policy.specs.Tables.{session_without, user_assigned, user_is};
+ghost use Rattle.rbac_policy.specs.Tables.{with_found_place, grant_cleared, grant_revoked};
+ghost use Rattle.rbac_policy.specs.Tables.{grant_with, session_activated, session_of_other};
+ghost use Rattle.rbac_policy.specs.Tables.{session_dropped, set_without, user_cleared};
+ghost use Rattle.rbac_policy.specs.Tables.{user_deassigned, user_without};
 
 use crate::closure::below;
 use crate::commands::SessionId;
@@ -481,9 +481,9 @@ pub fn session_of(sessions: &[Option<Session>; SESSIONS], number: SessionId) -> 
     None
 }
 
-fn with_place(mask: RoleSet, place: Option<usize>) -> RoleSet
+fn with_found_place(mask: RoleSet, place: Option<usize>) -> RoleSet
     requires { ForSome place (λ p. p < ROLES) }
-    ensures { result ≡ with_place mask place }
+    ensures { result ≡ with_found_place mask place }
 {
     match place {
         Some(place) => mask.with(place),
@@ -497,7 +497,7 @@ pub fn mask_of(roles: &[Option<Name>; ROLES], listed: &RoleNames) -> RoleSet
 {
     let mut mask = RoleSet::empty();
     for name in listed.as_slice() {
-        mask = with_place(mask, place_of(roles, name));
+        mask = with_found_place(mask, place_of(roles, name));
     }
     mask
 }

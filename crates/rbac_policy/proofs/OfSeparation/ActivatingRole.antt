@@ -14,7 +14,8 @@ use Rattle.rbac_policy.specs.declared.separation.Violation.{Violation}
 use Rattle.rbac_policy.specs.Names.{NameText}
 use Rattle.rbac_policy.specs.Facts.{IsActive, IsAuthorized, IsLive, Lives, HasOnlyAuthorized, Ends}
 use Rattle.rbac_policy.specs.Violations.{first_violation}
-use Rattle.rbac_policy.specs.Tables.{At, place_of, session_of, with_bit}
+use Rattle.rbac_closure.specs.Sets.{with_place}
+use Rattle.rbac_policy.specs.Tables.{At, place_of, session_of}
 use Rattle.rbac_policy.specs.StandsFor.{InMask, IsNamed, StandsFor}
 use Rattle.rbac_policy.proofs.Steps.{get_push, get_last}
 use Rattle.rbac_policy.proofs.OfSessions.Lives.{lives_after, lives_before}
@@ -35,7 +36,7 @@ module _ (p : Policy) (L : List Entry) (st : StandsFor p L) (k : ℕ) (role user
   e = record { session = Some k; command = AddActiveRole role }
 
   abbrev coming : Session
-  coming = record { number = x.number; user = x.user; active = with_bit x.active place }
+  coming = record { number = x.number; user = x.user; active = with_place x.active place }
 
   there : At p.roles place role
   there = role_at p L st role place found

@@ -5,7 +5,7 @@ use Rattle.std.specs.Prelude.{Option, Some, ◌==◌}
 use Rattle.std.proofs.lemmas.Bool.{false≢true}
 use Rattle.std.proofs.lemmas.Bool.Decides.{Decides-eqb}
 use Rattle.std.proofs.lemmas.Option.{same_Some}
-use Rattle.rbac_closure.specs.Sets.{without_place}
+use Rattle.rbac_closure.specs.Sets.{with_place, without_place}
 use Rattle.rbac_policy.specs.declared.sizes.TheConstants.{ROLES}
 use Rattle.rbac_policy.specs.declared.commands.AdminCommand.TheVariants.{AddActiveRole, DropActiveRole}
 use Rattle.rbac_policy.specs.declared.commands.Entry.{Entry}
@@ -13,14 +13,14 @@ use Rattle.rbac_policy.specs.declared.rows.Session.{Session}
 use Rattle.rbac_policy.specs.Entries.{logins}
 use Rattle.rbac_policy.specs.Names.{NameText}
 use Rattle.rbac_policy.specs.Facts.{IsActive, CreatesWith, Activates, Drops, Ends}
-use Rattle.rbac_policy.specs.Tables.{At, with_bit, session_activated, session_dropped}
+use Rattle.rbac_policy.specs.Tables.{At, session_activated, session_dropped}
 use Rattle.rbac_policy.specs.StandsFor.{InMask, SessionsStand}
 use Rattle.rbac_policy.proofs.Steps.{in_force_push}
 use Rattle.rbac_policy.proofs.OfSessions.Ended.{Unswept}
 use Rattle.rbac_policy.proofs.Untouched.{through}
 use Rattle.rbac_policy.proofs.OfGrants.Granting.{flip, sums}
 use Rattle.rbac_policy.proofs.OfSlots.Mapping.{SessionSlot, SessionBecomes, sessions_mapped}
-use Rattle.rbac_policy.proofs.OfSlots.Slots.{in_with_bit, named_with_bit, in_without_bit, named_without_bit}
+use Rattle.rbac_policy.proofs.OfSlots.Slots.{in_with_place, named_with_place, in_without_place, named_without_place}
 
 module _ (roles : List (Option NameText)) (unique : (p q : ℕ) (r : NameText) → At roles p r → At roles q r → p ≡ q)
     (many : length roles ≡ ROLES)
@@ -61,8 +61,8 @@ module _ (roles : List (Option NameText)) (unique : (p q : ℕ) (r : NameText) �
             active = λ r. through (dropped x.number r) (through {B = InMask roles x.active r × (r0 ≡ r → ⊥)} (
               λ h. ((ss.active at x there r).0 h.0, λ s. h.1 (sym same, s)),
               λ h. ((ss.active at x there r).1 h.0, λ s. h.1 s.1),
-            ) (flip (in_without_bit roles unique p0 r0 there0 low x.active r)));
-            named = named_without_bit roles unique p0 r0 there0 low x.active (ss.named at x there);
+            ) (flip (in_without_place roles unique p0 r0 there0 low x.active r)));
+            named = named_without_place roles unique p0 r0 there0 low x.active (ss.named at x there);
           },
         )
     by_test false e = inr (
@@ -107,7 +107,7 @@ module _ (roles : List (Option NameText)) (unique : (p q : ℕ) (r : NameText) �
 
   -- the row of the session that activates the role
   abbrev pub with_role : Session → Session
-  with_role x = record { number = x.number; user = x.user; active = with_bit x.active p0 }
+  with_role x = record { number = x.number; user = x.user; active = with_place x.active p0 }
 
   pub taken_here : (at : ℕ) (x : Session) → At sessions at x → x.number ≡ k
       → SessionBecomes roles L the_take x (with_role x)
@@ -117,8 +117,8 @@ module _ (roles : List (Option NameText)) (unique : (p q : ℕ) (r : NameText) �
     stays = take_stays x.number x.user;
     active = λ r. through (taken x.number r) (through
         (sums {A = (k ≡ x.number) × (r0 ≡ r)} {C = r0 ≡ r} (λ p. p.1, λ q. (sym same, q)) (ss.active at x there r))
-        (flip (in_with_bit roles unique p0 r0 there0 low x.active r)));
-    named = named_with_bit roles unique p0 r0 there0 low x.active (ss.named at x there);
+        (flip (in_with_place roles unique p0 r0 there0 low x.active r)));
+    named = named_with_place roles unique p0 r0 there0 low x.active (ss.named at x there);
   }
 
   take_slot : (at : ℕ) (x : Session) → At sessions at x → SessionSlot roles L the_take (session_activated k p0) x

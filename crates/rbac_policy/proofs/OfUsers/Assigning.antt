@@ -14,12 +14,13 @@ use Rattle.rbac_policy.specs.declared.commands.Entry.{Entry}
 use Rattle.rbac_policy.specs.declared.rows.User.{User}
 use Rattle.rbac_policy.specs.Names.{NameText}
 use Rattle.rbac_policy.specs.Facts.{IsUser, IsAssigned}
-use Rattle.rbac_policy.specs.Tables.{At, with_bit, user_assigned}
+use Rattle.rbac_closure.specs.Sets.{with_place}
+use Rattle.rbac_policy.specs.Tables.{At, user_assigned}
 use Rattle.rbac_policy.specs.StandsFor.{InMask, IsNamed, UsersStand}
 use Rattle.rbac_policy.proofs.Steps.{in_force_push}
 use Rattle.rbac_policy.proofs.Untouched.{through, untouched}
 use Rattle.rbac_policy.proofs.OfGrants.Granting.{flip, sums}
-use Rattle.rbac_policy.proofs.OfSlots.Slots.{mapped, map_at, in_with_bit, named_with_bit}
+use Rattle.rbac_policy.proofs.OfSlots.Slots.{mapped, map_at, in_with_place, named_with_place}
 
 module _ (roles : List (Option NameText)) (unique : (p q : ℕ) (r : NameText) → At roles p r → At roles q r → p ≡ q)
     (p0 : ℕ) (r0 : NameText) (there0 : At roles p0 r0) (low : p0 < ROLES)
@@ -52,7 +53,7 @@ module _ (roles : List (Option NameText)) (unique : (p q : ℕ) (r : NameText) �
   slot : (at : ℕ) (x y : User) → At users at x → user_assigned u0 p0 (Some x) ≡ Some y → Given x y
   slot at x y there gives = by_test (bytes_eq x.name u0) refl where
     new : User
-    new = record { name = x.name; roles = with_bit x.roles p0 }
+    new = record { name = x.name; roles = with_place x.roles p0 }
 
     by_test : (b : Bool) → bytes_eq x.name u0 ≡ b → Given x y
     by_test true e =
@@ -63,8 +64,8 @@ module _ (roles : List (Option NameText)) (unique : (p q : ℕ) (r : NameText) �
           assigned = λ r. through (given_push x.name r) (through
               (sums {A = (u0 ≡ x.name) × (r0 ≡ r)} {C = r0 ≡ r} (λ p. p.1, λ q. (sym same, q))
               (us.assigned at x there r))
-              (flip (in_with_bit roles unique p0 r0 there0 low x.roles r)));
-          named = named_with_bit roles unique p0 r0 there0 low x.roles (us.named at x there);
+              (flip (in_with_place roles unique p0 r0 there0 low x.roles r)));
+          named = named_with_place roles unique p0 r0 there0 low x.roles (us.named at x there);
         })
     by_test false e =
         let is : x ≡ y = same_Some x y (sym (ap (λ b. cond b (Some new) (Some x)) e) ∙ gives) in
@@ -84,7 +85,7 @@ module _ (roles : List (Option NameText)) (unique : (p q : ℕ) (r : NameText) �
   given_value : (x : User) → (y : User) × (user_assigned u0 p0 (Some x) ≡ Some y)
   given_value x = by_test (bytes_eq x.name u0) refl where
     new : User
-    new = record { name = x.name; roles = with_bit x.roles p0 }
+    new = record { name = x.name; roles = with_place x.roles p0 }
 
     by_test : (b : Bool) → bytes_eq x.name u0 ≡ b → (y : User) × (user_assigned u0 p0 (Some x) ≡ Some y)
     by_test true e = (new, ap (λ b. cond b (Some new) (Some x)) e)

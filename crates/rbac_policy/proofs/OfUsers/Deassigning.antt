@@ -22,7 +22,7 @@ use Rattle.rbac_policy.proofs.OfSessions.Ended.{Unswept}
 use Rattle.rbac_policy.proofs.Untouched.{through, untouched}
 use Rattle.rbac_policy.proofs.OfGrants.Granting.{flip}
 use Rattle.rbac_policy.proofs.OfSlots.Mapping.{UserSlot, users_mapped, SessionSlot, sessions_mapped}
-use Rattle.rbac_policy.proofs.OfSlots.Slots.{in_without_bit, named_without_bit}
+use Rattle.rbac_policy.proofs.OfSlots.Slots.{in_without_place, named_without_place}
 
 module _ (roles : List (Option NameText)) (unique : (p q : ℕ) (r : NameText) → At roles p r → At roles q r → p ≡ q)
     (p0 : ℕ) (r0 : NameText) (there0 : At roles p0 r0) (low : p0 < ROLES)
@@ -69,8 +69,8 @@ module _ (roles : List (Option NameText)) (unique : (p q : ℕ) (r : NameText) �
             assigned = λ r. through (taken_push x.name r) (through {B = InMask roles x.roles r × (r0 ≡ r → ⊥)} (
               λ h. ((us.assigned at x there r).0 h.0, λ q. h.1 (sym same, q)),
               λ h. ((us.assigned at x there r).1 h.0, λ q. h.1 q.1),
-            ) (flip (in_without_bit roles unique p0 r0 there0 low x.roles r)));
-            named = named_without_bit roles unique p0 r0 there0 low x.roles (us.named at x there);
+            ) (flip (in_without_place roles unique p0 r0 there0 low x.roles r)));
+            named = named_without_place roles unique p0 r0 there0 low x.roles (us.named at x there);
           },
         )
     by_test false e = inr (
