@@ -73,7 +73,7 @@ impl<B: BoardName> Board<B> {
     /// Gives the receipt of a slot command the next number of the tally, and has the seat keep it.
     /// It waits for the tally. The first number is 1; after the greatest, the greatest is given
     /// again.
-    pub fn count<R: Wait>(&self, rt: &R, seat: &mut Seat<B>, receipt: SlotReceipt)
+    pub fn number_receipt<R: Wait>(&self, rt: &R, seat: &mut Seat<B>, receipt: SlotReceipt)
         requires { HasRoom seat.old }
         ensures { IsCounted seat.old receipt seat.new }
     {

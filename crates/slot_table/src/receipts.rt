@@ -37,7 +37,7 @@ pub(crate) fn keep<B: BoardName, R: Wait>(
                 word: added.word,
                 signal,
             };
-            board.count(rt, seat, receipt);
+            board.number_receipt(rt, seat, receipt);
         }
         Reply::Refused(_)
         | Reply::Login { .. }

@@ -225,7 +225,7 @@ pub(crate) fn refuse<B: BoardName, R: Wait + Abort>(
     grant_once(rt, alloc, board, seat);
     let twice = refusal(rt, board, seat, grant());
     assert!(rt; matches!(twice, Some(Refusal::Policy(PolicyRefusal::AlreadyGranted))));
-    seat.saw(7);
+    seat.note_version(7);
     let behind = may_audit(board, seat);
     assert!(rt; matches!(behind, Err(Refusal::Behind { found: 6, seen: 7 })));
     assert!(rt; seat.seen() == 7);

@@ -51,7 +51,7 @@ struct Worker<B: BoardName> {
 impl<B: BoardName> Worker<B> {
     /// A worker that has asked nothing.
     fn new(seat: Seat<B>) -> Worker<B> {
-        let kept = seat.kept().len();
+        let kept = seat.receipts().len();
         Worker {
             seat,
             asked: 0,
@@ -188,7 +188,7 @@ fn seats_of<B: BoardName, R: Abort>(
     let mut seats = Vec::new(alloc);
     let mut kept = 0usize;
     for worker in workers {
-        assert_eq!(rt; worker.seat.kept().len(), worker.kept);
+        assert_eq!(rt; worker.seat.receipts().len(), worker.kept);
         kept = kept.saturating_add(worker.kept);
         let Worker { seat, .. } = worker;
         seats.push(seat).ok().expect(rt, "room");

@@ -125,7 +125,7 @@ fn answers_at<B: BoardName, R: Wait + Abort>(
         seat,
     } = desk;
     assert_eq!(rt; seat.seen(), 10);
-    assert_eq!(rt; seat.kept().len(), 10);
+    assert_eq!(rt; seat.receipts().len(), 10);
     answers
 }
 

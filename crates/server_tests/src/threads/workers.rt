@@ -86,7 +86,7 @@ fn serve_two<B: BoardName + Send + Sync, R: Threads + Wait + Abort + Clock + Syn
     assert_eq!(rt; seats.len(), 2);
     for seat in &seats {
         assert!(rt; seat.seen() >= LEAST_SEEN);
-        assert_eq!(rt; seat.kept().len(), RECEIPTS);
+        assert_eq!(rt; seat.receipts().len(), RECEIPTS);
     }
     for client in &clients {
         assert!(rt; client.is_closed());

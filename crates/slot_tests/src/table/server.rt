@@ -146,11 +146,11 @@ fn follow<B: BoardName, R: Wait + Abort>(
     match line {
         Line::Says(_, text, wanted, kept) => {
             say(rt, alloc, board, table, seat, text, wanted);
-            assert_eq!(rt; seat.kept().len(), kept, "{text}");
+            assert_eq!(rt; seat.receipts().len(), kept, "{text}");
         }
-        Line::Saw(_, version) => seat.saw(version),
+        Line::Saw(_, version) => seat.note_version(version),
         Line::HasSeen(_, version) => assert_eq!(rt; seat.seen(), version),
-        Line::Keeps(_, place, told) => expect_kept(rt, seat.kept().get(place), told),
+        Line::Keeps(_, place, told) => expect_kept(rt, seat.receipts().get(place), told),
     }
 }
 
