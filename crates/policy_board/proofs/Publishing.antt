@@ -19,7 +19,7 @@ use Rattle.policy_board.specs.Inner.Steps.{after_publication, IsResting}
 use Rattle.policy_board.specs.Inner.Publishing.{IsPublishing}
 use Rattle.policy_board.specs.declared.shown.Publication.{Publication}
 use Rattle.policy_board.specs.declared.shown.Publication.TheVariants.{Add}
-use Rattle.policy_board.specs.declared.shown.Shown.{Shown}
+use Rattle.policy_board.specs.declared.shown.PublishedPolicy.{PublishedPolicy}
 use Rattle.policy_board.proofs.Beginnings.{begins_push}
 use Rattle.policy_board.proofs.Rules.{Holds, Then, turns}
 
@@ -63,13 +63,17 @@ publishing_more b p t before e trace was accepted own list =
     }
 
 -- publish: what is shown goes on to the longer list, and the writer sees it
-pub publishes : (b : Book) (place : ℕ) (v : List Entry) (x next : Shown) (before pending : List Publication) (e : Entry)
+pub publishes : (b : Book) (place : ℕ) (v : List Entry) (x next : PublishedPolicy) (before pending : List Publication)
+    (e : Entry)
     (trace : Traced) → IsPublishing b x.policy x.trace before
     → IsAccepted x.trace.list e → trace.book ≡ b → trace.list ≡ x.trace.list ++ e ∷ []
     → pending ≡ before ++ Add e trace ∷ []
     → (let s : Policy × Traced = (next.policy, next.trace) in s) ≡ fold after_publication (x.policy, x.trace) pending
-    → TurnsAt (Holds (λ (y : Shown). y.trace.book) b (λ (y : Shown). y.policy) (λ (y : Shown). y.trace.list)) place v x
-    next (Then (λ (y : Shown). y.trace.book) b (λ (y : Shown). y.policy) (λ (y : Shown). y.trace.list))
+    → TurnsAt
+    (Holds (λ (y : PublishedPolicy). y.trace.book) b (λ (y : PublishedPolicy). y.policy)
+    (λ (y : PublishedPolicy). y.trace.list)) place v x
+    next (Then (λ (y : PublishedPolicy). y.trace.book) b (λ (y : PublishedPolicy). y.policy)
+    (λ (y : PublishedPolicy). y.trace.list))
 publishes b place v x next before pending e trace was accepted own list is same =
     let State : Type 0 = Policy × Traced in
     let s : State = (next.policy, next.trace) in
@@ -77,7 +81,8 @@ publishes b place v x next before pending e trace was accepted own list is same 
     same in
     let t : next.trace ≡ trace = ap (λ (s : State). s.1) now in
     let after = publishing_more b x.policy x.trace before e trace was accepted own list in
-    turns (λ (y : Shown). y.trace.book) b (λ (y : Shown). y.policy) (λ (y : Shown). y.trace.list) place v x next
+    turns (λ (y : PublishedPolicy). y.trace.book) b (λ (y : PublishedPolicy). y.policy)
+    (λ (y : PublishedPolicy). y.trace.list) place v x next
     (ap (λ (t : Traced). t.book) t ∙ own)
     (subst (λ (l : List Entry). Begins x.trace.list l) (sym (ap (λ (t : Traced). t.list) t ∙ list))
     (begins_push x.trace.list e))

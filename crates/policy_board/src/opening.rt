@@ -15,7 +15,7 @@ use crate::publisher::Publisher;
 use crate::reader::SlotReader;
 use crate::refusal::Refusal;
 use crate::seat::Seat;
-use crate::shown::{PolicyWriter, Shown};
+use crate::shown::{PolicyWriter, PublishedPolicy};
 use history_receipts::receipt_list::SEATS;
 use rbac_policy::journal::PolicyJournal;
 use rbac_policy::objects::SLOTS;
@@ -42,11 +42,11 @@ fn open_writer<B: BoardName>(
         × IsPublishing B.book w.desk.shown.value.policy w.desk.shown.value.trace
         (drop w.behind w.log.items)) }
 {
-    let first = Shown {
+    let first = PublishedPolicy {
         policy: Policy::opening(),
         trace: opening.trace(),
     };
-    let second = Shown {
+    let second = PublishedPolicy {
         policy: Policy::opening(),
         trace: opening.trace(),
     };

@@ -9,7 +9,7 @@ ghost use Rattle.policy_board.specs.Inner.Publishing.{IsPublishing};
 
 use crate::history::{BoardName, Front, Head};
 use crate::reader::SlotReader;
-use crate::shown::{PolicyWriter, Publication, Sees, Shown};
+use crate::shown::{PolicyWriter, Publication, PublishedPolicy, SeenRule};
 use rbac_policy::commands::Entry;
 use rbac_policy::policy::Policy;
 use std::marker::Model;
@@ -34,8 +34,8 @@ impl<B: BoardName> Model for Publisher<B> {
         p.writer.desk.shown.value.trace (drop p.writer.behind p.writer.log.items) };
 }
 
-/// Has the writer take up the publication. If memory is refused, it asks again. `Publisher::new` made
-/// the room, so the first turn does it.
+/// Has the writer take up the publication. If memory is refused, it asks again. `Publisher::new`
+/// made the room, so the first turn does it.
 fn append<B: BoardName, R: Wait>(
     rt: &R,
     writer: PolicyWriter<B>,
@@ -97,7 +97,7 @@ fn show<B: BoardName, R: Wait>(
         trace: front.trace(),
     };
     let writer = append(rt, writer, publication);
-    let (writer, published) = writer.publish_as::<Sees<B>, R>(rt);
+    let (writer, published) = writer.publish_as::<SeenRule<B>, R>(rt);
     match published {
         Ok(()) => writer,
         Err(_) => unreachable!(),

@@ -14,7 +14,7 @@ use std::marker::PhantomData;
 
 /// The policy, with the list that it stands for.
 #[derive(Drop)]
-pub struct Shown {
+pub struct PublishedPolicy {
     pub policy: Policy,
     pub trace: Trace,
 }
@@ -28,7 +28,7 @@ pub enum Publication {
     Add { entry: Entry, trace: Trace },
 }
 
-impl Absorb<Publication> for Shown {
+impl Absorb<Publication> for PublishedPolicy {
     ghost use Rattle.policy_board.specs.Inner.Steps.{after_publication};
 
     type State = (Policy, Trace);
@@ -42,7 +42,7 @@ impl Absorb<Publication> for Shown {
     fn absorb_first(
         &mut self,
         publication: &Publication,
-        _other: &Shown,
+        _other: &PublishedPolicy,
     ) -> Result<(), AllocError> {
         match publication {
             Publication::Room => {}
@@ -57,11 +57,11 @@ impl Absorb<Publication> for Shown {
 
 /// The rule of the published policy, as `left_right` asks for one: `IsKept` holds of what is shown
 /// and of what each reader and the writer have seen.
-pub struct Published<B> {
+pub struct PublishedRule<B> {
     of: PhantomData<B>,
 }
 
-impl<B: BoardName> Protocol<Shown, LinkedList<Entry>> for Published<B> {
+impl<B: BoardName> Protocol<PublishedPolicy, LinkedList<Entry>> for PublishedRule<B> {
     ghost use Rattle.std.specs.Prelude.{◌≡◌};
     ghost use Rattle.rbac_policy.specs.Opening.{opening_entries};
     ghost use Rattle.policy_board.specs.Rule.{IsKept};
@@ -73,17 +73,22 @@ impl<B: BoardName> Protocol<Shown, LinkedList<Entry>> for Published<B> {
 
 /// What a publication ensures for the writer, and a read for its reader: `IsSeen` relates what each
 /// had seen before to what it sees now.
-pub struct Sees<B> {
+pub struct SeenRule<B> {
     of: PhantomData<B>,
 }
 
-impl<B: BoardName> Outcome<Shown, LinkedList<Entry>> for Sees<B> {
+impl<B: BoardName> Outcome<PublishedPolicy, LinkedList<Entry>> for SeenRule<B> {
     ghost use Rattle.std.specs.Prelude.{◌≡◌};
     ghost use Rattle.policy_board.specs.Rule.{IsSeen};
 
     ghost then = { λ v x y w. (y.trace.book ≡ B.book) × IsSeen v y.policy y.trace.list w };
 }
 
-pub type PolicyReader<B> = Reader<Shown, LinkedList<Entry>, Published<B>>;
+pub type PolicyReader<B> = Reader<PublishedPolicy, LinkedList<Entry>, PublishedRule<B>>;
 
-pub type PolicyWriter<B> = Writer<Shown, Publication, LinkedList<Entry>, Published<B>>;
+pub type PolicyWriter<B> = Writer<
+    PublishedPolicy,
+    Publication,
+    LinkedList<Entry>,
+    PublishedRule<B>,
+>;

@@ -37,6 +37,6 @@ returns-in-Ok-clause-seat g c =
     let last : c.note_known-in-Ok.new.self ≡ seat_after c.answer-answer.new.seat c.answer-answer.new.self =
     c.note_known-in-Ok.ensures ∙ ap (λ (m : List Entry). seat_after c.answer-answer.new.seat m) list in
     seat_answered c.args.seat.now c.note_known-2.new.self c.answer-answer.new.seat c.note_known-in-Ok.new.self
-        c.args.self.now
+    c.args.self.now
     c.answer-answer.new.self c.answer-answer.result
     tells.later first c.answer-answer.ensures.seat last
