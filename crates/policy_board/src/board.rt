@@ -9,7 +9,7 @@ ghost use Rattle.policy_board.specs.Receipts.{HasRoom, IsCounted};
 ghost use Rattle.history_receipts.specs.declared.mismatch.TheConstants.{POLICY_LIST};
 ghost use Rattle.history_receipts.specs.declared.mismatch.Mismatch.TheVariants.{Count};
 
-use crate::history::BoardName;
+use crate::board_list::BoardName;
 use crate::locked_policy::LockedPolicy;
 use crate::reader::SlotReader;
 use crate::refusal::Refusal;

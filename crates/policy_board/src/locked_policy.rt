@@ -11,7 +11,7 @@ ghost use Rattle.policy_board.specs.Inner.Keeping.{KeepsAnswer};
 ghost use Rattle.history_receipts.specs.declared.mismatch.TheConstants.{POLICY_LIST};
 ghost use Rattle.history_receipts.specs.declared.mismatch.Mismatch.TheVariants.{Count};
 
-use crate::history::BoardName;
+use crate::board_list::BoardName;
 use crate::publisher::Publisher;
 use crate::reader::SlotReader;
 use crate::refusal::Refusal;

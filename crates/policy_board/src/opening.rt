@@ -9,7 +9,7 @@ ghost use Rattle.policy_board.specs.Inner.Publishing.{IsPublishing};
 ghost use Rattle.policy_board.specs.declared.refusal.Refusal.TheVariants.{Memory};
 
 use crate::board::Board;
-use crate::history::{BoardName, Fresh, Front};
+use crate::board_list::{BoardName, FreshList, Front};
 use crate::locked_policy::LockedPolicy;
 use crate::publisher::Publisher;
 use crate::reader::SlotReader;
@@ -103,7 +103,7 @@ fn fill_seats<B: BoardName>(
 fn open_parts<B: BoardName, R: Wait>(
     rt: &R,
     alloc: Global,
-    fresh: Fresh,
+    fresh: FreshList,
     seats: usize,
 ) -> Result<Opened<B>, AllocError>
     requires name { fresh.seen.book ≡ B.book }
@@ -148,7 +148,7 @@ impl<B: BoardName> Board<B> {
     pub fn open<R: Wait>(
         rt: &R,
         alloc: Global,
-        fresh: Fresh,
+        fresh: FreshList,
         seats: usize,
     ) -> Result<Opened<B>, Refusal>
         requires name { fresh.seen.book ≡ B.book }

@@ -7,7 +7,7 @@ ghost use Rattle.rbac_admin.specs.Room.{most_entries};
 ghost use Rattle.policy_board.specs.Traced.{traced};
 ghost use Rattle.policy_board.specs.Inner.Publishing.{IsPublishing};
 
-use crate::history::{BoardName, Front, Head};
+use crate::board_list::{BoardName, Front, Head};
 use crate::reader::SlotReader;
 use crate::shown::{PolicyWriter, Publication, PublishedPolicy, SeenRule};
 use rbac_policy::commands::Entry;

@@ -4,7 +4,7 @@ ghost use Rattle.rbac_policy.specs.Opening.{opening_entries};
 ghost use Rattle.rbac_policy.specs.StandsFor.{StandsFor};
 ghost use Rattle.rbac_admin.specs.PolicyLists.{Begins};
 
-use crate::history::{BoardName, Front};
+use crate::board_list::{BoardName, Front};
 use crate::shown::{PolicyReader, PolicyWriter, PublishedPolicy, PublishedRule, SeenRule};
 use left_right::reader;
 use rbac_policy::commands::Entry;

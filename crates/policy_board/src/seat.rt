@@ -10,7 +10,7 @@ ghost use Rattle.policy_board.specs.Receipts.{HasRoom, seat_keeping};
 ghost use Rattle.policy_board.specs.SeatState.{KeepsReceipts, new_seat};
 ghost use Rattle.policy_board.specs.declared.refusal.Refusal.TheVariants.{Memory};
 
-use crate::history::{BoardName, Front};
+use crate::board_list::{BoardName, Front};
 use crate::reader::{Reading, SlotReader};
 use crate::refusal::Refusal;
 use history_receipts::receipt::Kept;

@@ -1,7 +1,7 @@
 //! What readers are shown, and the rule under which they read it.
 ghost use Rattle.std.specs.Prelude.{◌≡◌};
 
-use crate::history::{BoardName, Trace};
+use crate::board_list::{BoardName, Trace};
 use crossbeam_utils::rule::{Outcome, Protocol};
 use left_right::Absorb;
 use left_right::reader::Reader;

@@ -14,7 +14,7 @@ use access_core::reply::Reply;
 use access_core::slot::{Slot, admit_load, decide_slot, load_admitted};
 use history_receipts::mismatch::Mismatch;
 use policy_board::board::{Board, Closed};
-use policy_board::history::BoardName;
+use policy_board::board_list::BoardName;
 use policy_board::reader::{Reading, SlotReader};
 use policy_board::seat::Seat;
 use rbac_policy::commands::SessionId;

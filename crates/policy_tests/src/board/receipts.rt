@@ -3,7 +3,7 @@ use crate::board::playing::{Example, play};
 use crate::board::sharing::{enter, grant, grant_once, login, may_audit, refusal, revoke};
 use history_receipts::receipt::{Kept, SlotReceipt};
 use policy_board::board::Board;
-use policy_board::history::{BoardName, Fresh};
+use policy_board::board_list::{BoardName, FreshList};
 use policy_board::seat::Seat;
 use rbac_policy::commands::AdminCommand;
 use reactor_core::entry::Word;
@@ -139,24 +139,24 @@ pub(crate) fn count_three<B: BoardName, R: Wait + Abort>(
 
 #[test]
 fn accepted_commands_leave_receipts(rt: HostRuntime) {
-    let left = play::<Brand, _>(&rt, rt.alloc(), Fresh::new(), Example::Kept);
+    let left = play::<Brand, _>(&rt, rt.alloc(), FreshList::new(), Example::Kept);
     assert!(rt; left == (7, 3));
 }
 
 #[test]
 fn receipts_without_memory(rt: HostRuntime) {
-    let (entries, kept) = play::<Brand, _>(&rt, rt.alloc(), Fresh::new(), Example::AllGiven);
+    let (entries, kept) = play::<Brand, _>(&rt, rt.alloc(), FreshList::new(), Example::AllGiven);
     assert!(rt; 4 <= entries && entries - 4 == kept);
 }
 
 #[test]
 fn learned_versions_leave_none(rt: HostRuntime) {
-    let left = play::<Brand, _>(&rt, rt.alloc(), Fresh::new(), Example::Learned);
+    let left = play::<Brand, _>(&rt, rt.alloc(), FreshList::new(), Example::Learned);
     assert!(rt; left == (6, 2));
 }
 
 #[test]
 fn slot_commands_are_counted(rt: HostRuntime) {
-    let left = play::<Brand, _>(&rt, rt.alloc(), Fresh::new(), Example::Counted);
+    let left = play::<Brand, _>(&rt, rt.alloc(), FreshList::new(), Example::Counted);
     assert!(rt; left == (5, 4));
 }

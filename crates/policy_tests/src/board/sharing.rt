@@ -1,7 +1,7 @@
 //! What examples ask of a board; boards that several threads share; and refusals.
 use crate::board::playing::{Example, Sharing, play, play_in_threads};
 use policy_board::board::Board;
-use policy_board::history::{BoardName, Fresh};
+use policy_board::board_list::{BoardName, FreshList};
 use policy_board::refusal::Refusal;
 use policy_board::seat::{Receipt, Seat};
 use policy_board::sharing::boards_are_shared;
@@ -234,18 +234,18 @@ pub(crate) fn refuse<B: BoardName, R: Wait + Abort>(
 
 #[test]
 fn grant_is_seen_once_learned(rt: HostRuntime) {
-    let entries = play_in_threads::<Brand, _>(&rt, rt.alloc(), Fresh::new(), Sharing::Told);
+    let entries = play_in_threads::<Brand, _>(&rt, rt.alloc(), FreshList::new(), Sharing::Told);
     assert!(rt; entries == 6);
 }
 
 #[test]
 fn two_ask_while_one_changes(rt: HostRuntime) {
-    let entries = play_in_threads::<Brand, _>(&rt, rt.alloc(), Fresh::new(), Sharing::Asked);
+    let entries = play_in_threads::<Brand, _>(&rt, rt.alloc(), FreshList::new(), Sharing::Asked);
     assert!(rt; entries == 105);
 }
 
 #[test]
 fn refusals_leave_the_list(rt: HostRuntime) {
-    let left = play::<Brand, _>(&rt, rt.alloc(), Fresh::new(), Example::Refused);
+    let left = play::<Brand, _>(&rt, rt.alloc(), FreshList::new(), Example::Refused);
     assert!(rt; left == (6, 2));
 }

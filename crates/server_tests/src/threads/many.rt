@@ -8,7 +8,7 @@ use crate::threads::server::{Server, open};
 use access_core::command::SlotCommand;
 use access_core::reply::{Added, Reply};
 use policy_board::board::Board;
-use policy_board::history::{BoardName, Fresh};
+use policy_board::board_list::{BoardName, FreshList};
 use policy_board::reader::SlotReader;
 use policy_board::seat::Seat;
 use policy_board::sharing::boards_are_shared;
@@ -201,7 +201,7 @@ fn seats_of<B: BoardName, R: Abort>(
 fn serve<B: BoardName + Send + Sync, R: Threads + Wait + Abort + Sync>(
     rt: &R,
     alloc: Global,
-    fresh: Fresh,
+    fresh: FreshList,
 ) -> (Histories, usize)
     requires { fresh.seen.book ≡ B.book }
 {
@@ -242,7 +242,7 @@ fn entries_of<R: Abort>(rt: &R, histories: &Histories) -> usize {
 /// Each entry has one receipt.
 #[test]
 fn many_threads_close(rt: HostRuntime) -> Result<(), Fail> {
-    let (histories, kept) = serve::<Brand, _>(&rt, rt.alloc(), Fresh::new());
+    let (histories, kept) = serve::<Brand, _>(&rt, rt.alloc(), FreshList::new());
     assert_eq!(rt; histories.policy.len(), BEFORE + CHANGES);
     let entries = entries_of(&rt, &histories);
     assert_eq!(rt; kept, entries.saturating_add(GIVEN));

@@ -2,7 +2,7 @@ use Rattle.std.proofs.Common.{ap, subst, List, arith}
 use mathlib.Core.List.{IsPrefix}
 use Rattle.rbac_policy.specs.declared.commands.Entry.{Entry}
 use Rattle.policy_board.proofs.Beginnings.{as_begins, begins_shorter}
-use Rattle.policy_board.proofs.history.begins.Goals as goal
+use Rattle.policy_board.proofs.board_list.begins.Goals as goal
 
 pub returns-then-one-other : goal.returns-then-one-other
 returns-then-one-other c =

@@ -1,7 +1,7 @@
 use Rattle.std.proofs.Common.{length, sym, ◌∙◌, ap}
 use Rattle.rbac_admin.specs.PolicyLists.{IsAccepted}
 use Rattle.policy_board.proofs.Adding.{adds_moves}
-use Rattle.policy_board.proofs.history.add_to.Goals as goal
+use Rattle.policy_board.proofs.board_list.add_to.Goals as goal
 
 pub compare_exchange-found-requires : goal.compare_exchange-found-requires
 compare_exchange-found-requires c =

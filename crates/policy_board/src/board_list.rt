@@ -22,9 +22,9 @@ const OPENING: u64 = OPENING_ENTRIES as u64;
 /// The rule by which the board's list grows, in the form that the kit's `logbook` asks for. A book
 /// has words, which threads change in single steps, and a list of entries, which only grows: its
 /// log. The log exists in the proofs alone.
-pub struct Law;
+pub struct GrowthRule;
 
-impl Rule<Entry, u64> for Law {
+impl Rule<Entry, u64> for GrowthRule {
     ghost use Rattle.std.specs.Prelude.{[]};
     ghost use base.Fml.{ftrue};
     ghost use Rattle.rbac_policy.specs.Opening.{opening_entries};
@@ -51,9 +51,9 @@ impl Rule<Entry, u64> for Law {
 }
 
 /// What a client owns once its update was made (`Gain`): here nothing.
-pub struct Nothing;
+pub struct NoGain;
 
-impl Gain<Entry, u64> for Nothing {
+impl Gain<Entry, u64> for NoGain {
     ghost use base.Fml.{ftrue};
 
     ghost after = { λ names about answer. ftrue };
@@ -115,20 +115,20 @@ impl BoardName for Brand {
 }
 
 /// A list with the opening entries alone, which no board has yet.
-pub struct Fresh {
-    head: Word<Entry, u64, Law>,
-    seen: Seen<Entry, u64, Law>,
+pub struct FreshList {
+    head: Word<Entry, u64, GrowthRule>,
+    seen: Seen<Entry, u64, GrowthRule>,
     pub ghost opening: { seen.log ≡ opening_entries },
     pub ghost head_is: { head ≡ head_of seen.book },
 }
 
-impl Fresh {
+impl FreshList {
     /// A new list, in a book of its own. No contract says which book: whoever has the list knows it
     /// as `seen.book`.
-    pub fn new() -> Fresh {
+    pub fn new() -> FreshList {
         // A book has two words: the length of the list, and one that stays 0 here.
         let (seen, mut first, _second) = Seen::open(Start::alone(), OPENING, 0);
-        Fresh {
+        FreshList {
             head: Word::tracked(OPENING, &mut first),
             seen,
         }
@@ -139,7 +139,7 @@ impl Fresh {
         requires { self.seen.book ≡ B.book }
         ensures { result.1 ≡ opening_entries }
     {
-        let Fresh { head, seen } = self;
+        let FreshList { head, seen } = self;
         (
             Head {
                 head,
@@ -159,7 +159,7 @@ impl Fresh {
 /// The word that threads share, by which entries are added: the length of the list.
 #[derive(Drop)]
 pub struct Head<B: BoardName> {
-    head: Word<Entry, u64, Law>,
+    head: Word<Entry, u64, GrowthRule>,
     of: PhantomData<B>,
     ghost head_is: { head ≡ head_of B.book },
 }
@@ -168,7 +168,7 @@ pub struct Head<B: BoardName> {
 #[derive(Drop)]
 pub struct Trace {
     count: u64,
-    seen: Seen<Entry, u64, Law>,
+    seen: Seen<Entry, u64, GrowthRule>,
 }
 
 impl Model for Trace {
@@ -320,19 +320,19 @@ fn begins(one: &Trace, other: &Trace) -> bool
 
 /// Looks how long the list is. Both traces begin it. Where it has as many entries as `one`, that
 /// trace is all of it.
-fn is_whole(one: &Trace, head: &Word<Entry, u64, Law>, other: &Trace) -> bool
+fn is_whole(one: &Trace, head: &Word<Entry, u64, GrowthRule>, other: &Trace) -> bool
     requires head { head.now ≡ head_of one.now.book }
     requires book { other.now.book ≡ one.now.book }
     ensures { IsTrue result → Begins other.now.list one.now.list }
 {
     let mut both = one.seen.again();
     both.learn(&other.seen);
-    let mut offer: Offer<Entry, u64, Law, Nothing> = both.plain::<Nothing, (), Looking>(&());
-    let found = head.load::<Looking, Nothing>(&mut both, &mut offer);
+    let mut offer: Offer<Entry, u64, GrowthRule, NoGain> = both.plain::<NoGain, (), Looking>(&());
+    let found = head.load::<Looking, NoGain>(&mut both, &mut offer);
     found == one.count
 }
 
-fn add_to(trace: &Trace, head: &Word<Entry, u64, Law>, entry: &Entry) -> Option<Trace>
+fn add_to(trace: &Trace, head: &Word<Entry, u64, GrowthRule>, entry: &Entry) -> Option<Trace>
     requires head { head.now ≡ head_of trace.now.book }
     requires room { length trace.now.list < 2 ^ 62 }
     requires accepted { IsAccepted trace.now.list entry.now }
@@ -341,9 +341,11 @@ fn add_to(trace: &Trace, head: &Word<Entry, u64, Law>, entry: &Entry) -> Option<
 {
     let count = trace.count;
     let mut seen = trace.seen.again();
-    let mut offer: Offer<Entry, u64, Law, Nothing> = seen.plain::<Nothing, Entry, Adding>(entry);
+    let mut offer: Offer<Entry, u64, GrowthRule, NoGain> = seen.plain::<NoGain, Entry, Adding>(
+        entry,
+    );
     let mut pen = seen.no_pen();
-    let found = head.compare_exchange::<Adding, Nothing>(
+    let found = head.compare_exchange::<Adding, NoGain>(
         count,
         count + 1,
         &mut seen,
