@@ -14,7 +14,7 @@ ghost use Rattle.rbac_policy.specs.Fits.{SessionsFull};
 ghost use Rattle.rbac_policy.specs.Separation.{IsFirstSetOf};
 ghost use Rattle.refusal_rules.specs.Rules.{Says, Unless, Naming, Tests};
 ghost use Rattle.rbac_admin.specs.Conditions.{IsGivenBy, HasNoRoomFor, IsNoShape, FirstListed};
-ghost use Rattle.rbac_admin.specs.PolicyStep.{no_session, unknown_user, unknown_role};
+ghost use Rattle.rbac_admin.specs.PolicyStep.{no_giver, unknown_user, unknown_role};
 ghost use Rattle.rbac_admin.specs.PolicyStep.{unknown_listed, unauthorized_listed, repeated_listed};
 ghost use Rattle.rbac_admin.specs.PolicyStep.{violation};
 
@@ -30,7 +30,7 @@ pub fn find_living_session(
     session: Option<SessionId>,
 ) -> Result<SessionId, Refusal>
     ensures { (entries : List Entry) → StandsFor policy.now entries
-        → MatchResult result (IsGivenBy entries session) (no_session entries session).refuses }
+        → MatchResult result (IsGivenBy entries session) (no_giver entries session).refuses }
 {
     let Some(number) = session else {
         return Err(Refusal::NoSession);
