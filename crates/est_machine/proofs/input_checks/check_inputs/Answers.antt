@@ -1,7 +1,7 @@
 use Rattle.std.proofs.Common.{◌∙◌, sym, arith}
 use Rattle.est_kernel.specs.Bits.{bits}
 use Rattle.est_machine.proofs.Offers.{all_kept, are_inputs, left_over}
-use Rattle.est_machine.proofs.taken.check.Goals as goal
+use Rattle.est_machine.proofs.input_checks.check_inputs.Goals as goal
 use Rattle.est_machine.specs.Machines.{others, breaks}
 use Rattle.est_relations.specs.Keeping.{keeps}
 

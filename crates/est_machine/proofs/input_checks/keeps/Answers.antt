@@ -2,7 +2,7 @@ use Rattle.std.proofs.Common.{◌∙◌, sym}
 use Rattle.est_kernel.specs.Bits.{bits}
 use Rattle.est_relations.proofs.FirstBroken.{not_asked}
 use Rattle.est_machine.proofs.OneOffered.{first_there}
-use Rattle.est_machine.proofs.taken.keeps.Goals as goal
+use Rattle.est_machine.proofs.input_checks.keeps.Goals as goal
 
 pub returns-then-not-has : goal.returns-then-not-has
 returns-then-not-has c = let there = c.in-Implication in

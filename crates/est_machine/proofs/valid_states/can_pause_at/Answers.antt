@@ -1,7 +1,7 @@
 use Rattle.std.proofs.Common.{◌∙◌, sym}
 use Rattle.est_kernel.specs.Pauses.{pauses_of}
 use Rattle.est_machine.proofs.Pauses.{exclusive, is_exclusive, own}
-use Rattle.est_machine.proofs.standing.can_pause_at.Goals as goal
+use Rattle.est_machine.proofs.valid_states.can_pause_at.Goals as goal
 
 pub returns : goal.returns
 returns c =

@@ -2,7 +2,7 @@ use Rattle.std.proofs.Common.{inl, inr, refl, arith}
 use Rattle.std.proofs.lemmas.Bool.{cases_lt}
 use Rattle.est_kernel.specs.Pauses.{pauses_of}
 use Rattle.est_machine.proofs.Pauses.{no_bit}
-use Rattle.est_machine.proofs.standing.is_empty.Goals as goal
+use Rattle.est_machine.proofs.valid_states.is_empty.Goals as goal
 
 pub returns : goal.returns
 unfolding pauses_of

@@ -5,7 +5,7 @@ ghost use Rattle.est_kernel.specs.Bits.{bits};
 ghost use Rattle.est_relations.specs.Keeping.{has_one_at_most, keeps};
 ghost use Rattle.est_machine.specs.Machines.{AreNotTaken, AreTaken};
 
-use crate::refusal::Refusal;
+use crate::refusal::MachineRefusal;
 use est_kernel::interface::Interface;
 use est_kernel::mask;
 use est_relations::relations::{Members, Relation, Relations};
@@ -43,16 +43,20 @@ fn first_broken(relations: &[Relation], inputs: u64) -> Option<usize>
 }
 
 /// Whether an instant takes these inputs; else why not.
-pub fn check(interface: &Interface, relations: &Relations, inputs: u64) -> Result<(), Refusal>
+pub fn check_inputs(
+    interface: &Interface,
+    relations: &Relations,
+    inputs: u64,
+) -> Result<(), MachineRefusal>
     ensures taken { IfOk result (λ _. AreTaken interface.now relations.now inputs) }
     ensures refused { IfErr result (AreNotTaken interface.now relations.now inputs) }
 {
     let others = mask::minus(inputs, interface.offerable());
     if others != 0 {
-        return Err(Refusal::NotInputs(others));
+        return Err(MachineRefusal::NotInputs(others));
     }
     match first_broken(relations.as_slice(), inputs) {
-        Some(place) => Err(Refusal::Broken(place + 1)),
+        Some(place) => Err(MachineRefusal::Broken(place + 1)),
         None => Ok(()),
     }
 }

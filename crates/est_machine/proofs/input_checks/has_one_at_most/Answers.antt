@@ -1,7 +1,7 @@
 use Rattle.std.proofs.Common.{◌∙◌, refl, sym}
 use Rattle.est_kernel.specs.Bits.{bits}
 use Rattle.est_machine.proofs.OneOffered.{none_is_kept, one_or_two}
-use Rattle.est_machine.proofs.taken.has_one_at_most.Goals as goal
+use Rattle.est_machine.proofs.input_checks.has_one_at_most.Goals as goal
 
 pub returns-in-Some : goal.returns-in-Some
 returns-in-Some c =
