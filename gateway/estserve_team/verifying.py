@@ -35,7 +35,7 @@ OBJECTS = "SELECT type, name, tbl_name, sql FROM sqlite_master"
 ENTRIES_AT = len(Entry._fields)
 
 
-class Proven(NamedTuple):
+class Verified(NamedTuple):
     """What was found right: how many entries, how many of them aside, how many connections that
     were given up, how many entries the head didn't know yet, and how many only the head has."""
 
@@ -158,13 +158,13 @@ def check_objects(path: pathlib.Path, database: sqlite3.Connection, schema: str)
             raise NotProven(path, f"its {kind} {name} is not as a gateway makes it")
 
 
-def prove(
+def verify_record(
     path: pathlib.Path,
     database: sqlite3.Connection,
     tip: Optional[Tip],
     schema: str = SCHEMA,
     blocks: Sequence[Block] = (),
-) -> Proven:
+) -> Verified:
     """Reads a whole record with the head's blocks, and holds it against its schema, and against the
     tip that the head has. Raises NotProven."""
     try:
@@ -184,7 +184,7 @@ def prove(
     except sqlite3.Error as fault:
         raise unreadable(path, fault) from fault
     behind = max(0, entries - there)  # where a gateway runs, there may be more by now
-    return Proven(entries, aside, givenup, entries - tip.entries, behind)
+    return Verified(entries, aside, givenup, entries - tip.entries, behind)
 
 
 def check_plain(path: pathlib.Path) -> None:
@@ -237,7 +237,7 @@ def check_record(path: pathlib.Path, head: Head, is_accepted: bool) -> bool:
         if found.get("format") != FORMAT:
             raise Failed(f"the record {path} has a format that this gateway does not know")
         name = found.get("id", "")
-        prove(path, database, head.of(name), blocks=head.blocks_of(name))
+        verify_record(path, database, head.of(name), blocks=head.blocks_of(name))
     if head.blocks:
         take_over_blocks(path, head)
     return True
