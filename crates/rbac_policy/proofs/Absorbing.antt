@@ -251,7 +251,8 @@ made_before p L k st live =
     let h = (st.sessions.exist k live.0).0 live.1 in
     subst (λ n. n ≤ logins L) h.fact.0 (st.sessions.numbers h.at h.value h.there)
 
-activate_role : (p : Policy) (L : List Entry) (k : ℕ) (role : NameText) → StandsFor p L → length L < LAST_VERSION → IsLive L k
+activate_role : (p : Policy) (L : List Entry) (k : ℕ) (role : NameText) → StandsFor p L → length L < LAST_VERSION
+    → IsLive L k
     → IsRole L role
     → StandsFor (swept (changed p (record { session = Some k; command = AddActiveRole role })))
     (L ++ record { session = Some k; command = AddActiveRole role } ∷ [])
@@ -259,7 +260,8 @@ activate_role p L k role st few live is_role =
     let e : Entry = record { session = Some k; command = AddActiveRole role } in
     let q = role_place p L role st is_role in
     let low : q.place < ROLES = omega (arith, slice_get_within p.roles q.place (Some role) q.there, st.roles.places) in
-    let is : changed p e ≡ role_activated_at (Some k) (Some q.place) p = ap (λ o. role_activated_at (Some k) o p) q.found in
+    let is : changed p e ≡ role_activated_at (Some k) (Some q.place) p =
+    ap (λ o. role_activated_at (Some k) o p) q.found in
     subst (λ (t : Policy). StandsFor (swept t) (L ++ e ∷ [])) (sym is)
     (assemble (role_activated_at (Some k) (Some q.place) p) L e st.version few
     (st.logins ∙ sym (logins_other L e refl))

@@ -47,7 +47,8 @@ returns-in_ok-check_role_authorized-in-AddActiveRole c =
     (tested_inactive L e.session n by _ _ (c.check_role_inactive.ensures L st (by.user, by.lives))))
 
 pub returns-in-DeleteInheritance : goal.returns-in-DeleteInheritance
-returns-in-DeleteInheritance c = λ L st given. rw c.in-DeleteInheritance.is (tested _ _ (c.check_edge_exists.ensures L st))
+returns-in-DeleteInheritance c = λ L st given. rw c.in-DeleteInheritance.is
+    (tested _ _ (c.check_edge_exists.ensures L st))
 
 pub returns-in-CreateDsdSet : goal.returns-in-CreateDsdSet
 returns-in-CreateDsdSet c = λ L st given. rw c.in-CreateDsdSet.is (tested _ _ c.check_dsd_shape.ensures)
