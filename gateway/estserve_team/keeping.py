@@ -10,7 +10,6 @@ from typing import Any, List, Tuple
 
 from .chain import Block, Head, NotProven, Tip, sync_folder
 from .places import Failed, Places, add_state
-from .proving import Proven, check_plain, prove, take_over_blocks
 from .record import (
     FORMAT,
     FORMAT_OF_BEFORE,
@@ -22,6 +21,7 @@ from .record import (
     remove_record,
 )
 from .starting import open_there, settle_records
+from .verifying import Verified, check_plain, take_over_blocks, verify_record
 
 BACKUP = "CREATE TABLE backup (time REAL NOT NULL, entries INTEGER NOT NULL, hash TEXT NOT NULL)"
 
@@ -77,11 +77,11 @@ def name_of(path: pathlib.Path, database: sqlite3.Connection, has_hashes: bool) 
     return str(facts["id"])
 
 
-def told(proven: Proven) -> str:
+def told(verified: Verified) -> str:
     """What was found right, in words."""
     return (
-        f"{proven.entries} entries, {proven.aside} of them aside, and {proven.givenup} connections "
-        "that were given up: no number is missing, and each hash is right"
+        f"{verified.entries} entries, {verified.aside} of them aside, and {verified.givenup} "
+        "connections that were given up: no number is missing, and each hash is right"
     )
 
 
@@ -92,14 +92,16 @@ def verify(arguments: argparse.Namespace) -> None:
     with open_reader(path) as database:
         tip, blocks = known_of(state, path, database)
         database.execute("BEGIN")  # where a gateway runs, all is read of one moment
-        proven = prove(path, database, tip, blocks=blocks)
-        if tip.entries < proven.entries:  # a gateway that runs has gone on since the head was read
+        verified = verify_record(path, database, tip, blocks=blocks)
+        if tip.entries < verified.entries:  # a gateway that runs went on since the head was read
             tip, _ = known_of(state, path, database)
-    print(told(proven))
-    if proven.behind:
-        print(f"the last {proven.behind} stand in the head alone, from which the record takes them")
+    print(told(verified))
+    if verified.behind:
+        print(
+            f"the last {verified.behind} stand in the head alone, from which the record takes them"
+        )
     print(f"the head knows entry {tip.entries}, and its hash is that of the record")
-    if tip.entries < proven.entries:
+    if tip.entries < verified.entries:
         print("the head's end is gone, and with it perhaps what stood there alone")
         return
     print("so nothing was cut or changed since it was written, but by who could write both files")
@@ -121,7 +123,7 @@ def backup(arguments: argparse.Namespace) -> None:
             copy.isolation_level = None
             copy.execute("PRAGMA journal_mode=DELETE")
             add_blocks(copy, last_tip(copy, tip.record), blocks)
-            proven = prove(beside, copy, tip)
+            verified = verify_record(beside, copy, tip)
             copy.execute(BACKUP)
             last = last_tip(copy, tip.record)
             copy.execute(
@@ -134,7 +136,7 @@ def backup(arguments: argparse.Namespace) -> None:
     finally:
         with contextlib.suppress(OSError):
             beside.unlink()
-    print(f"{target}: {told(proven)}")
+    print(f"{target}: {told(verified)}")
 
 
 def backed_up_tip(path: pathlib.Path, database: sqlite3.Connection) -> Tip:
@@ -153,7 +155,7 @@ def restore(arguments: argparse.Namespace) -> None:
         try:
             with open_reader(arguments.file) as source:
                 tip = backed_up_tip(arguments.file, source)
-                proven = prove(arguments.file, source, tip, SCHEMA + BACKUP)
+                verified = verify_record(arguments.file, source, tip, SCHEMA + BACKUP)
                 remove_record(places.next_record)
                 with contextlib.closing(sqlite3.connect(places.next_record)) as copy:
                     source.backup(copy)
@@ -170,7 +172,7 @@ def restore(arguments: argparse.Namespace) -> None:
             sync_folder(places.private)
         except (sqlite3.Error, OSError) as fault:
             raise Failed(f"{arguments.file} cannot be restored: {fault}") from fault
-    print(f"restored: {told(proven)}")
+    print(f"restored: {told(verified)}")
     if kept is not None:
         print(f"what was there before is kept as {kept}")
 

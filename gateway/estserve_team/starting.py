@@ -9,7 +9,6 @@ from typing import Callable, List, NamedTuple, Optional, Tuple
 
 from .chain import Head, NotProven, sync_folder
 from .places import Failed, Places, digest_of
-from .proving import check_record
 from .record import (
     POLICY,
     Aside,
@@ -23,6 +22,7 @@ from .record import (
 from .replay import Live, Replay
 from .server import Server
 from .sessions import LOGOUT
+from .verifying import check_record
 
 
 class Begun(NamedTuple):

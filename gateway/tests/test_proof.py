@@ -22,9 +22,9 @@ from test_replay import failed_start, filled
 from estserve_team.chain import BLOCKS_AT, SLOT_BYTES, Head, NotProven, first_hash, hash_of
 from estserve_team.chain import new_tip, slot_of, tip_of
 from estserve_team.places import Places
-from estserve_team.proving import check_record, prove
 from estserve_team.record import COLUMNS, Entry, RecordWriter, open_reader, place_of
 from estserve_team.starting import put_aside
+from estserve_team.verifying import check_record
 
 BEFORE = pathlib.Path(__file__).with_name("data") / "record-of-before.sql"
 FLIPS = 60  # bits of the file that are changed, one at a time

@@ -16,9 +16,9 @@ import unittest
 import teams
 from teams import ROOT, Server, Talker, Team, line_of, login_line, program_file, random_of
 from estserve_team.chain import Head
-from estserve_team.proving import take_over
 from estserve_team.record import POLICY, Connection, Entry, RecordWriter
 from estserve_team.replay import Replay
+from estserve_team.verifying import take_over
 
 ABRO = (ROOT / "examples" / "abro" / "abro.strl").read_text()
 SIGNALS = ["A", "B", "R"]

@@ -11,7 +11,7 @@ use Rattle.est_kernel.proofs.statement.Test.TheLaws.TheKnot as test
 use Rattle.reactor_core.specs.contracts.journal.Journal as journal
 use Rattle.reactor_core.specs.contracts.reactor.Reactor as reactor
 use Rattle.access_core.specs.contracts.slot.Slot as slot
-use Rattle.policy_board.specs.declared.history.BoardName.{Ghosts}
+use Rattle.policy_board.specs.declared.board_list.BoardName.{Ghosts}
 use Rattle.policy_board.proofs.SharedBoards.{option_sends}
 use Rattle.policy_board.specs.contracts.reader.SlotReader as reader
 use Rattle.slot_table.specs.contracts.slot.LockedSlot as locked

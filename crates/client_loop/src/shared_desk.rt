@@ -12,7 +12,7 @@ use access_core::command::SlotCommand;
 use access_core::reply::Reply;
 use access_core::single::change_of;
 use policy_board::board::Board;
-use policy_board::history::BoardName;
+use policy_board::board_list::BoardName;
 use policy_board::refusal::Refusal;
 use policy_board::seat::{Receipt, Seat};
 use rbac_policy::commands::{AdminCommand, SessionId};

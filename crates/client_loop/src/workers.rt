@@ -12,7 +12,7 @@ use crate::shared_desk::SharedDesk;
 use crate::source::Source;
 use access_core::refusal::Refusal;
 use policy_board::board::Board;
-use policy_board::history::BoardName;
+use policy_board::board_list::BoardName;
 use policy_board::reader::SlotReader;
 use policy_board::seat::Seat;
 use policy_board::sharing::boards_are_shared;

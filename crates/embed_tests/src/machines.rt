@@ -2,7 +2,7 @@
 
 use est_host::answering::answer;
 use est_host::loading::{Fault, start};
-use est_host::running::Running;
+use est_host::running::HostedMachine;
 use std::alloc::Global;
 use std::process::Abort;
 
@@ -137,7 +137,7 @@ const TOLD: [(u64, u64, u64); 13] = [
 ];
 
 /// A machine of a text that is not refused.
-fn begun(rt: &impl Abort, alloc: Global, text: &str) -> Box<Running> {
+fn begun(rt: &impl Abort, alloc: Global, text: &str) -> Box<HostedMachine> {
     match start(alloc, b"M", text.as_bytes()) {
         Ok(running) => running,
         Err(_) => panic!(rt; "refused"),
@@ -145,14 +145,14 @@ fn begun(rt: &impl Abort, alloc: Global, text: &str) -> Box<Running> {
 }
 
 /// Fails where a question is answered otherwise.
-fn ask(rt: &impl Abort, running: &mut Running, questions: &[(u64, u64, u64)]) {
+fn ask(rt: &impl Abort, running: &mut HostedMachine, questions: &[(u64, u64, u64)]) {
     for (question, argument, wanted) in questions.iter() {
         assert_eq!(rt; answer(running, *question, *argument), *wanted);
     }
 }
 
 /// Fails where an instant is answered otherwise.
-fn run(rt: &impl Abort, running: &mut Running, instants: &[Instant]) {
+fn run(rt: &impl Abort, running: &mut HostedMachine, instants: &[Instant]) {
     for (inputs, status, given) in instants.iter() {
         assert_eq!(rt; answer(running, REACT, *inputs), *status);
         assert_eq!(rt; answer(running, GIVEN, 0), *given);
@@ -194,7 +194,7 @@ fn texts_are_refused(rt: HostRuntime) {
 }
 
 /// Puts the words that keep where one machine stands into another.
-fn hand_over(from: &mut Running, to: &mut Running) {
+fn hand_over(from: &mut HostedMachine, to: &mut HostedMachine) {
     for place in 0..65 {
         let word = answer(from, SAVED, place);
         answer(to, PUT + place, word);

@@ -5,13 +5,13 @@ ghost use Rattle.std.specs.Borrow.{full_share, sem};
 ghost use Rattle.std.specs.Ptr.{lies_at};
 ghost use Rattle.est_embed.specs.Handing.{IsHanded, lies_there};
 ghost use Rattle.est_host.specs.Answers.{Answered};
-ghost use Rattle.est_host.specs.Faults.{IsTold};
-ghost use Rattle.est_host.specs.contracts.running.Running as running;
+ghost use Rattle.est_host.specs.Faults.{IsLoadFaultTold};
+ghost use Rattle.est_host.specs.contracts.running.HostedMachine as running;
 
 use crate::handed::Handed;
 use est_host::answering::answer;
 use est_host::loading::{Fault, start};
-use est_host::running::Running;
+use est_host::running::HostedMachine;
 use std::alloc::Global;
 
 /// Loads the module `main` of a text: a machine through `machine`, with status 0; or the number of
@@ -22,11 +22,11 @@ fn hand_out(
     text: &[u8],
     machine: &mut *mut u8,
     fault: &mut Fault,
-) -> Handed<Running>
+) -> Handed<HostedMachine>
     ensures handed { IsHanded main.now text.now result.status result.value }
     ensures at { result.at ≡ machine.new }
     ensures fault { result.status ≢ 0
-        → (result.status ≡ fault.new.code) × IsTold main.now text.now fault.new }
+        → (result.status ≡ fault.new.code) × IsLoadFaultTold main.now text.now fault.new }
     ensures same { result.status ≢ 0 → machine.new ≡ machine.old }
 {
     match start(alloc, main, text) {
@@ -37,7 +37,7 @@ fn hand_out(
         }
         Err(told) => {
             *fault = told;
-            Handed::refused(told.code, *machine as *mut Running)
+            Handed::refused(told.code, *machine as *mut HostedMachine)
         }
     }
 }
@@ -55,7 +55,8 @@ pub extern "C" fn est_load_module(
     ensures* lies { ∃ₛ (λ (m : Option running.the_row.Denot).
         sem 𝓛 (lies_there running.the_row m machine.new)
         ∗ ⌜ IsHanded main.now text.now result m ⌝) }
-    ensures fault { result ≢ 0 → (result ≡ fault.new.code) × IsTold main.now text.now fault.new }
+    ensures fault { result ≢ 0 → (result ≡ fault.new.code)
+        × IsLoadFaultTold main.now text.now fault.new }
     ensures same { result ≢ 0 → machine.new ≡ machine.old }
 {
     let Handed { status, at: _ } = hand_out(alloc, main, text, machine, fault);
@@ -63,7 +64,7 @@ pub extern "C" fn est_load_module(
 }
 
 /// Answers a question.
-fn answer_on(running: &mut Running, question: u64, argument: u64) -> u64
+fn answer_on(running: &mut HostedMachine, question: u64, argument: u64) -> u64
     ensures { Answered running.old question argument result running.new }
 {
     answer(running, question, argument)
@@ -77,5 +78,9 @@ pub unsafe extern "C" fn est_ask(at: *mut u8, question: u64, argument: u64) -> u
     ensures* { ∃ₛ (λ (n : running.the_row.Denot). sem 𝓛 (lies_at running.the_row full_share at n)
         ∗ ⌜ Answered m question argument result n ⌝) }
 {
-    answer_on(unsafe { &mut *(at as *mut Running) }, question, argument)
+    answer_on(
+        unsafe { &mut *(at as *mut HostedMachine) },
+        question,
+        argument,
+    )
 }

@@ -7,15 +7,15 @@ use Rattle.est_kernel.specs.declared.interface.Declaration.{Declaration}
 use Rattle.est_kernel.specs.declared.state.State.{State}
 use Rattle.est_kernel.specs.declared.state.State.TheVariants.{Fresh}
 use Rattle.est_meaning.specs.States.{IsState}
-use Rattle.est_machine.specs.Machines.{IsRefused, Reacts, Standing, in_state}
+use Rattle.est_machine.specs.Machines.{IsRefused, Reacts, MachineState, in_state}
 use Rattle.est_machine.specs.Saved.{AreSaved, IsSavedWord}
 use Rattle.est_host.specs.declared.question.Question.{Question}
 use Rattle.est_host.specs.declared.question.Question.TheVariants.{React, Given, Reset, Inputs, Outputs, Letter, End}
 use Rattle.est_host.specs.declared.question.Question.TheVariants.{Saved, Restore, Put}
 use Rattle.est_host.specs.declared.question.TheConstants.{NOTHING}
-use Rattle.est_machine.specs.declared.refusal.Refusal.{Refusal}
-use Rattle.est_machine.specs.declared.refusal.Refusal.TheVariants.{Broken, NotInputs, Stuck}
-use Rattle.est_host.specs.declared.running.Running.{Running}
+use Rattle.est_machine.specs.declared.refusal.MachineRefusal.{MachineRefusal}
+use Rattle.est_machine.specs.declared.refusal.MachineRefusal.TheVariants.{Broken, NotInputs, Stuck}
+use Rattle.est_host.specs.declared.running.HostedMachine.{HostedMachine}
 
 -- the questions, in the order of their numbers
 abbrev pub the_questions : List Question
@@ -30,25 +30,25 @@ abbrev pub question_of : ℕ → Option Question
 question_of n = cond (ltb n 64) (named n) (Some (Put (n - 64)))
 
 -- the status of a refusal
-abbrev pub status_of : Refusal → ℕ
+abbrev pub status_of : MachineRefusal → ℕ
 status_of (Stuck undecided) = 1
 status_of (Broken relation) = 2
 status_of (NotInputs others) = 3
 
 -- what a refusal tells: undecided signals, the number of a relation, or signals that are no inputs
-abbrev pub told_of : Refusal → ℕ
+abbrev pub told_of : MachineRefusal → ℕ
 told_of (Stuck undecided) = undecided
 told_of (Broken relation) = relation
 told_of (NotInputs others) = others
 
 -- a machine reacts, with status 0, and gives its outputs; or it is refused, tells why, and stays as it was
-pub data ReactsAs (m : Standing) (inputs : ℕ) : (status given : ℕ) → Standing → Type 0 where
-  reacts : (outputs : ℕ) (after : Standing) → Reacts m inputs outputs after
+pub data ReactsAs (m : MachineState) (inputs : ℕ) : (status given : ℕ) → MachineState → Type 0 where
+  reacts : (outputs : ℕ) (after : MachineState) → Reacts m inputs outputs after
       → ReactsAs m inputs 0 outputs after
-  refuses : (why : Refusal) → IsRefused m inputs why → ReactsAs m inputs (status_of why) (told_of why) m
+  refuses : (why : MachineRefusal) → IsRefused m inputs why → ReactsAs m inputs (status_of why) (told_of why) m
 
 -- a machine goes where the words were saved of it, with status 0; or they were not, the status is 1, and it stays
-pub data RestoresAs (m : Standing) (words : List ℕ) : (status : ℕ) → Standing → Type 0 where
+pub data RestoresAs (m : MachineState) (words : List ℕ) : (status : ℕ) → MachineState → Type 0 where
   restores : (x : State) → AreSaved (in_state m x) words → RestoresAs m words 0 (in_state m x)
   stays : ((x : State) → IsState m.0.root x → AreSaved (in_state m x) words → ⊥) → RestoresAs m words 1 m
 
@@ -63,11 +63,12 @@ letter_of None n = 0
 letter_of (Some d) n = slice_index d.name n
 
 -- what lies at the pointer beside the machine: what was given last, and the words that were put
-abbrev pub Kept : Type 0
-Kept = ℕ × List ℕ
+abbrev pub BesideMachine : Type 0
+BesideMachine = ℕ × List ℕ
 
 -- a question about a machine is answered, and this is what it is afterwards, with what is kept beside it
-abbrev pub Tells : Question → Standing → Kept → (argument result : ℕ) → Standing → Kept → Type 0
+abbrev pub Tells : Question → MachineState → BesideMachine → (argument result : ℕ) → MachineState → BesideMachine
+    → Type 0
 Tells React m k argument result after kept = ReactsAs m argument result kept.0 after × (kept.1 ≡ k.1)
 Tells Given m k argument result after kept = (result ≡ k.0) × (after ≡ m) × (kept ≡ k)
 Tells Reset m k argument result after kept = (result ≡ 0) × (after ≡ in_state m Fresh) × (kept ≡ k)
@@ -86,23 +87,24 @@ Tells (Put place) m k argument result after kept =
 Tells End m k argument result after kept = ⊥
 
 -- what lies at the pointer beside the machine
-abbrev pub kept_by : Running → Kept
+abbrev pub kept_by : HostedMachine → BesideMachine
 kept_by r = (r.given, r.words)
 
 -- a question about a machine is answered, and it stays one
-pub record IsTold (question : Question) (m : Standing) (before : Running) (argument result : ℕ) (after : Running)
+pub record IsAnswered (question : Question) (m : MachineState) (before : HostedMachine) (argument result : ℕ)
+    (after : HostedMachine)
     : Type 0 where
-  pub machine : Standing
+  pub machine : MachineState
   pub there : after.machine ≡ Some machine
   pub tells : Tells question m (kept_by before) argument result machine (kept_by after)
 
 -- a question is answered: there is a machine until it is ended, and then nothing more is answered
-abbrev pub Does : Option Question → Option Standing → Running → (argument result : ℕ) → Running → Type 0
+abbrev pub Does : Option Question → Option MachineState → HostedMachine → (argument result : ℕ) → HostedMachine → Type 0
 Does (Some End) (Some m) before argument result after =
     (result ≡ 0) × (after.machine ≡ None) × (kept_by after ≡ kept_by before)
-Does (Some question) (Some m) before argument result after = IsTold question m before argument result after
+Does (Some question) (Some m) before argument result after = IsAnswered question m before argument result after
 Does question m before argument result after = (result ≡ NOTHING) × (after ≡ before)
 
 -- the question of this number is answered
-abbrev pub Answered : Running → (number argument result : ℕ) → Running → Type 0
+abbrev pub Answered : HostedMachine → (number argument result : ℕ) → HostedMachine → Type 0
 Answered before number argument result after = Does (question_of number) before.machine before argument result after

@@ -8,11 +8,11 @@ use Rattle.reactor_core.specs.declared.refusal.ModuleRefusal.TheVariants.{Lexica
 use Rattle.reactor_core.specs.declared.refusal.Refusal.{Refusal}
 use Rattle.reactor_core.specs.declared.refusal.Refusal.TheVariants as refusal
 use Rattle.reactor_core.specs.Loading.{Gives, IsLoadFault}
-use Rattle.est_machine.specs.Machines.{Standing}
+use Rattle.est_machine.specs.Machines.{MachineState}
 use Rattle.est_host.specs.Digests.{digest_of}
 use Rattle.est_host.specs.declared.loading.Fault.{Fault}
 use Rattle.est_host.specs.declared.loading.TheConstants.{MEMORY, NOT_TEXT}
-use Rattle.est_host.specs.declared.running.Running.{Running}
+use Rattle.est_host.specs.declared.running.HostedMachine.{HostedMachine}
 
 -- a fault of this number at this place; 0 and 0 where there is none
 abbrev pub fault : (code line column : ℕ) → Fault
@@ -31,19 +31,19 @@ fault_of refusal.JournalFull = fault MEMORY 0 0
 fault_of refusal.Memory = fault MEMORY 0 0
 
 -- what is told of a load that is refused: name or text isn't UTF-8, or it is the first fault, or memory was refused
-pub data IsTold (main text : List ℕ) : Fault → Type 0 where
-  not_text : (IsUtf8 main → IsUtf8 text → ⊥) → IsTold main text (fault NOT_TEXT 0 0)
-  refused : (why : Refusal) → IsLoadFault main text why → IsTold main text (fault_of why)
-  no_memory : IsTold main text (fault MEMORY 0 0)
+pub data IsLoadFaultTold (main text : List ℕ) : Fault → Type 0 where
+  not_text : (IsUtf8 main → IsUtf8 text → ⊥) → IsLoadFaultTold main text (fault NOT_TEXT 0 0)
+  refused : (why : Refusal) → IsLoadFault main text why → IsLoadFaultTold main text (fault_of why)
+  no_memory : IsLoadFaultTold main text (fault MEMORY 0 0)
 
 -- the module that the text and the name of its main module give stands before its first instant
-pub record IsBegun (main text : List ℕ) (m : Standing) : Type 0 where
+pub record IsBegun (main text : List ℕ) (m : MachineState) : Type 0 where
   pub gives : Gives main text (record { interface = m.0.interface; relations = m.1; term = term_of m.0.root })
   pub digest : m.2 ≡ digest_of main text
   pub fresh : m.3 ≡ Fresh
 
 -- the machine that text and name give has not begun
-pub record IsStarted (main text : List ℕ) (r : Running) : Type 0 where
-  pub machine : Standing
+pub record IsStarted (main text : List ℕ) (r : HostedMachine) : Type 0 where
+  pub machine : MachineState
   pub there : r.machine ≡ Some machine
   pub begun : IsBegun main text machine

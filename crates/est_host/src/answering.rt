@@ -6,7 +6,7 @@ ghost use Rattle.est_host.specs.Answers.{letter_of};
 ghost use Rattle.est_machine.specs.Saved.{IsSavedWord};
 
 use crate::question::{NOTHING, Question, question_of, status_of, told_of};
-use crate::running::Running;
+use crate::running::HostedMachine;
 use est_kernel::interface::Interface;
 use est_machine::machine::Machine;
 
@@ -98,7 +98,7 @@ fn tell(
 }
 
 /// Answers a question.
-pub fn answer(running: &mut Running, question: u64, argument: u64) -> u64
+pub fn answer(running: &mut HostedMachine, question: u64, argument: u64) -> u64
     ensures { Answered running.old question argument result running.new }
 {
     let Some(question) = question_of(question) else {

@@ -3,9 +3,10 @@
 ghost use Rattle.std.specs.Prelude.{◌≡◌, Some, IfOk, IfErr};
 ghost use Rattle.reactor_core.specs.Loading.{IsLoadFault};
 ghost use Rattle.est_host.specs.Digests.{digest_of};
-ghost use Rattle.est_host.specs.Faults.{IsBegun, IsStarted, IsTold, fault, fault_in_text, fault_of};
+ghost use Rattle.est_host.specs.Faults.{IsBegun, IsStarted, IsLoadFaultTold, fault, fault_in_text};
+ghost use Rattle.est_host.specs.Faults.{fault_of};
 
-use crate::running::Running;
+use crate::running::HostedMachine;
 use est_machine::machine::Machine;
 use est_text::place::Place;
 use reactor_core::loaded::Module;
@@ -98,7 +99,7 @@ fn begin(alloc: Global, main: &str, text: &str) -> Result<Machine, Refusal>
 /// The machine of the module `main` of a text, or the fault that is told.
 fn load(alloc: Global, main: &[u8], text: &[u8]) -> Result<Machine, Fault>
     ensures begun { IfOk result (IsBegun main.now text.now) }
-    ensures told { IfErr result (IsTold main.now text.now) }
+    ensures told { IfErr result (IsLoadFaultTold main.now text.now) }
 {
     let Ok(name) = std::str::from_utf8(main) else {
         return Err(without_place(NOT_TEXT));
@@ -113,10 +114,10 @@ fn load(alloc: Global, main: &[u8], text: &[u8]) -> Result<Machine, Fault>
 }
 
 /// A machine in memory of its own, or memory was refused.
-fn boxed(alloc: Global, machine: Machine) -> Result<Box<Running>, AllocError>
+fn boxed(alloc: Global, machine: Machine) -> Result<Box<HostedMachine>, AllocError>
     ensures { IfOk result (λ r. r.value.machine ≡ Some machine) }
 {
-    let running = Running {
+    let running = HostedMachine {
         machine: Some(machine),
         given: 0,
         words: [0; 65],
@@ -125,9 +126,9 @@ fn boxed(alloc: Global, machine: Machine) -> Result<Box<Running>, AllocError>
 }
 
 /// The machine of the module `main` of a text, in memory of its own, or the fault.
-pub fn start(alloc: Global, main: &[u8], text: &[u8]) -> Result<Box<Running>, Fault>
+pub fn start(alloc: Global, main: &[u8], text: &[u8]) -> Result<Box<HostedMachine>, Fault>
     ensures started { IfOk result (λ r. IsStarted main.now text.now r.value) }
-    ensures told { IfErr result (IsTold main.now text.now) }
+    ensures told { IfErr result (IsLoadFaultTold main.now text.now) }
 {
     let machine = load(alloc, main, text)?;
     match boxed(alloc, machine) {

@@ -3,7 +3,7 @@
 ghost use Rattle.std.specs.Prelude.{◌≡◌};
 ghost use Rattle.est_host.specs.Answers.{named, question_of, status_of, told_of};
 
-use est_machine::refusal::Refusal;
+use est_machine::refusal::MachineRefusal;
 
 /// The machine was ended, or there is no such question.
 pub const NOTHING: u64 = u64::MAX;
@@ -62,24 +62,24 @@ fn named(number: u64) -> Option<Question>
 }
 
 /// The status of a refusal.
-pub fn status_of(refusal: Refusal) -> u64
+pub fn status_of(refusal: MachineRefusal) -> u64
     ensures { result ≡ status_of refusal }
 {
     match refusal {
-        Refusal::Stuck(_) => 1,
-        Refusal::Broken(_) => 2,
-        Refusal::NotInputs(_) => 3,
+        MachineRefusal::Stuck(_) => 1,
+        MachineRefusal::Broken(_) => 2,
+        MachineRefusal::NotInputs(_) => 3,
     }
 }
 
 /// What a refusal tells: undecided signals, the number of a relation, or signals that are no
 /// inputs.
-pub fn told_of(refusal: Refusal) -> u64
+pub fn told_of(refusal: MachineRefusal) -> u64
     ensures { result ≡ told_of refusal }
 {
     match refusal {
-        Refusal::Stuck(undecided) => undecided,
-        Refusal::Broken(relation) => relation as u64,
-        Refusal::NotInputs(others) => others,
+        MachineRefusal::Stuck(undecided) => undecided,
+        MachineRefusal::Broken(relation) => relation as u64,
+        MachineRefusal::NotInputs(others) => others,
     }
 }

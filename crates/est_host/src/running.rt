@@ -4,7 +4,7 @@ use est_machine::machine::Machine;
 
 /// A machine, and what its last reaction gave.
 #[derive(Drop)]
-pub struct Running {
+pub struct HostedMachine {
     /// The machine, until it is ended.
     pub machine: Option<Machine>,
     /// The outputs of the last reaction; or, where it was refused, what the refusal tells.

@@ -16,7 +16,7 @@ use Rattle.est_kernel.specs.declared.statement.Statement.TheVariants.{Loop', Par
 use Rattle.est_meaning.specs.States.{IsState}
 use Rattle.est_machine.proofs.Words.{looked_at}
 use Rattle.est_machine.specs.Inner.Words.{AreStateWords, has_bit}
-use Rattle.est_machine.specs.Machines.{Standing}
+use Rattle.est_machine.specs.Machines.{MachineState}
 use Rattle.est_machine.specs.Saved.{AreSaved, is_paused_at, kind_of}
 
 -- ---- states that words keep, from the pauses that were read in them
@@ -85,7 +85,8 @@ place_of : (x : State) (i : ℕ) → is_paused_at x (64 * (i / 64) + i % 64) ≡
 place_of x i = ap (is_paused_at x) (omega arith)
 
 -- the words of a saved state are those of that state
-pub state_words : (m : Standing) (words : List ℕ) → IsState m.0.root m.3 → AreSaved m words → AreStateWords m.3 words
+pub state_words : (m : MachineState) (words : List ℕ) → IsState m.0.root m.3 → AreSaved m words
+    → AreStateWords m.3 words
 state_words m words is h = record {
   kind = (h 32 (omega arith)).kind refl;
   pauses = λ i l. (h (33 + i / 64) (omega (arith, l))).pauses (i / 64) refl (i % 64) (omega arith) ∙ place_of m.3 i;
@@ -97,7 +98,7 @@ bit_place words k i l = let a : (64 * k + i) / 64 ≡ k = omega (arith, l) in
     let b : (64 * k + i) % 64 ≡ i = omega (arith, l) in rw (a, b) refl
 
 -- words of a state, and of a digest, are saved
-pub are_saved : (m : Standing) (words : List ℕ)
+pub are_saved : (m : MachineState) (words : List ℕ)
     → ((n : ℕ) → n < 32 → slice_index words n ≡ slice_index m.2 n) → AreStateWords m.3 words → AreSaved m words
 are_saved m words digest state n l = record {
   digest_byte = digest n;

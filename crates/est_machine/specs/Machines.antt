@@ -10,15 +10,15 @@ use Rattle.est_meaning.specs.Knowledge.{IsIn}
 use Rattle.est_relations.specs.Keeping.{keeps, AreLawful}
 use Rattle.est_relations.specs.declared.relations.Relation.{Relation}
 use Rattle.est_rounds.specs.Contract.{IsReaction, HasNoReaction}
-use Rattle.est_machine.specs.declared.refusal.Refusal.{Refusal}
-use Rattle.est_machine.specs.declared.refusal.Refusal.TheVariants.{NotInputs, Broken, Stuck}
+use Rattle.est_machine.specs.declared.refusal.MachineRefusal.{MachineRefusal}
+use Rattle.est_machine.specs.declared.refusal.MachineRefusal.TheVariants.{NotInputs, Broken, Stuck}
 
 -- a kernel, the relations between its inputs, a digest of their module, and the state in which it stands
-abbrev pub Standing : Type 0
-Standing = Kernel × List Relation × List ℕ × State
+abbrev pub MachineState : Type 0
+MachineState = Kernel × List Relation × List ℕ × State
 
 -- the same module in another state
-abbrev pub in_state : Standing → State → Standing
+abbrev pub in_state : MachineState → State → MachineState
 in_state m x = (m.0, m.1, m.2, x)
 
 -- the inputs of an instant, as a mask
@@ -32,7 +32,8 @@ pub record AreTaken (interface : List Declaration) (relations : List Relation) (
 
 -- why an instant doesn't take inputs: some may not be offered, and these are all of them; else they break a relation,
 -- and this is the first one
-pub data AreNotTaken (interface : List Declaration) (relations : List Relation) (mask : ℕ) : Refusal → Type 0 where
+pub data AreNotTaken (interface : List Declaration) (relations : List Relation) (mask : ℕ) : MachineRefusal
+    → Type 0 where
   others : (more : ℕ) → more ≢ 0
       → ((n : ℕ) → bits more n ≡ (bits mask n && not (offerable interface n)))
       → AreNotTaken interface relations mask (NotInputs more)
@@ -41,14 +42,14 @@ pub data AreNotTaken (interface : List Declaration) (relations : List Relation) 
       → AreNotTaken interface relations mask (Broken (place + 1))
 
 -- the inputs are taken; their reaction emits these outputs, and the module then stands so
-pub record Reacts (m : Standing) (mask outputs : ℕ) (after : Standing) : Type 0 where
+pub record Reacts (m : MachineState) (mask outputs : ℕ) (after : MachineState) : Type 0 where
   pub taken : AreTaken m.0.interface m.1 mask
   pub same : after ≡ in_state m after.3
   pub reaction : IsReaction m.0 m.3 (as_inputs mask) (record { outputs = outputs; next = after.3 })
 
 -- why an instant is refused: its inputs are not taken; else there is no reaction, and these are the undecided signals
-pub data IsRefused (m : Standing) (mask : ℕ) : Refusal → Type 0 where
-  not_taken : (why : Refusal) → AreNotTaken m.0.interface m.1 mask why → IsRefused m mask why
+pub data IsRefused (m : MachineState) (mask : ℕ) : MachineRefusal → Type 0 where
+  not_taken : (why : MachineRefusal) → AreNotTaken m.0.interface m.1 mask why → IsRefused m mask why
   stuck : (undecided : ℕ) → AreTaken m.0.interface m.1 mask
       → HasNoReaction m.0 m.3 (as_inputs mask) (record { undecided = undecided })
       → IsRefused m mask (Stuck undecided)

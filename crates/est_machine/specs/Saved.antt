@@ -4,7 +4,7 @@ use Rattle.est_kernel.specs.Bits.{bits}
 use Rattle.est_kernel.specs.Pauses.{pauses_of}
 use Rattle.est_kernel.specs.declared.state.State.{State}
 use Rattle.est_kernel.specs.declared.state.State.TheVariants.{Fresh, Done, Paused}
-use Rattle.est_machine.specs.Machines.{Standing}
+use Rattle.est_machine.specs.Machines.{MachineState}
 
 -- the number of a state's kind
 abbrev pub kind_of : State → ℕ
@@ -27,5 +27,5 @@ pub record IsSavedWord (digest : List ℕ) (x : State) (place word : ℕ) : Type
   pub pauses : (k : ℕ) → place ≡ 33 + k → (i : ℕ) → i < 64 → bits word i ≡ is_paused_at x (64 * k + i)
 
 -- words keep where a machine stands
-abbrev pub AreSaved : Standing → List ℕ → Type 0
+abbrev pub AreSaved : MachineState → List ℕ → Type 0
 AreSaved m words = (n : ℕ) → n < 65 → IsSavedWord m.2 m.3 n (slice_index words n)

@@ -6,8 +6,8 @@
 //! left are those of the constructive reaction, and which fault decided each refusal.
 #![tactic(auto)]
 
+mod input_checks;
 pub mod machine;
 pub mod refusal;
 mod saved;
-mod standing;
-mod taken;
+mod valid_states;

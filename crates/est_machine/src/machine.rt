@@ -7,10 +7,10 @@ ghost use Rattle.est_machine.specs.Machines.{IsRefused, Reacts, in_state};
 ghost use Rattle.est_machine.specs.Saved.{AreSaved, IsSavedWord};
 ghost use Rattle.est_meaning.specs.States.{IsState};
 
-use crate::refusal::Refusal;
+use crate::input_checks::check_inputs;
+use crate::refusal::MachineRefusal;
 use crate::saved::{is_of, saved_word, state_in};
-use crate::standing::is_state;
-use crate::taken::check;
+use crate::valid_states::is_state;
 use est_kernel::interface::Interface;
 use est_kernel::kernel::Kernel;
 use est_kernel::state::{Inputs, State};
@@ -82,12 +82,12 @@ impl Machine {
 
     /// One instant with these inputs, a bit for each place of the interface. Answers what is
     /// present then of the signals that may be emitted. It takes no memory.
-    pub fn react(&mut self, inputs: u64) -> Result<u64, Refusal>
+    pub fn react(&mut self, inputs: u64) -> Result<u64, MachineRefusal>
         ensures reacts { IfOk result (λ outputs. Reacts self.old inputs outputs self.new) }
         ensures refused { IfErr result (IsRefused self.old inputs) }
         ensures same { OnErr result (self.new ≡ self.old) }
     {
-        if let Err(refusal) = check(self.kernel.interface(), &self.relations, inputs) {
+        if let Err(refusal) = check_inputs(self.kernel.interface(), &self.relations, inputs) {
             return Err(refusal);
         }
         let inputs = Inputs { signals: inputs };
@@ -96,7 +96,7 @@ impl Machine {
                 self.state = outcome.next;
                 Ok(outcome.outputs)
             }
-            Err(stuck) => Err(Refusal::Stuck(stuck.undecided)),
+            Err(stuck) => Err(MachineRefusal::Stuck(stuck.undecided)),
         }
     }
 

@@ -8,7 +8,7 @@ ghost use Rattle.est_kernel.specs.declared.state.State.{State as StateValue};
 ghost use Rattle.est_machine.specs.Inner.Words.{AreStateWords, has_bit};
 ghost use Rattle.est_machine.specs.Saved.{IsSavedWord, kind_of};
 
-use crate::standing::is_empty;
+use crate::valid_states::is_empty;
 use est_kernel::limits::MOST_STATEMENTS;
 use est_kernel::mask;
 use est_kernel::pause_set::PauseSet;

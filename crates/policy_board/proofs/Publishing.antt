@@ -15,16 +15,16 @@ use Rattle.rbac_admin.proofs.Fitting.{accepted_stands}
 use Rattle.rbac_admin.proofs.PolicyListLemmas.{opening_is_list, list_grows, few_entries, still_leaves}
 use Rattle.rbac_admin.specs.Room.{most_entries}
 use Rattle.policy_board.specs.Traced.{Traced}
-use Rattle.policy_board.specs.Inner.Steps.{after_operation, IsResting}
+use Rattle.policy_board.specs.Inner.Steps.{after_publication, IsResting}
 use Rattle.policy_board.specs.Inner.Publishing.{IsPublishing}
-use Rattle.policy_board.specs.declared.shown.Operation.{Operation}
-use Rattle.policy_board.specs.declared.shown.Operation.TheVariants.{Add}
-use Rattle.policy_board.specs.declared.shown.Shown.{Shown}
+use Rattle.policy_board.specs.declared.shown.Publication.{Publication}
+use Rattle.policy_board.specs.declared.shown.Publication.TheVariants.{Add}
+use Rattle.policy_board.specs.declared.shown.PublishedPolicy.{PublishedPolicy}
 use Rattle.policy_board.proofs.Beginnings.{begins_push}
 use Rattle.policy_board.proofs.Rules.{Holds, Then, turns}
 
 -- open: the writer's state with the opening entries
-pub publishing_first : (b : Book) (p : Policy) (t : Traced) (pending : List Operation) → t.book ≡ b
+pub publishing_first : (b : Book) (p : Policy) (t : Traced) (pending : List Publication) → t.book ≡ b
     → t.list ≡ opening_entries → StandsFor p opening_entries → pending ≡ []
     → IsPublishing b p t pending
 publishing_first b p t pending own list stands none = record {
@@ -32,22 +32,22 @@ publishing_first b p t pending own list stands none = record {
   is_list = subst IsPolicyList (sym list) opening_is_list;
   stands = subst (StandsFor p) (sym list) stands;
   leaves = rw list (leaves_room p opening_entries most_entries stands (omega arith));
-  resting = ap (λ (xs : List Operation). fold after_operation (p, t) xs) none;
+  resting = ap (λ (xs : List Publication). fold after_publication (p, t) xs) none;
 }
 
 -- what is shown once the entry is taken in after what waits
-pub next_is : (p : Policy) (t : Traced) (e : Entry) (trace : Traced) (before pending : List Operation)
+pub next_is : (p : Policy) (t : Traced) (e : Entry) (trace : Traced) (before pending : List Publication)
     (next : Policy × Traced)
-    → IsResting (p, t) before → pending ≡ before ++ Add e trace ∷ [] → next ≡ fold after_operation (p, t) pending
+    → IsResting (p, t) before → pending ≡ before ++ Add e trace ∷ [] → next ≡ fold after_publication (p, t) pending
     → next ≡ (absorbed p e, trace)
 next_is p t e trace before pending next rests is same =
     same
-    ∙ (ap (λ (xs : List Operation). fold after_operation (p, t) xs) is
-    ∙ (fold_push after_operation (p, t) before (Add e trace)
-    ∙ ap (λ (s : Policy × Traced). after_operation s (Add e trace)) rests))
+    ∙ (ap (λ (xs : List Publication). fold after_publication (p, t) xs) is
+    ∙ (fold_push after_publication (p, t) before (Add e trace)
+    ∙ ap (λ (s : Policy × Traced). after_publication s (Add e trace)) rests))
 
 -- the writer's state with one accepted entry more
-pub publishing_more : (b : Book) (p : Policy) (t : Traced) (before : List Operation) (e : Entry) (trace : Traced)
+pub publishing_more : (b : Book) (p : Policy) (t : Traced) (before : List Publication) (e : Entry) (trace : Traced)
     → IsPublishing b p t before → IsAccepted t.list e
     → trace.book ≡ b → trace.list ≡ t.list ++ e ∷ [] → IsPublishing b (absorbed p e) trace []
 publishing_more b p t before e trace was accepted own list =
@@ -63,13 +63,17 @@ publishing_more b p t before e trace was accepted own list =
     }
 
 -- publish: what is shown goes on to the longer list, and the writer sees it
-pub publishes : (b : Book) (place : ℕ) (v : List Entry) (x next : Shown) (before pending : List Operation) (e : Entry)
+pub publishes : (b : Book) (place : ℕ) (v : List Entry) (x next : PublishedPolicy) (before pending : List Publication)
+    (e : Entry)
     (trace : Traced) → IsPublishing b x.policy x.trace before
     → IsAccepted x.trace.list e → trace.book ≡ b → trace.list ≡ x.trace.list ++ e ∷ []
     → pending ≡ before ++ Add e trace ∷ []
-    → (let s : Policy × Traced = (next.policy, next.trace) in s) ≡ fold after_operation (x.policy, x.trace) pending
-    → TurnsAt (Holds (λ (y : Shown). y.trace.book) b (λ (y : Shown). y.policy) (λ (y : Shown). y.trace.list)) place v x
-    next (Then (λ (y : Shown). y.trace.book) b (λ (y : Shown). y.policy) (λ (y : Shown). y.trace.list))
+    → (let s : Policy × Traced = (next.policy, next.trace) in s) ≡ fold after_publication (x.policy, x.trace) pending
+    → TurnsAt
+    (Holds (λ (y : PublishedPolicy). y.trace.book) b (λ (y : PublishedPolicy). y.policy)
+    (λ (y : PublishedPolicy). y.trace.list)) place v x
+    next (Then (λ (y : PublishedPolicy). y.trace.book) b (λ (y : PublishedPolicy). y.policy)
+    (λ (y : PublishedPolicy). y.trace.list))
 publishes b place v x next before pending e trace was accepted own list is same =
     let State : Type 0 = Policy × Traced in
     let s : State = (next.policy, next.trace) in
@@ -77,7 +81,8 @@ publishes b place v x next before pending e trace was accepted own list is same 
     same in
     let t : next.trace ≡ trace = ap (λ (s : State). s.1) now in
     let after = publishing_more b x.policy x.trace before e trace was accepted own list in
-    turns (λ (y : Shown). y.trace.book) b (λ (y : Shown). y.policy) (λ (y : Shown). y.trace.list) place v x next
+    turns (λ (y : PublishedPolicy). y.trace.book) b (λ (y : PublishedPolicy). y.policy)
+    (λ (y : PublishedPolicy). y.trace.list) place v x next
     (ap (λ (t : Traced). t.book) t ∙ own)
     (subst (λ (l : List Entry). Begins x.trace.list l) (sym (ap (λ (t : Traced). t.list) t ∙ list))
     (begins_push x.trace.list e))

@@ -9,7 +9,7 @@ ghost use Rattle.policy_board.specs.Receipts.{HasRoom, IsCounted};
 ghost use Rattle.history_receipts.specs.declared.mismatch.TheConstants.{POLICY_LIST};
 ghost use Rattle.history_receipts.specs.declared.mismatch.Mismatch.TheVariants.{Count};
 
-use crate::history::BoardName;
+use crate::board_list::BoardName;
 use crate::locked_policy::LockedPolicy;
 use crate::reader::SlotReader;
 use crate::refusal::Refusal;
@@ -73,7 +73,7 @@ impl<B: BoardName> Board<B> {
     /// Gives the receipt of a slot command the next number of the tally, and has the seat keep it.
     /// It waits for the tally. The first number is 1; after the greatest, the greatest is given
     /// again.
-    pub fn count<R: Wait>(&self, rt: &R, seat: &mut Seat<B>, receipt: SlotReceipt)
+    pub fn number_receipt<R: Wait>(&self, rt: &R, seat: &mut Seat<B>, receipt: SlotReceipt)
         requires { HasRoom seat.old }
         ensures { IsCounted seat.old receipt seat.new }
     {

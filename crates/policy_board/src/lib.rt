@@ -8,13 +8,13 @@
 //! is Behind. Otherwise the list begins with all that the seat has seen and was told of. A slot's
 //! reader gives the policy itself, with the list that it stands for.
 //!
-//! There is one list (`history`): whoever holds a note of it holds a beginning of it. A receipt has
-//! such a note, of which another seat may learn. No clause says that a wait ends, or that a read
-//! finds an entry of which the seat was not told.
+//! There is one list (`board_list`): whoever holds a note of it holds a beginning of it. A receipt
+//! has such a note, of which another seat may learn. No clause says that a wait ends, or that a
+//! read finds an entry of which the seat was not told.
 #![tactic(auto)]
 
 pub mod board;
-pub mod history;
+pub mod board_list;
 mod locked_policy;
 pub mod opening;
 mod publisher;

@@ -11,7 +11,7 @@ ghost use Rattle.policy_board.specs.Inner.Keeping.{KeepsAnswer};
 ghost use Rattle.history_receipts.specs.declared.mismatch.TheConstants.{POLICY_LIST};
 ghost use Rattle.history_receipts.specs.declared.mismatch.Mismatch.TheVariants.{Count};
 
-use crate::history::BoardName;
+use crate::board_list::BoardName;
 use crate::publisher::Publisher;
 use crate::reader::SlotReader;
 use crate::refusal::Refusal;
@@ -115,7 +115,7 @@ impl<B: BoardName> LockedPolicy<B> {
         let Ok((published, told, kept)) = copies(&entry) else {
             return Err(Refusal::Memory);
         };
-        seat.room()?;
+        seat.make_room()?;
         let Ok(()) = self.journal.push(entry) else {
             return Err(Refusal::Memory);
         };
@@ -172,10 +172,10 @@ impl<B: BoardName> LockedPolicy<B> {
     {
         let publisher = self.publisher.as_ref().unwrap();
         publisher.wait_whole(rt, seat.known());
-        seat.know(&publisher.front());
+        seat.note_known(&publisher.front());
         let answer = self.answer(rt, seat, session, command);
         if let Ok(receipt) = &answer {
-            seat.know(receipt.list());
+            seat.note_known(receipt.list());
         }
         answer
     }

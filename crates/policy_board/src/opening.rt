@@ -9,13 +9,13 @@ ghost use Rattle.policy_board.specs.Inner.Publishing.{IsPublishing};
 ghost use Rattle.policy_board.specs.declared.refusal.Refusal.TheVariants.{Memory};
 
 use crate::board::Board;
-use crate::history::{BoardName, Fresh, Front};
+use crate::board_list::{BoardName, FreshList, Front};
 use crate::locked_policy::LockedPolicy;
 use crate::publisher::Publisher;
 use crate::reader::SlotReader;
 use crate::refusal::Refusal;
 use crate::seat::Seat;
-use crate::shown::{PolicyWriter, Shown};
+use crate::shown::{PolicyWriter, PublishedPolicy};
 use history_receipts::receipt_list::SEATS;
 use rbac_policy::journal::PolicyJournal;
 use rbac_policy::objects::SLOTS;
@@ -42,11 +42,11 @@ fn open_writer<B: BoardName>(
         × IsPublishing B.book w.desk.shown.value.policy w.desk.shown.value.trace
         (drop w.behind w.log.items)) }
 {
-    let first = Shown {
+    let first = PublishedPolicy {
         policy: Policy::opening(),
         trace: opening.trace(),
     };
-    let second = Shown {
+    let second = PublishedPolicy {
         policy: Policy::opening(),
         trace: opening.trace(),
     };
@@ -103,7 +103,7 @@ fn fill_seats<B: BoardName>(
 fn open_parts<B: BoardName, R: Wait>(
     rt: &R,
     alloc: Global,
-    fresh: Fresh,
+    fresh: FreshList,
     seats: usize,
 ) -> Result<Opened<B>, AllocError>
     requires name { fresh.seen.book ≡ B.book }
@@ -148,7 +148,7 @@ impl<B: BoardName> Board<B> {
     pub fn open<R: Wait>(
         rt: &R,
         alloc: Global,
-        fresh: Fresh,
+        fresh: FreshList,
         seats: usize,
     ) -> Result<Opened<B>, Refusal>
         requires name { fresh.seen.book ≡ B.book }

@@ -7,9 +7,9 @@ ghost use Rattle.rbac_admin.specs.Room.{most_entries};
 ghost use Rattle.policy_board.specs.Traced.{traced};
 ghost use Rattle.policy_board.specs.Inner.Publishing.{IsPublishing};
 
-use crate::history::{BoardName, Front, Head};
+use crate::board_list::{BoardName, Front, Head};
 use crate::reader::SlotReader;
-use crate::shown::{Operation, PolicyWriter, Sees, Shown};
+use crate::shown::{PolicyWriter, Publication, PublishedPolicy, SeenRule};
 use rbac_policy::commands::Entry;
 use rbac_policy::policy::Policy;
 use std::marker::Model;
@@ -34,23 +34,23 @@ impl<B: BoardName> Model for Publisher<B> {
         p.writer.desk.shown.value.trace (drop p.writer.behind p.writer.log.items) };
 }
 
-/// Has the writer take up the operation. If memory is refused, it asks again. `Publisher::new` made
-/// the room, so the first turn does it.
+/// Has the writer take up the publication. If memory is refused, it asks again. `Publisher::new`
+/// made the room, so the first turn does it.
 fn append<B: BoardName, R: Wait>(
     rt: &R,
     writer: PolicyWriter<B>,
-    operation: Operation,
+    publication: Publication,
 ) -> PolicyWriter<B>
     ensures shown { result.desk ≡ writer.desk }
     ensures pending { drop result.behind result.log.items ≡ drop writer.behind writer.log.items ++
-        operation ∷ [] }
+        publication ∷ [] }
 {
     let mut writer = writer;
-    let mut operation = operation;
+    let mut publication = publication;
     for _ in rt.forever() {
-        match writer.append(operation) {
+        match writer.append(publication) {
             Ok(()) => return writer,
-            Err(back) => operation = back,
+            Err(back) => publication = back,
         }
     }
     unreachable!()
@@ -92,12 +92,12 @@ fn show<B: BoardName, R: Wait>(
     ensures after { IsPublishing B.book result.desk.shown.value.policy result.desk.shown.value.trace
         (drop result.behind result.log.items) }
 {
-    let operation = Operation::Add {
+    let publication = Publication::Add {
         entry,
         trace: front.trace(),
     };
-    let writer = append(rt, writer, operation);
-    let (writer, published) = writer.publish_as::<Sees<B>, R>(rt);
+    let writer = append(rt, writer, publication);
+    let (writer, published) = writer.publish_as::<SeenRule<B>, R>(rt);
     match published {
         Ok(()) => writer,
         Err(_) => unreachable!(),
@@ -105,8 +105,8 @@ fn show<B: BoardName, R: Wait>(
 }
 
 impl<B: BoardName> Publisher<B> {
-    /// A publisher of this writer, which shows the opening policy. An operation that does nothing
-    /// (`Operation::Room`) makes the room in the writer's log for those that come later.
+    /// A publisher of this writer, which shows the opening policy. A publication that does nothing
+    /// (`Publication::Room`) makes the room in the writer's log for those that come later.
     ///
     /// # Errors
     ///
@@ -117,7 +117,7 @@ impl<B: BoardName> Publisher<B> {
         ensures { IfOk result (λ publisher. publisher ≡ writer.desk.shown.value.trace.list) }
     {
         let mut writer = writer;
-        match writer.append(Operation::Room) {
+        match writer.append(Publication::Room) {
             Ok(()) => Ok(Publisher { writer, head }),
             Err(_) => Err(writer),
         }

@@ -4,8 +4,8 @@ ghost use Rattle.rbac_policy.specs.Opening.{opening_entries};
 ghost use Rattle.rbac_policy.specs.StandsFor.{StandsFor};
 ghost use Rattle.rbac_admin.specs.PolicyLists.{Begins};
 
-use crate::history::{BoardName, Front};
-use crate::shown::{PolicyReader, PolicyWriter, Published, Sees, Shown};
+use crate::board_list::{BoardName, Front};
+use crate::shown::{PolicyReader, PolicyWriter, PublishedPolicy, PublishedRule, SeenRule};
 use left_right::reader;
 use rbac_policy::commands::Entry;
 use rbac_policy::policy::Policy;
@@ -35,7 +35,7 @@ impl<B: BoardName> Model for SlotReader<B> {
 /// A read. A contract sees the policy list that the policy stands for. End it by `leave`: a
 /// publication waits for it.
 pub struct Reading<B: BoardName> {
-    reading: reader::Reading<Shown, LinkedList<Entry>, Published<B>>,
+    reading: reader::Reading<PublishedPolicy, LinkedList<Entry>, PublishedRule<B>>,
     front: Front<B>,
 }
 
@@ -79,7 +79,7 @@ impl<B: BoardName> SlotReader<B> {
         ensures { MatchResult result (λ reading. Begins self reading) (λ reader. reader ≡ self) }
     {
         let SlotReader { reader, front } = self;
-        match reader.enter_as::<Sees<B>>() {
+        match reader.enter_as::<SeenRule<B>>() {
             Ok(reading) => {
                 let front = Front::of(&reading.get().trace);
                 Ok(Reading { reading, front })

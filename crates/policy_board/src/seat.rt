@@ -10,7 +10,7 @@ ghost use Rattle.policy_board.specs.Receipts.{HasRoom, seat_keeping};
 ghost use Rattle.policy_board.specs.SeatState.{KeepsReceipts, new_seat};
 ghost use Rattle.policy_board.specs.declared.refusal.Refusal.TheVariants.{Memory};
 
-use crate::history::{BoardName, Front};
+use crate::board_list::{BoardName, Front};
 use crate::reader::{Reading, SlotReader};
 use crate::refusal::Refusal;
 use history_receipts::receipt::Kept;
@@ -141,14 +141,14 @@ impl<B: BoardName> Seat<B> {
     }
 
     /// Notes that it has seen this version. The program never does so; tests do, to get a Behind.
-    pub fn saw(&mut self, version: u64)
+    pub fn note_version(&mut self, version: u64)
         ensures { self.new ≡ record self.old { seen = max self.old.seen version } }
     {
         self.seen = self.seen.max(version);
     }
 
     /// The receipts of its calls, the oldest first.
-    pub fn kept(&self) -> &[Kept]
+    pub fn receipts(&self) -> &[Kept]
         ensures { result.now ≡ self.now.kept }
     {
         self.kept.as_slice()
@@ -159,7 +159,7 @@ impl<B: BoardName> Seat<B> {
     /// # Errors
     ///
     /// Memory, where memory was refused. The seat is then as it was.
-    pub fn room(&mut self) -> Result<(), Refusal>
+    pub fn make_room(&mut self) -> Result<(), Refusal>
         ensures { MatchResult result
             (λ _. HasRoom self.new × (self.new ≡ record self.old { room = self.new.room }))
             (λ refusal. (refusal ≡ Memory) × (self.new ≡ self.old)) }
@@ -188,7 +188,7 @@ impl<B: BoardName> Seat<B> {
 
     /// Notes that it has seen this list, which is no shorter than its seen number: so the list
     /// begins with all that it knew.
-    pub fn saw_list(&mut self, list: &Front<B>)
+    pub fn note_list(&mut self, list: &Front<B>)
         requires { self.old.seen ≤ length list.now }
         ensures later { Begins self.old.known list.now }
         ensures list { IsPolicyList list.now }
@@ -208,7 +208,7 @@ impl<B: BoardName> Seat<B> {
     }
 
     /// Notes that it knows this list, which begins with what it knew.
-    pub(crate) fn know(&mut self, list: &Front<B>)
+    pub(crate) fn note_known(&mut self, list: &Front<B>)
         requires { Begins self.old.known list.now }
         ensures { self.new ≡ seat_after self.old list.now }
     {

@@ -3,7 +3,7 @@ ghost use denote.Param.{param};
 ghost use denote.Param.Send.{IsSend, IsSync};
 ghost use Rattle.policy_board.specs.contracts.board.Board as board;
 
-use crate::history::BoardName;
+use crate::board_list::BoardName;
 use crate::publisher::Publisher;
 
 /// By its bound the proof learns that values of this type may cross threads.

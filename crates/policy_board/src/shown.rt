@@ -1,7 +1,7 @@
 //! What readers are shown, and the rule under which they read it.
 ghost use Rattle.std.specs.Prelude.{◌≡◌};
 
-use crate::history::{BoardName, Trace};
+use crate::board_list::{BoardName, Trace};
 use crossbeam_utils::rule::{Outcome, Protocol};
 use left_right::Absorb;
 use left_right::reader::Reader;
@@ -14,35 +14,39 @@ use std::marker::PhantomData;
 
 /// The policy, with the list that it stands for.
 #[derive(Drop)]
-pub struct Shown {
+pub struct PublishedPolicy {
     pub policy: Policy,
     pub trace: Trace,
 }
 
 /// What the writer does to each of the two copies of the policy.
 #[derive(Drop)]
-pub enum Operation {
+pub enum Publication {
     /// Does nothing. It is put before the first entry, to make room in the log for later ones.
     Room,
     /// An entry, with the list that ends with it.
     Add { entry: Entry, trace: Trace },
 }
 
-impl Absorb<Operation> for Shown {
-    ghost use Rattle.policy_board.specs.Inner.Steps.{after_operation};
+impl Absorb<Publication> for PublishedPolicy {
+    ghost use Rattle.policy_board.specs.Inner.Steps.{after_publication};
 
     type State = (Policy, Trace);
 
     ghost state = { λ s. (s.policy, s.trace) };
 
-    ghost applied = { λ s operation. after_operation s operation };
+    ghost applied = { λ s publication. after_publication s publication };
 
     ghost never_fails = { Unit {0} };
 
-    fn absorb_first(&mut self, operation: &Operation, _other: &Shown) -> Result<(), AllocError> {
-        match operation {
-            Operation::Room => {}
-            Operation::Add { entry, trace } => {
+    fn absorb_first(
+        &mut self,
+        publication: &Publication,
+        _other: &PublishedPolicy,
+    ) -> Result<(), AllocError> {
+        match publication {
+            Publication::Room => {}
+            Publication::Add { entry, trace } => {
                 self.policy.absorb(entry);
                 self.trace = trace.again();
             }
@@ -53,11 +57,11 @@ impl Absorb<Operation> for Shown {
 
 /// The rule of the published policy, as `left_right` asks for one: `IsKept` holds of what is shown
 /// and of what each reader and the writer have seen.
-pub struct Published<B> {
+pub struct PublishedRule<B> {
     of: PhantomData<B>,
 }
 
-impl<B: BoardName> Protocol<Shown, LinkedList<Entry>> for Published<B> {
+impl<B: BoardName> Protocol<PublishedPolicy, LinkedList<Entry>> for PublishedRule<B> {
     ghost use Rattle.std.specs.Prelude.{◌≡◌};
     ghost use Rattle.rbac_policy.specs.Opening.{opening_entries};
     ghost use Rattle.policy_board.specs.Rule.{IsKept};
@@ -69,17 +73,22 @@ impl<B: BoardName> Protocol<Shown, LinkedList<Entry>> for Published<B> {
 
 /// What a publication ensures for the writer, and a read for its reader: `IsSeen` relates what each
 /// had seen before to what it sees now.
-pub struct Sees<B> {
+pub struct SeenRule<B> {
     of: PhantomData<B>,
 }
 
-impl<B: BoardName> Outcome<Shown, LinkedList<Entry>> for Sees<B> {
+impl<B: BoardName> Outcome<PublishedPolicy, LinkedList<Entry>> for SeenRule<B> {
     ghost use Rattle.std.specs.Prelude.{◌≡◌};
     ghost use Rattle.policy_board.specs.Rule.{IsSeen};
 
     ghost then = { λ v x y w. (y.trace.book ≡ B.book) × IsSeen v y.policy y.trace.list w };
 }
 
-pub type PolicyReader<B> = Reader<Shown, LinkedList<Entry>, Published<B>>;
+pub type PolicyReader<B> = Reader<PublishedPolicy, LinkedList<Entry>, PublishedRule<B>>;
 
-pub type PolicyWriter<B> = Writer<Shown, Operation, LinkedList<Entry>, Published<B>>;
+pub type PolicyWriter<B> = Writer<
+    PublishedPolicy,
+    Publication,
+    LinkedList<Entry>,
+    PublishedRule<B>,
+>;

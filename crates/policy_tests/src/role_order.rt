@@ -2,7 +2,7 @@
 ghost use Rattle.std.specs.Prelude.{◌<◌};
 ghost use Rattle.rbac_closure.specs.declared.sets.TheConstants.{ROLES};
 
-use rbac_closure::rows::Rows;
+use rbac_closure::hierarchy::RoleHierarchy;
 use rbac_closure::sets::{ROLES, RoleSet};
 use std::process::Abort;
 
@@ -41,34 +41,34 @@ fn set(rt: &impl Abort, places: &[usize]) -> RoleSet {
 }
 
 /// Whether the line is done, or found so.
-fn holds(rt: &impl Abort, rows: &mut Rows, line: &Line) -> bool {
+fn holds(rt: &impl Abort, hierarchy: &mut RoleHierarchy, line: &Line) -> bool {
     match line {
         Line::Add(senior, junior) => {
-            rows.add_edge(at(rt, *senior), at(rt, *junior));
+            hierarchy.add_edge(at(rt, *senior), at(rt, *junior));
             true
         }
         Line::Remove(senior, junior) => {
-            rows.remove_edge(at(rt, *senior), at(rt, *junior));
+            hierarchy.remove_edge(at(rt, *senior), at(rt, *junior));
             true
         }
         Line::Clear(place) => {
-            rows.clear_role(at(rt, *place));
+            hierarchy.clear_role(at(rt, *place));
             true
         }
-        Line::Below(place, wanted) => rows.below(at(rt, *place)) == set(rt, wanted),
-        Line::Above(place, wanted) => rows.above(at(rt, *place)) == set(rt, wanted),
-        Line::BelowTwo(places, wanted) => rows.below_some(set(rt, places)) == set(rt, wanted),
+        Line::Below(place, wanted) => hierarchy.below(at(rt, *place)) == set(rt, wanted),
+        Line::Above(place, wanted) => hierarchy.above(at(rt, *place)) == set(rt, wanted),
+        Line::BelowTwo(places, wanted) => hierarchy.below_some(set(rt, places)) == set(rt, wanted),
         Line::Edge(senior, junior, wanted) => {
-            rows.has_edge(at(rt, *senior), at(rt, *junior)) == *wanted
+            hierarchy.has_edge(at(rt, *senior), at(rt, *junior)) == *wanted
         }
     }
 }
 
 /// From no edge on, each line is done, or found so.
 fn follow(rt: &impl Abort, lines: &[Line]) {
-    let mut rows = Rows::new();
+    let mut hierarchy = RoleHierarchy::new();
     for (number, line) in lines.iter().enumerate() {
-        assert!(rt; holds(rt, &mut rows, line), "line {number}");
+        assert!(rt; holds(rt, &mut hierarchy, line), "line {number}");
     }
 }
 
@@ -95,22 +95,25 @@ fn chain_of_three(rt: HostRuntime) {
 }
 
 /// Whether this is what is found where each place stands above the next, up to the last.
-fn is_chain(rt: &impl Abort, rows: &Rows, last: usize) -> bool {
-    (rows.below(0).len(), rows.above(at(rt, last)).len()) == (64, 64)
-        && rows.below(at(rt, last)) == set(rt, &[last])
-        && rows.below_some(set(rt, &[60, 62])) == set(rt, &[60, 61, 62, last])
+fn is_chain(rt: &impl Abort, hierarchy: &RoleHierarchy, last: usize) -> bool {
+    (
+        hierarchy.below(0).len(),
+        hierarchy.above(at(rt, last)).len(),
+    ) == (64, 64)
+        && hierarchy.below(at(rt, last)) == set(rt, &[last])
+        && hierarchy.below_some(set(rt, &[60, 62])) == set(rt, &[60, 61, 62, last])
 }
 
 /// Each place stands above the next.
 #[test]
 fn chain_over_all_places(rt: HostRuntime) {
-    let mut rows = Rows::new();
+    let mut hierarchy = RoleHierarchy::new();
     for place in 1..ROLES {
-        rows.add_edge(place - 1, place);
+        hierarchy.add_edge(place - 1, place);
     }
-    assert!(rt; is_chain(&rt, &rows, ROLES - 1));
-    rows.remove_edge(31, 32);
-    let (below, above) = (rows.below(0), rows.above(ROLES - 1));
+    assert!(rt; is_chain(&rt, &hierarchy, ROLES - 1));
+    hierarchy.remove_edge(31, 32);
+    let (below, above) = (hierarchy.below(0), hierarchy.above(ROLES - 1));
     assert!(rt; (below.len(), above.len()) == (32, 32));
     assert!(rt; below.has(31) && !below.meets(above));
 }

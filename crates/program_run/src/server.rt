@@ -12,7 +12,7 @@ use crate::socket::{ClosableSource, Socket, SocketSource};
 use client_loop::gate::OpenGate;
 use client_loop::workers::run_workers;
 use policy_board::board::Board;
-use policy_board::history::{BoardName, Fresh};
+use policy_board::board_list::{BoardName, FreshList};
 use policy_board::opening::Opened;
 use policy_board::seat::Seat;
 use program_words::order::{Service, WorkerCount};
@@ -64,7 +64,7 @@ pub fn serve_source<
 >(
     rt: &R,
     alloc: Global,
-    fresh: Fresh,
+    fresh: FreshList,
     workers: WorkerCount,
     connections: Option<u64>,
     source: S,
@@ -126,11 +126,12 @@ pub fn serve<R: Threads + Wait + Net + Files + Sync, O: Write>(
 {
     let source = SocketSource::new(Socket::bind(rt, service.path)?);
     let (workers, connections) = (service.workers, service.connections);
-    // `Brand` is the name of the new board: the proof has it stand for the list of `Fresh::new()`.
+    // `Brand` is the name of the new board: the proof has it stand for the list of
+    // `FreshList::new()`.
     serve_source::<Brand, R, SocketSource<'_>, O>(
         rt,
         alloc,
-        Fresh::new(),
+        FreshList::new(),
         workers,
         connections,
         source,

@@ -29,12 +29,12 @@ use Rattle.rbac_admin.specs.Conditions.{FirstListed}
 use Rattle.rbac_policy.specs.Separation.{IsFirstViolated, IsFirstSetOf}
 
 -- refuses where no session gives the command, or it doesn't live; and hands on the session that does
-abbrev pub no_session : List Entry → Option ℕ → Rule Refusal
-no_session entries session = Unless (HasSession entries session) NoSession
+abbrev pub no_giver : List Entry → Option ℕ → Rule Refusal
+no_giver entries session = Unless (HasSession entries session) NoSession
 
 -- refuses a session that may not change the policy
-abbrev pub no_permission : List Entry → Option ℕ → Rule Refusal
-no_permission entries session = Unless (Administers entries session) (Permission Administer Policy)
+abbrev pub no_right : List Entry → Option ℕ → Rule Refusal
+no_right entries session = Unless (Administers entries session) (Permission Administer Policy)
 
 -- refuses where there is no such user
 abbrev pub unknown_user : List Entry → NameText → Rule Refusal
@@ -72,7 +72,7 @@ entry_of session command = record { session = if makes_session command then None
 -- a session that lives gives the command, unless it is a login
 abbrev pub session_rules : List Entry → Option ℕ → AdminCommand → Rules Refusal
 session_rules entries s (CreateSession user roles) = accept
-session_rules entries s _ = no_session entries s ▸ accept
+session_rules entries s _ = no_giver entries s ▸ accept
 
 -- the session may change the policy, unless the command is one of those of sessions
 abbrev pub right_rules : List Entry → Option ℕ → AdminCommand → Rules Refusal
@@ -80,7 +80,7 @@ right_rules entries s (CreateSession user roles) = accept
 right_rules entries s DeleteSession = accept
 right_rules entries s (AddActiveRole role) = accept
 right_rules entries s (DropActiveRole role) = accept
-right_rules entries s _ = no_permission entries s ▸ accept
+right_rules entries s _ = no_right entries s ▸ accept
 
 -- what the command names: a user, role or set that it makes is new, and each other one is there; and a login has a
 -- number left

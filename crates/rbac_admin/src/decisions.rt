@@ -10,11 +10,14 @@ ghost use Rattle.rbac_admin.specs.PolicyStep.{separation_rules, table_rules};
 
 use crate::refusal::Refusal;
 use crate::rules::{
-    active_role, administers, authorized_role, authorized_roles, in_no_set, inactive_role,
-    is_assigned, is_granted, is_shape, known_edge, known_role, known_roles, known_set, known_user,
-    living, new_assignment, new_edge, new_grant, new_role, new_set, new_user, no_cycle,
-    number_left, room_for_grant, room_for_role, room_for_session, room_for_set, room_for_user,
-    separated_edge, separated_login, separated_role, separated_set, single_roles,
+    check_assigned, check_assignment_is_new, check_dsd_shape, check_edge_exists, check_edge_is_new,
+    check_edge_separation, check_grant_is_new, check_granted, check_in_no_set,
+    check_login_separation, check_may_administer, check_no_cycle, check_number_left,
+    check_role_active, check_role_authorized, check_role_exists, check_role_inactive,
+    check_role_is_new, check_role_separation, check_roles_authorized, check_roles_differ,
+    check_roles_exist, check_room_for_grant, check_room_for_role, check_room_for_session,
+    check_room_for_set, check_room_for_user, check_set_exists, check_set_is_new,
+    check_set_separation, check_user_exists, check_user_is_new, find_living_session,
 };
 use rbac_policy::commands::{AdminCommand, Entry, SessionId};
 use rbac_policy::policy::Policy;
@@ -34,7 +37,7 @@ fn find_giver(
     if command.is_login() {
         return Ok(None);
     }
-    match living(policy, session) {
+    match find_living_session(policy, session) {
         Ok(session) => Ok(Some(session)),
         Err(refusal) => Err(refusal),
     }
@@ -46,7 +49,7 @@ fn check_right(policy: &Policy, entry: &Entry) -> Result<(), Refusal>
         → Checks (right_rules entries entry.now.session entry.now.command) result }
 {
     match entry.session {
-        Some(session) if entry.command.is_administrative() => administers(policy, session),
+        Some(session) if entry.command.is_administrative() => check_may_administer(policy, session),
         Some(_) | None => Ok(()),
     }
 }
@@ -57,32 +60,32 @@ fn check_names(policy: &Policy, command: &AdminCommand) -> Result<(), Refusal>
         → Checks (name_rules entries command.now) result }
 {
     match command {
-        AdminCommand::AddUser { user } => new_user(policy, user),
-        AdminCommand::DeleteUser { user } => known_user(policy, user),
-        AdminCommand::AddRole { role } => new_role(policy, role),
+        AdminCommand::AddUser { user } => check_user_is_new(policy, user),
+        AdminCommand::DeleteUser { user } => check_user_exists(policy, user),
+        AdminCommand::AddRole { role } => check_role_is_new(policy, role),
         AdminCommand::DeleteRole { role }
         | AdminCommand::GrantPermission { role, .. }
         | AdminCommand::RevokePermission { role, .. }
         | AdminCommand::AddActiveRole { role }
-        | AdminCommand::DropActiveRole { role } => known_role(policy, role),
+        | AdminCommand::DropActiveRole { role } => check_role_exists(policy, role),
         AdminCommand::AssignUser { user, role } | AdminCommand::DeassignUser { user, role } => {
-            known_user(policy, user)?;
-            known_role(policy, role)
+            check_user_exists(policy, user)?;
+            check_role_exists(policy, role)
         }
         AdminCommand::AddInheritance { senior, junior }
         | AdminCommand::DeleteInheritance { senior, junior } => {
-            known_role(policy, senior)?;
-            known_role(policy, junior)
+            check_role_exists(policy, senior)?;
+            check_role_exists(policy, junior)
         }
         AdminCommand::CreateDsdSet { set, roles, .. } => {
-            new_set(policy, set)?;
-            known_roles(policy, roles)
+            check_set_is_new(policy, set)?;
+            check_roles_exist(policy, roles)
         }
-        AdminCommand::DeleteDsdSet { set } => known_set(policy, set),
+        AdminCommand::DeleteDsdSet { set } => check_set_exists(policy, set),
         AdminCommand::CreateSession { user, roles } => {
-            number_left(policy)?;
-            known_user(policy, user)?;
-            known_roles(policy, roles)
+            check_number_left(policy)?;
+            check_user_exists(policy, user)?;
+            check_roles_exist(policy, roles)
         }
         AdminCommand::DeleteSession => Ok(()),
     }
@@ -101,37 +104,39 @@ fn check_conditions(policy: &Policy, entry: &Entry) -> Result<(), Refusal>
         | AdminCommand::AddRole { .. }
         | AdminCommand::DeleteDsdSet { .. }
         | AdminCommand::DeleteSession => Ok(()),
-        AdminCommand::DeleteRole { role } => in_no_set(policy, role),
-        AdminCommand::AssignUser { user, role } => new_assignment(policy, user, role),
-        AdminCommand::DeassignUser { user, role } => is_assigned(policy, user, role),
+        AdminCommand::DeleteRole { role } => check_in_no_set(policy, role),
+        AdminCommand::AssignUser { user, role } => check_assignment_is_new(policy, user, role),
+        AdminCommand::DeassignUser { user, role } => check_assigned(policy, user, role),
         AdminCommand::GrantPermission {
             role,
             operation,
             object,
-        } => new_grant(policy, role, operation, object),
+        } => check_grant_is_new(policy, role, operation, object),
         AdminCommand::RevokePermission {
             role,
             operation,
             object,
-        } => is_granted(policy, role, operation, object),
+        } => check_granted(policy, role, operation, object),
         AdminCommand::AddInheritance { senior, junior } => {
-            no_cycle(policy, senior, junior)?;
-            new_edge(policy, senior, junior)
+            check_no_cycle(policy, senior, junior)?;
+            check_edge_is_new(policy, senior, junior)
         }
-        AdminCommand::DeleteInheritance { senior, junior } => known_edge(policy, senior, junior),
-        AdminCommand::CreateDsdSet { count, roles, .. } => is_shape(*count, roles),
+        AdminCommand::DeleteInheritance { senior, junior } => check_edge_exists(
+            policy, senior, junior,
+        ),
+        AdminCommand::CreateDsdSet { count, roles, .. } => check_dsd_shape(*count, roles),
         AdminCommand::CreateSession { user, roles } => {
-            authorized_roles(policy, user, roles)?;
-            single_roles(roles)
+            check_roles_authorized(policy, user, roles)?;
+            check_roles_differ(roles)
         }
         AdminCommand::AddActiveRole { role } => {
             let session = entry.session.ok_or(Refusal::NoSession)?;
-            authorized_role(policy, session, role)?;
-            inactive_role(policy, session, role)
+            check_role_authorized(policy, session, role)?;
+            check_role_inactive(policy, session, role)
         }
         AdminCommand::DropActiveRole { role } => {
             let session = entry.session.ok_or(Refusal::NoSession)?;
-            active_role(policy, session, role)
+            check_role_active(policy, session, role)
         }
     }
 }
@@ -145,13 +150,15 @@ fn check_separation(policy: &Policy, entry: &Entry) -> Result<(), Refusal>
         → Checks (separation_rules entries entry.now.session entry.now.command) result }
 {
     match &entry.command {
-        AdminCommand::AddInheritance { senior, junior } => separated_edge(policy, senior, junior),
-        AdminCommand::CreateDsdSet { set, count, roles } => separated_set(
+        AdminCommand::AddInheritance { senior, junior } => check_edge_separation(
+            policy, senior, junior,
+        ),
+        AdminCommand::CreateDsdSet { set, count, roles } => check_set_separation(
             policy, set, *count, roles,
         ),
-        AdminCommand::CreateSession { user, roles } => separated_login(policy, user, roles),
+        AdminCommand::CreateSession { user, roles } => check_login_separation(policy, user, roles),
         AdminCommand::AddActiveRole { role } => match entry.session {
-            Some(session) => separated_role(policy, session, role),
+            Some(session) => check_role_separation(policy, session, role),
             None => Err(Refusal::NoSession),
         },
         AdminCommand::AddUser { .. }
@@ -175,15 +182,15 @@ fn check_tables(policy: &Policy, command: &AdminCommand) -> Result<(), Refusal>
         → Checks (table_rules entries command.now) result }
 {
     match command {
-        AdminCommand::AddUser { .. } => room_for_user(policy),
-        AdminCommand::AddRole { .. } => room_for_role(policy),
+        AdminCommand::AddUser { .. } => check_room_for_user(policy),
+        AdminCommand::AddRole { .. } => check_room_for_role(policy),
         AdminCommand::GrantPermission {
             operation,
             object,
             ..
-        } => room_for_grant(policy, operation, object),
-        AdminCommand::CreateDsdSet { .. } => room_for_set(policy),
-        AdminCommand::CreateSession { .. } => room_for_session(policy),
+        } => check_room_for_grant(policy, operation, object),
+        AdminCommand::CreateDsdSet { .. } => check_room_for_set(policy),
+        AdminCommand::CreateSession { .. } => check_room_for_session(policy),
         AdminCommand::DeleteUser { .. }
         | AdminCommand::DeleteRole { .. }
         | AdminCommand::AssignUser { .. }

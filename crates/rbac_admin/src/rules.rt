@@ -14,7 +14,7 @@ ghost use Rattle.rbac_policy.specs.Fits.{SessionsFull};
 ghost use Rattle.rbac_policy.specs.Separation.{IsFirstSetOf};
 ghost use Rattle.refusal_rules.specs.Rules.{Says, Unless, Naming, Tests};
 ghost use Rattle.rbac_admin.specs.Conditions.{IsGivenBy, HasNoRoomFor, IsNoShape, FirstListed};
-ghost use Rattle.rbac_admin.specs.PolicyStep.{no_session, unknown_user, unknown_role};
+ghost use Rattle.rbac_admin.specs.PolicyStep.{no_giver, unknown_user, unknown_role};
 ghost use Rattle.rbac_admin.specs.PolicyStep.{unknown_listed, unauthorized_listed, repeated_listed};
 ghost use Rattle.rbac_admin.specs.PolicyStep.{violation};
 
@@ -25,9 +25,12 @@ use rbac_policy::objects::{Object, Operation};
 use rbac_policy::policy::Policy;
 
 /// The session that gives the command. Refuses if none gives it, or it doesn't live.
-pub fn living(policy: &Policy, session: Option<SessionId>) -> Result<SessionId, Refusal>
+pub fn find_living_session(
+    policy: &Policy,
+    session: Option<SessionId>,
+) -> Result<SessionId, Refusal>
     ensures { (entries : List Entry) → StandsFor policy.now entries
-        → MatchResult result (IsGivenBy entries session) (no_session entries session).refuses }
+        → MatchResult result (IsGivenBy entries session) (no_giver entries session).refuses }
 {
     let Some(number) = session else {
         return Err(Refusal::NoSession);
@@ -40,7 +43,7 @@ pub fn living(policy: &Policy, session: Option<SessionId>) -> Result<SessionId, 
 }
 
 /// Refuses a session that may not change the policy.
-pub fn administers(policy: &Policy, session: SessionId) -> Result<(), Refusal>
+pub fn check_may_administer(policy: &Policy, session: SessionId) -> Result<(), Refusal>
     ensures { (entries : List Entry) → StandsFor policy.now entries
         → Tests (Unless (May entries session Operation.Administer Object.Policy)
         (Refusal.Permission Operation.Administer Object.Policy)) result }
@@ -56,7 +59,7 @@ pub fn administers(policy: &Policy, session: SessionId) -> Result<(), Refusal>
 }
 
 /// Refuses if there is no such role.
-pub fn known_role(policy: &Policy, role: &Name) -> Result<(), Refusal>
+pub fn check_role_exists(policy: &Policy, role: &Name) -> Result<(), Refusal>
     ensures { (entries : List Entry) → StandsFor policy.now entries
         → Tests (unknown_role entries role.now) result }
 {
@@ -68,7 +71,7 @@ pub fn known_role(policy: &Policy, role: &Name) -> Result<(), Refusal>
 }
 
 /// Refuses if the role itself has the permission.
-pub fn new_grant(
+pub fn check_grant_is_new(
     policy: &Policy,
     role: &Name,
     operation: &Operation,
@@ -86,7 +89,7 @@ pub fn new_grant(
 }
 
 /// Refuses if the pair is granted to no role and there is no room for it.
-pub fn room_for_grant(
+pub fn check_room_for_grant(
     policy: &Policy,
     operation: &Operation,
     object: &Object,
@@ -107,7 +110,7 @@ pub fn room_for_grant(
 }
 
 /// Refuses if there is such a user.
-pub fn new_user(policy: &Policy, user: &Name) -> Result<(), Refusal>
+pub fn check_user_is_new(policy: &Policy, user: &Name) -> Result<(), Refusal>
     ensures { (entries : List Entry) → StandsFor policy.now entries
         → Tests (Says (Refusal.UserExists user.now) (IsUser entries user.now)) result }
 {
@@ -119,7 +122,7 @@ pub fn new_user(policy: &Policy, user: &Name) -> Result<(), Refusal>
 }
 
 /// Refuses if there is no room for another user.
-pub fn room_for_user(policy: &Policy) -> Result<(), Refusal>
+pub fn check_room_for_user(policy: &Policy) -> Result<(), Refusal>
     ensures { (entries : List Entry) → StandsFor policy.now entries
         → Tests (Says (Refusal.Full Table.Users) (UsersFull entries)) result }
 {
@@ -133,7 +136,7 @@ pub fn room_for_user(policy: &Policy) -> Result<(), Refusal>
 }
 
 /// Refuses if there is such a role.
-pub fn new_role(policy: &Policy, role: &Name) -> Result<(), Refusal>
+pub fn check_role_is_new(policy: &Policy, role: &Name) -> Result<(), Refusal>
     ensures { (entries : List Entry) → StandsFor policy.now entries
         → Tests (Says (Refusal.RoleExists role.now) (IsRole entries role.now)) result }
 {
@@ -145,7 +148,7 @@ pub fn new_role(policy: &Policy, role: &Name) -> Result<(), Refusal>
 }
 
 /// Refuses if there is no room for another role.
-pub fn room_for_role(policy: &Policy) -> Result<(), Refusal>
+pub fn check_room_for_role(policy: &Policy) -> Result<(), Refusal>
     ensures { (entries : List Entry) → StandsFor policy.now entries
         → Tests (Says (Refusal.Full Table.Roles) (RolesFull entries)) result }
 {
@@ -159,7 +162,7 @@ pub fn room_for_role(policy: &Policy) -> Result<(), Refusal>
 }
 
 /// Refuses if the role is assigned to the user.
-pub fn new_assignment(policy: &Policy, user: &Name, role: &Name) -> Result<(), Refusal>
+pub fn check_assignment_is_new(policy: &Policy, user: &Name, role: &Name) -> Result<(), Refusal>
     ensures { (entries : List Entry) → StandsFor policy.now entries
         → Tests (Says Refusal.AlreadyAssigned (IsAssigned entries user.now role.now)) result }
 {
@@ -171,7 +174,7 @@ pub fn new_assignment(policy: &Policy, user: &Name, role: &Name) -> Result<(), R
 }
 
 /// Refuses if the role is not assigned to the user.
-pub fn is_assigned(policy: &Policy, user: &Name, role: &Name) -> Result<(), Refusal>
+pub fn check_assigned(policy: &Policy, user: &Name, role: &Name) -> Result<(), Refusal>
     ensures { (entries : List Entry) → StandsFor policy.now entries
         → Tests (Unless (IsAssigned entries user.now role.now) Refusal.NotAssigned) result }
 {
@@ -183,7 +186,7 @@ pub fn is_assigned(policy: &Policy, user: &Name, role: &Name) -> Result<(), Refu
 }
 
 /// Refuses if the role itself doesn't have the permission.
-pub fn is_granted(
+pub fn check_granted(
     policy: &Policy,
     role: &Name,
     operation: &Operation,
@@ -201,7 +204,7 @@ pub fn is_granted(
 }
 
 /// Refuses if the edge itself isn't there.
-pub fn known_edge(policy: &Policy, senior: &Name, junior: &Name) -> Result<(), Refusal>
+pub fn check_edge_exists(policy: &Policy, senior: &Name, junior: &Name) -> Result<(), Refusal>
     ensures { (entries : List Entry) → StandsFor policy.now entries
         → Tests (Unless (IsEdge entries senior.now junior.now) Refusal.NoEdge) result }
 {
@@ -213,7 +216,7 @@ pub fn known_edge(policy: &Policy, senior: &Name, junior: &Name) -> Result<(), R
 }
 
 /// Refuses if the role is not active in the session, which lives.
-pub fn active_role(policy: &Policy, session: SessionId, role: &Name) -> Result<(), Refusal>
+pub fn check_role_active(policy: &Policy, session: SessionId, role: &Name) -> Result<(), Refusal>
     ensures { (entries : List Entry) → StandsFor policy.now entries → IsLive entries session
         → Tests (Unless (IsActive entries session role.now) (Refusal.NotActive role.now)) result }
 {
@@ -225,7 +228,7 @@ pub fn active_role(policy: &Policy, session: SessionId, role: &Name) -> Result<(
 }
 
 /// Refuses if the role is active in the session, which lives.
-pub fn inactive_role(policy: &Policy, session: SessionId, role: &Name) -> Result<(), Refusal>
+pub fn check_role_inactive(policy: &Policy, session: SessionId, role: &Name) -> Result<(), Refusal>
     ensures { (entries : List Entry) → StandsFor policy.now entries → IsLive entries session
         → Tests (Says (Refusal.AlreadyActive role.now) (IsActive entries session role.now)) result }
 {
@@ -237,7 +240,11 @@ pub fn inactive_role(policy: &Policy, session: SessionId, role: &Name) -> Result
 }
 
 /// Refuses if the user of the session, which lives, is not authorized for the role.
-pub fn authorized_role(policy: &Policy, session: SessionId, role: &Name) -> Result<(), Refusal>
+pub fn check_role_authorized(
+    policy: &Policy,
+    session: SessionId,
+    role: &Name,
+) -> Result<(), Refusal>
     ensures { (entries : List Entry) (user : NameText) → StandsFor policy.now entries
         → Lives entries session user
         → Tests (Unless (IsAuthorized entries user role.now) (Refusal.NotAuthorized role.now))
@@ -250,7 +257,7 @@ pub fn authorized_role(policy: &Policy, session: SessionId, role: &Name) -> Resu
 }
 
 /// Refuses if there is such a separation set.
-pub fn new_set(policy: &Policy, set: &Name) -> Result<(), Refusal>
+pub fn check_set_is_new(policy: &Policy, set: &Name) -> Result<(), Refusal>
     ensures { (entries : List Entry) → StandsFor policy.now entries
         → Tests (Says (Refusal.DsdExists set.now) (IsSetName entries set.now)) result }
 {
@@ -262,7 +269,7 @@ pub fn new_set(policy: &Policy, set: &Name) -> Result<(), Refusal>
 }
 
 /// Refuses if there is no such separation set.
-pub fn known_set(policy: &Policy, set: &Name) -> Result<(), Refusal>
+pub fn check_set_exists(policy: &Policy, set: &Name) -> Result<(), Refusal>
     ensures { (entries : List Entry) → StandsFor policy.now entries
         → Tests (Unless (IsSetName entries set.now) (Refusal.NoDsd set.now)) result }
 {
@@ -274,7 +281,7 @@ pub fn known_set(policy: &Policy, set: &Name) -> Result<(), Refusal>
 }
 
 /// Refuses if there is no room for another separation set.
-pub fn room_for_set(policy: &Policy) -> Result<(), Refusal>
+pub fn check_room_for_set(policy: &Policy) -> Result<(), Refusal>
     ensures { (entries : List Entry) → StandsFor policy.now entries
         → Tests (Says (Refusal.Full Table.Sets) (SetsFull entries)) result }
 {
@@ -286,7 +293,7 @@ pub fn room_for_set(policy: &Policy) -> Result<(), Refusal>
 }
 
 /// Refuses if the senior is the junior, or lies below it.
-pub fn no_cycle(policy: &Policy, senior: &Name, junior: &Name) -> Result<(), Refusal>
+pub fn check_no_cycle(policy: &Policy, senior: &Name, junior: &Name) -> Result<(), Refusal>
     ensures { (entries : List Entry) → StandsFor policy.now entries
         → Tests (Says Refusal.Cycle (IsAtOrBelow entries senior.now junior.now)) result }
 {
@@ -298,7 +305,7 @@ pub fn no_cycle(policy: &Policy, senior: &Name, junior: &Name) -> Result<(), Ref
 }
 
 /// Refuses if the edge itself is there.
-pub fn new_edge(policy: &Policy, senior: &Name, junior: &Name) -> Result<(), Refusal>
+pub fn check_edge_is_new(policy: &Policy, senior: &Name, junior: &Name) -> Result<(), Refusal>
     ensures { (entries : List Entry) → StandsFor policy.now entries
         → Tests (Says Refusal.EdgeExists (IsEdge entries senior.now junior.now)) result }
 {
@@ -310,7 +317,7 @@ pub fn new_edge(policy: &Policy, senior: &Name, junior: &Name) -> Result<(), Ref
 }
 
 /// Refuses if the role is a member of a separation set, and names the first.
-pub fn in_no_set(policy: &Policy, role: &Name) -> Result<(), Refusal>
+pub fn check_in_no_set(policy: &Policy, role: &Name) -> Result<(), Refusal>
     ensures { (entries : List Entry) → StandsFor policy.now entries
         → Tests (Naming Refusal.RoleInDsd (IsFirstSetOf entries role.now)) result }
 {
@@ -321,7 +328,7 @@ pub fn in_no_set(policy: &Policy, role: &Name) -> Result<(), Refusal>
 }
 
 /// Refuses if a session violates a separation set once an edge leads from the senior to the junior.
-pub fn separated_edge(policy: &Policy, senior: &Name, junior: &Name) -> Result<(), Refusal>
+pub fn check_edge_separation(policy: &Policy, senior: &Name, junior: &Name) -> Result<(), Refusal>
     ensures { (entries : List Entry) (session : Option ℕ) → StandsFor policy.now entries
         → IsRole entries senior.now → IsRole entries junior.now
         → Tests (violation entries session (AdminCommand.AddInheritance senior.now junior.now))
@@ -338,7 +345,7 @@ pub fn separated_edge(policy: &Policy, senior: &Name, junior: &Name) -> Result<(
 
 /// Refuses if a session violates a separation set once there is one more of this name, number and
 /// roles.
-pub fn separated_set(
+pub fn check_set_separation(
     policy: &Policy,
     set: &Name,
     count: u64,
@@ -360,7 +367,11 @@ pub fn separated_set(
 
 /// Refuses if some session would violate a separation set once the role is active in this session
 /// too. Its user is authorized for the role.
-pub fn separated_role(policy: &Policy, session: SessionId, role: &Name) -> Result<(), Refusal>
+pub fn check_role_separation(
+    policy: &Policy,
+    session: SessionId,
+    role: &Name,
+) -> Result<(), Refusal>
     ensures { (entries : List Entry) (user : NameText) → StandsFor policy.now entries
         → Lives entries session user → IsAuthorized entries user role.now
         → Tests (violation entries (Some session) (AdminCommand.AddActiveRole role.now)) result }
@@ -375,7 +386,7 @@ pub fn separated_role(policy: &Policy, session: SessionId, role: &Name) -> Resul
 }
 
 /// Refuses if the number is under two or over that of the roles, or a role is listed twice.
-pub fn is_shape(count: u64, roles: &RoleNames) -> Result<(), Refusal>
+pub fn check_dsd_shape(count: u64, roles: &RoleNames) -> Result<(), Refusal>
     ensures { Tests (Says Refusal.DsdShape (IsNoShape count roles.now)) result }
 {
     if count < 2 || (roles.len() as u64) < count {
@@ -388,7 +399,7 @@ pub fn is_shape(count: u64, roles: &RoleNames) -> Result<(), Refusal>
 }
 
 /// Refuses if no session number is left.
-pub fn number_left(policy: &Policy) -> Result<(), Refusal>
+pub fn check_number_left(policy: &Policy) -> Result<(), Refusal>
     ensures { (entries : List Entry) → StandsFor policy.now entries
         → Tests (Says Refusal.SessionsExhausted (NumbersExhausted entries)) result }
 {
@@ -400,7 +411,7 @@ pub fn number_left(policy: &Policy) -> Result<(), Refusal>
 }
 
 /// Refuses if there is no such user.
-pub fn known_user(policy: &Policy, user: &Name) -> Result<(), Refusal>
+pub fn check_user_exists(policy: &Policy, user: &Name) -> Result<(), Refusal>
     ensures { (entries : List Entry) → StandsFor policy.now entries
         → Tests (unknown_user entries user.now) result }
 {
@@ -477,7 +488,7 @@ fn first_repeated(roles: &RoleNames) -> Option<Name>
 }
 
 /// Refuses if a listed name is no role's, and names the first.
-pub fn known_roles(policy: &Policy, roles: &RoleNames) -> Result<(), Refusal>
+pub fn check_roles_exist(policy: &Policy, roles: &RoleNames) -> Result<(), Refusal>
     ensures { (entries : List Entry) → StandsFor policy.now entries
         → Tests (unknown_listed entries roles.now) result }
 {
@@ -489,7 +500,11 @@ pub fn known_roles(policy: &Policy, roles: &RoleNames) -> Result<(), Refusal>
 
 /// Refuses if a session violates a separation set once the user has logged in with these roles, for
 /// which it is authorized.
-pub fn separated_login(policy: &Policy, user: &Name, roles: &RoleNames) -> Result<(), Refusal>
+pub fn check_login_separation(
+    policy: &Policy,
+    user: &Name,
+    roles: &RoleNames,
+) -> Result<(), Refusal>
     ensures { (entries : List Entry) → StandsFor policy.now entries → ¬ (NumbersExhausted entries)
         → ((role : NameText) → Contains roles.now role → IsAuthorized entries user.now role)
         → Tests (violation entries None (AdminCommand.CreateSession user.now roles.now)) result }
@@ -504,7 +519,11 @@ pub fn separated_login(policy: &Policy, user: &Name, roles: &RoleNames) -> Resul
 }
 
 /// Refuses if the user is not authorized for a listed role, and names the first.
-pub fn authorized_roles(policy: &Policy, user: &Name, roles: &RoleNames) -> Result<(), Refusal>
+pub fn check_roles_authorized(
+    policy: &Policy,
+    user: &Name,
+    roles: &RoleNames,
+) -> Result<(), Refusal>
     ensures { (entries : List Entry) → StandsFor policy.now entries
         → Tests (unauthorized_listed entries user.now roles.now) result }
 {
@@ -515,7 +534,7 @@ pub fn authorized_roles(policy: &Policy, user: &Name, roles: &RoleNames) -> Resu
 }
 
 /// Refuses if a listed role stands a second time, and names the first.
-pub fn single_roles(roles: &RoleNames) -> Result<(), Refusal>
+pub fn check_roles_differ(roles: &RoleNames) -> Result<(), Refusal>
     ensures { Tests (repeated_listed roles.now) result }
 {
     match first_repeated(roles) {
@@ -525,7 +544,7 @@ pub fn single_roles(roles: &RoleNames) -> Result<(), Refusal>
 }
 
 /// Refuses if there is no room for another session.
-pub fn room_for_session(policy: &Policy) -> Result<(), Refusal>
+pub fn check_room_for_session(policy: &Policy) -> Result<(), Refusal>
     ensures { (entries : List Entry) → StandsFor policy.now entries
         → Tests (Says (Refusal.Full Table.Sessions) (SessionsFull entries)) result }
 {

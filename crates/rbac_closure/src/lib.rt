@@ -5,5 +5,5 @@
 //! them fits in, stand in `sets` alone.
 #![tactic(auto)]
 
-pub mod rows;
+pub mod hierarchy;
 pub mod sets;

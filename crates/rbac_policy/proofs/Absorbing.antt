@@ -30,7 +30,7 @@ use Rattle.rbac_policy.specs.Counting.{HasAtLeast}
 use Rattle.rbac_policy.specs.Tables.{At, place_of, put_at, mask_of, session_without, grant_is}
 use Rattle.rbac_policy.specs.Change.{absorbed, swept, changed, assigned_at, granted_at, deassigned_at, revoked_at}
 use Rattle.rbac_policy.specs.Change.{user_deleted, role_deleted_at, inherited_at, disinherited_at, set_deleted}
-use Rattle.rbac_policy.specs.Change.{taken_up_at, laid_down_at}
+use Rattle.rbac_policy.specs.Change.{role_activated_at, role_dropped_at}
 use Rattle.rbac_policy.specs.Fits.{Fits, FitsCommand, FitsAddUser, FitsAddRole, FitsAssignUser, FitsGrantPermission}
 use Rattle.rbac_policy.specs.Fits.{FitsCreateSession, FitsInheritance, FitsDeleteRole, FitsCreateDsdSet}
 use Rattle.rbac_policy.specs.StandsFor.{StandsFor, UsersStand, RolesStand, GrantsStand, SetsStand}
@@ -251,17 +251,19 @@ made_before p L k st live =
     let h = (st.sessions.exist k live.0).0 live.1 in
     subst (λ n. n ≤ logins L) h.fact.0 (st.sessions.numbers h.at h.value h.there)
 
-take_up : (p : Policy) (L : List Entry) (k : ℕ) (role : NameText) → StandsFor p L → length L < LAST_VERSION → IsLive L k
+activate_role : (p : Policy) (L : List Entry) (k : ℕ) (role : NameText) → StandsFor p L → length L < LAST_VERSION
+    → IsLive L k
     → IsRole L role
     → StandsFor (swept (changed p (record { session = Some k; command = AddActiveRole role })))
     (L ++ record { session = Some k; command = AddActiveRole role } ∷ [])
-take_up p L k role st few live is_role =
+activate_role p L k role st few live is_role =
     let e : Entry = record { session = Some k; command = AddActiveRole role } in
     let q = role_place p L role st is_role in
     let low : q.place < ROLES = omega (arith, slice_get_within p.roles q.place (Some role) q.there, st.roles.places) in
-    let is : changed p e ≡ taken_up_at (Some k) (Some q.place) p = ap (λ o. taken_up_at (Some k) o p) q.found in
+    let is : changed p e ≡ role_activated_at (Some k) (Some q.place) p =
+    ap (λ o. role_activated_at (Some k) o p) q.found in
     subst (λ (t : Policy). StandsFor (swept t) (L ++ e ∷ [])) (sym is)
-    (assemble (taken_up_at (Some k) (Some q.place) p) L e st.version few
+    (assemble (role_activated_at (Some k) (Some q.place) p) L e st.version few
     (st.logins ∙ sym (logins_other L e refl))
     (untouched_users p.roles p.users L e refl st.users)
     (untouched_roles p.roles p.juniors L e refl st.roles)
@@ -270,17 +272,17 @@ take_up p L k role st few live is_role =
     (made_before p L k st live))
     (untouched_sets p.roles p.sets L e refl st.sets))
 
-lay_down : (p : Policy) (L : List Entry) (k : ℕ) (role : NameText) → StandsFor p L → length L < LAST_VERSION
+drop_role : (p : Policy) (L : List Entry) (k : ℕ) (role : NameText) → StandsFor p L → length L < LAST_VERSION
     → IsRole L role
     → StandsFor (swept (changed p (record { session = Some k; command = DropActiveRole role })))
     (L ++ record { session = Some k; command = DropActiveRole role } ∷ [])
-lay_down p L k role st few is_role =
+drop_role p L k role st few is_role =
     let e : Entry = record { session = Some k; command = DropActiveRole role } in
     let q = role_place p L role st is_role in
     let low : q.place < ROLES = omega (arith, slice_get_within p.roles q.place (Some role) q.there, st.roles.places) in
-    let is : changed p e ≡ laid_down_at (Some k) (Some q.place) p = ap (λ o. laid_down_at (Some k) o p) q.found in
+    let is : changed p e ≡ role_dropped_at (Some k) (Some q.place) p = ap (λ o. role_dropped_at (Some k) o p) q.found in
     subst (λ (t : Policy). StandsFor (swept t) (L ++ e ∷ [])) (sym is)
-    (assemble (laid_down_at (Some k) (Some q.place) p) L e st.version few
+    (assemble (role_dropped_at (Some k) (Some q.place) p) L e st.version few
     (st.logins ∙ sym (logins_other L e refl))
     (untouched_users p.roles p.users L e refl st.users)
     (untouched_roles p.roles p.juniors L e refl st.roles)
@@ -463,12 +465,12 @@ by_command p L s (AddActiveRole role) st few fits =
     let P : Option ℕ
     → Type 0 = λ o. StandsFor (swept (changed p (record { session = o; command = AddActiveRole role })))
     (L ++ record { session = o; command = AddActiveRole role } ∷ []) in
-    subst P (sym fits.given) (take_up p L fits.number role st few fits.lives fits.is_role)
+    subst P (sym fits.given) (activate_role p L fits.number role st few fits.lives fits.is_role)
 by_command p L s (DropActiveRole role) st few fits =
     let P : Option ℕ
     → Type 0 = λ o. StandsFor (swept (changed p (record { session = o; command = DropActiveRole role })))
     (L ++ record { session = o; command = DropActiveRole role } ∷ []) in
-    subst P (sym fits.given) (lay_down p L fits.number role st few fits.is_role)
+    subst P (sym fits.given) (drop_role p L fits.number role st few fits.is_role)
 
 -- the law
 pub stands_after : (p : Policy) (L : List Entry) (e : Entry) → StandsFor p L → Fits L e

@@ -4,4 +4,4 @@ pub mod Counted
 pub mod Violating
 pub mod Prospects
 pub mod LoggingIn
-pub mod TakingUp
+pub mod ActivatingRole

@@ -15,8 +15,8 @@ use Rattle.rbac_policy.specs.declared.sizes.TheConstants.{USERS, ROLES, GRANTS, 
 use Rattle.rbac_policy.specs.declared.sizes.TheConstants.{LAST_VERSION}
 use Rattle.rbac_policy.specs.Names.{NameText}
 use Rattle.rbac_policy.specs.Tables.{place_of, grants_given, put_free, mask_of, session_without, session_kept}
-use Rattle.rbac_policy.specs.Tables.{user_given, user_relieved, user_cleared, user_without, grant_revoked}
-use Rattle.rbac_policy.specs.Tables.{grant_cleared, session_of_other, session_given, session_relieved, set_without}
+use Rattle.rbac_policy.specs.Tables.{user_assigned, user_deassigned, user_cleared, user_without, grant_revoked}
+use Rattle.rbac_policy.specs.Tables.{grant_cleared, session_of_other, session_activated, session_dropped, set_without}
 use Rattle.rbac_closure.specs.Edges.{edge_added, edge_removed, role_cleared}
 
 -- the pair is granted to the role at this place, if there is one
@@ -46,7 +46,7 @@ logged_out (Some number) p = record p { sessions = map (session_without number) 
 -- the role at this place is assigned to the user, if there is one
 abbrev pub assigned_at : Option ℕ → NameText → Policy → Policy
 assigned_at None user p = p
-assigned_at (Some place) user p = record p { users = map (user_given user place) p.users }
+assigned_at (Some place) user p = record p { users = map (user_assigned user place) p.users }
 
 -- the role of this name is assigned to the user, if there is one
 abbrev pub assigned : NameText → NameText → Policy → Policy
@@ -55,7 +55,7 @@ assigned user role p = assigned_at (place_of role p.roles) user p
 -- the role at this place is taken from the user, if there is one
 abbrev pub deassigned_at : Option ℕ → NameText → Policy → Policy
 deassigned_at None user p = p
-deassigned_at (Some place) user p = record p { users = map (user_relieved user place) p.users }
+deassigned_at (Some place) user p = record p { users = map (user_deassigned user place) p.users }
 
 -- the role of this name is taken from the user, if there is one
 abbrev pub deassigned : NameText → NameText → Policy → Policy
@@ -119,22 +119,22 @@ abbrev pub set_deleted : NameText → Policy → Policy
 set_deleted set p = record p { sets = map (set_without set) p.sets }
 
 -- the role at this place is active in the session, if both are there
-abbrev pub taken_up_at : Option ℕ → Option ℕ → Policy → Policy
-taken_up_at (Some number) (Some place) p = record p { sessions = map (session_given number place) p.sessions }
-taken_up_at _ _ p = p
+abbrev pub role_activated_at : Option ℕ → Option ℕ → Policy → Policy
+role_activated_at (Some number) (Some place) p = record p { sessions = map (session_activated number place) p.sessions }
+role_activated_at _ _ p = p
 
 -- the role is active in the session that gives the command
-abbrev pub taken_up : Option ℕ → NameText → Policy → Policy
-taken_up session role p = taken_up_at session (place_of role p.roles) p
+abbrev pub role_activated : Option ℕ → NameText → Policy → Policy
+role_activated session role p = role_activated_at session (place_of role p.roles) p
 
 -- the role at this place is active in the session no more, if both are there
-abbrev pub laid_down_at : Option ℕ → Option ℕ → Policy → Policy
-laid_down_at (Some number) (Some place) p = record p { sessions = map (session_relieved number place) p.sessions }
-laid_down_at _ _ p = p
+abbrev pub role_dropped_at : Option ℕ → Option ℕ → Policy → Policy
+role_dropped_at (Some number) (Some place) p = record p { sessions = map (session_dropped number place) p.sessions }
+role_dropped_at _ _ p = p
 
 -- the role is active in the session that gives the command no more
-abbrev pub laid_down : Option ℕ → NameText → Policy → Policy
-laid_down session role p = laid_down_at session (place_of role p.roles) p
+abbrev pub role_dropped : Option ℕ → NameText → Policy → Policy
+role_dropped session role p = role_dropped_at session (place_of role p.roles) p
 
 -- the change of the command, given by this session
 abbrev pub changed_by : AdminCommand → Option ℕ → Policy → Policy
@@ -152,8 +152,8 @@ changed_by (AddInheritance senior junior) session p = inherited senior junior p
 changed_by (DeleteInheritance senior junior) session p = disinherited senior junior p
 changed_by (CreateDsdSet set count roles) session p = set_created set count roles p
 changed_by (DeleteDsdSet set) session p = set_deleted set p
-changed_by (AddActiveRole role) session p = taken_up session role p
-changed_by (DropActiveRole role) session p = laid_down session role p
+changed_by (AddActiveRole role) session p = role_activated session role p
+changed_by (DropActiveRole role) session p = role_dropped session role p
 
 -- the change of the entry
 abbrev pub changed : Policy → Entry → Policy

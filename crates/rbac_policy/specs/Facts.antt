@@ -84,18 +84,18 @@ pub record CreatesWith (session : ℕ) (role : NameText) (before : List Entry) (
   pub creates : Creates session user roles before e
   pub listed : Contains roles role
 
--- the session takes the role up (AddActiveRole)
-abbrev pub TakesUp : ℕ → NameText → Entry → Type 0
-TakesUp session role e = (e.session ≡ Some session) × (e.command ≡ AddActiveRole role)
+-- the session activates the role (AddActiveRole)
+abbrev pub Activates : ℕ → NameText → Entry → Type 0
+Activates session role e = (e.session ≡ Some session) × (e.command ≡ AddActiveRole role)
 
--- the session lays the role down (DropActiveRole)
-abbrev pub LaysDown : ℕ → NameText → Entry → Type 0
-LaysDown session role e = (e.session ≡ Some session) × (e.command ≡ DropActiveRole role)
+-- the session drops the role (DropActiveRole)
+abbrev pub Drops : ℕ → NameText → Entry → Type 0
+Drops session role e = (e.session ≡ Some session) × (e.command ≡ DropActiveRole role)
 
--- the role was given to the session when it was made, or taken up by it, and not laid down since (session_roles)
+-- the role was given to the session when it was made, or activated by it, and not dropped since (session_roles)
 abbrev pub IsActive : List Entry → ℕ → NameText → Type 0
 IsActive entries session role =
-    InForce (λ before e. CreatesWith session role before e ⊎ TakesUp session role e) (LaysDown session role) entries
+    InForce (λ before e. CreatesWith session role before e ⊎ Activates session role e) (Drops session role) entries
 
 -- a chain of edges, possibly empty, leads from the senior to the junior (RH, the inheritance relation)
 abbrev pub IsAtOrBelow : List Entry → NameText → NameText → Type 0

@@ -1,7 +1,6 @@
 -- What each step on a table leaves, as it is computed (this project's own form).
-use Rattle.std.specs.Prelude.{◌≡◌, ℕ, ◌^◌, Bool, false, List, [], ◌∷◌, Option, Some, None, if◌then◌else◌, position}
+use Rattle.std.specs.Prelude.{◌≡◌, ℕ, Bool, false, List, [], ◌∷◌, Option, Some, None, if◌then◌else◌, position}
 use Rattle.std.specs.Prelude.{slice_set, slice_get, is_none, map, fold, ◌==◌, ◌&&◌}
-use Rattle.std.specs.Int.RustNames.{bit_or}
 use Rattle.std.specs.Str.{bytes_eq}
 use Rattle.std.specs.List.{list_any}
 use Rattle.rbac_policy.specs.declared.objects.Operation.{Operation}
@@ -10,7 +9,7 @@ use Rattle.rbac_policy.specs.declared.rows.User.{User}
 use Rattle.rbac_policy.specs.declared.rows.Grant.{Grant}
 use Rattle.rbac_policy.specs.declared.rows.Session.{Session}
 use Rattle.rbac_policy.specs.declared.rows.DsdSet.{DsdSet}
-use Rattle.rbac_closure.specs.Sets.{either, without_place}
+use Rattle.rbac_closure.specs.Sets.{either, with_place, without_place}
 use Rattle.rbac_policy.specs.Names.{NameText}
 use Rattle.rbac_policy.specs.Objects.{same_operation, same_object}
 use Rattle.rbac_policy.specs.Order.{below}
@@ -33,10 +32,6 @@ role_is name (Some role) = bytes_eq role name
 abbrev pub place_of : NameText → List (Option NameText) → Option ℕ
 place_of name roles = position (role_is name) roles
 
--- the mask with the bit of this place
-abbrev pub with_bit : ℕ → ℕ → ℕ
-with_bit mask place = bit_or mask (2 ^ place)
-
 -- the value in the place, if there is one
 abbrev pub put_at : {X : Type 0} → X → List (Option X) → Option ℕ → List (Option X)
 put_at x slots None = slots
@@ -47,15 +42,15 @@ abbrev pub put_free : {X : Type 0} → X → List (Option X) → List (Option X)
 put_free x slots = put_at x slots (position is_none slots)
 
 -- the user of this name has the role at this place, too
-abbrev pub user_given : NameText → ℕ → Option User → Option User
-user_given name place None = None
-user_given name place (Some user) = if bytes_eq user.name name then Some
-    (record { name = user.name; roles = with_bit user.roles place }) else Some user
+abbrev pub user_assigned : NameText → ℕ → Option User → Option User
+user_assigned name place None = None
+user_assigned name place (Some user) = if bytes_eq user.name name then Some
+    (record { name = user.name; roles = with_place user.roles place }) else Some user
 
 -- the user of this name has the role at this place no more
-abbrev pub user_relieved : NameText → ℕ → Option User → Option User
-user_relieved name place None = None
-user_relieved name place (Some user) = if bytes_eq user.name name then Some
+abbrev pub user_deassigned : NameText → ℕ → Option User → Option User
+user_deassigned name place None = None
+user_deassigned name place (Some user) = if bytes_eq user.name name then Some
     (record { name = user.name; roles = without_place user.roles place }) else Some user
 
 -- the user has the role at this place no more
@@ -84,7 +79,7 @@ abbrev pub grant_given : Operation → Object → ℕ → Option Grant → Optio
 grant_given operation object place None = None
 grant_given operation object place (Some grant) =
     if same_operation grant.operation operation && same_object grant.object object
-    then Some (record { operation = grant.operation; object = grant.object; roles = with_bit grant.roles place })
+    then Some (record { operation = grant.operation; object = grant.object; roles = with_place grant.roles place })
     else Some grant
 
 -- the pair is granted to the role at this place, in its row or in the first free slot
@@ -92,7 +87,7 @@ abbrev pub grants_given : Operation → Object → ℕ → List (Option Grant) �
 grants_given operation object place grants =
     if list_any (grant_is operation object) grants
     then map (grant_given operation object place) grants
-    else put_free (record { operation = operation; object = object; roles = with_bit 0 place }) grants
+    else put_free (record { operation = operation; object = object; roles = with_place 0 place }) grants
 
 -- the row with these roles, if there are any
 abbrev pub grant_with : Grant → ℕ → Option Grant
@@ -132,17 +127,17 @@ session_of_other user None = None
 session_of_other user (Some session) = if bytes_eq session.user user then None else Some session
 
 -- the role at this place is active in the session of this number, too
-abbrev pub session_given : ℕ → ℕ → Option Session → Option Session
-session_given number place None = None
-session_given number place (Some session) =
+abbrev pub session_activated : ℕ → ℕ → Option Session → Option Session
+session_activated number place None = None
+session_activated number place (Some session) =
     if session.number == number then Some
-    (record { number = session.number; user = session.user; active = with_bit session.active place }) else Some
+    (record { number = session.number; user = session.user; active = with_place session.active place }) else Some
     session
 
 -- the role at this place is active in the session of this number no more
-abbrev pub session_relieved : ℕ → ℕ → Option Session → Option Session
-session_relieved number place None = None
-session_relieved number place (Some session) =
+abbrev pub session_dropped : ℕ → ℕ → Option Session → Option Session
+session_dropped number place None = None
+session_dropped number place (Some session) =
     if session.number == number then Some
     (record { number = session.number; user = session.user; active = without_place session.active place }) else Some
     session
@@ -153,13 +148,13 @@ set_without name None = None
 set_without name (Some set) = if bytes_eq set.name name then None else Some set
 
 -- the mask with the place, if there is one
-abbrev pub with_place : ℕ → Option ℕ → ℕ
-with_place mask None = mask
-with_place mask (Some place) = with_bit mask place
+abbrev pub with_found_place : ℕ → Option ℕ → ℕ
+with_found_place mask None = mask
+with_found_place mask (Some place) = with_place mask place
 
 -- the mask with the places of the listed roles
 abbrev pub mask_of : List (Option NameText) → List NameText → ℕ
-mask_of roles names = fold (λ mask name. with_place mask (place_of name roles)) 0 names
+mask_of roles names = fold (λ mask name. with_found_place mask (place_of name roles)) 0 names
 
 -- the first value that passes
 abbrev pub first_of : {X : Type 0} → (X → Bool) → List (Option X) → Option X

@@ -4,13 +4,13 @@ ghost use Rattle.rbac_closure.specs.Edges.{IsBelowSome};
 ghost use Rattle.rbac_closure.specs.Sets.{Has};
 ghost use Rattle.rbac_policy.specs.Order.{below};
 
-use rbac_closure::rows::Rows;
+use rbac_closure::hierarchy::RoleHierarchy;
 use rbac_closure::sets::RoleSet;
 
 /// The roles of the set, and all that lie below one of them.
-pub fn below(rows: &Rows, roles: RoleSet) -> RoleSet
-    ensures chains { (place : ℕ) → Has result place ↔ IsBelowSome rows.now roles place }
-    ensures exact { result ≡ below rows.now roles }
+pub fn below(hierarchy: &RoleHierarchy, roles: RoleSet) -> RoleSet
+    ensures chains { (place : ℕ) → Has result place ↔ IsBelowSome hierarchy.now roles place }
+    ensures exact { result ≡ below hierarchy.now roles }
 {
-    rows.below_some(roles)
+    hierarchy.below_some(roles)
 }

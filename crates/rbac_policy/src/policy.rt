@@ -9,9 +9,9 @@ ghost use Rattle.rbac_policy.specs.Order.{below};
 ghost use Rattle.rbac_policy.specs.Opening.{opening_entries};
 ghost use Rattle.rbac_policy.specs.StandsFor.{StandsFor};
 ghost use Rattle.rbac_policy.specs.Change.{absorbed, assigned, changed, deassigned, disinherited};
-ghost use Rattle.rbac_policy.specs.Change.{granted, inherited, laid_down, logged_in, logged_out};
-ghost use Rattle.rbac_policy.specs.Change.{policy_of, revoked, role_deleted, set_created, taken_up};
-ghost use Rattle.rbac_policy.specs.Change.{user_deleted};
+ghost use Rattle.rbac_policy.specs.Change.{granted, inherited, role_dropped, logged_in, logged_out};
+ghost use Rattle.rbac_policy.specs.Change.{policy_of, revoked, role_deleted, set_created};
+ghost use Rattle.rbac_policy.specs.Change.{role_activated, user_deleted};
 
 use crate::closure::below;
 use crate::commands::{AdminCommand, Entry, SessionId};
@@ -21,11 +21,11 @@ use crate::opening::opening_entries;
 use crate::rows::{DsdSet, Grant, Session, User};
 use crate::sizes::{GRANTS, ROLES, SESSIONS, SETS, USERS};
 use crate::tables::{
-    activate, deactivate, end_session, end_sessions_of, end_unauthorized, give_grant, give_role,
-    grant_of, mask_of, place_of, put, remove_set, remove_user, session_of, take_all_grants,
-    take_grant, take_role, take_role_from_all,
+    activate, assign_role, deactivate, deassign_role, deassign_role_from_all, end_session,
+    end_sessions_of, end_unauthorized, give_grant, grant_of, mask_of, place_of, put, remove_set,
+    remove_user, session_of, take_all_grants, take_grant,
 };
-use rbac_closure::rows::Rows;
+use rbac_closure::hierarchy::RoleHierarchy;
 use rbac_closure::sets::RoleSet;
 
 /// What a list of accepted entries says, in tables of fixed size. It takes no memory. Two policies
@@ -36,7 +36,7 @@ pub struct Policy {
     pub(crate) logins: u16,
     pub(crate) users: [Option<User>; USERS],
     pub(crate) roles: [Option<Name>; ROLES],
-    pub(crate) juniors: Rows,
+    pub(crate) juniors: RoleHierarchy,
     pub(crate) grants: [Option<Grant>; GRANTS],
     pub(crate) sessions: [Option<Session>; SESSIONS],
     pub(crate) sets: [Option<DsdSet>; SETS],
@@ -53,7 +53,7 @@ impl Policy {
             logins: 0,
             users: [None; USERS],
             roles: [None; ROLES],
-            juniors: Rows::new(),
+            juniors: RoleHierarchy::new(),
             grants: [None; GRANTS],
             sessions: [None; SESSIONS],
             sets: [None; SETS],
@@ -77,7 +77,7 @@ impl Policy {
         ensures { self.new ≡ assigned user.now role.now self.old }
     {
         if let Some(place) = place_of(&self.roles, role) {
-            give_role(&mut self.users, user, place);
+            assign_role(&mut self.users, user, place);
         }
     }
 
@@ -93,7 +93,7 @@ impl Policy {
         ensures { self.new ≡ deassigned user.now role.now self.old }
     {
         if let Some(place) = place_of(&self.roles, role) {
-            take_role(&mut self.users, user, place);
+            deassign_role(&mut self.users, user, place);
         }
     }
 
@@ -119,7 +119,7 @@ impl Policy {
     {
         if let Some(place) = place_of(&self.roles, role) {
             self.roles[place] = None;
-            take_role_from_all(&mut self.users, place);
+            deassign_role_from_all(&mut self.users, place);
             take_all_grants(&mut self.grants, place);
             self.juniors.clear_role(place);
         }
@@ -155,16 +155,16 @@ impl Policy {
         put(&mut self.sets, set);
     }
 
-    fn take_up(&mut self, session: Option<SessionId>, role: &Name)
-        ensures { self.new ≡ taken_up session role.now self.old }
+    fn activate_role(&mut self, session: Option<SessionId>, role: &Name)
+        ensures { self.new ≡ role_activated session role.now self.old }
     {
         if let (Some(number), Some(place)) = (session, place_of(&self.roles, role)) {
             activate(&mut self.sessions, number, place);
         }
     }
 
-    fn lay_down(&mut self, session: Option<SessionId>, role: &Name)
-        ensures { self.new ≡ laid_down session role.now self.old }
+    fn drop_role(&mut self, session: Option<SessionId>, role: &Name)
+        ensures { self.new ≡ role_dropped session role.now self.old }
     {
         if let (Some(number), Some(place)) = (session, place_of(&self.roles, role)) {
             deactivate(&mut self.sessions, number, place);
@@ -224,8 +224,8 @@ impl Policy {
             AdminCommand::DeleteInheritance { senior, junior } => self.disinherit(senior, junior),
             AdminCommand::CreateDsdSet { set, count, roles } => self.create_set(set, *count, roles),
             AdminCommand::DeleteDsdSet { set } => remove_set(&mut self.sets, set),
-            AdminCommand::AddActiveRole { role } => self.take_up(entry.session, role),
-            AdminCommand::DropActiveRole { role } => self.lay_down(entry.session, role),
+            AdminCommand::AddActiveRole { role } => self.activate_role(entry.session, role),
+            AdminCommand::DropActiveRole { role } => self.drop_role(entry.session, role),
         }
     }
 

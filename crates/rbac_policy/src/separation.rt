@@ -7,7 +7,7 @@ use crate::closure::below;
 use crate::commands::SessionId;
 use crate::names::Name;
 use crate::rows::{DsdSet, Session};
-use rbac_closure::rows::Rows;
+use rbac_closure::hierarchy::RoleHierarchy;
 
 /// A separation set, and a session that violates it.
 #[derive(Clone, Copy, PartialEq, Eq)]
@@ -21,14 +21,14 @@ pub struct Violation {
 }
 
 /// Whether at least `count` of the set's roles are active in the session, or lie below one that is.
-fn holds_many(set: &DsdSet, session: &Session, juniors: &Rows) -> bool
+fn holds_many(set: &DsdSet, session: &Session, juniors: &RoleHierarchy) -> bool
     ensures { result ≡ holds_many juniors.now set.now session.now }
 {
     let held = below(juniors, session.active).common(set.roles);
     set.count <= held.len() as u64
 }
 
-fn violator(slot: &Option<Session>, set: &DsdSet, juniors: &Rows) -> Option<SessionId>
+fn violator(slot: &Option<Session>, set: &DsdSet, juniors: &RoleHierarchy) -> Option<SessionId>
     ensures { result ≡ violator juniors.now set.now slot.now }
 {
     match slot {
@@ -51,7 +51,11 @@ fn lesser(known: Option<SessionId>, found: Option<SessionId>) -> Option<SessionI
 
 /// The least session of these that holds too many roles of the set.
 #[tactic(auto, unfolding(crate::specs::Violations::least_violator))]
-fn least_violator(set: &DsdSet, sessions: &[Option<Session>], juniors: &Rows) -> Option<SessionId>
+fn least_violator(
+    set: &DsdSet,
+    sessions: &[Option<Session>],
+    juniors: &RoleHierarchy,
+) -> Option<SessionId>
     ensures { result ≡ least_violator juniors.now sessions.now set.now }
 {
     let mut least = None;
@@ -67,7 +71,7 @@ fn least_of_all(
     set: &DsdSet,
     sessions: &[Option<Session>],
     coming: &Option<Session>,
-    juniors: &Rows,
+    juniors: &RoleHierarchy,
 ) -> Option<SessionId>
     ensures { result ≡ least_violator juniors.now (sessions.now ++ coming.now ∷ []) set.now }
 {
@@ -92,7 +96,7 @@ fn violation_of(
     slot: &Option<DsdSet>,
     sessions: &[Option<Session>],
     coming: &Option<Session>,
-    juniors: &Rows,
+    juniors: &RoleHierarchy,
 ) -> Option<Violation>
     ensures { result ≡ violation_of juniors.now (sessions.now ++ coming.now ∷ []) slot.now }
 {
@@ -121,7 +125,7 @@ pub(crate) fn first_violation(
     sets: &[Option<DsdSet>],
     sessions: &[Option<Session>],
     coming: &Option<Session>,
-    juniors: &Rows,
+    juniors: &RoleHierarchy,
 ) -> Option<Violation>
     ensures { result ≡ first_violation juniors.now (sessions.now ++ coming.now ∷ []) sets.now }
 {
@@ -138,7 +142,7 @@ pub(crate) fn first_violation_with(
     sets: &[Option<DsdSet>],
     coming: &Option<DsdSet>,
     sessions: &[Option<Session>],
-    juniors: &Rows,
+    juniors: &RoleHierarchy,
 ) -> Option<Violation>
     ensures { result ≡ first_violation juniors.now (sessions.now ++ None ∷ [])
         (sets.now ++ coming.now ∷ []) }

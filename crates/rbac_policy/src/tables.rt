@@ -5,10 +5,11 @@ ghost use Rattle.std.specs.Option.{ForSome};
 ghost use Rattle.rbac_policy.specs.Tables.{first_of, grant_given, grant_is, grant_of, grants_given};
 ghost use Rattle.rbac_policy.specs.Tables.{has_only_authorized, mask_of, place_of, put_free};
 ghost use Rattle.rbac_policy.specs.Tables.{role_is, roles_of, session_of, session_kept};
-ghost use Rattle.rbac_policy.specs.Tables.{session_without, user_given, user_is, with_place};
-ghost use Rattle.rbac_policy.specs.Tables.{grant_cleared, grant_revoked, grant_with, session_given};
-ghost use Rattle.rbac_policy.specs.Tables.{session_of_other, session_relieved, set_without};
-ghost use Rattle.rbac_policy.specs.Tables.{user_cleared, user_relieved, user_without};
+ghost use Rattle.rbac_policy.specs.Tables.{session_without, user_assigned, user_is};
+ghost use Rattle.rbac_policy.specs.Tables.{with_found_place, grant_cleared, grant_revoked};
+ghost use Rattle.rbac_policy.specs.Tables.{grant_with, session_activated, session_of_other};
+ghost use Rattle.rbac_policy.specs.Tables.{session_dropped, set_without, user_cleared};
+ghost use Rattle.rbac_policy.specs.Tables.{user_deassigned, user_without};
 
 use crate::closure::below;
 use crate::commands::SessionId;
@@ -16,7 +17,7 @@ use crate::names::{Name, RoleNames};
 use crate::objects::{Object, Operation};
 use crate::rows::{DsdSet, Grant, Session, User};
 use crate::sizes::{GRANTS, ROLES, SESSIONS, SETS, USERS};
-use rbac_closure::rows::Rows;
+use rbac_closure::hierarchy::RoleHierarchy;
 use rbac_closure::sets::RoleSet;
 
 /// The first free place of a table.
@@ -68,9 +69,9 @@ pub fn place_of(roles: &[Option<Name>; ROLES], name: &Name) -> Option<usize>
     roles.iter().position(|slot| role_is(slot, name))
 }
 
-fn user_given(slot: &Option<User>, name: &Name, place: usize) -> Option<User>
+fn user_assigned(slot: &Option<User>, name: &Name, place: usize) -> Option<User>
     requires { place < ROLES }
-    ensures { result ≡ user_given name.now place slot.now }
+    ensures { result ≡ user_assigned name.now place slot.now }
 {
     match slot {
         Some(user) if user.name == *name => Some(User {
@@ -82,18 +83,18 @@ fn user_given(slot: &Option<User>, name: &Name, place: usize) -> Option<User>
 }
 
 /// Assigns the role at this place to the user.
-pub fn give_role(users: &mut [Option<User>; USERS], name: &Name, place: usize)
+pub fn assign_role(users: &mut [Option<User>; USERS], name: &Name, place: usize)
     requires { place < ROLES }
-    ensures { users.new ≡ map (user_given name.now place) users.old }
+    ensures { users.new ≡ map (user_assigned name.now place) users.old }
 {
     for at in 0..USERS {
-        users[at] = user_given(&users[at], name, place);
+        users[at] = user_assigned(&users[at], name, place);
     }
 }
 
-fn user_relieved(slot: &Option<User>, name: &Name, place: usize) -> Option<User>
+fn user_deassigned(slot: &Option<User>, name: &Name, place: usize) -> Option<User>
     requires { place < ROLES }
-    ensures { result ≡ user_relieved name.now place slot.now }
+    ensures { result ≡ user_deassigned name.now place slot.now }
 {
     match slot {
         Some(user) if user.name == *name => Some(User {
@@ -105,12 +106,12 @@ fn user_relieved(slot: &Option<User>, name: &Name, place: usize) -> Option<User>
 }
 
 /// Takes the role at this place from the user.
-pub fn take_role(users: &mut [Option<User>; USERS], name: &Name, place: usize)
+pub fn deassign_role(users: &mut [Option<User>; USERS], name: &Name, place: usize)
     requires { place < ROLES }
-    ensures { users.new ≡ map (user_relieved name.now place) users.old }
+    ensures { users.new ≡ map (user_deassigned name.now place) users.old }
 {
     for at in 0..USERS {
-        users[at] = user_relieved(&users[at], name, place);
+        users[at] = user_deassigned(&users[at], name, place);
     }
 }
 
@@ -128,7 +129,7 @@ fn user_cleared(slot: &Option<User>, place: usize) -> Option<User>
 }
 
 /// Takes the role at this place from each user.
-pub fn take_role_from_all(users: &mut [Option<User>; USERS], place: usize)
+pub fn deassign_role_from_all(users: &mut [Option<User>; USERS], place: usize)
     requires { place < ROLES }
     ensures { users.new ≡ map (user_cleared place) users.old }
 {
@@ -327,7 +328,11 @@ pub fn grant_of(
 
 /// Whether the user of the session is authorized for each role that is active in it: the role is
 /// assigned to the user, or lies below one that is.
-fn has_only_authorized(session: &Session, users: &[Option<User>; USERS], juniors: &Rows) -> bool
+fn has_only_authorized(
+    session: &Session,
+    users: &[Option<User>; USERS],
+    juniors: &RoleHierarchy,
+) -> bool
     ensures { result ≡ has_only_authorized users.now juniors.now session.now }
 {
     let authorized = below(juniors, roles_of(users, &session.user));
@@ -337,7 +342,7 @@ fn has_only_authorized(session: &Session, users: &[Option<User>; USERS], juniors
 fn session_kept(
     slot: &Option<Session>,
     users: &[Option<User>; USERS],
-    juniors: &Rows,
+    juniors: &RoleHierarchy,
 ) -> Option<Session>
     ensures { result ≡ session_kept users.now juniors.now slot.now }
 {
@@ -351,7 +356,7 @@ fn session_kept(
 pub fn end_unauthorized(
     sessions: &mut [Option<Session>; SESSIONS],
     users: &[Option<User>; USERS],
-    juniors: &Rows,
+    juniors: &RoleHierarchy,
 )
     ensures { sessions.new ≡ map (session_kept users.now juniors.now) sessions.old }
 {
@@ -396,9 +401,9 @@ pub fn end_sessions_of(sessions: &mut [Option<Session>; SESSIONS], user: &Name)
     }
 }
 
-fn session_given(slot: &Option<Session>, number: SessionId, place: usize) -> Option<Session>
+fn session_activated(slot: &Option<Session>, number: SessionId, place: usize) -> Option<Session>
     requires { place < ROLES }
-    ensures { result ≡ session_given number place slot.now }
+    ensures { result ≡ session_activated number place slot.now }
 {
     match slot {
         Some(session) if session.number == number => Some(Session {
@@ -413,16 +418,16 @@ fn session_given(slot: &Option<Session>, number: SessionId, place: usize) -> Opt
 /// Makes the role at this place active in the session of this number.
 pub fn activate(sessions: &mut [Option<Session>; SESSIONS], number: SessionId, place: usize)
     requires { place < ROLES }
-    ensures { sessions.new ≡ map (session_given number place) sessions.old }
+    ensures { sessions.new ≡ map (session_activated number place) sessions.old }
 {
     for at in 0..SESSIONS {
-        sessions[at] = session_given(&sessions[at], number, place);
+        sessions[at] = session_activated(&sessions[at], number, place);
     }
 }
 
-fn session_relieved(slot: &Option<Session>, number: SessionId, place: usize) -> Option<Session>
+fn session_dropped(slot: &Option<Session>, number: SessionId, place: usize) -> Option<Session>
     requires { place < ROLES }
-    ensures { result ≡ session_relieved number place slot.now }
+    ensures { result ≡ session_dropped number place slot.now }
 {
     match slot {
         Some(session) if session.number == number => Some(Session {
@@ -437,10 +442,10 @@ fn session_relieved(slot: &Option<Session>, number: SessionId, place: usize) -> 
 /// Makes the role at this place inactive in the session of this number.
 pub fn deactivate(sessions: &mut [Option<Session>; SESSIONS], number: SessionId, place: usize)
     requires { place < ROLES }
-    ensures { sessions.new ≡ map (session_relieved number place) sessions.old }
+    ensures { sessions.new ≡ map (session_dropped number place) sessions.old }
 {
     for at in 0..SESSIONS {
-        sessions[at] = session_relieved(&sessions[at], number, place);
+        sessions[at] = session_dropped(&sessions[at], number, place);
     }
 }
 
@@ -476,9 +481,9 @@ pub fn session_of(sessions: &[Option<Session>; SESSIONS], number: SessionId) -> 
     None
 }
 
-fn with_place(mask: RoleSet, place: Option<usize>) -> RoleSet
+fn with_found_place(mask: RoleSet, place: Option<usize>) -> RoleSet
     requires { ForSome place (λ p. p < ROLES) }
-    ensures { result ≡ with_place mask place }
+    ensures { result ≡ with_found_place mask place }
 {
     match place {
         Some(place) => mask.with(place),
@@ -492,7 +497,7 @@ pub fn mask_of(roles: &[Option<Name>; ROLES], listed: &RoleNames) -> RoleSet
 {
     let mut mask = RoleSet::empty();
     for name in listed.as_slice() {
-        mask = with_place(mask, place_of(roles, name));
+        mask = with_found_place(mask, place_of(roles, name));
     }
     mask
 }

@@ -14,7 +14,7 @@ use access_core::reply::Reply;
 use access_core::slot::{Slot, admit_load, decide_slot, load_admitted};
 use history_receipts::mismatch::Mismatch;
 use policy_board::board::{Board, Closed};
-use policy_board::history::BoardName;
+use policy_board::board_list::BoardName;
 use policy_board::reader::{Reading, SlotReader};
 use policy_board::seat::Seat;
 use rbac_policy::commands::SessionId;
@@ -85,7 +85,7 @@ fn read_and_decide<B: BoardName, const NUMBER: u8, R: Wait>(
         (record { list = reader; journal = slot.old.journal }) seat.old result.0
         (record { list = result.1; journal = slot.new.journal }) seat.new }
 {
-    let Ok(()) = seat.room() else {
+    let Ok(()) = seat.make_room() else {
         return (Reply::Refused(Refusal::Memory), reader);
     };
     let reading = match reader.enter() {
@@ -97,7 +97,7 @@ fn read_and_decide<B: BoardName, const NUMBER: u8, R: Wait>(
         let behind = Refusal::Behind { found, seen };
         return (Reply::Refused(behind), reading.leave());
     }
-    seat.saw_list(reading.front());
+    seat.note_list(reading.front());
     let signal = command.signal();
     let (reply, reader) = decide_and_leave(reading, slot, session, command);
     keep(rt, board, seat, NUMBER, session, signal, &reply);

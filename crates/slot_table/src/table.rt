@@ -19,7 +19,7 @@ use history_laws::laws::journals_are_of_one_run;
 use history_receipts::mismatch::Mismatch;
 use history_receipts::receipt_list::SEATS;
 use policy_board::board::Board;
-use policy_board::history::BoardName;
+use policy_board::board_list::BoardName;
 use policy_board::reader::SlotReader;
 use policy_board::seat::Seat;
 use rbac_admin::refusal::Refusal as PolicyRefusal;

@@ -7,12 +7,12 @@ use Rattle.rbac_policy.specs.StandsFor.{StandsFor}
 use Rattle.rbac_admin.specs.PolicyLists.{IsPolicyList}
 use Rattle.rbac_admin.specs.Room.{most_entries}
 use Rattle.policy_board.specs.Traced.{Traced}
-use Rattle.policy_board.specs.declared.shown.Operation.{Operation}
+use Rattle.policy_board.specs.declared.shown.Publication.{Publication}
 use Rattle.policy_board.specs.Inner.Steps.{IsResting}
 
 -- it shows the policy of a policy list of this board, in which each living session has room for its logout, and nothing
 -- waits
-pub record IsPublishing (book : Book) (policy : Policy) (trace : Traced) (pending : List Operation) : Type 0 where
+pub record IsPublishing (book : Book) (policy : Policy) (trace : Traced) (pending : List Publication) : Type 0 where
   pub own : trace.book ≡ book
   pub is_list : IsPolicyList trace.list
   pub stands : StandsFor policy trace.list

@@ -4,7 +4,7 @@ ghost use Rattle.std.specs.Prelude.{◌≡◌};
 use crate::board::receipts::{command, count_three, give_all, learn};
 use crate::board::sharing::{refuse, share, tell};
 use policy_board::board::Board;
-use policy_board::history::{BoardName, Fresh};
+use policy_board::board_list::{BoardName, FreshList};
 use policy_board::opening::Opened;
 use policy_board::reader::SlotReader;
 use policy_board::seat::Seat;
@@ -75,7 +75,7 @@ fn receipts_of<B: BoardName>(seats: Vec<Seat<B>>) -> usize {
 pub(crate) fn play<B: BoardName, R: Wait + Abort>(
     rt: &R,
     alloc: Global,
-    fresh: Fresh,
+    fresh: FreshList,
     example: Example,
 ) -> (usize, usize)
     requires { fresh.seen.book ≡ B.book }
@@ -105,7 +105,7 @@ pub(crate) enum Sharing {
 pub(crate) fn play_in_threads<B: BoardName + Send + Sync, R: Threads + Wait + Abort + Sync>(
     rt: &R,
     alloc: Global,
-    fresh: Fresh,
+    fresh: FreshList,
     example: Sharing,
 ) -> usize
     requires { fresh.seen.book ≡ B.book }

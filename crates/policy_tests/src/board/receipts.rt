@@ -3,7 +3,7 @@ use crate::board::playing::{Example, play};
 use crate::board::sharing::{enter, grant, grant_once, login, may_audit, refusal, revoke};
 use history_receipts::receipt::{Kept, SlotReceipt};
 use policy_board::board::Board;
-use policy_board::history::{BoardName, Fresh};
+use policy_board::board_list::{BoardName, FreshList};
 use policy_board::seat::Seat;
 use rbac_policy::commands::AdminCommand;
 use reactor_core::entry::Word;
@@ -20,7 +20,7 @@ fn keeps_admin<B: BoardName>(
     version: u64,
     command: &AdminCommand,
 ) -> bool {
-    match seat.kept().get(place) {
+    match seat.receipts().get(place) {
         Some(Kept::Admin { version: v, entry }) => *v == version && entry.command == *command,
         Some(Kept::Slot(_)) | None => false,
     }
@@ -29,7 +29,7 @@ fn keeps_admin<B: BoardName>(
 /// The number of the slot command whose receipt the seat keeps at this place: the second of slot 3,
 /// a step.
 fn counted<B: BoardName>(seat: &Seat<B>, place: usize) -> Option<u64> {
-    match seat.kept().get(place)? {
+    match seat.receipts().get(place)? {
         Kept::Slot(
             SlotReceipt {
                 slot: 3,
@@ -47,8 +47,8 @@ fn counted<B: BoardName>(seat: &Seat<B>, place: usize) -> Option<u64> {
 
 /// Counts a step, which was the second command of slot 3.
 fn count<B: BoardName, R: Wait + Abort>(rt: &R, board: &Board<B>, seat: &mut Seat<B>) {
-    match seat.room() {
-        Ok(()) => board.count(
+    match seat.make_room() {
+        Ok(()) => board.number_receipt(
             rt,
             seat,
             SlotReceipt {
@@ -75,14 +75,14 @@ pub(crate) fn command<B: BoardName, R: Wait + Abort>(
     other: &mut Seat<B>,
 ) {
     assert!(rt; refusal(rt, board, seat, grant()).is_some());
-    assert!(rt; seat.kept().len() == 0);
+    assert!(rt; seat.receipts().len() == 0);
     grant_once(rt, alloc, board, seat);
     assert!(rt; refusal(rt, board, seat, grant()).is_some());
     let command = login(alloc).expect(rt, "room");
-    assert!(rt; seat.kept().len() == 2);
+    assert!(rt; seat.receipts().len() == 2);
     assert!(rt; keeps_admin(seat, 0, 5, &command) && keeps_admin(seat, 1, 6, &grant()));
     assert!(rt; board.admin(rt, other, None, command).is_ok());
-    assert!(rt; other.kept().len() == 1);
+    assert!(rt; other.receipts().len() == 1);
 }
 
 /// Whatever is refused, a seat keeps a receipt for each entry and no others. It gives a login,
@@ -114,7 +114,7 @@ pub(crate) fn learn<B: BoardName, R: Wait + Abort>(
     assert!(rt; matches!(may_audit(board, asker), Ok(false)));
     assert!(rt; asker.seen() == 4);
     asker.learn(grant_once(rt, alloc, board, giver));
-    assert!(rt; asker.seen() == 6 && asker.kept().len() == 0);
+    assert!(rt; asker.seen() == 6 && asker.receipts().len() == 0);
     assert!(rt; matches!(may_audit(board, asker), Ok(true)));
 }
 
@@ -134,29 +134,29 @@ pub(crate) fn count_three<B: BoardName, R: Wait + Abort>(
     let numbers = [counted(seat, 0), counted(seat, 1), counted(seat, 2)];
     assert!(rt; numbers == [None, Some(1), Some(3)]);
     assert!(rt; counted(other, 0) == Some(2));
-    assert!(rt; (seat.kept().len(), other.kept().len()) == (3, 1));
+    assert!(rt; (seat.receipts().len(), other.receipts().len()) == (3, 1));
 }
 
 #[test]
 fn accepted_commands_leave_receipts(rt: HostRuntime) {
-    let left = play::<Brand, _>(&rt, rt.alloc(), Fresh::new(), Example::Kept);
+    let left = play::<Brand, _>(&rt, rt.alloc(), FreshList::new(), Example::Kept);
     assert!(rt; left == (7, 3));
 }
 
 #[test]
 fn receipts_without_memory(rt: HostRuntime) {
-    let (entries, kept) = play::<Brand, _>(&rt, rt.alloc(), Fresh::new(), Example::AllGiven);
+    let (entries, kept) = play::<Brand, _>(&rt, rt.alloc(), FreshList::new(), Example::AllGiven);
     assert!(rt; 4 <= entries && entries - 4 == kept);
 }
 
 #[test]
 fn learned_versions_leave_none(rt: HostRuntime) {
-    let left = play::<Brand, _>(&rt, rt.alloc(), Fresh::new(), Example::Learned);
+    let left = play::<Brand, _>(&rt, rt.alloc(), FreshList::new(), Example::Learned);
     assert!(rt; left == (6, 2));
 }
 
 #[test]
 fn slot_commands_are_counted(rt: HostRuntime) {
-    let left = play::<Brand, _>(&rt, rt.alloc(), Fresh::new(), Example::Counted);
+    let left = play::<Brand, _>(&rt, rt.alloc(), FreshList::new(), Example::Counted);
     assert!(rt; left == (5, 4));
 }

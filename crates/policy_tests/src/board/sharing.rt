@@ -1,7 +1,7 @@
 //! What examples ask of a board; boards that several threads share; and refusals.
 use crate::board::playing::{Example, Sharing, play, play_in_threads};
 use policy_board::board::Board;
-use policy_board::history::{BoardName, Fresh};
+use policy_board::board_list::{BoardName, FreshList};
 use policy_board::refusal::Refusal;
 use policy_board::seat::{Receipt, Seat};
 use policy_board::sharing::boards_are_shared;
@@ -225,7 +225,7 @@ pub(crate) fn refuse<B: BoardName, R: Wait + Abort>(
     grant_once(rt, alloc, board, seat);
     let twice = refusal(rt, board, seat, grant());
     assert!(rt; matches!(twice, Some(Refusal::Policy(PolicyRefusal::AlreadyGranted))));
-    seat.saw(7);
+    seat.note_version(7);
     let behind = may_audit(board, seat);
     assert!(rt; matches!(behind, Err(Refusal::Behind { found: 6, seen: 7 })));
     assert!(rt; seat.seen() == 7);
@@ -234,18 +234,18 @@ pub(crate) fn refuse<B: BoardName, R: Wait + Abort>(
 
 #[test]
 fn grant_is_seen_once_learned(rt: HostRuntime) {
-    let entries = play_in_threads::<Brand, _>(&rt, rt.alloc(), Fresh::new(), Sharing::Told);
+    let entries = play_in_threads::<Brand, _>(&rt, rt.alloc(), FreshList::new(), Sharing::Told);
     assert!(rt; entries == 6);
 }
 
 #[test]
 fn two_ask_while_one_changes(rt: HostRuntime) {
-    let entries = play_in_threads::<Brand, _>(&rt, rt.alloc(), Fresh::new(), Sharing::Asked);
+    let entries = play_in_threads::<Brand, _>(&rt, rt.alloc(), FreshList::new(), Sharing::Asked);
     assert!(rt; entries == 105);
 }
 
 #[test]
 fn refusals_leave_the_list(rt: HostRuntime) {
-    let left = play::<Brand, _>(&rt, rt.alloc(), Fresh::new(), Example::Refused);
+    let left = play::<Brand, _>(&rt, rt.alloc(), FreshList::new(), Example::Refused);
     assert!(rt; left == (6, 2));
 }

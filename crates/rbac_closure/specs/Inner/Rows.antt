@@ -1,4 +1,4 @@
--- What the rows of `Rows` keep (this project's own form).
+-- What the rows of `RoleHierarchy` keep (this project's own form).
 use Rattle.std.specs.Prelude.{◌≡◌, ℕ, ◌<◌, ◌↔◌, ◌⊎◌, List, length, slice_index}
 use Rattle.rbac_closure.specs.declared.sets.TheConstants.{ROLES}
 use Rattle.rbac_closure.specs.Sets.{Has}

@@ -9,7 +9,7 @@ use Rattle.std.proofs.lemmas.List.{length-map, length-set}
 use Rattle.std.proofs.lemmas.Map.Keys.{any_passes_from_place}
 use Rattle.rbac_closure.proofs.SetLemmas.{with_same}
 use Rattle.rbac_policy.specs.declared.sizes.TheConstants.{ROLES}
-use Rattle.rbac_closure.specs.Sets.{Has}
+use Rattle.rbac_closure.specs.Sets.{Has, with_place}
 use Rattle.rbac_policy.specs.declared.objects.Operation.{Operation}
 use Rattle.rbac_policy.specs.declared.objects.Object.{Object}
 use Rattle.rbac_policy.specs.Objects.{same_operation, same_object}
@@ -18,14 +18,14 @@ use Rattle.rbac_policy.specs.declared.commands.Entry.{Entry}
 use Rattle.rbac_policy.specs.declared.rows.Grant.{Grant}
 use Rattle.rbac_policy.specs.Names.{NameText}
 use Rattle.rbac_policy.specs.Facts.{IsGranted}
-use Rattle.rbac_policy.specs.Tables.{At, with_bit, grant_is, grant_given, grants_given, put_free, put_at}
+use Rattle.rbac_policy.specs.Tables.{At, grant_is, grant_given, grants_given, put_free, put_at}
 use Rattle.rbac_policy.specs.StandsFor.{Holds, InMask, IsNamed, GrantsStand}
 use Rattle.rbac_policy.proofs.Steps.{in_force_push}
 use Rattle.rbac_policy.proofs.Untouched.{through}
 use Rattle.rbac_policy.proofs.OfSlots.Slots.{get_set_same, get_set_other}
 use Rattle.rbac_policy.proofs.OfNames.Equality.{operations}
 use Rattle.rbac_policy.specs.Inner.ObjectLaws.{objects, both}
-use Rattle.rbac_policy.proofs.OfSlots.Slots.{mapped, map_at, written, Free, free, in_with_bit, named_with_bit}
+use Rattle.rbac_policy.proofs.OfSlots.Slots.{mapped, map_at, written, Free, free, in_with_place, named_with_place}
 use Rattle.rbac_policy.proofs.OfSlots.Slots.{none_in_zero, zero_named}
 
 pub flip : {A B : Type 0} → A ↔ B → B ↔ A
@@ -95,7 +95,7 @@ module _ (roles : List (Option NameText)) (unique : (p q : ℕ) (r : NameText) �
   slot at x y there gives = by_test (same_operation x.operation op && same_object x.object ob) refl where
     by_test : (b : Bool) → (same_operation x.operation op && same_object x.object ob) ≡ b → Widened x y
     by_test true e =
-        let new : Grant = record { operation = x.operation; object = x.object; roles = with_bit x.roles p0 } in
+        let new : Grant = record { operation = x.operation; object = x.object; roles = with_place x.roles p0 } in
         let is : new ≡ y = same_Some new y (sym (ap (λ b. cond b (Some new) (Some x)) e) ∙ gives) in
         let eq = (both _ _ _ _ (operations x.operation op) (objects x.object ob)).0 e in
         subst (Widened x) is (record {
@@ -104,15 +104,15 @@ module _ (roles : List (Option NameText)) (unique : (p q : ℕ) (r : NameText) �
           granted = λ r. through (granted_push r x.operation x.object) (through
               (sums {A = Pair r x.operation x.object} (λ p. p.0, λ same. (same, sym eq.0, sym eq.1))
               (gs.granted at x there r))
-              (flip (in_with_bit roles unique p0 r0 role_there low x.roles r)));
-          named = named_with_bit roles unique p0 r0 role_there low x.roles (gs.named at x there);
+              (flip (in_with_place roles unique p0 r0 role_there low x.roles r)));
+          named = named_with_place roles unique p0 r0 role_there low x.roles (gs.named at x there);
           used = (p0, with_same x.roles p0);
         })
     by_test false e =
         let is : x ≡ y =
         same_Some x y
         (sym (ap
-        (λ b. cond b (Some (record { operation = x.operation; object = x.object; roles = with_bit x.roles p0 }))
+        (λ b. cond b (Some (record { operation = x.operation; object = x.object; roles = with_place x.roles p0 }))
         (Some x)) e) ∙ gives) in
         subst (Widened x) is (record {
           operation = refl;
@@ -129,13 +129,13 @@ module _ (roles : List (Option NameText)) (unique : (p q : ℕ) (r : NameText) �
     by_test : (b : Bool) → (same_operation x.operation op && same_object x.object ob) ≡ b
         → (y : Grant) × (grant_given op ob p0 (Some x) ≡ Some y)
     by_test true e = (
-      record { operation = x.operation; object = x.object; roles = with_bit x.roles p0 },
-      ap (λ b. cond b (Some (record { operation = x.operation; object = x.object; roles = with_bit x.roles p0 }))
+      record { operation = x.operation; object = x.object; roles = with_place x.roles p0 },
+      ap (λ b. cond b (Some (record { operation = x.operation; object = x.object; roles = with_place x.roles p0 }))
           (Some x)) e,
     )
     by_test false e = (
       x,
-      ap (λ b. cond b (Some (record { operation = x.operation; object = x.object; roles = with_bit x.roles p0 }))
+      ap (λ b. cond b (Some (record { operation = x.operation; object = x.object; roles = with_place x.roles p0 }))
           (Some x)) e,
     )
 
@@ -195,21 +195,21 @@ module _ (roles : List (Option NameText)) (unique : (p q : ℕ) (r : NameText) �
       }
 
   added_stand : (i : ℕ) → Free grants i → list_any (grant_is op ob) grants ≡ false
-      → GrantsStand roles (set grants i (Some (record { operation = op; object = ob; roles = with_bit 0 p0 })))
+      → GrantsStand roles (set grants i (Some (record { operation = op; object = ob; roles = with_place 0 p0 })))
       (L ++ the_grant ∷ [])
   added_stand i fr none =
-      let new : Grant = record { operation = op; object = ob; roles = with_bit 0 p0 } in
+      let new : Grant = record { operation = op; object = ob; roles = with_place 0 p0 } in
       let no_pair : (at : ℕ) (x : Grant) → At grants at x → x.operation ≡ op → x.object ≡ ob → ⊥ = λ at x there a b.
       false≢true
       (sym none ∙ any_passes_from_place (grant_is op ob) grants at (Some x) there
       ((both _ _ _ _ (operations x.operation op) (objects x.object ob)).1 (a, b))) in
-      let fresh : (r : NameText) → IsGranted (L ++ the_grant ∷ []) r op ob ↔ InMask roles (with_bit 0 p0) r =
+      let fresh : (r : NameText) → IsGranted (L ++ the_grant ∷ []) r op ob ↔ InMask roles (with_place 0 p0) r =
       λ r. through (granted_push r op ob) (through
       (sums {A = Pair r op ob} {C = r0 ≡ r} {D = InMask roles 0 r} (λ p. p.0, λ same. (same, refl, refl)) (
         λ k. (let h = gs.only_pairs r op ob k in absurd (no_pair h.at h.value h.there h.fact.0 h.fact.1)),
         λ z. absurd (none_in_zero roles r z),
       ))
-      (flip (in_with_bit roles unique p0 r0 role_there low 0 r))) in
+      (flip (in_with_place roles unique p0 r0 role_there low 0 r))) in
       let still : (op' : Operation) (ob' : Object) → HasPair op' ob' grants
       → HasPair op' ob' (set grants i (Some new)) = λ op' ob' h.
       record {
@@ -233,7 +233,7 @@ module _ (roles : List (Option NameText)) (unique : (p q : ℕ) (r : NameText) �
         ];
         named = λ at y there. elim (written grants i at new y fr.within there) [
           | inl q ↦ subst (λ (z : Grant). IsNamed roles z.roles) q.1
-              (named_with_bit roles unique p0 r0 role_there low 0 (zero_named roles))
+              (named_with_place roles unique p0 r0 role_there low 0 (zero_named roles))
           | inr old ↦ gs.named at y old
         ];
         used = λ at y there. elim (written grants i at new y fr.within there) [
@@ -261,7 +261,7 @@ module _ (roles : List (Option NameText)) (unique : (p q : ℕ) (r : NameText) �
       → GrantsStand roles (grants_given op ob p0 grants) (L ++ the_grant ∷ [])
   granting room = by_test (list_any (grant_is op ob) grants) refl where
     new : Grant
-    new = record { operation = op; object = ob; roles = with_bit 0 p0 }
+    new = record { operation = op; object = ob; roles = with_place 0 p0 }
 
     by_test : (b : Bool) → list_any (grant_is op ob) grants ≡ b
         → GrantsStand roles (grants_given op ob p0 grants) (L ++ the_grant ∷ [])

@@ -23,7 +23,7 @@ use Rattle.rbac_policy.proofs.OfGrants.Granting.{flip}
 use Rattle.rbac_policy.proofs.OfNames.Equality.{operations}
 use Rattle.rbac_policy.specs.Inner.ObjectLaws.{objects, both}
 use Rattle.rbac_policy.proofs.OfSlots.Mapping.{GrantBecomes, GrantSlot, grants_mapped}
-use Rattle.rbac_policy.proofs.OfSlots.Slots.{in_without_bit, named_without_bit, none_in_zero}
+use Rattle.rbac_policy.proofs.OfSlots.Slots.{in_without_place, named_without_place, none_in_zero}
 
 -- a row with fewer roles: it goes where none is left
 pub narrowed : (after : List (Option NameText)) (new : List Entry) (x : Grant) (left : ℕ)
@@ -87,8 +87,8 @@ module _ (roles : List (Option NameText)) (unique : (p q : ℕ) (r : NameText) �
         (λ r. through (revoked_push r x.operation x.object) (through {B = InMask roles x.roles r × (r0 ≡ r → ⊥)} (
           λ h. ((gs.granted at x there r).0 h.0, λ same. h.1 (same, sym eq.0, sym eq.1)),
           λ h. ((gs.granted at x there r).1 h.0, λ same. h.1 same.0),
-        ) (flip (in_without_bit roles unique p0 r0 there0 low x.roles r))))
-        (named_without_bit roles unique p0 r0 there0 low x.roles (gs.named at x there))
+        ) (flip (in_without_place roles unique p0 r0 there0 low x.roles r))))
+        (named_without_place roles unique p0 r0 there0 low x.roles (gs.named at x there))
         (grant_revoked op ob p0 (Some x)) (sym (ap (λ b. cond b (grant_with x left) (Some x)) e))
     by_test false e = inr (
       x,

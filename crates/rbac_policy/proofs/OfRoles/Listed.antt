@@ -10,9 +10,9 @@ use Rattle.std.proofs.lemmas.Option.{same_Some, slice_get_within, slice_get-get_
 use Rattle.std.proofs.lemmas.List.Quantifiers.{position-Some}
 use Rattle.rbac_policy.specs.declared.sizes.TheConstants.{ROLES}
 use Rattle.rbac_policy.specs.Names.{NameText}
-use Rattle.rbac_policy.specs.Tables.{At, with_place, place_of, role_is, mask_of}
+use Rattle.rbac_policy.specs.Tables.{At, with_found_place, place_of, role_is, mask_of}
 use Rattle.rbac_policy.specs.StandsFor.{InMask, IsNamed}
-use Rattle.rbac_policy.proofs.OfSlots.Slots.{in_with_bit, named_with_bit, none_in_zero, zero_named}
+use Rattle.rbac_policy.proofs.OfSlots.Slots.{in_with_place, named_with_place, none_in_zero, zero_named}
 
 pub position_within : {X : Type 0} (p : X → Bool) (xs : List X) (at : ℕ) (x : X) → slice_get xs at ≡ Some x → p x ≡ true
     → position_or_len p xs < length xs
@@ -56,28 +56,29 @@ contains_tail y ys x h = (suc h.0, omega (arith, h.1), h.2)
 module _ (roles : List (Option NameText)) (unique : (p q : ℕ) (r : NameText) → At roles p r → At roles q r → p ≡ q)
     (many : length roles ≡ ROLES) where
   in_step : (m : ℕ) (y r : NameText) (p : ℕ) → At roles p y
-      → InMask roles (with_place m (place_of y roles)) r ↔ ((y ≡ r) ⊎ InMask roles m r)
+      → InMask roles (with_found_place m (place_of y roles)) r ↔ ((y ≡ r) ⊎ InMask roles m r)
   in_step m y r p there =
       let q = placed roles p y there in
       let low : q.place < ROLES = omega (arith, slice_get_within roles q.place (Some y) q.there) in
-      subst (λ o. InMask roles (with_place m o) r ↔ ((y ≡ r) ⊎ InMask roles m r)) (sym q.found)
-      (in_with_bit roles unique q.place y q.there low m r)
+      subst (λ o. InMask roles (with_found_place m o) r ↔ ((y ≡ r) ⊎ InMask roles m r)) (sym q.found)
+      (in_with_place roles unique q.place y q.there low m r)
 
   named_step : (m : ℕ) (y : NameText) (p : ℕ) → At roles p y → IsNamed roles m
-      → IsNamed roles (with_place m (place_of y roles))
+      → IsNamed roles (with_found_place m (place_of y roles))
   named_step m y p there n =
       let q = placed roles p y there in
       let low : q.place < ROLES = omega (arith, slice_get_within roles q.place (Some y) q.there) in
-      subst (λ o. IsNamed roles (with_place m o)) (sym q.found) (named_with_bit roles unique q.place y q.there low m n)
+      subst (λ o. IsNamed roles (with_found_place m o)) (sym q.found)
+      (named_with_place roles unique q.place y q.there low m n)
 
   in_fold : (names : List NameText) (m : ℕ) → ((r : NameText) → Contains names r → (p : ℕ) × At roles p r)
-      → (r : NameText) → InMask roles (fold (λ mask name. with_place mask (place_of name roles)) m names) r
+      → (r : NameText) → InMask roles (fold (λ mask name. with_found_place mask (place_of name roles)) m names) r
       ↔ (Contains names r ⊎ InMask roles m r)
   in_fold [] m known r = (λ i. inr i, λ h. elim h [ inl c ↦ absurd (omega (arith, c.1)) | inr i ↦ i ])
   in_fold (y ∷ ys) m known r =
       let here = known y (contains_head y ys) in
       let head = in_step m y r here.0 here.1 in
-      let rest = in_fold ys (with_place m (place_of y roles)) (λ x c. known x (contains_tail y ys x c)) r in (
+      let rest = in_fold ys (with_found_place m (place_of y roles)) (λ x c. known x (contains_tail y ys x c)) r in (
         λ i. elim (rest.0 i) [
           | inl c ↦ inl (contains_tail y ys r c)
           | inr j ↦ elim (head.0 j) [ inl e ↦ inl (subst (Contains (y ∷ ys)) e (contains_head y ys)) | inr k ↦ inr k ]
@@ -89,11 +90,11 @@ module _ (roles : List (Option NameText)) (unique : (p q : ℕ) (r : NameText) �
       )
 
   named_fold : (names : List NameText) (m : ℕ) → ((r : NameText) → Contains names r → (p : ℕ) × At roles p r)
-      → IsNamed roles m → IsNamed roles (fold (λ mask name. with_place mask (place_of name roles)) m names)
+      → IsNamed roles m → IsNamed roles (fold (λ mask name. with_found_place mask (place_of name roles)) m names)
   named_fold [] m known n = n
   named_fold (y ∷ ys) m known n =
       let here = known y (contains_head y ys) in
-      named_fold ys (with_place m (place_of y roles)) (λ x c. known x (contains_tail y ys x c))
+      named_fold ys (with_found_place m (place_of y roles)) (λ x c. known x (contains_tail y ys x c))
       (named_step m y here.0 here.1 n)
 
   pub in_mask_of : (names : List NameText) → ((r : NameText) → Contains names r → (p : ℕ) × At roles p r)

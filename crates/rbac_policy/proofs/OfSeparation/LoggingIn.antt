@@ -14,8 +14,8 @@ use Rattle.rbac_policy.specs.declared.separation.Violation.{Violation}
 use Rattle.rbac_policy.specs.declared.sizes.TheConstants.{LAST_SESSION}
 use Rattle.rbac_policy.specs.Names.{NameText}
 use Rattle.rbac_policy.specs.Entries.{logins}
-use Rattle.rbac_policy.specs.Facts.{IsActive, IsAuthorized, IsLive, Lives, HasOnlyAuthorized, CreatesWith, TakesUp}
-use Rattle.rbac_policy.specs.Facts.{LaysDown}
+use Rattle.rbac_policy.specs.Facts.{IsActive, IsAuthorized, IsLive, Lives, HasOnlyAuthorized, CreatesWith, Activates}
+use Rattle.rbac_policy.specs.Facts.{Drops}
 use Rattle.rbac_policy.specs.Fits.{NumbersExhausted}
 use Rattle.rbac_policy.specs.Separation.{IsFirstViolated, login_entry}
 use Rattle.rbac_policy.specs.Violations.{first_violation}
@@ -39,8 +39,8 @@ module _ (p : Policy) (L : List Entry) (st : StandsFor p L) (user : NameText) (l
   active_push : (n : ℕ) (r : NameText) → IsActive (L ++ e ∷ []) n r
       ↔ (((n ≡ logins L + 1) × Contains listed r) ⊎ IsActive L n r)
   active_push n r =
-      let M : List Entry → Entry → Type 0 = λ before x. CreatesWith n r before x ⊎ TakesUp n r x in
-      let U : Entry → Type 0 = LaysDown n r in (
+      let M : List Entry → Entry → Type 0 = λ before x. CreatesWith n r before x ⊎ Activates n r x in
+      let U : Entry → Type 0 = Drops n r in (
         λ s. elim ((in_force_push M U L e).0 s) [
           | inl m ↦ elim m [
             | inl a ↦

@@ -13,8 +13,8 @@ use Rattle.rbac_policy.specs.declared.commands.Entry.{Entry}
 use Rattle.rbac_policy.specs.declared.rows.DsdSet.{DsdSet}
 use Rattle.rbac_policy.specs.declared.separation.Violation.{Violation}
 use Rattle.rbac_policy.specs.Names.{NameText}
-use Rattle.rbac_policy.specs.Facts.{IsSet, IsActive, IsAuthorized, Lives, HasOnlyAuthorized, CreatesWith, TakesUp}
-use Rattle.rbac_policy.specs.Facts.{LaysDown, Ends, Unassigns, Disinherits}
+use Rattle.rbac_policy.specs.Facts.{IsSet, IsActive, IsAuthorized, Lives, HasOnlyAuthorized, CreatesWith, Activates}
+use Rattle.rbac_policy.specs.Facts.{Drops, Ends, Unassigns, Disinherits}
 use Rattle.rbac_policy.specs.Separation.{IsFirstViolated}
 use Rattle.rbac_policy.specs.Violations.{first_violation}
 use Rattle.rbac_policy.specs.Tables.{At, place_of, mask_of}
@@ -63,7 +63,7 @@ module _ (p : Policy) (L : List Entry) (st : StandsFor p L) where
 
   module _ (e : Entry) (quiet : Quiet e) where
     same_active : (n : ℕ) (r : NameText) → IsActive (L ++ e ∷ []) n r ↔ IsActive L n r
-    same_active n r = untouched (λ before x. CreatesWith n r before x ⊎ TakesUp n r x) (LaysDown n r) L e
+    same_active n r = untouched (λ before x. CreatesWith n r before x ⊎ Activates n r x) (Drops n r) L e
         (λ m. elim m [ inl a ↦ quiet.no_login a.user a.roles a.creates.login | inr b ↦ quiet.no_take r b.1 ])
         (λ u. quiet.no_drop r u.1)
 

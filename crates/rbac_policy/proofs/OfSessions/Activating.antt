@@ -1,26 +1,26 @@
--- The table of sessions after a role was taken up or laid down, before the sweep.
+-- The table of sessions after a role was activated or dropped, before the sweep.
 use Rattle.std.proofs.Common.{◌≡◌, ℕ, ◌<◌, ◌≤◌, ◌⊎◌, ◌↔◌, List, [], ◌∷◌, ◌++◌, length, map, cond, inl, inr, sym, ◌∙◌}
 use Rattle.std.proofs.Common.{ap, refl, subst, true, false, Bool}
 use Rattle.std.specs.Prelude.{Option, Some, ◌==◌}
 use Rattle.std.proofs.lemmas.Bool.{false≢true}
 use Rattle.std.proofs.lemmas.Bool.Decides.{Decides-eqb}
 use Rattle.std.proofs.lemmas.Option.{same_Some}
-use Rattle.rbac_closure.specs.Sets.{without_place}
+use Rattle.rbac_closure.specs.Sets.{with_place, without_place}
 use Rattle.rbac_policy.specs.declared.sizes.TheConstants.{ROLES}
 use Rattle.rbac_policy.specs.declared.commands.AdminCommand.TheVariants.{AddActiveRole, DropActiveRole}
 use Rattle.rbac_policy.specs.declared.commands.Entry.{Entry}
 use Rattle.rbac_policy.specs.declared.rows.Session.{Session}
 use Rattle.rbac_policy.specs.Entries.{logins}
 use Rattle.rbac_policy.specs.Names.{NameText}
-use Rattle.rbac_policy.specs.Facts.{IsActive, CreatesWith, TakesUp, LaysDown, Ends}
-use Rattle.rbac_policy.specs.Tables.{At, with_bit, session_given, session_relieved}
+use Rattle.rbac_policy.specs.Facts.{IsActive, CreatesWith, Activates, Drops, Ends}
+use Rattle.rbac_policy.specs.Tables.{At, session_activated, session_dropped}
 use Rattle.rbac_policy.specs.StandsFor.{InMask, SessionsStand}
 use Rattle.rbac_policy.proofs.Steps.{in_force_push}
 use Rattle.rbac_policy.proofs.OfSessions.Ended.{Unswept}
 use Rattle.rbac_policy.proofs.Untouched.{through}
 use Rattle.rbac_policy.proofs.OfGrants.Granting.{flip, sums}
 use Rattle.rbac_policy.proofs.OfSlots.Mapping.{SessionSlot, SessionBecomes, sessions_mapped}
-use Rattle.rbac_policy.proofs.OfSlots.Slots.{in_with_bit, named_with_bit, in_without_bit, named_without_bit}
+use Rattle.rbac_policy.proofs.OfSlots.Slots.{in_with_place, named_with_place, in_without_place, named_without_place}
 
 module _ (roles : List (Option NameText)) (unique : (p q : ℕ) (r : NameText) → At roles p r → At roles q r → p ≡ q)
     (many : length roles ≡ ROLES)
@@ -31,8 +31,8 @@ module _ (roles : List (Option NameText)) (unique : (p q : ℕ) (r : NameText) �
 
   dropped : (n : ℕ) (r : NameText) → IsActive (L ++ the_drop ∷ []) n r ↔ (IsActive L n r × ((k ≡ n) × (r0 ≡ r) → ⊥))
   dropped n r =
-      let M : List Entry → Entry → Type 0 = λ before e. CreatesWith n r before e ⊎ TakesUp n r e in
-      let U : Entry → Type 0 = LaysDown n r in (
+      let M : List Entry → Entry → Type 0 = λ before e. CreatesWith n r before e ⊎ Activates n r e in
+      let U : Entry → Type 0 = Drops n r in (
         λ s. elim ((in_force_push M U L the_drop).0 s) [
           | inl m ↦ elim m [ inl a ↦ (let h = a.creates.login in cc) | inr b ↦ (let h = b.1 in cc) ]
           | inr h ↦ (h.0, λ x. h.1 (ap Some x.0, ap DropActiveRole x.1))
@@ -43,12 +43,12 @@ module _ (roles : List (Option NameText)) (unique : (p q : ℕ) (r : NameText) �
   drop_stays : (n : ℕ) (u : NameText) → Ends n u the_drop → ⊥
   drop_stays n u ends = elim ends [ inl a ↦ (let h = a.1 in cc) | inr b ↦ cc ]
 
-  drop_slot : (at : ℕ) (x : Session) → At sessions at x → SessionSlot roles L the_drop (session_relieved k p0) x
+  drop_slot : (at : ℕ) (x : Session) → At sessions at x → SessionSlot roles L the_drop (session_dropped k p0) x
   drop_slot at x there = by_test (x.number == k) refl where
     new : Session
     new = record { number = x.number; user = x.user; active = without_place x.active p0 }
 
-    by_test : (b : Bool) → (x.number == k) ≡ b → SessionSlot roles L the_drop (session_relieved k p0) x
+    by_test : (b : Bool) → (x.number == k) ≡ b → SessionSlot roles L the_drop (session_dropped k p0) x
     by_test true e =
         let same = (Decides-eqb x.number k).0 e in
         inr (
@@ -61,8 +61,8 @@ module _ (roles : List (Option NameText)) (unique : (p q : ℕ) (r : NameText) �
             active = λ r. through (dropped x.number r) (through {B = InMask roles x.active r × (r0 ≡ r → ⊥)} (
               λ h. ((ss.active at x there r).0 h.0, λ s. h.1 (sym same, s)),
               λ h. ((ss.active at x there r).1 h.0, λ s. h.1 s.1),
-            ) (flip (in_without_bit roles unique p0 r0 there0 low x.active r)));
-            named = named_without_bit roles unique p0 r0 there0 low x.active (ss.named at x there);
+            ) (flip (in_without_place roles unique p0 r0 there0 low x.active r)));
+            named = named_without_place roles unique p0 r0 there0 low x.active (ss.named at x there);
           },
         )
     by_test false e = inr (
@@ -80,8 +80,8 @@ module _ (roles : List (Option NameText)) (unique : (p q : ℕ) (r : NameText) �
       },
     )
 
-  pub drop_unswept : Unswept roles (map (session_relieved k p0) sessions) L the_drop
-  drop_unswept = sessions_mapped roles sessions L the_drop (session_relieved k p0) refl ss drop_slot refl unique many
+  pub drop_unswept : Unswept roles (map (session_dropped k p0) sessions) L the_drop
+  drop_unswept = sessions_mapped roles sessions L the_drop (session_dropped k p0) refl ss drop_slot refl unique many
       (λ n r a. ss.made n r ((dropped n r).0 a).0)
 
   abbrev pub the_take : Entry
@@ -89,8 +89,8 @@ module _ (roles : List (Option NameText)) (unique : (p q : ℕ) (r : NameText) �
 
   pub taken : (n : ℕ) (r : NameText) → IsActive (L ++ the_take ∷ []) n r ↔ (((k ≡ n) × (r0 ≡ r)) ⊎ IsActive L n r)
   taken n r =
-      let M : List Entry → Entry → Type 0 = λ before e. CreatesWith n r before e ⊎ TakesUp n r e in
-      let U : Entry → Type 0 = LaysDown n r in (
+      let M : List Entry → Entry → Type 0 = λ before e. CreatesWith n r before e ⊎ Activates n r e in
+      let U : Entry → Type 0 = Drops n r in (
         λ s. elim ((in_force_push M U L the_take).0 s) [
           | inl m ↦
               elim m [ inl a ↦ (let h = a.creates.login in cc) | inr b ↦ inl (same_Some k n b.0, (let x = b.1 in cc)) ]
@@ -105,9 +105,9 @@ module _ (roles : List (Option NameText)) (unique : (p q : ℕ) (r : NameText) �
   pub take_stays : (n : ℕ) (u : NameText) → Ends n u the_take → ⊥
   take_stays n u ends = elim ends [ inl a ↦ (let h = a.1 in cc) | inr b ↦ cc ]
 
-  -- the row of the session that takes the role up
+  -- the row of the session that activates the role
   abbrev pub with_role : Session → Session
-  with_role x = record { number = x.number; user = x.user; active = with_bit x.active p0 }
+  with_role x = record { number = x.number; user = x.user; active = with_place x.active p0 }
 
   pub taken_here : (at : ℕ) (x : Session) → At sessions at x → x.number ≡ k
       → SessionBecomes roles L the_take x (with_role x)
@@ -117,13 +117,13 @@ module _ (roles : List (Option NameText)) (unique : (p q : ℕ) (r : NameText) �
     stays = take_stays x.number x.user;
     active = λ r. through (taken x.number r) (through
         (sums {A = (k ≡ x.number) × (r0 ≡ r)} {C = r0 ≡ r} (λ p. p.1, λ q. (sym same, q)) (ss.active at x there r))
-        (flip (in_with_bit roles unique p0 r0 there0 low x.active r)));
-    named = named_with_bit roles unique p0 r0 there0 low x.active (ss.named at x there);
+        (flip (in_with_place roles unique p0 r0 there0 low x.active r)));
+    named = named_with_place roles unique p0 r0 there0 low x.active (ss.named at x there);
   }
 
-  take_slot : (at : ℕ) (x : Session) → At sessions at x → SessionSlot roles L the_take (session_given k p0) x
+  take_slot : (at : ℕ) (x : Session) → At sessions at x → SessionSlot roles L the_take (session_activated k p0) x
   take_slot at x there = by_test (x.number == k) refl where
-    by_test : (b : Bool) → (x.number == k) ≡ b → SessionSlot roles L the_take (session_given k p0) x
+    by_test : (b : Bool) → (x.number == k) ≡ b → SessionSlot roles L the_take (session_activated k p0) x
     by_test true e =
         inr (
           with_role x,
@@ -149,7 +149,8 @@ module _ (roles : List (Option NameText)) (unique : (p q : ℕ) (r : NameText) �
       },
     )
 
-  -- the session that takes the role up was made
-  pub take_unswept : k ≤ logins L → Unswept roles (map (session_given k p0) sessions) L the_take
-  take_unswept known = sessions_mapped roles sessions L the_take (session_given k p0) refl ss take_slot refl unique many
+  -- the session that activates the role was made
+  pub take_unswept : k ≤ logins L → Unswept roles (map (session_activated k p0) sessions) L the_take
+  take_unswept known = sessions_mapped roles sessions L the_take
+      (session_activated k p0) refl ss take_slot refl unique many
       (λ n r a. elim ((taken n r).0 a) [ inl s ↦ subst (λ i. i ≤ logins L) s.0 known | inr h ↦ ss.made n r h ])

@@ -12,7 +12,7 @@ use Rattle.rbac_policy.specs.declared.commands.Entry.{Entry}
 use Rattle.rbac_policy.specs.declared.rows.Session.{Session}
 use Rattle.rbac_policy.specs.Entries.{logins}
 use Rattle.rbac_policy.specs.Names.{NameText}
-use Rattle.rbac_policy.specs.Facts.{IsActive, CreatesWith, TakesUp, LaysDown}
+use Rattle.rbac_policy.specs.Facts.{IsActive, CreatesWith, Activates, Drops}
 use Rattle.rbac_policy.specs.Tables.{At, mask_of, session_without}
 use Rattle.rbac_policy.specs.StandsFor.{InMask, IsNamed, SessionsStand}
 use Rattle.rbac_policy.proofs.Steps.{in_force_push}
@@ -39,8 +39,8 @@ module _ (roles : List (Option NameText)) (unique : (p q : ℕ) (r : NameText) �
     active_push : (n : ℕ) (r : NameText) → IsActive (L ++ the_login ∷ []) n r
         ↔ (((n ≡ logins L + 1) × Contains listed r) ⊎ IsActive L n r)
     active_push n r =
-        let M : List Entry → Entry → Type 0 = λ before e. CreatesWith n r before e ⊎ TakesUp n r e in
-        let U : Entry → Type 0 = LaysDown n r in (
+        let M : List Entry → Entry → Type 0 = λ before e. CreatesWith n r before e ⊎ Activates n r e in
+        let U : Entry → Type 0 = Drops n r in (
           λ s. elim ((in_force_push M U L the_login).0 s) [
             | inl m ↦ elim m [
               | inl a ↦
@@ -144,7 +144,7 @@ module _ (roles : List (Option NameText)) (unique : (p q : ℕ) (r : NameText) �
     gone = logins_push L the_logout ∙ add-zero (logins L)
 
     still_active : (n : ℕ) (r : NameText) → IsActive (L ++ the_logout ∷ []) n r ↔ IsActive L n r
-    still_active n r = untouched (λ before e. CreatesWith n r before e ⊎ TakesUp n r e) (LaysDown n r) L the_logout
+    still_active n r = untouched (λ before e. CreatesWith n r before e ⊎ Activates n r e) (Drops n r) L the_logout
         (λ m. elim m [ inl a ↦ (let h = a.creates.login in cc) | inr b ↦ (let h = b.1 in cc) ])
         (λ u. let h = u.1 in cc)
 

@@ -7,10 +7,10 @@ use Rattle.std.proofs.lemmas.Nat.Bits.{bit_at-zero}
 use Rattle.std.proofs.lemmas.Option.{slice_get-map, same_Some, slice_get-get_or}
 use Rattle.std.proofs.lemmas.List.Quantifiers.{position-Some}
 use Rattle.rbac_closure.proofs.SetLemmas.{with_same, with_other, has_without}
-use Rattle.rbac_closure.specs.Sets.{without_place}
+use Rattle.rbac_closure.specs.Sets.{with_place, without_place}
 use Rattle.rbac_policy.specs.declared.sizes.TheConstants.{ROLES}
 use Rattle.rbac_policy.specs.Names.{NameText}
-use Rattle.rbac_policy.specs.Tables.{At, with_bit}
+use Rattle.rbac_policy.specs.Tables.{At}
 use Rattle.rbac_policy.specs.StandsFor.{InMask, IsNamed}
 use Rattle.rbac_policy.proofs.OfRoles.Order.{one_role}
 
@@ -83,8 +83,8 @@ free slots i h =
 
 module _ (roles : List (Option NameText)) (unique : (p q : ℕ) (r : NameText) → At roles p r → At roles q r → p ≡ q)
     (p0 : ℕ) (r0 : NameText) (there : At roles p0 r0) (low : p0 < ROLES) where
-  pub in_with_bit : (m : ℕ) (r : NameText) → InMask roles (with_bit m p0) r ↔ ((r0 ≡ r) ⊎ InMask roles m r)
-  in_with_bit m r = (
+  pub in_with_place : (m : ℕ) (r : NameText) → InMask roles (with_place m p0) r ↔ ((r0 ≡ r) ⊎ InMask roles m r)
+  in_with_place m r = (
     λ i. elim (cases_eq i.place p0) [
       | inl e ↦ inl (one_role roles p0 r0 r there (subst (λ k. At roles k r) e i.there))
       | inr ne ↦ inr (record { place = i.place; there = i.there; bit = sym (with_other m p0 i.place ne) ∙ i.bit })
@@ -98,14 +98,15 @@ module _ (roles : List (Option NameText)) (unique : (p q : ℕ) (r : NameText) �
     ],
   )
 
-  pub named_with_bit : (m : ℕ) → IsNamed roles m → IsNamed roles (with_bit m p0)
-  named_with_bit m n = λ p bit. elim (cases_eq p p0) [
+  pub named_with_place : (m : ℕ) → IsNamed roles m → IsNamed roles (with_place m p0)
+  named_with_place m n = λ p bit. elim (cases_eq p p0) [
     | inl e ↦ (r0, subst (λ k. At roles k r0) (sym e) there)
     | inr ne ↦ n p (sym (with_other m p0 p ne) ∙ bit)
   ]
 
-  pub in_without_bit : (m : ℕ) (r : NameText) → InMask roles (without_place m p0) r ↔ (InMask roles m r × (r0 ≡ r → ⊥))
-  in_without_bit m r = (
+  pub in_without_place : (m : ℕ) (r : NameText) → InMask roles (without_place m p0) r
+      ↔ (InMask roles m r × (r0 ≡ r → ⊥))
+  in_without_place m r = (
     λ i. let h = (has_without m p0 i.place).0 i.bit in (
       record { place = i.place; there = i.there; bit = h.0 },
       λ same. h.1 (unique i.place p0 r i.there (subst (At roles p0) same there)),
@@ -118,8 +119,8 @@ module _ (roles : List (Option NameText)) (unique : (p q : ℕ) (r : NameText) �
     },
   )
 
-  pub named_without_bit : (m : ℕ) → IsNamed roles m → IsNamed roles (without_place m p0)
-  named_without_bit m n = λ p bit. n p ((has_without m p0 p).0 bit).0
+  pub named_without_place : (m : ℕ) → IsNamed roles m → IsNamed roles (without_place m p0)
+  named_without_place m n = λ p bit. n p ((has_without m p0 p).0 bit).0
 
 pub none_in_zero : (roles : List (Option NameText)) (r : NameText) → InMask roles 0 r → ⊥
 none_in_zero roles r i = omega (arith, i.bit, bit_at-zero i.place)

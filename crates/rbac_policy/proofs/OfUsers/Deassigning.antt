@@ -14,15 +14,15 @@ use Rattle.rbac_policy.specs.declared.commands.Entry.{Entry}
 use Rattle.rbac_policy.specs.declared.rows.User.{User}
 use Rattle.rbac_policy.specs.declared.rows.Session.{Session}
 use Rattle.rbac_policy.specs.Names.{NameText}
-use Rattle.rbac_policy.specs.Facts.{IsUser, IsAssigned, IsActive, CreatesWith, TakesUp, LaysDown}
-use Rattle.rbac_policy.specs.Tables.{At, user_relieved, user_without, session_of_other}
+use Rattle.rbac_policy.specs.Facts.{IsUser, IsAssigned, IsActive, CreatesWith, Activates, Drops}
+use Rattle.rbac_policy.specs.Tables.{At, user_deassigned, user_without, session_of_other}
 use Rattle.rbac_policy.specs.StandsFor.{InMask, UsersStand, SessionsStand}
 use Rattle.rbac_policy.proofs.Steps.{in_force_push}
 use Rattle.rbac_policy.proofs.OfSessions.Ended.{Unswept}
 use Rattle.rbac_policy.proofs.Untouched.{through, untouched}
 use Rattle.rbac_policy.proofs.OfGrants.Granting.{flip}
 use Rattle.rbac_policy.proofs.OfSlots.Mapping.{UserSlot, users_mapped, SessionSlot, sessions_mapped}
-use Rattle.rbac_policy.proofs.OfSlots.Slots.{in_without_bit, named_without_bit}
+use Rattle.rbac_policy.proofs.OfSlots.Slots.{in_without_place, named_without_place}
 
 module _ (roles : List (Option NameText)) (unique : (p q : ℕ) (r : NameText) → At roles p r → At roles q r → p ≡ q)
     (p0 : ℕ) (r0 : NameText) (there0 : At roles p0 r0) (low : p0 < ROLES)
@@ -48,7 +48,7 @@ module _ (roles : List (Option NameText)) (unique : (p q : ℕ) (r : NameText) �
             (inr (h.0, λ x. elim x [ inl y ↦ h.1 (cc, cc) | inr z ↦ elim z [ inl y ↦ cc | inr w ↦ cc ] ])),
       )
 
-  slot : (at : ℕ) (x : User) → At users at x → UserSlot roles (L ++ the_deassignment ∷ []) (user_relieved u0 p0) x
+  slot : (at : ℕ) (x : User) → At users at x → UserSlot roles (L ++ the_deassignment ∷ []) (user_deassigned u0 p0) x
   slot at x there = by_test (bytes_eq x.name u0) refl where
     new : User
     new = record { name = x.name; roles = without_place x.roles p0 }
@@ -56,7 +56,8 @@ module _ (roles : List (Option NameText)) (unique : (p q : ℕ) (r : NameText) �
     still : IsUser (L ++ the_deassignment ∷ []) x.name
     still = (user_same x.name).1 ((us.exist x.name).1 (record { at = at; value = x; there = there; fact = refl }))
 
-    by_test : (b : Bool) → bytes_eq x.name u0 ≡ b → UserSlot roles (L ++ the_deassignment ∷ []) (user_relieved u0 p0) x
+    by_test : (b : Bool) → bytes_eq x.name u0 ≡ b → UserSlot roles (L ++ the_deassignment ∷ [])
+        (user_deassigned u0 p0) x
     by_test true e =
         let same = (bytes_eq-Decides x.name u0).0 e in
         inr (
@@ -68,8 +69,8 @@ module _ (roles : List (Option NameText)) (unique : (p q : ℕ) (r : NameText) �
             assigned = λ r. through (taken_push x.name r) (through {B = InMask roles x.roles r × (r0 ≡ r → ⊥)} (
               λ h. ((us.assigned at x there r).0 h.0, λ q. h.1 (sym same, q)),
               λ h. ((us.assigned at x there r).1 h.0, λ q. h.1 q.1),
-            ) (flip (in_without_bit roles unique p0 r0 there0 low x.roles r)));
-            named = named_without_bit roles unique p0 r0 there0 low x.roles (us.named at x there);
+            ) (flip (in_without_place roles unique p0 r0 there0 low x.roles r)));
+            named = named_without_place roles unique p0 r0 there0 low x.roles (us.named at x there);
           },
         )
     by_test false e = inr (
@@ -86,8 +87,8 @@ module _ (roles : List (Option NameText)) (unique : (p q : ℕ) (r : NameText) �
       },
     )
 
-  pub deassigning : UsersStand roles (map (user_relieved u0 p0) users) (L ++ the_deassignment ∷ [])
-  deassigning = users_mapped roles roles users L (L ++ the_deassignment ∷ []) (user_relieved u0 p0) refl us slot
+  pub deassigning : UsersStand roles (map (user_deassigned u0 p0) users) (L ++ the_deassignment ∷ [])
+  deassigning = users_mapped roles roles users L (L ++ the_deassignment ∷ []) (user_deassigned u0 p0) refl us slot
       (λ u h. (user_same u).0 h)
       (λ u r a. (user_same u).1 (us.only_users u r ((taken_push u r).0 a).0))
 
@@ -154,7 +155,7 @@ module _ (roles : List (Option NameText)) (L : List Entry) (s : Option ℕ) (u0 
   module _ (unique : (p q : ℕ) (r : NameText) → At roles p r → At roles q r → p ≡ q) (many : length roles ≡ ROLES)
       (sessions : List (Option Session)) (ss : SessionsStand roles sessions L) where
     still_active : (n : ℕ) (r : NameText) → IsActive (L ++ the_removal ∷ []) n r ↔ IsActive L n r
-    still_active n r = untouched (λ before e. CreatesWith n r before e ⊎ TakesUp n r e) (LaysDown n r) L the_removal
+    still_active n r = untouched (λ before e. CreatesWith n r before e ⊎ Activates n r e) (Drops n r) L the_removal
         (λ m. elim m [ inl a ↦ (let h = a.creates.login in cc) | inr b ↦ (let h = b.1 in cc) ])
         (λ u. let h = u.1 in cc)
 

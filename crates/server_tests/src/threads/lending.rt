@@ -2,7 +2,7 @@
 ghost use denote.Param.{param};
 ghost use denote.Param.Send.{IsSend};
 
-use policy_board::history::BoardName;
+use policy_board::board_list::BoardName;
 use slot_table::table::SlotTable;
 
 /// What threads are lent: a value of this type. Nothing else is known of the type that lends it,

@@ -8,7 +8,7 @@ use crate::threads::server::{Server, open};
 use access_core::command::SlotCommand;
 use access_core::reply::{Added, Reply};
 use policy_board::board::Board;
-use policy_board::history::{BoardName, Fresh};
+use policy_board::board_list::{BoardName, FreshList};
 use policy_board::reader::SlotReader;
 use policy_board::seat::Seat;
 use policy_board::sharing::boards_are_shared;
@@ -51,7 +51,7 @@ struct Worker<B: BoardName> {
 impl<B: BoardName> Worker<B> {
     /// A worker that has asked nothing.
     fn new(seat: Seat<B>) -> Worker<B> {
-        let kept = seat.kept().len();
+        let kept = seat.receipts().len();
         Worker {
             seat,
             asked: 0,
@@ -188,7 +188,7 @@ fn seats_of<B: BoardName, R: Abort>(
     let mut seats = Vec::new(alloc);
     let mut kept = 0usize;
     for worker in workers {
-        assert_eq!(rt; worker.seat.kept().len(), worker.kept);
+        assert_eq!(rt; worker.seat.receipts().len(), worker.kept);
         kept = kept.saturating_add(worker.kept);
         let Worker { seat, .. } = worker;
         seats.push(seat).ok().expect(rt, "room");
@@ -201,7 +201,7 @@ fn seats_of<B: BoardName, R: Abort>(
 fn serve<B: BoardName + Send + Sync, R: Threads + Wait + Abort + Sync>(
     rt: &R,
     alloc: Global,
-    fresh: Fresh,
+    fresh: FreshList,
 ) -> (Histories, usize)
     requires { fresh.seen.book ≡ B.book }
 {
@@ -242,7 +242,7 @@ fn entries_of<R: Abort>(rt: &R, histories: &Histories) -> usize {
 /// Each entry has one receipt.
 #[test]
 fn many_threads_close(rt: HostRuntime) -> Result<(), Fail> {
-    let (histories, kept) = serve::<Brand, _>(&rt, rt.alloc(), Fresh::new());
+    let (histories, kept) = serve::<Brand, _>(&rt, rt.alloc(), FreshList::new());
     assert_eq!(rt; histories.policy.len(), BEFORE + CHANGES);
     let entries = entries_of(&rt, &histories);
     assert_eq!(rt; kept, entries.saturating_add(GIVEN));

@@ -10,7 +10,7 @@ use access_core::reply::{Added, Reply};
 use audit_report::audit::check;
 use est_text::identifier::Identifier;
 use policy_board::board::Board;
-use policy_board::history::{BoardName, Fresh};
+use policy_board::board_list::{BoardName, FreshList};
 use policy_board::reader::SlotReader;
 use policy_board::seat::{Receipt, Seat};
 use policy_board::sharing::boards_are_shared;
@@ -265,7 +265,7 @@ fn offers_of_ann(entries: &[SlotEntry]) -> usize {
 fn serve<B: BoardName + Send + Sync, R: Threads + Wait + Abort + Sync>(
     rt: &R,
     alloc: Global,
-    fresh: Fresh,
+    fresh: FreshList,
     rounds: u32,
 ) -> Histories
     requires { fresh.seen.book ≡ B.book }
@@ -301,7 +301,7 @@ fn serve<B: BoardName + Send + Sync, R: Threads + Wait + Abort + Sync>(
 /// thread.
 #[test]
 fn revoked_is_denied(rt: HostRuntime) -> Result<(), Fail> {
-    let histories = serve::<Brand, _>(&rt, rt.alloc(), Fresh::new(), 1);
+    let histories = serve::<Brand, _>(&rt, rt.alloc(), FreshList::new(), 1);
     assert_eq!(rt; histories.policy.len(), BEFORE + 3);
     Ok(())
 }
@@ -309,7 +309,7 @@ fn revoked_is_denied(rt: HostRuntime) -> Result<(), Fail> {
 /// The same a thousand times.
 #[test]
 fn revoked_is_denied_a_thousand_times(rt: HostRuntime) -> Result<(), Fail> {
-    let histories = serve::<Brand, _>(&rt, rt.alloc(), Fresh::new(), 1000);
+    let histories = serve::<Brand, _>(&rt, rt.alloc(), FreshList::new(), 1000);
     assert_eq!(rt; histories.policy.len(), BEFORE + 2001);
     Ok(())
 }

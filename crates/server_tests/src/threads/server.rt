@@ -3,7 +3,7 @@ ghost use Rattle.std.specs.Prelude.{◌≡◌, ◌≤◌};
 
 use history_receipts::receipt_list::SEATS;
 use policy_board::board::Board;
-use policy_board::history::{BoardName, Fresh};
+use policy_board::board_list::{BoardName, FreshList};
 use policy_board::opening::Opened;
 use policy_board::seat::Seat;
 use slot_table::table::SlotTable;
@@ -22,7 +22,7 @@ pub(crate) struct Server<B: BoardName> {
 pub(crate) fn open<B: BoardName, R: Wait + Abort>(
     rt: &R,
     alloc: Global,
-    fresh: Fresh,
+    fresh: FreshList,
     count: usize,
 ) -> Server<B>
     requires name { fresh.seen.book ≡ B.book }

@@ -10,7 +10,7 @@ use client_loop::desk::Desk;
 use client_loop::serving::{End, serve};
 use client_loop::shared_desk::SharedDesk;
 use policy_board::board::Board;
-use policy_board::history::{BoardName, Fresh};
+use policy_board::board_list::{BoardName, FreshList};
 use policy_board::seat::Seat;
 use slot_table::table::SlotTable;
 use std::alloc::Global;
@@ -125,12 +125,16 @@ fn answers_at<B: BoardName, R: Wait + Abort>(
         seat,
     } = desk;
     assert_eq!(rt; seat.seen(), 10);
-    assert_eq!(rt; seat.kept().len(), 10);
+    assert_eq!(rt; seat.receipts().len(), 10);
     answers
 }
 
 /// What the seat of a new board is answered.
-fn answers_at_a_board<B: BoardName, R: Wait + Abort>(rt: &R, alloc: Global, fresh: Fresh) -> Vec<u8>
+fn answers_at_a_board<B: BoardName, R: Wait + Abort>(
+    rt: &R,
+    alloc: Global,
+    fresh: FreshList,
+) -> Vec<u8>
     requires { fresh.seen.book ≡ B.book }
 {
     let Server {
@@ -150,7 +154,7 @@ fn one_seat_is_answered_as_a_single_client(rt: HostRuntime) -> Result<(), Fail> 
     let alloc = rt.alloc();
     let mut single = Single::new(alloc)?;
     let alone = answers_of(&rt, alloc, &mut single);
-    let at_a_board = answers_at_a_board::<Brand, _>(&rt, alloc, Fresh::new());
+    let at_a_board = answers_at_a_board::<Brand, _>(&rt, alloc, FreshList::new());
     assert!(rt; alone.as_slice() == ANSWERS.as_bytes());
     assert!(rt; at_a_board.as_slice() == ANSWERS.as_bytes());
     Ok(())

@@ -7,7 +7,7 @@ use crate::threads::server::{Server, open};
 use access_core::command::SlotCommand;
 use access_core::reply::{Added, Reply};
 use policy_board::board::Board;
-use policy_board::history::{BoardName, Fresh};
+use policy_board::board_list::{BoardName, FreshList};
 use policy_board::reader::SlotReader;
 use policy_board::seat::Seat;
 use policy_board::sharing::boards_are_shared;
@@ -97,7 +97,7 @@ fn step_at_once<
 fn step_both<B: BoardName + Send + Sync, R: Threads + Wait + Abort + Sync>(
     rt: &R,
     alloc: Global,
-    fresh: Fresh,
+    fresh: FreshList,
     slots: (u8, u8),
 ) -> (u64, u64)
     requires { fresh.seen.book ≡ B.book }
@@ -124,7 +124,7 @@ fn step_both<B: BoardName + Send + Sync, R: Threads + Wait + Abort + Sync>(
 /// Each place of the one journal is that of one step.
 #[test]
 fn two_threads_on_one_slot(rt: HostRuntime) -> Result<(), Fail> {
-    let (first, second) = step_both::<Brand, _>(&rt, rt.alloc(), Fresh::new(), (3, 3));
+    let (first, second) = step_both::<Brand, _>(&rt, rt.alloc(), FreshList::new(), (3, 3));
     assert_eq!(rt; first & second, 0);
     assert_eq!(rt; first | second, FORTY_PLACES);
     Ok(())
@@ -133,7 +133,7 @@ fn two_threads_on_one_slot(rt: HostRuntime) -> Result<(), Fail> {
 /// Each thread has the places of its own slot.
 #[test]
 fn two_threads_on_two_slots(rt: HostRuntime) -> Result<(), Fail> {
-    let (first, second) = step_both::<Brand, _>(&rt, rt.alloc(), Fresh::new(), (0, 15));
+    let (first, second) = step_both::<Brand, _>(&rt, rt.alloc(), FreshList::new(), (0, 15));
     assert_eq!(rt; first, TWENTY_PLACES);
     assert_eq!(rt; second, TWENTY_PLACES);
     Ok(())

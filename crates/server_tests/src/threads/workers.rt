@@ -5,7 +5,7 @@ use crate::threads::clients::{Client, Clients};
 use crate::threads::meeting::Meeting;
 use crate::threads::server::{Server, open};
 use client_loop::workers::run_workers;
-use policy_board::history::{BoardName, Fresh};
+use policy_board::board_list::{BoardName, FreshList};
 use rbac_policy::commands::SessionId;
 use rbac_policy::journal::PolicyJournal;
 use reactor_core::entry::{Action, SlotEntry};
@@ -60,7 +60,7 @@ const LEAST_SEEN: u64 = 8;
 fn serve_two<B: BoardName + Send + Sync, R: Threads + Wait + Abort + Clock + Sync>(
     rt: &R,
     alloc: Global,
-    fresh: Fresh,
+    fresh: FreshList,
 ) -> Histories
     requires { fresh.seen.book ≡ B.book }
 {
@@ -86,7 +86,7 @@ fn serve_two<B: BoardName + Send + Sync, R: Threads + Wait + Abort + Clock + Syn
     assert_eq!(rt; seats.len(), 2);
     for seat in &seats {
         assert!(rt; seat.seen() >= LEAST_SEEN);
-        assert_eq!(rt; seat.kept().len(), RECEIPTS);
+        assert_eq!(rt; seat.receipts().len(), RECEIPTS);
     }
     for client in &clients {
         assert!(rt; client.is_closed());
@@ -137,7 +137,7 @@ fn given_by(policy: &PolicyJournal, session: u16) -> usize {
 /// the two clients did.
 #[test]
 fn two_at_once(rt: HostRuntime) -> Result<(), Fail> {
-    let Histories { policy, slots } = serve_two::<Brand, _>(&rt, rt.alloc(), Fresh::new());
+    let Histories { policy, slots } = serve_two::<Brand, _>(&rt, rt.alloc(), FreshList::new());
     assert_eq!(rt; policy.len(), ENTRIES);
     let [first, second, ..] = &slots;
     let sessions = (session_of(&rt, first), session_of(&rt, second));

@@ -2,7 +2,7 @@
 use crate::lines::{DISCARD, GRANT_LOAD, GRANT_STEP, LOGIN, STEP};
 use crate::table::server::{Line, entries, play};
 use history_receipts::mismatch::Mismatch;
-use policy_board::history::Fresh;
+use policy_board::board_list::FreshList;
 use slot_table::closing::Histories;
 use std::marker::Brand;
 use std::process::Abort;
@@ -159,7 +159,7 @@ fn compare(rt: &impl Abort, histories: &Histories) {
 
 #[test]
 fn journals_of_a_closed_server(rt: HostRuntime) {
-    let left = play::<Brand, _>(&rt, rt.alloc(), Fresh::new(), STORY, false);
+    let left = play::<Brand, _>(&rt, rt.alloc(), FreshList::new(), STORY, false);
     assert_eq!(rt; entries(&left), Ok(12));
     if let Ok(histories) = &left {
         compare(&rt, histories);
@@ -169,6 +169,6 @@ fn journals_of_a_closed_server(rt: HostRuntime) {
 /// A seat is held back, so its receipts are missing.
 #[test]
 fn a_seat_that_is_held_back(rt: HostRuntime) {
-    let left = play::<Brand, _>(&rt, rt.alloc(), Fresh::new(), STORY, true);
+    let left = play::<Brand, _>(&rt, rt.alloc(), FreshList::new(), STORY, true);
     assert_eq!(rt; entries(&left), Err(Mismatch::Count { slot: 0 }));
 }

@@ -1,7 +1,7 @@
 //! What a table of slots answers.
 use crate::lines::{GRANT_LOAD, GRANT_STEP, LOGIN, STEP};
 use crate::table::server::{Line, entries, play};
-use policy_board::history::Fresh;
+use policy_board::board_list::FreshList;
 use std::marker::Brand;
 
 const STEP_16: &str = "{\"cmd\":\"step\",\"slot\":16}";
@@ -54,6 +54,6 @@ const STORY: &[Line] = &[
 
 #[test]
 fn refusals_on_the_table(rt: HostRuntime) {
-    let left = play::<Brand, _>(&rt, rt.alloc(), Fresh::new(), STORY, false);
+    let left = play::<Brand, _>(&rt, rt.alloc(), FreshList::new(), STORY, false);
     assert_eq!(rt; entries(&left), Ok(8));
 }

@@ -1,7 +1,7 @@
 //! Which receipts commands on slots leave.
 use crate::lines::LOGIN;
 use crate::table::server::{Line, entries, play};
-use policy_board::history::Fresh;
+use policy_board::board_list::FreshList;
 use std::marker::Brand;
 
 /// One seat keeps a receipt of each command that adds an entry, and of no other.
@@ -75,6 +75,6 @@ const STORY: &[Line] = &[
 
 #[test]
 fn receipts_of_slot_commands(rt: HostRuntime) {
-    let left = play::<Brand, _>(&rt, rt.alloc(), Fresh::new(), STORY, false);
+    let left = play::<Brand, _>(&rt, rt.alloc(), FreshList::new(), STORY, false);
     assert_eq!(rt; entries(&left), Ok(8));
 }

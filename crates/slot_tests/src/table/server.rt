@@ -7,7 +7,7 @@ use history_receipts::mismatch::Mismatch;
 use history_receipts::receipt::{Kept, SlotReceipt};
 use history_receipts::receipt_list::SEATS;
 use policy_board::board::Board;
-use policy_board::history::{BoardName, Fresh};
+use policy_board::board_list::{BoardName, FreshList};
 use policy_board::opening::Opened;
 use policy_board::seat::Seat;
 use rbac_policy::commands::{AdminCommand, SessionId};
@@ -47,7 +47,7 @@ struct Server<B: BoardName> {
 fn open<B: BoardName, R: Wait + Abort>(
     rt: &R,
     alloc: Global,
-    fresh: Fresh,
+    fresh: FreshList,
     count: usize,
 ) -> Server<B>
     requires name { fresh.seen.book ≡ B.book }
@@ -146,11 +146,11 @@ fn follow<B: BoardName, R: Wait + Abort>(
     match line {
         Line::Says(_, text, wanted, kept) => {
             say(rt, alloc, board, table, seat, text, wanted);
-            assert_eq!(rt; seat.kept().len(), kept, "{text}");
+            assert_eq!(rt; seat.receipts().len(), kept, "{text}");
         }
-        Line::Saw(_, version) => seat.saw(version),
+        Line::Saw(_, version) => seat.note_version(version),
         Line::HasSeen(_, version) => assert_eq!(rt; seat.seen(), version),
-        Line::Keeps(_, place, told) => expect_kept(rt, seat.kept().get(place), told),
+        Line::Keeps(_, place, told) => expect_kept(rt, seat.receipts().get(place), told),
     }
 }
 
@@ -159,7 +159,7 @@ fn follow<B: BoardName, R: Wait + Abort>(
 pub(crate) fn play<B: BoardName, R: Wait + Abort>(
     rt: &R,
     alloc: Global,
-    fresh: Fresh,
+    fresh: FreshList,
     story: &[Line],
     is_held_back: bool,
 ) -> Result<Histories, Mismatch>

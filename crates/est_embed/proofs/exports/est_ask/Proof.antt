@@ -11,7 +11,7 @@ use Rattle.est_embed.proofs.Steps.{rawptr_Tells, MutRef, plain, nothing, owned, 
 use Rattle.est_embed.proofs.Steps.{on_entry, triple_of, Stays, walk_of, stay_dropped, Goes-dropped, ends_at, framed}
 use prog.Wp.{WpFn}
 use Rattle.est_host.specs.Answers.{Answered}
-use Rattle.est_host.specs.contracts.running.Running as running
+use Rattle.est_host.specs.contracts.running.HostedMachine as running
 use Rattle.est_embed.specs.contracts.exports.est_ask as f
 use Rattle.est_embed.proofs.exports.est_ask.Statement.{statement}
 use Rattle.est_embed.proofs.exports.est_ask.Code as code

@@ -27,7 +27,7 @@ use denote.RattleType.{Valss}
 use denote.Signature.{types_at}
 use denote.Triple.Clauses.{Lasts}
 use Rattle.std.proofs.Common.{ℕ, ◌≢◌}
-use Rattle.est_host.specs.Faults.{IsTold}
+use Rattle.est_host.specs.Faults.{IsLoadFaultTold}
 use denote.Steps.{heard, owned}
 use Rattle.std.proofs.Common.{Option, ap}
 use Rattle.std.proofs.ResultValues.{and_tt}
@@ -41,7 +41,7 @@ use types.Kit.{fjoin, pick, use0, use1, await}
 use types.Part.{sub, whole}
 use types.Run.{of_opd, addr, stop, fld, no_more, and_then, returns, enter}
 use Rattle.est_host.specs.contracts.loading.Fault as fault
-use Rattle.est_host.specs.contracts.running.Running as running
+use Rattle.est_host.specs.contracts.running.HostedMachine as running
 use Rattle.est_embed.specs.Handing.{IsHanded, lies_there}
 use Rattle.est_embed.specs.contracts.handed.Handed as handed
 use Rattle.est_embed.specs.contracts.exports.hand_out as h
@@ -97,7 +97,7 @@ est_load_module_spec 𝓤 𝓛 𝓜 𝓡 wired =
     let G = triple_of 𝓛 h.signature (h.spec 𝓛 𝓜.mem 𝓡.returns) in let z : G.Ghost = ((κs, qs, bounds, a, vss), tt) in
     let Out = at_exit h.ended κs a in
     let Tells = λ (n : ℕ) (ws : Lasts h.ended κs a). n ≢ 0
-    → (n ≡ (Out ws).1.1.1.1.0.now.code) × IsTold main text (Out ws).1.1.1.1.0.now in
+    → (n ≡ (Out ws).1.1.1.1.0.now.code) × IsLoadFaultTold main text (Out ws).1.1.1.1.0.now in
     let Stands = λ (n : ℕ) (ws : Lasts h.ended κs a). n ≢ 0 → (Out ws).1.1.1.0.now ≡ a.1.1.1.0.now in
     qed 𝓛 (raw (G.pre z) ∷ []) ∵ enter ! _ _ _ _ _ $
     alloc_all ! (λ l. pass_all ! refl (

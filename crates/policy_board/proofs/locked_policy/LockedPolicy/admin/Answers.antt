@@ -7,8 +7,8 @@ use Rattle.policy_board.specs.PolicyCommands.{seat_after}
 use Rattle.policy_board.proofs.Receipts.{receipt_tells, seat_answered}
 use Rattle.policy_board.proofs.locked_policy.LockedPolicy.admin.Goals as goal
 
-pub know-requires-in-Ok : goal.know-requires-in-Ok
-know-requires-in-Ok g c =
+pub note_known-requires-in-Ok : goal.note_known-requires-in-Ok
+note_known-requires-in-Ok g c =
     let journal = c.self.inside.journal in
     let is : Some c.unwrap-publisher.result.now ≡ Some journal =
     ap option_copied (sym c.unwrap-publisher.ensures) ∙ (c.as_ref.ensures.value ∙ c.self.invariant) in
@@ -17,7 +17,7 @@ know-requires-in-Ok g c =
     c.answer-answer.new.self c.in-Ok.receipt c.answer-answer.ensures.step c.in-Ok.is in
     let known : c.answer-answer.new.seat.known ≡ c.args.self.now =
     c.answer-answer.ensures.seat.known
-    ∙ (ap (λ (s : SeatState). s.known) c.know-2.ensures ∙ (c.front.ensures ∙ (same ∙ c.self.view_is))) in
+    ∙ (ap (λ (s : SeatState). s.known) c.note_known-2.ensures ∙ (c.front.ensures ∙ (same ∙ c.self.view_is))) in
     let list : c.list.result.now ≡ c.answer-answer.new.self = c.list.ensures ∙ tells.list_is in
     subst (λ (l : List Entry). Begins l c.list.result.now) (sym known)
     (subst (λ (m : List Entry). Begins c.args.self.now m) (sym list) tells.later)
@@ -31,11 +31,12 @@ returns-in-Ok-clause-seat g c =
     let tells = receipt_tells c.args.self.now c.args.session c.args.command c.answer-answer.result
     c.answer-answer.new.self c.in-Ok.receipt c.answer-answer.ensures.step c.in-Ok.is in
     let front : c.front.result ≡ c.args.self.now = c.front.ensures ∙ (same ∙ c.self.view_is) in
-    let first : c.know-2.new.self ≡ seat_after c.args.seat.now c.args.self.now =
-    c.know-2.ensures ∙ ap (λ (l : List Entry). seat_after c.args.seat.now l) front in
+    let first : c.note_known-2.new.self ≡ seat_after c.args.seat.now c.args.self.now =
+    c.note_known-2.ensures ∙ ap (λ (l : List Entry). seat_after c.args.seat.now l) front in
     let list : c.list.result.now ≡ c.answer-answer.new.self = c.list.ensures ∙ tells.list_is in
-    let last : c.know-in-Ok.new.self ≡ seat_after c.answer-answer.new.seat c.answer-answer.new.self =
-    c.know-in-Ok.ensures ∙ ap (λ (m : List Entry). seat_after c.answer-answer.new.seat m) list in
-    seat_answered c.args.seat.now c.know-2.new.self c.answer-answer.new.seat c.know-in-Ok.new.self c.args.self.now
+    let last : c.note_known-in-Ok.new.self ≡ seat_after c.answer-answer.new.seat c.answer-answer.new.self =
+    c.note_known-in-Ok.ensures ∙ ap (λ (m : List Entry). seat_after c.answer-answer.new.seat m) list in
+    seat_answered c.args.seat.now c.note_known-2.new.self c.answer-answer.new.seat c.note_known-in-Ok.new.self
+    c.args.self.now
     c.answer-answer.new.self c.answer-answer.result
     tells.later first c.answer-answer.ensures.seat last

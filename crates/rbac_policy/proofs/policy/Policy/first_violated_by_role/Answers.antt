@@ -4,7 +4,7 @@ use Rattle.rbac_policy.specs.declared.rows.Session.{Session}
 use Rattle.rbac_policy.specs.Violations.{first_violation}
 use Rattle.rbac_policy.proofs.Asking.{no_role}
 use Rattle.rbac_policy.proofs.OfReaders.ReadingRoles.{no_live}
-use Rattle.rbac_policy.proofs.OfSeparation.TakingUp.{after_role}
+use Rattle.rbac_policy.proofs.OfSeparation.ActivatingRole.{after_role}
 use Rattle.rbac_policy.proofs.policy.Policy.first_violated_by_role.Goals as goal
 
 pub returns-in-Some-place_of : goal.returns-in-Some-place_of

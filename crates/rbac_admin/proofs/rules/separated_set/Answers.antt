@@ -1,6 +1,0 @@
-use Rattle.std.proofs.Common.{refl}
-use Rattle.rbac_admin.proofs.rules.separated_set.Goals as goal
-
-pub returns-in-Some : goal.returns-in-Some
-returns-in-Some c = λ L by st are_roles.
-    ((c.in-Some.violation.set, c.in-Some.violation.session), refl, c.in-Some.ensures L by st are_roles)

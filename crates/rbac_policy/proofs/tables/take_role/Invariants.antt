@@ -1,6 +1,0 @@
-use Rattle.std.proofs.Common.{◌≡◌, ◌++◌, take, drop, map}
-use Rattle.rbac_policy.specs.Tables.{user_relieved}
-use Rattle.rbac_policy.proofs.tables.take_role.Given as goal
-
-abbrev pub invariant-loop-at : goal.invariant-loop-at
-invariant-loop-at l = l.users ≡ map (user_relieved l.name l.place) (take l.at l.fn.users) ++ drop l.at l.fn.users
