@@ -4,7 +4,7 @@
 The lists of docs/generated are those that scripts/reading_list.py, wrong_bodies.py, contracts.py, crate_list.py and
 stated_twice.py write, the last of which never gets longer;
 each wrong body says why it is wrong, and each crate what it is; README.md has at most 100 lines; each function of the
-walk in docs/ARCHITECTURE.md stands in its file; each script of
+walk in docs/ARCHITECTURE.md stands in its file; each refusal of docs/PROTOCOL.md has the number, name and keys of the crates' tables; each script of
 examples/scripts has its answers and its row in examples/README.md, and the opening one is the stored run; each test
 that docs/EXAMPLES.md names is written; each link leads to a file and a heading, and each quoted block stands in its
 file; no line of code, definition or proof is too wide; docs/generated/LINES.md tells nearly as many lines as there are;
@@ -77,6 +77,29 @@ def missing_functions():
             if not re.search(rf"\bfn {function}\b", code):
                 faults.append(f"docs/ARCHITECTURE.md: no function {function} in {name}")
     return faults
+
+
+def told_refusals():
+    """The refusals by their numbers, as the tables of the crates say them: each name, and the keys that a line may have."""
+    rows = {}
+    for file in sorted((ROOT / "crates").glob("*/specs/Refusals.antt")):
+        for row in re.split(r"^row_of ", file.read_text(), flags=re.MULTILINE)[1:]:
+            found = re.search(r'tells (\d+) \(codes "(\w+)"\)([^-]*)', row.split("\n\n")[0])
+            if found:
+                number, name, keys = found.groups()
+                rows.setdefault((int(number), name), set()).update(re.findall(r'codes "(\w+)"', keys))
+    return rows
+
+
+def differing_refusals():
+    """A line for each refusal that docs/PROTOCOL.md and the crates' tables tell differently."""
+    text = (ROOT / "docs/PROTOCOL.md").read_text()
+    told = {
+        (int(number), name): set(re.findall(r"`(\w+)`", keys))
+        for number, name, keys in re.findall(r"^\| (\d+) \| ([A-Z]\w+) \|([^|]*)\|", text, re.MULTILINE)
+    }
+    rows = told_refusals()
+    return [f"docs/PROTOCOL.md and the crates differ on {row}" for row in sorted(told.keys() | rows.keys()) if told.get(row) != rows.get(row)]
 
 
 def nameless_crates():
@@ -181,7 +204,7 @@ def wide_lines():
 
 def main():
     faults = differing_tables() + missing_sentences() + missing_functions() + faulty_examples()
-    faults += long_readme() + nameless_crates() + missing_tests() + wide_lines()
+    faults += differing_refusals() + long_readme() + nameless_crates() + missing_tests() + wide_lines()
     faults += faulty_decisions() + proof_lines.stale_rows() + version.stale_places() + words.faults()
     for document in [*ROOT.glob("*.md"), *ROOT.glob("docs/**/*.md"), *ROOT.glob("examples/*.md"), *ROOT.glob("gateway/*.md")]:
         faults += broken_links(document) + broken_anchors(document) + stale_quotes(document)
