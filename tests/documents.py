@@ -4,7 +4,8 @@
 The lists of docs/generated are those that scripts/reading_list.py, wrong_bodies.py, contracts.py, crate_list.py and
 stated_twice.py write, the last of which never gets longer;
 each wrong body says why it is wrong, and each crate what it is; README.md has at most 100 lines; each function of the
-walk in docs/ARCHITECTURE.md stands in its file; each refusal of docs/PROTOCOL.md has the number, name and keys of the crates' tables; each script of
+walk in docs/ARCHITECTURE.md stands in its file; each refusal of docs/PROTOCOL.md has the number, name and keys of the crates' tables;
+each function of tests/MISTAKES.md stands in the crate of its wrong body; each script of
 examples/scripts has its answers and its row in examples/README.md, and the opening one is the stored run; each test
 that docs/EXAMPLES.md names is written; each link leads to a file and a heading, and each quoted block stands in its
 file; no line of code, definition or proof is too wide; docs/generated/LINES.md tells nearly as many lines as there are;
@@ -100,6 +101,17 @@ def differing_refusals():
     }
     rows = told_refusals()
     return [f"docs/PROTOCOL.md and the crates differ on {row}" for row in sorted(told.keys() | rows.keys()) if told.get(row) != rows.get(row)]
+
+
+def misnamed_mistakes():
+    """A line for each wrong body of tests/MISTAKES.md that is not there, or whose function is not in its crate."""
+    faults = []
+    for edit, functions in re.findall(r"^\| (?:`\w+` )?`(\w+)` \| (.*?) \|", (ROOT / "tests/MISTAKES.md").read_text(), re.MULTILINE):
+        files = list((ROOT / "crates").glob(f"*/must-fail/{edit}.edit"))
+        code = "".join(source.read_text() for file in files for source in file.parent.parent.glob("src/**/*.rt"))
+        names = re.findall(r"`(?:\w+::)?(\w+)`", functions)
+        faults += [f"tests/MISTAKES.md: {edit} lacks fn {name}" for name in names if not re.search(rf"\bfn {name}\b", code)]
+    return faults
 
 
 def nameless_crates():
@@ -204,7 +216,7 @@ def wide_lines():
 
 def main():
     faults = differing_tables() + missing_sentences() + missing_functions() + faulty_examples()
-    faults += differing_refusals() + long_readme() + nameless_crates() + missing_tests() + wide_lines()
+    faults += differing_refusals() + misnamed_mistakes() + long_readme() + nameless_crates() + missing_tests() + wide_lines()
     faults += faulty_decisions() + proof_lines.stale_rows() + version.stale_places() + words.faults()
     for document in [*ROOT.glob("*.md"), *ROOT.glob("docs/**/*.md"), *ROOT.glob("examples/*.md"), *ROOT.glob("gateway/*.md")]:
         faults += broken_links(document) + broken_anchors(document) + stale_quotes(document)
