@@ -21,44 +21,9 @@ use Rattle.est_machine.specs.Saved.{AreSaved, is_paused_at, kind_of}
 
 -- ---- states that words keep, from the pauses that were read in them
 
-abbrev pub AreRead : (words : List ℕ) (f : ℕ → Bool) → Type 0
-AreRead words f = (n : ℕ) → f n ≡ (nat_lt n 2048 && has_bit words n)
-
 not_read : (f all : ℕ → Bool) (most : ℕ) → ((n : ℕ) → f n ≡ (nat_lt n most && all n)) → (n : ℕ) → most ≤ n
     → f n ≡ false
 not_read f all most before n g = rw (before n) (grind (arith, nat_tests))
-
-pub paused_words : (words : List ℕ) (p : _) → AreRead words (pauses_of p) → slice_index words 32 ≡ 2
-    → AreStateWords (Paused p) words
-paused_words words p read e = record {
-  kind = e;
-  pauses = λ i l. sym (looked_at (pauses_of p) (has_bit words) 2048 read i l);
-  beyond = not_read (pauses_of p) (has_bit words) 2048 read;
-}
-
-pub no_pause_words : (words : List ℕ) (f : ℕ → Bool) → AreRead words f → ((i : ℕ) → f i ≡ false) → (i : ℕ) → i < 2048
-    → has_bit words i ≡ false
-no_pause_words words f read none i l = sym (looked_at f (has_bit words) 2048 read i l) ∙ none i
-
-none_set : (n : ℕ) (b : Bool) → (n < 2048 → b ≡ false) → (nat_lt n 2048 && b) ≡ false
-none_set n b h = elim (cases_lt n 2048) [
-  | inl l ↦ rw (h l) (grind (arith, nat_tests))
-  | inr g ↦ grind (arith, nat_tests)
-]
-
--- where some pause is set, and the kind is not that of a state with pauses
-pub some_set : (words : List ℕ) (f : ℕ → Bool) → AreRead words f → (((i : ℕ) → f i ≡ false) → ⊥)
-    → slice_index words 32 ≢ 2 → (x : State) → AreStateWords x words → ⊥
-some_set words f read some other Fresh h = some (λ i. read i ∙ none_set i (has_bit words i) (h.pauses i))
-some_set words f read some other Done h = some (λ i. read i ∙ none_set i (has_bit words i) (h.pauses i))
-some_set words f read some other (Paused p) h = other h.kind
-
--- where the kind is none
-pub no_kind : (words : List ℕ) → slice_index words 32 ≢ 0 → slice_index words 32 ≢ 1 → slice_index words 32 ≢ 2
-    → (x : State) → AreStateWords x words → ⊥
-no_kind words a b c Fresh h = a h.kind
-no_kind words a b c Done h = b h.kind
-no_kind words a b c (Paused p) h = c h.kind
 
 -- ---- one state by one set of words
 
@@ -91,20 +56,6 @@ state_words m words is h = record {
   kind = (h 32 (omega arith)).kind refl;
   pauses = λ i l. (h (33 + i / 64) (omega (arith, l))).pauses (i / 64) refl (i % 64) (omega arith) ∙ place_of m.3 i;
   beyond = not_paused_beyond m.0.root m.3 is;
-}
-
-bit_place : (words : List ℕ) (k i : ℕ) → i < 64 → has_bit words (64 * k + i) ≡ bits (slice_index words (33 + k)) i
-bit_place words k i l = let a : (64 * k + i) / 64 ≡ k = omega (arith, l) in
-    let b : (64 * k + i) % 64 ≡ i = omega (arith, l) in rw (a, b) refl
-
--- words of a state, and of a digest, are saved
-pub are_saved : (m : MachineState) (words : List ℕ)
-    → ((n : ℕ) → n < 32 → slice_index words n ≡ slice_index m.2 n) → AreStateWords m.3 words → AreSaved m words
-are_saved m words digest state n l = record {
-  digest_byte = digest n;
-  kind = λ e. rw e state.kind;
-  pauses = λ k e i less. ap (λ j. bits (slice_index words j) i) e ∙ (sym (bit_place words k i less)
-      ∙ state.pauses (64 * k + i) (omega (arith, l, e, less)));
 }
 
 either_way : (x y : State) (words : List ℕ) → AreStateWords x words → AreStateWords y words → (i : ℕ)

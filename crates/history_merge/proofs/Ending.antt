@@ -34,27 +34,6 @@ nones zero k = refl
 nones (suc n) zero = refl
 nones (suc n) (suc k) = nones n k
 
-pub start_state : (policy : List Entry) (journals : List (List SlotEntry)) (seats : List (List Kept))
-    → State policy journals seats none_taken
-start_state policy journals seats = record {
-  six = record { places = refl; numbers = refl; counts = refl; read = refl };
-  leads = λ events rest. record {
-    all = events;
-    kept = λ s. rest.kept s ∙ ap (λ p. drop p (part_at seats s)) (zeros SEATS s);
-    sorted = rest.sorted;
-    there = rest.there;
-    chain = λ k. subst (λ n. Chain (part_at journals k) 0 n (of_slot k events)) (nones SLOTS k)
-        (subst (λ p. Chain (part_at journals k) p (number_of (replicate SLOTS None) k) (of_slot k events))
-        (zeros SLOTS k) (rest.chain k));
-    counted = λ k. (let a : slice_index (replicate SLOTS 0) k ≡ 0 = zeros SLOTS k in omega arith);
-    entries = refl;
-  };
-  last_in = inl refl;
-  slots = λ k. inl (zeros SLOTS k, nones SLOTS k);
-  low = λ k. (let a = zeros SLOTS k in omega arith);
-  room = λ v f. f;
-}
-
 drop_none : (n : ℕ) (ks : List Kept) → slice_get ks n ≡ None → drop n ks ≡ []
 drop_none zero [] h = refl
 drop_none (suc n) [] h = refl

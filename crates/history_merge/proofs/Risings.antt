@@ -29,23 +29,6 @@ take_whole : {A : Type 0} (xs : List A) → take (length xs) xs ≡ xs
 take_whole [] = refl
 take_whole (x ∷ xs) = ap (λ zs. x ∷ zs) (take_whole xs)
 
-pub risen_start : (ks : List Kept) → Risen ks 0 0 None
-risen_start [] = record { goes = λ xs h. h; comes = λ xs h. h }
-risen_start (k ∷ ks) = record { goes = λ xs h. h; comes = λ xs h. h }
-
--- one more, from a state to the next
-pub risen_on : (ks : List Kept) (n version version' : ℕ) (number number' : Option ℕ) (k : Kept)
-    → slice_get ks n ≡ Some k → ((xs : List Kept) → Rises version number (k ∷ xs) → Rises version' number' xs)
-    → ((xs : List Kept) → Rises version' number' xs → Rises version number (k ∷ xs))
-    → Risen ks n version number → Risen ks (n + 1) version' number'
-risen_on ks n version version' number number' k here there back r =
-    let e : (xs : List Kept) → take (n + 1) ks ++ xs ≡ take n ks ++ (k ∷ xs) =
-    λ xs. ap (λ ys. ys ++ xs) (take_one n ks k here) ∙ append_assoc (take n ks) (k ∷ []) xs in
-    record {
-      goes = λ xs h. subst (Rises 0 None) (sym (e xs)) (r.goes (k ∷ xs) (back xs h));
-      comes = λ xs h. there xs (r.comes (k ∷ xs) (subst (Rises 0 None) (e xs) h));
-    }
-
 pub risen_all : (ks : List Kept) (version : ℕ) (number : Option ℕ) → Risen ks (length ks) version number
     → Rises 0 None ks
 risen_all ks version number r = subst (Rises 0 None) (append-nil (take (length ks) ks) ∙ take_whole ks) (r.goes [] tt)

@@ -39,17 +39,6 @@ filled old pushed items new kept value more at is e told put =
     ∙ append_assoc (map view old) (view kept ∷ []) more)))
     ∙ set_at (map view old) (view kept) more value at (length-map old view ∙ sym is))
 
--- one statement after another
-pub one_after : (old middle new : List Value) (first second : List Data) → map view middle ≡ map view old ++ first
-    → map view new ≡ map view middle ++ second → map view new ≡ map view old ++ (first ++ second)
-one_after old middle new first second a b =
-    b ∙ (ap (λ (l : List Data). l ++ second) a ∙ append_assoc (map view old) first second)
-
--- and its number
-pub number_of_next : (old middle : List Value) (first : List Data) → map view middle ≡ map view old ++ first
-    → length middle ≡ length old + length first
-number_of_next old middle first a = told_count middle old first a
-
 module _ (interface : List Declaration) (old pushed items given new : List Value) (kept : Value) (value : Data) (at : ℕ)
     (is : at ≡ length old) (e : pushed ≡ old ++ kept ∷ []) (put : map view new ≡ slice_set (map view items) at value)
     (same : items ≡ given) where

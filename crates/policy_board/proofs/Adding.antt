@@ -64,28 +64,3 @@ adds_moves v e old len may cs log kept pre away =
     × Goes IsBook shown moved 0 (v, (no_nib, None)) (λ n. either (n == old) (old + 1) n)
     (Adds (step 0 old (old + 1) e) (v, (no_nib, None))) c log in
     subst P (sym kept.words) (omega arith, refl, adds_goes log v e old len may kept.list pre (length log == old) refl)
-
--- whatever the book is, the look sees all of the list, and finds its length
-pub looks_moves : (v : List Entry) → Moves IsBook shown moved 0 (v, (no_nib, None)) (λ n. n)
-    (Looks (step 0 0 0 no_entry) (v, (no_nib, None)))
-looks_moves v cs log kept pre away =
-    let P : List Cell → Type 0 = λ c. (0 < length c) × ((cell c 0).1 ≡ true)
-    × Goes IsBook shown moved 0 (v, (no_nib, None)) (λ n. n)
-    (Looks (step 0 0 0 no_entry) (v, (no_nib, None))) c log in
-    let all : length (log ++ []) ≡ length log = ap length (append-nil log) in
-    subst P (sym kept.words) (
-      omega arith,
-      refl,
-      (
-        keeps,
-        [],
-        None,
-        tt,
-        record {
-          words = ap (λ (k : ℕ). (k, true) ∷ (0, true) ∷ []) (sym all);
-          list = subst IsPolicyList (sym (append-nil log)) kept.list;
-        },
-        inl (refl, refl),
-        all,
-      ),
-    )

@@ -17,15 +17,6 @@ use Rattle.policy_board.proofs.Beginnings.{begins_self, begins_trans}
 single : (v w : List Entry) (place : ℕ) → get_elem? (v ∷ []) place ≡ some w → v ≡ w
 single v w place e = ⊎_elim (λ x. absurd (some-ne-none w (sym x))) (λ x. x) (at_snoc [] v w place e)
 
--- open: the rule holds of the opening policy and the writer's first view
-pub kept_opening : (p : Policy) → StandsFor p opening_entries → IsKept p opening_entries (opening_entries ∷ [])
-kept_opening p st = record {
-  is_list = opening_is_list;
-  stands = st;
-  begins = λ place v e. subst (λ (l : List Entry). Begins l opening_entries) (single opening_entries v place e)
-      (begins_self opening_entries);
-}
-
 module _ {T : Type 0} (book_of : T → Book) (b : Book) (policy : T → Policy) (front : T → List Entry) where
   abbrev pub Holds : T → List (List Entry) → Type 0
   Holds x views = (book_of x ≡ b) × IsKept (policy x) (front x) views

@@ -50,18 +50,3 @@ one_handed all left seat receipts handed =
           ∙ (ap (λ m. slice_set (none_kept n ++ [] ∷ rest) m seat.kept) (sym long)
           ∙ set-append_seam (none_kept n) [] rest seat.kept);
     }
-
--- the seats that are left are no more than all
-pub few_left : (all left : List SeatState) (receipts : List (List Kept)) → AreHanded all left receipts
-    → length left ≤ length all
-few_left all left receipts handed = let n = ap length handed.whole in omega (arith, n, length-append left handed.taken)
-
--- all are handed over
-pub all_handed : (all : List SeatState) (receipts : List (List Kept)) → AreHanded all [] receipts
-    → take (length all) receipts ≡ kept_of all
-all_handed all receipts handed =
-    let pad = none_kept (SEATS - length all) in
-    let same : handed.taken ≡ all = handed.whole in
-    let long : length (kept_of all) ≡ length all = length-map all (λ (s : SeatState). s.kept) in
-    ap (take (length all)) (handed.handed ∙ ap (λ l. kept_of l ++ pad) same)
-    ∙ (ap (λ n. take n (kept_of all ++ pad)) (sym long) ∙ take-append_seam (kept_of all) pad)
