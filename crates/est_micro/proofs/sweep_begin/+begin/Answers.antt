@@ -19,7 +19,7 @@ begin_present-returns-clause-swept t c = λ q a b asks.
     _ _ _ asks
     c.learn-go.ensures.learns c.learn-go.ensures.known c.and.ensures c.opposite.ensures c.and-2.ensures
     c.begin-first.ensures.swept
-    c.begin-second.ensures.swept c.union-own.ensures c.leave.ensures.left
+    c.begin-second.ensures.swept c.either-own.ensures c.leave.ensures.left
 
 pub begin_suspend-returns-clause-swept : goal.begin_suspend-returns-clause-swept
 begin_suspend-returns-clause-swept t c = λ q a.

@@ -29,7 +29,7 @@ resume_present-returns-clause-swept t c = λ q a b asks.
     present_resumed c.args.at.now q a c.args.p.now b c.args.q.now c.args.pauses.now c.args.run c.args.asked _ _ _ _ _
     c.args.env.now
     _ _ _ _ _ _ _ _ _ asks c.is_live-is_on.ensures c.learn-go.ensures.learns c.learn-go.ensures.known c.and.ensures
-    c.opposite.ensures c.and-2.ensures c.part-first.ensures.swept c.part-second.ensures.swept c.union-own.ensures
+    c.opposite.ensures c.and-2.ensures c.part-first.ensures.swept c.part-second.ensures.swept c.either-own.ensures
     c.leave.ensures.left
 
 pub resume_seq-returns-clause-swept : goal.resume_seq-returns-clause-swept
