@@ -3,8 +3,8 @@
 ghost use Rattle.std.specs.Prelude.{[]};
 ghost use Rattle.std.proofs.Common.{rules};
 
-use state_search::transition_system::{TransitionSystem, Standing, Step};
 use state_search::search::{Limits, search};
+use state_search::transition_system::{Standing, Step, TransitionSystem};
 use std::alloc::AllocError;
 use std::hash::{Hash, Hasher};
 

@@ -153,7 +153,10 @@ impl NumberSet {
             || (numbers_of first.now i && not (numbers_of second.now i)))) }
     {
         for place in 0..first.words.len() {
-            self.add_word(place, mask::difference(first.word(place), second.word(place)))?;
+            self.add_word(
+                place,
+                mask::difference(first.word(place), second.word(place)),
+            )?;
         }
         Ok(())
     }

@@ -154,7 +154,10 @@ fn no_session_lives_where_a_device_fails(rt: HostRuntime) -> Result<(), Fail> {
         let mut desk = Single::new(rt.alloc())?;
         let (why, written) = served(&rt, rt.alloc(), &mut desk, lines_by(AMPLE, AMPLE), calls);
         let taken = taken_by(calls);
-        assert!(rt; (why == EndReason::Closed) == (taken == ANSWERS.len()), "{calls}");
+        assert!(rt;
+            (why == EndReason::Closed) == (taken == ANSWERS.len()),
+            "{calls}"
+        );
         assert!(rt;
             (why == EndReason::WriteFault) == (taken < ANSWERS.len()),
             "{calls}"

@@ -11,7 +11,7 @@ use wire_reader::exchange::write_then_read_line;
 use wire_reader::lines::{LINE_BYTES, Line, LineFault, LineReader};
 use wire_reader::meter::{MeteredMemory, MeteredReader, MeteredWriter, READS};
 use wire_reader::replies::{Replies, WriteFault};
-use wire_reader::serving::{Answerer, Text, EndReason, answer_connection};
+use wire_reader::serving::{Answerer, EndReason, Text, answer_connection};
 
 /// Gives `x` and LF by turns, one byte at a time, without end.
 #[derive(Drop)]
@@ -241,7 +241,14 @@ fn connections_end(rt: HostRuntime) -> Result<(), Fail> {
     for (first, second, calls_that_work, room, why, written) in [
         ("", "", AMPLE, AMPLE, EndReason::Closed, ""),
         ("a\nb", "c\n", AMPLE, AMPLE, EndReason::Closed, "a.\nbc.\n"),
-        ("a", "\nrest", AMPLE, AMPLE, EndReason::Closed, "a.\nrest.\n"),
+        (
+            "a",
+            "\nrest",
+            AMPLE,
+            AMPLE,
+            EndReason::Closed,
+            "a.\nrest.\n",
+        ),
         ("a\nb", "c\n", 1, AMPLE, EndReason::ReadFault, "a.\n"),
         ("a\nb", "c\nd", AMPLE, 4, EndReason::WriteFault, "a.\nb"),
     ] {
