@@ -16,7 +16,7 @@ import zipfile
 from typing import Any, Dict, Iterable, List, Optional, Tuple
 
 HERE = pathlib.Path(__file__).resolve().parent
-PACKAGES = ("estserve_client", "estserve_team")  # those whose folders are there
+PACKAGES = ("estserve_client", "estserve_team")
 PLACES = (HERE, HERE.parent / "gateway")  # an archive of the sources has both in one folder
 WHEEL = "Wheel-Version: 1.0\nGenerator: build_wheel.py\nRoot-Is-Purelib: true\nTag: py3-none-any\n"
 COMMANDS = "[console_scripts]\nestserve-client = estserve:installed\n"
@@ -39,10 +39,16 @@ def version() -> str:
 
 
 def folders() -> List[pathlib.Path]:
-    """Where the packages lie that are there."""
+    """Where the packages lie. One that is not there is an error, so that no wheel lacks it."""
     found: List[pathlib.Path] = []
     for name in PACKAGES:
-        found += [place / name for place in PLACES if (place / name).is_dir()][:1]
+        place = next((place for place in PLACES if (place / name).is_dir()), None)
+        if place is None:
+            raise FileNotFoundError(
+                f"{name} is not beside {HERE}: a pip before 21.3 builds from a copy of this folder"
+                " alone; give it --use-feature=in-tree-build"
+            )
+        found.append(place / name)
     return found
 
 

@@ -148,6 +148,15 @@ class Version(unittest.TestCase):
 
 
 class Installed(unittest.TestCase):
+    def test_a_copy_of_the_client_alone_gives_no_wheel(self):
+        with tempfile.TemporaryDirectory() as name:
+            copy = pathlib.Path(name, "clients")
+            shutil.copytree(CLIENTS, copy, ignore=shutil.ignore_patterns("__pycache__", "tests"))
+            words = [sys.executable, "-B", "-c", "import build_wheel; build_wheel.folders()"]
+            ran = subprocess.run(words, capture_output=True, text=True, cwd=copy, timeout=60)
+            self.assertEqual(ran.returncode, 1)
+            self.assertIn(f"estserve_team is not beside {copy}", ran.stderr)
+
     @unittest.skipUnless(importlib.util.find_spec("ensurepip"), "this Python has no pip for a venv")
     def test_pip_installs_a_command_and_a_package(self):
         with tempfile.TemporaryDirectory() as name:
