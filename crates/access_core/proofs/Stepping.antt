@@ -9,6 +9,7 @@ use Rattle.rbac_policy.specs.declared.objects.Operation.TheVariants.{Step as ToS
 use Rattle.rbac_policy.specs.declared.objects.Object.TheVariants.{Slot}
 use Rattle.rbac_policy.specs.Facts.{IsLive, May}
 use Rattle.reactor_core.specs.declared.entry.Stamp.{Stamp}
+use Rattle.reactor_core.specs.declared.entry.Move.TheVariants.{Step}
 use Rattle.reactor_core.specs.declared.entry.SlotEntry.{SlotEntry}
 use Rattle.reactor_core.specs.declared.entry.Word.TheVariants as word
 use Rattle.reactor_core.specs.declared.refusal.Refusal.{Refusal as ReactorRefusal}
@@ -19,7 +20,7 @@ use Rattle.reactor_core.specs.Instants.{KeepsRelations}
 use Rattle.reactor_core.proofs.OneMeaning.{OneModule, is_loaded_where, not_both, ready_or_lacking}
 use Rattle.reactor_core.proofs.Joining.{no_ok, same_err}
 use Rattle.access_core.specs.declared.command.SlotCommand.{SlotCommand}
-use Rattle.access_core.specs.declared.command.SlotCommand.TheVariants.{Step}
+use Rattle.access_core.specs.declared.command.SlotCommand.TheVariants.{Move}
 use Rattle.access_core.specs.declared.refusal.Refusal.{Refusal}
 use Rattle.access_core.specs.declared.refusal.Refusal.TheVariants.{Stuck, JournalFull, Memory}
 use Rattle.access_core.specs.declared.reply.Reply.{Reply}
@@ -176,7 +177,7 @@ module _ (modules : OneModule) (entries : List Entry) (slot session : ℕ) (stam
 at_reactor : OneModule → (entries : List Entry) (slot session : ℕ) (before : List SlotEntry) (reply : Reply)
     (after : List SlotEntry)
     → IsLive entries session → May entries session ToStep (Slot slot) → is_loaded before ≡ true → KeepsRelations before
-    → SlotStep entries slot session Step before reply after → IsStuckExactly entries slot session before reply
+    → SlotStep entries slot session (Move (Step (record {}))) before reply after → IsStuckExactly entries slot session before reply
 at_reactor modules entries slot session before reply after live may runs keeps (inl dead) = absurd (dead.given.1 live)
 at_reactor modules entries slot session before reply after live may runs keeps (inr passes) =
     permitted passes.next where

@@ -10,7 +10,7 @@ use Rattle.est_relations.proofs.OffersKeep.{no_fault}
 use Rattle.refusal_rules.specs.Rules.{Rules, ◌▸▸◌, Answers}
 use Rattle.refusal_rules.proofs.RuleLemmas.{refuse, pass, answered}
 use Rattle.reactor_core.specs.declared.entry.Stamp.{Stamp}
-use Rattle.reactor_core.specs.declared.entry.Action.TheVariants.{Offer}
+use Rattle.reactor_core.specs.declared.entry.Move.TheVariants.{Offer}
 use Rattle.reactor_core.specs.declared.entry.SlotEntry.{SlotEntry}
 use Rattle.reactor_core.specs.declared.loaded.Module.{Module}
 use Rattle.reactor_core.specs.declared.refusal.Refusal.{Refusal}

@@ -19,6 +19,7 @@ use policy_board::reader::{Reading, SlotReader};
 use policy_board::seat::Seat;
 use rbac_policy::commands::SessionId;
 use rbac_policy::objects::SlotNumber;
+use reactor_core::entry::Move;
 use reactor_core::journal::Journal;
 use std::alloc::Global;
 use std::marker::Model;
@@ -59,10 +60,10 @@ fn decide_and_leave<B: BoardName>(
         slot.new.journal }
     ensures reader { result.1 ≡ reading }
 {
-    if let SlotCommand::Load { main, text } = &command {
+    if let SlotCommand::Move(Move::Load(load)) = command {
         let admitted = admit_load(reading.policy(), slot.number(), session);
         let reader = reading.leave();
-        return (load_admitted(admitted, slot, main, text), reader);
+        return (load_admitted(admitted, slot, load), reader);
     }
     let reply = decide_slot(reading.policy(), slot, session, command);
     (reply, reading.leave())
