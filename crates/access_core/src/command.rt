@@ -1,9 +1,9 @@
 //! Commands on slots.
-ghost use Rattle.std.specs.Prelude.{◌≡◌, IfOk};
+ghost use Rattle.std.specs.Prelude.{◌≡◌, IfOk, MatchResult};
 ghost use Rattle.access_core.specs.Journals.{signal_asked};
 
 use est_text::identifier::Identifier;
-use reactor_core::entry::Move;
+use reactor_core::entry::{Load, Move};
 use std::alloc::{AllocError, Global};
 
 /// What a slot command asks for.
@@ -25,6 +25,23 @@ impl SlotCommand {
         match self {
             SlotCommand::Move(asked) => asked.signal(),
             SlotCommand::Look { .. } | SlotCommand::Audit => None,
+        }
+    }
+
+    /// The load that it asks for, or else the command.
+    pub fn into_load(self) -> Result<Load, SlotCommand>
+        ensures { MatchResult result (λ load. self ≡ SlotCommand.Move (Move.Load load))
+            (λ other. other ≡ self) }
+    {
+        match self {
+            SlotCommand::Move(asked) => {
+                if let Move::Load(load) = asked {
+                    return Ok(load);
+                }
+                Err(SlotCommand::Move(asked))
+            }
+            SlotCommand::Look { instant } => Err(SlotCommand::Look { instant }),
+            SlotCommand::Audit => Err(SlotCommand::Audit),
         }
     }
 

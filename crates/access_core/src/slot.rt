@@ -238,7 +238,7 @@ fn step_reactor(
 
 impl Slot {
     ghost use Rattle.access_core.specs.Desk.{empty_slot};
-    ghost use Rattle.access_core.specs.SlotStep.{occupied, empty};
+    ghost use Rattle.access_core.specs.SlotStep.{occupied, empty, journal_rules, Does};
 
     /// An empty slot with an empty journal. It takes no memory.
     pub fn new(alloc: Global, number: SlotNumber) -> Slot
@@ -383,6 +383,24 @@ impl Slot {
         }
     }
 
+    /// Makes the move, which the session may make.
+    fn make_move(&mut self, policy: &Policy, session: SessionId, asked: Move<()>) -> Reply
+        ensures number { self.new.number ≡ self.old.number }
+        ensures step { (entries : List Entry) → StandsFor policy.now entries
+            → ByRules (journal_rules entries self.old.number session (SlotCommand.Move asked)
+            self.old.journal)
+            (Does entries self.old.number session (SlotCommand.Move asked)) self.old.journal result
+            self.new.journal }
+    {
+        match asked {
+            Move::Load(load) => self.load(stamp(policy, session), load),
+            Move::Offer(signal) => self.offer(stamp(policy, session), &signal),
+            Move::Discard => self.discard(stamp(policy, session)),
+            Move::Step(()) => self.step(policy, session),
+            Move::Unload => self.unload(stamp(policy, session)),
+        }
+    }
+
     fn audit(&self, policy: &Policy) -> Reply
         ensures { (entries : List Entry) → StandsFor policy.now entries
             → Audits entries self.now.journal result self.now.journal }
@@ -511,11 +529,7 @@ pub fn decide_slot(
         return Reply::Refused(refusal);
     }
     match command {
-        SlotCommand::Move(Move::Load(load)) => slot.load(stamp(policy, session), load),
-        SlotCommand::Move(Move::Offer(signal)) => slot.offer(stamp(policy, session), &signal),
-        SlotCommand::Move(Move::Discard) => slot.discard(stamp(policy, session)),
-        SlotCommand::Move(Move::Step(())) => slot.step(policy, session),
-        SlotCommand::Move(Move::Unload) => slot.unload(stamp(policy, session)),
+        SlotCommand::Move(asked) => slot.make_move(policy, session, asked),
         SlotCommand::Look { instant } => slot.look(policy, session, instant),
         SlotCommand::Audit => slot.audit(policy),
     }
