@@ -177,7 +177,8 @@ module _ (modules : OneModule) (entries : List Entry) (slot session : ℕ) (stam
 at_reactor : OneModule → (entries : List Entry) (slot session : ℕ) (before : List SlotEntry) (reply : Reply)
     (after : List SlotEntry)
     → IsLive entries session → May entries session ToStep (Slot slot) → is_loaded before ≡ true → KeepsRelations before
-    → SlotStep entries slot session (Move (Step (record {}))) before reply after → IsStuckExactly entries slot session before reply
+    → SlotStep entries slot session (Move (Step (record {}))) before reply after
+    → IsStuckExactly entries slot session before reply
 at_reactor modules entries slot session before reply after live may runs keeps (inl dead) = absurd (dead.given.1 live)
 at_reactor modules entries slot session before reply after live may runs keeps (inr passes) =
     permitted passes.next where

@@ -498,7 +498,8 @@ pub fn load_admitted(admitted: Result<Stamp, Refusal>, slot: &mut Slot, load: Lo
     ensures number { slot.new.number ≡ slot.old.number }
     ensures step { (entries : List Entry) → (session : ℕ)
         → IsAdmitted entries slot.old.number session admitted
-        → SlotStep entries slot.old.number session (SlotCommand.Move (Move.Load load)) slot.old.journal result
+        → SlotStep entries slot.old.number session
+        (SlotCommand.Move (Move.Load load)) slot.old.journal result
         slot.new.journal }
 {
     match admitted {

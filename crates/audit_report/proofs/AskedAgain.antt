@@ -196,5 +196,6 @@ module _ (modules : OneModule) (judged : List Entry) (slot session : ℕ) (befor
     by_instant None is thinks keeps = unasked o thinks fails
     by_instant (Some i) is thinks keeps =
         let step : SlotStep judged slot session (Move (asked (Step i))) before reply after =
-        subst (λ (d : PastMove). SlotStep judged slot session (Move (asked d)) before reply after) (steps_where a i is) h in
+        subst (λ (d : PastMove). SlotStep judged slot session (Move (asked d)) before reply after)
+        (steps_where a i is) h in
         ⊎_elim (λ none. unasked o none.1 fails) (λ told. step_holds i o (step_keeps i step keeps) told fails) thinks

@@ -189,7 +189,8 @@ offer_law modules past m seat version slot session name running comes is limit r
     let no_stand : StandsIn running.interface running.pending name → ⊥ =
     λ s. new ((pending_as_offered modules past m comes slot running runs name).0 s) in (
       λ accepted.
-          let added = adds_entry m seat version slot session (Move (Offer name)) (offer_adds name (Move (Offer name)) refl) accepted
+          let added = adds_entry m seat version slot session (Move (Offer name))
+          (offer_adds name (Move (Offer name)) refl) accepted
           (by_event m (OnSlot seat version slot session (Move (Offer name))) step) in
           let here : RunsAfter (journal_at m.before slot) added.is.running =
           subst (λ j. RunsAfter j added.is.running) (sym (ap journal_in added.there)) added.is.runs in
@@ -215,7 +216,8 @@ step_law modules past m seat version slot session running comes is limit runs =
     let step : EventStep (OnSlot seat version slot session (Move (Step (record {})))) m.before m.reply m.after =
     subst (λ e. EventStep e m.before m.reply m.after) is (step_of past m comes) in (
       λ accepted.
-          let added = adds_entry m seat version slot session (Move (Step (record {}))) (step_adds (Move (Step (record {}))) refl) accepted
+          let added = adds_entry m seat version slot session (Move (Step (record {})))
+          (step_adds (Move (Step (record {}))) refl) accepted
           (by_event m (OnSlot seat version slot session (Move (Step (record {})))) step) in
           let here = sym (ap journal_in added.there) in (
             added.allowed,

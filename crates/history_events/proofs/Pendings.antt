@@ -69,7 +69,8 @@ step_adds command step = no_question command (Move (Step (record {}))) step (λ 
 emptying_adds : (command : SlotCommand) → EmptiesPending command → Adds command
 emptying_adds command (inl load) = load_adds command load
 emptying_adds command (inr (inl step)) = step_adds command step
-emptying_adds command (inr (inr discard)) = no_question command (Move Discard) discard (λ n e. absurd cc) (λ e. absurd cc)
+emptying_adds command (inr (inr discard)) = no_question command (Move Discard) discard (λ n e. absurd cc)
+    (λ e. absurd cc)
 
 -- a fact of the command of an event follows from another one
 pub on_more : {P Q : SlotCommand → Type 0} (slot : ℕ) (m : Moment) → ((command : SlotCommand) → P command → Q command)
@@ -128,7 +129,8 @@ module _ (one : OneModule) (past : List Moment) (m : Moment) (seat version slot 
       emptied_history _ _ _ _ _ (none_stands r.interface r.pending name (runs.offered ∙ ap (mask_of r.interface) none))
       (λ made. no_offer name (of_command (IsOfferOf name) made)) (accepts EmptiesPending empties) (pushed name)
 
-  offers : (signal : List ℕ) → command ≡ Move (Offer signal) → IsMoveOf (Move (Offer signal)) (journal_at m.before slot) a.does
+  offers : (signal : List ℕ) → command ≡ Move (Offer signal)
+      → IsMoveOf (Move (Offer signal)) (journal_at m.before slot) a.does
       → PendingAsOffered (past ++ m ∷ []) slot (journal_at m.after slot)
   offers signal e h r runs name =
       let before : List SlotEntry = journal_at m.before slot in

@@ -57,7 +57,8 @@ bad_offer journal name = record {
 -- the rules of what a command asks of its slot, for a session that lives; memory apart
 abbrev pub asked_rules : List Entry → (slot session : ℕ) → SlotCommand → List SlotEntry → Rules Refusal
 asked_rules entries slot session (Move (Load l)) journal =
-    no_permission entries session ToLoad (Slot slot) ▸ occupied journal ▸ told_as of_reactor (gives_module l.main l.text)
+    no_permission entries session ToLoad (Slot slot) ▸ occupied journal
+    ▸ told_as of_reactor (gives_module l.main l.text)
     ▸ journal_full journal
     ▸ accept
 asked_rules entries slot session (Move (Offer signal)) journal =

@@ -153,8 +153,8 @@ impl Reactor {
     }
 
     /// Loads the main module of a text: the reactor has not begun, and its journal has the load's
-    /// entry, which keeps the text. A refusal, by the text, JournalFull or Memory, gives the journal
-    /// back as it was.
+    /// entry, which keeps the text. A refusal, by the text, JournalFull or Memory, gives the
+    /// journal back as it was.
     pub fn load(
         alloc: Global,
         journal: Journal,

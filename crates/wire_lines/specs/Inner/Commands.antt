@@ -54,7 +54,8 @@ request_of (slot_alone command) tokens =
     option_map (λ slot. Slot slot command) (last (number_after (codes "slot") tokens))
 request_of main_slot_text tokens =
     option_and_then (λ main. option_and_then
-    (λ slot. option_map (λ text. Slot slot.0 (Move (Load (load_of main.0 text)))) (last (text_after (codes "text") slot.1)))
+    (λ slot. option_map (λ text. Slot slot.0 (Move (Load (load_of main.0 text))))
+    (last (text_after (codes "text") slot.1)))
     (number_after (codes "slot") main.1)) (parsed_after identifier_of (codes "main") tokens)
 request_of signal_slot tokens =
     option_and_then (λ signal. option_map (λ slot. Slot slot (Move (Offer signal.0)))
@@ -108,7 +109,8 @@ unfoldable pub rows : List Row
 rows =
     (codes "step", slot_alone (Move (Step (record {})))) ∷ (codes "look", instant_slot) ∷ (codes "offer", signal_slot) ∷
     (codes "check", object_operation)
-    ∷ (codes "load", main_slot_text) ∷ (codes "discard", slot_alone (Move Discard)) ∷ (codes "unload", slot_alone (Move Unload)) ∷
+    ∷ (codes "load", main_slot_text) ∷ (codes "discard", slot_alone (Move Discard))
+    ∷ (codes "unload", slot_alone (Move Unload)) ∷
     (codes "audit", slot_alone Audit)
     ∷ policy_rows
 

@@ -42,7 +42,8 @@ returns g c =
     record {
       number = c.decide_slot.ensures.number;
       step = λ judged stands version.
-          let step = judges judged slot.number c.new-session.result (Move c.in-Ok.asked) slot.journal e c.decide_slot.result
+          let step = judges judged slot.number c.new-session.result
+          (Move c.in-Ok.asked) slot.journal e c.decide_slot.result
           after c.new-session.ensures (ap Move c.in-Ok.ensures) (c.decide_slot.ensures.step judged stands) in
           let loses : KeepsInstant after e.done → ⊥ = λ keeps. elim c.else-holds.branch [
             | else-holds-via-then-holds+else-keeps_instant w ↦
