@@ -30,10 +30,10 @@ pub returns-in-Err-commit-clause-step : goal.returns-in-Err-commit-clause-step
 returns-in-Err-commit-clause-step c = λ entries stands.
     let settled = c.in-Ok-settle.settled in
     let stamp = stamp_of entries c.args.session in
-    let refused = (c.in-Err-commit.refusal, c.in-Err-commit.reactor) in
     let given = rw (c.stamp-stamp.ensures entries stands) at c.in-Err-commit.ensures in
-    let done = rw (← c.from-in-Err-commit.ensures) at commit_refused stamp settled refused given in
+    let done = commit_refused stamp settled (c.in-Err-commit.refusal, c.in-Err-commit.reactor) given in
     let taken = rw c.in-Ok-settle.ensures.0 at done in
     let step = step_settled entries c.args.slot c.args.session stamp c.in-Ok.opened settled.outputs _ _ _
     c.in-Ok-settle.ensures.1.1 taken in
-    step_opened entries c.args.slot c.args.session stamp c.args.reactor c.in-Ok.opened _ _ c.in-Ok.ensures step
+    rw c.from-in-Err-commit.ensures
+    (step_opened entries c.args.slot c.args.session stamp c.args.reactor c.in-Ok.opened _ _ c.in-Ok.ensures step)
