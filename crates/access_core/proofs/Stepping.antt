@@ -108,28 +108,6 @@ module _ (entries : List Entry) (slot session : ℕ) (stamp : Stamp) (before : L
       (subst (λ (journal : List SlotEntry). ByRules (settle_rules entries slot session journal)
       (Steps stamp) journal reply after) same h)
 
-  -- an instant whose pending inputs lack an implied one
-  pub step_lacking : (refused : ReactorRefusal × List SlotEntry) → OpenAnswer before (Err refused)
-      → ByRules (step_rules entries slot session before) (Steps stamp) before (Refused (of_reactor refused.0)) refused.1
-  step_lacking refused (inl lacks) =
-      let same : refused ≡ (lacks.refusal, before) = same_err refused (lacks.refusal, before) lacks.answered in
-      let why = lacks.given in
-      refuse (implied why.0 why.1) (why.0, why.1, refl, why.3) (record {
-        replied = ap (λ (r : ReactorRefusal). Refused (of_reactor r))
-            (ap (λ (r : ReactorRefusal × List SlotEntry). r.0) same ∙ why.2);
-        stays = ap (λ (r : ReactorRefusal × List SlotEntry). r.1) same;
-      })
-  step_lacking refused (inr passes) = absurd (no_ok before refused passes.next)
-
--- the reactor of an instant that isn't opened is loaded
-pub lacking_loaded : (before : List SlotEntry) (refused : ReactorRefusal × List SlotEntry)
-    → OpenAnswer before (Err refused) → is_loaded refused.1 ≡ true
-lacking_loaded before refused (inl lacks) =
-    ap (λ (r : ReactorRefusal × List SlotEntry). is_loaded r.1)
-    (same_err refused (lacks.refusal, before) lacks.answered)
-    ∙ is_loaded_where before lacks.given.3.running lacks.given.3.runs
-lacking_loaded before refused (inr passes) = absurd (no_ok before refused passes.next)
-
 module _ (modules : OneModule) (entries : List Entry) (slot session : ℕ) (stamp : Stamp) (before : List SlotEntry)
     (reply : Reply) (after : List SlotEntry) where
   -- where there is an outcome, the step isn't stuck
