@@ -7,8 +7,10 @@ use Rattle.rbac_policy.specs.declared.objects.Object.{Object}
 use Rattle.rbac_policy.specs.declared.objects.Operation.{Operation}
 use Rattle.rbac_policy.specs.Entries.{logins}
 use Rattle.rbac_policy.specs.Facts.{IsLive}
+use Rattle.reactor_core.specs.Meaning.{asked}
 use Rattle.reactor_core.specs.declared.entry.SlotEntry.{SlotEntry}
-use Rattle.access_core.specs.Journals.{command_of, IsLegal, HasEnded}
+use Rattle.access_core.specs.declared.command.SlotCommand.TheVariants.{Move}
+use Rattle.access_core.specs.Journals.{IsLegal, HasEnded}
 use Rattle.access_core.specs.Needs.{permission_of, Has}
 use Rattle.access_core.proofs.Legality.{versions_rise, entry_allowed}
 
@@ -34,7 +36,7 @@ pub adds_nothing : ((entries more : List Entry) (session : ℕ) → session ≤ 
 adds_nothing stays list slot session version early late journal x y legal has le there then reached same =
     let later : version ≤ y.stamp.version =
     le_trans reached (versions_rise list slot journal legal early late x y le there then) in
-    let live = has_life (take y.stamp.version list) y.stamp.session (permission_of slot (command_of y.action))
+    let live = has_life (take y.stamp.version list) y.stamp.session (permission_of slot (Move (asked y.done)))
     (entry_allowed list slot journal legal late y then) in
     let live_there : IsLive (take version list ++ drop version (take y.stamp.version list)) session =
     subst (λ l. IsLive l session) (sym (take_longer list version y.stamp.version later))

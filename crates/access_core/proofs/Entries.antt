@@ -4,8 +4,8 @@ use Rattle.std.specs.Prelude.{Result, Ok, Err, MatchResult}
 use Rattle.refusal_rules.specs.Rules.{MayRefuse, accept, ◌▸◌, Answers}
 use Rattle.refusal_rules.proofs.RuleLemmas.{refuse, pass, answered}
 use Rattle.reactor_core.specs.declared.entry.Stamp.{Stamp}
-use Rattle.reactor_core.specs.declared.entry.Action.{Action}
-use Rattle.reactor_core.specs.declared.entry.Action.TheVariants as action
+use Rattle.reactor_core.specs.Meaning.{PastMove}
+use Rattle.reactor_core.specs.declared.entry.Move.TheVariants.{Unload}
 use Rattle.reactor_core.specs.declared.entry.Word.TheVariants as word
 use Rattle.reactor_core.specs.declared.entry.SlotEntry.{SlotEntry}
 use Rattle.reactor_core.specs.declared.refusal.Refusal.{Refusal as ReactorRefusal}
@@ -38,16 +38,16 @@ module _ {Given : ReactorRefusal → Type 0} {Told : Refusal → Type 0} {Entere
   by_entry journal refused added (inr room) = pass room.passed (by_memory refused added room.next)
 
 -- a command that adds an entry in place, from the reactor's answer
-pub entry_answered : (before : List SlotEntry) (action : Action) (stamp : Stamp)
+pub entry_answered : (before : List SlotEntry) (move : PastMove) (stamp : Stamp)
     (answer : Result (Unit {0}) ReactorRefusal) (reply : Reply) (after : List SlotEntry)
     → Answers (reactor_rules before) (λ refusal. (answer ≡ Err refusal) × (after ≡ before))
-    ((answer ≡ Ok (record {})) × (after ≡ before ++ entry stamp action ∷ []))
-    → MatchResult answer (λ _. reply ≡ tells_added (word_of action) stamp.version after)
+    ((answer ≡ Ok (record {})) × (after ≡ before ++ entry stamp move ∷ []))
+    → MatchResult answer (λ _. reply ≡ tells_added (word_of move) stamp.version after)
     (λ refusal. reply ≡ Refused (of_reactor refusal))
-    → ByRules (entry_rules before) (AddsEntry action stamp) before reply after
-entry_answered before action stamp (Ok done) reply after h told =
+    → ByRules (entry_rules before) (AddsEntry move stamp) before reply after
+entry_answered before move stamp (Ok done) reply after h told =
     by_entry before (λ refusal no. let e = no.0 in absurd cc) (λ added. record { added = added.1; replied = told }) h
-entry_answered before action stamp (Err refusal) reply after h told =
+entry_answered before move stamp (Err refusal) reply after h told =
     by_entry before
     (λ given why.
     let e = why.0 in
@@ -62,11 +62,11 @@ pub unload_answered : (before : List SlotEntry) (stamp : Stamp)
     → MatchResult answer
     (λ journal. (after ≡ journal) × (reply ≡ tells_added word.Unload stamp.version after))
     (λ refused. (after ≡ refused.1) × (reply ≡ Refused (of_reactor refused.0)))
-    → ByRules (entry_rules before) (AddsEntry action.Unload stamp) before reply after
+    → ByRules (entry_rules before) (AddsEntry Unload stamp) before reply after
 unload_answered before stamp (Ok journal) reply after h told =
     by_entry before (λ refusal no. absurd cc)
     (λ added.
-    let same : journal ≡ before ++ entry stamp action.Unload ∷ [] = cc in
+    let same : journal ≡ before ++ entry stamp Unload ∷ [] = cc in
     record { added = told.0 ∙ same; replied = told.1 }) h
 unload_answered before stamp (Err refused) reply after h told =
     by_entry before
@@ -85,9 +85,9 @@ unload_empties before stamp journal h =
     answered (reactor_rules before) _ _ (length (instants_of journal) ≡ 0)
     (λ refusal no. absurd cc)
     (λ added.
-    let same : journal ≡ before ++ entry stamp action.Unload ∷ [] = cc in
+    let same : journal ≡ before ++ entry stamp Unload ∷ [] = cc in
     ap (λ j. length (instants_of j)) same
-    ∙ ap length (after_snoc instants_after [] before (entry stamp action.Unload))) h
+    ∙ ap length (after_snoc instants_after [] before (entry stamp Unload))) h
 
 -- what is told of an unload
 pub unload_told : (version place : ℕ) (journal : List SlotEntry) → place ≡ length journal

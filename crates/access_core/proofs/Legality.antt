@@ -11,95 +11,81 @@ use Rattle.rbac_policy.specs.declared.commands.Entry.{Entry}
 use Rattle.rbac_policy.proofs.Steps.{get_push, take_front, take_whole}
 use Rattle.rbac_admin.specs.PolicyLists.{Begins}
 use Rattle.reactor_core.specs.declared.entry.Stamp.{Stamp}
-use Rattle.reactor_core.specs.declared.entry.Action.{Action}
-use Rattle.reactor_core.specs.declared.entry.Action.TheVariants as action
+use Rattle.reactor_core.specs.declared.entry.Move.TheVariants.{Load, Offer, Discard, Step, Unload}
 use Rattle.reactor_core.specs.declared.entry.PastInstant.{PastInstant}
 use Rattle.reactor_core.specs.declared.entry.SlotEntry.{SlotEntry}
 use Rattle.reactor_core.specs.declared.entry.Word.TheVariants as word
 use Rattle.reactor_core.specs.declared.refusal.Refusal.{Refusal as ReactorRefusal}
-use Rattle.reactor_core.specs.Meaning.{entry, word_of, instant_of}
+use Rattle.reactor_core.specs.Meaning.{PastMove, AskedMove, asked, entry, word_of, instant_of}
 use Rattle.reactor_core.specs.Answers.{LoadAnswer, OfferAnswer, AddsLoad, load_of, load_rules, offer_rules}
 use Rattle.access_core.specs.declared.command.SlotCommand.{SlotCommand}
-use Rattle.access_core.specs.declared.command.SlotCommand.TheVariants.{Load, Offer, Discard, Step, Unload, Look, Audit}
+use Rattle.access_core.specs.declared.command.SlotCommand.TheVariants.{Move, Look, Audit}
 use Rattle.access_core.specs.declared.refusal.Refusal.{Refusal}
 use Rattle.access_core.specs.declared.reply.Reply.{Reply}
 use Rattle.access_core.specs.declared.reply.Reply.TheVariants.{Refused}
 use Rattle.access_core.specs.Answering.{IsRefused}
 use Rattle.access_core.specs.Refusals.{of_reactor}
 use Rattle.access_core.specs.Needs.{Needs, IsAccepted}
-use Rattle.access_core.specs.Journals.{command_of, last_version, Judges, Adds, IsLegalEntry, AreLegal, IsLegal}
+use Rattle.access_core.specs.Journals.{last_version, Judges, Adds, IsLegalEntry, AreLegal, IsLegal}
 use Rattle.access_core.specs.SlotStep.{SlotStep, slot_rules, Does, stamp_of, tells_added}
 use Rattle.access_core.proofs.Deciding.{accepted_access, has_needed}
 
 -- ---- entries and their commands
 
--- what was asked for by no command that only asks
-no_look : (n : ℕ) (a : Action) → ¬ (command_of a ≡ Look n)
-no_look n (action.Load l) e = cc
-no_look n (action.Offer signal) e = cc
-no_look n action.Discard e = cc
-no_look n (action.Step i) e = cc
-no_look n action.Unload e = cc
+-- the move of what was asked for, and of a step its instant; or else another one
+abbrev move_from : AskedMove → Option PastInstant → PastMove → PastMove
+move_from (Load l) i other = Load l
+move_from (Offer signal) i other = Offer signal
+move_from Discard i other = Discard
+move_from (Step u) (Some i) other = Step i
+move_from (Step u) None other = other
+move_from Unload i other = Unload
 
-no_audit : (a : Action) → ¬ (command_of a ≡ Audit)
-no_audit (action.Load l) e = cc
-no_audit (action.Offer signal) e = cc
-no_audit action.Discard e = cc
-no_audit (action.Step i) e = cc
-no_audit action.Unload e = cc
+move_again : (a other : PastMove) → move_from (asked a) (instant_of a) other ≡ a
+move_again (Load l) other = refl
+move_again (Offer signal) other = refl
+move_again Discard other = refl
+move_again (Step i) other = refl
+move_again Unload other = refl
 
--- the action of a command, and of a step its instant; or else another one
-abbrev action_from : SlotCommand → Option PastInstant → Action → Action
-action_from (Load main text) i other = action.Load (load_of main text)
-action_from (Offer signal) i other = action.Offer signal
-action_from Discard i other = action.Discard
-action_from Step (Some i) other = action.Step i
-action_from Step None other = other
-action_from Unload i other = action.Unload
-action_from (Look n) i other = other
-action_from Audit i other = other
+-- commands of moves tell their moves
+same_asked : (a b : AskedMove) → Move a ≡ Move b → a ≡ b
+same_asked a b e = cc
 
-action_again : (a other : Action) → action_from (command_of a) (instant_of a) other ≡ a
-action_again (action.Load l) other = refl
-action_again (action.Offer signal) other = refl
-action_again action.Discard other = refl
-action_again (action.Step i) other = refl
-action_again action.Unload other = refl
-
--- an action is told by its command, and of a step by its instant
-pub same_action : (a b : Action) → command_of a ≡ command_of b → instant_of a ≡ instant_of b → a ≡ b
-same_action a b command instant =
-    sym (action_again a a) ∙ ap (λ c. action_from c (instant_of a) a) command
-    ∙ ap (λ i. action_from (command_of b) i a) instant ∙ action_again b a
+-- a move is told by its command, and of a step by its instant
+pub same_move : (a b : PastMove) → Move (asked a) ≡ Move (asked b) → instant_of a ≡ instant_of b → a ≡ b
+same_move a b command instant =
+    sym (move_again a a) ∙ ap (λ c. move_from c (instant_of a) a) (same_asked (asked a) (asked b) command)
+    ∙ ap (λ i. move_from (asked b) i a) instant ∙ move_again b a
 
 abbrev is_step : SlotCommand → Bool
-is_step Step = true
+is_step (Move (Step u)) = true
 is_step _ = false
 
-has_instant : (a : Action) → is_some (instant_of a) ≡ is_step (command_of a)
-has_instant (action.Load l) = refl
-has_instant (action.Offer signal) = refl
-has_instant action.Discard = refl
-has_instant (action.Step i) = refl
-has_instant action.Unload = refl
+has_instant : (a : PastMove) → is_some (instant_of a) ≡ is_step (Move (asked a))
+has_instant (Load l) = refl
+has_instant (Offer signal) = refl
+has_instant Discard = refl
+has_instant (Step i) = refl
+has_instant Unload = refl
 
 none_there : {A : Type 0} (o : Option A) → is_some o ≡ false → o ≡ None
 none_there None none = refl
 none_there (Some x) none = absurd cc
 
--- where the command is one that has no instant, no action of it has one
-pub also_none : (a b : Action) → command_of a ≡ command_of b → instant_of b ≡ None → instant_of a ≡ None
+-- where the command is one that has no instant, no move of it has one
+pub also_none : (a b : PastMove) → Move (asked a) ≡ Move (asked b) → instant_of b ≡ None → instant_of a ≡ None
 also_none a b command none =
     none_there (instant_of a)
     (has_instant a ∙ ap is_step command ∙ sym (has_instant b) ∙ ap (λ (i : Option PastInstant). is_some i) none)
 
 -- what has an instant is a step
-pub steps_where : (a : Action) (i : PastInstant) → instant_of a ≡ Some i → a ≡ action.Step i
-steps_where (action.Load l) i e = absurd cc
-steps_where (action.Offer signal) i e = absurd cc
-steps_where action.Discard i e = absurd cc
-steps_where (action.Step j) i e = ap action.Step (same_Some j i e)
-steps_where action.Unload i e = absurd cc
+pub steps_where : (a : PastMove) (i : PastInstant) → instant_of a ≡ Some i → a ≡ Step i
+steps_where (Load l) i e = absurd cc
+steps_where (Offer signal) i e = absurd cc
+steps_where Discard i e = absurd cc
+steps_where (Step j) i e = ap Step (same_Some j i e)
+steps_where Unload i e = absurd cc
 
 -- ---- what a slot step adds
 
@@ -107,8 +93,8 @@ steps_where action.Unload i e = absurd cc
 pub record IsTaken (stamp : Stamp) (command : SlotCommand) (before : List SlotEntry) (reply : Reply)
     (after : List SlotEntry) : Type 0 where
   pub accepted : IsAccepted reply
-  pub done : Action
-  pub asked : command_of done ≡ command
+  pub done : PastMove
+  pub asked : Move (asked done) ≡ command
   pub added : after ≡ before ++ entry stamp done ∷ []
   pub told : reply ≡ tells_added (word_of done) stamp.version after
 
@@ -123,7 +109,7 @@ pub record IsLeft (before : List SlotEntry) (reply : Reply) (after : List SlotEn
 
 -- the command only asks, and the journal stays
 pub record OnlyAsks (command : SlotCommand) (before after : List SlotEntry) : Type 0 where
-  pub adds_none : (a : Action) → ¬ (command_of a ≡ command)
+  pub adds_none : (a : PastMove) → ¬ (Move (asked a) ≡ command)
   pub stays : after ≡ before
 
 -- the command is refused, or it only asks, or it is taken
@@ -141,7 +127,7 @@ module _ (stamp : Stamp) (before : List SlotEntry) (reply : Reply) (after : List
       → MatchResult answer
       (λ journal. (after ≡ journal) × (reply ≡ tells_added word.Load stamp.version after))
       (λ refused. IsRefused (of_reactor refused.0) before reply after)
-      → Moves stamp (Load main text) before reply after
+      → Moves stamp (Move (Load (load_of main text))) before reply after
   loaded main text (Ok journal) given replied =
       let passed = all_passed (load_rules before main text) (λ refusal. Ok journal ≡ Err (refusal, before))
       ((longer : List SlotEntry) × (Ok journal ≡ Ok longer) × AddsLoad before stamp main text longer)
@@ -150,62 +136,62 @@ module _ (stamp : Stamp) (before : List SlotEntry) (reply : Reply) (after : List
       let same : journal ≡ passed.1.0 = cc in
       inr (inr (record {
         accepted = subst IsAccepted (sym replied.1) tt;
-        done = action.Load (load_of main text);
+        done = Load (load_of main text);
         asked = refl;
         added = replied.0 ∙ same ∙ passed.1.2.added;
         told = replied.1;
       }))
-  loaded main text (Err refusal) given replied = left (Load main text) _ replied
+  loaded main text (Err refusal) given replied = left (Move (Load (load_of main text))) _ replied
 
   offered : (signal : List ℕ) (answer : Result (Unit {0}) ReactorRefusal) → OfferAnswer before stamp signal answer after
       → MatchResult answer
       (λ _. reply ≡ tells_added word.Offer stamp.version after)
       (λ refusal. IsRefused (of_reactor refusal) before reply after)
-      → Moves stamp (Offer signal) before reply after
+      → Moves stamp (Move (Offer signal)) before reply after
   offered signal (Ok done) given replied =
       let passed = all_passed (offer_rules before given.running signal) _ _
       (λ refusal e. let no = e.0 in cc) given.given in
       inr (inr (record {
         accepted = subst IsAccepted (sym replied) tt;
-        done = action.Offer signal;
+        done = Offer signal;
         asked = refl;
         added = passed.1.1;
         told = replied;
       }))
-  offered signal (Err refusal) given replied = left (Offer signal) _ replied
+  offered signal (Err refusal) given replied = left (Move (Offer signal)) _ replied
 
 module _ (entries : List Entry) (slot session : ℕ) (before : List SlotEntry) (reply : Reply)
     (after : List SlotEntry) where
   does : (command : SlotCommand) → Does entries slot session command before reply after
       → Moves (stamp_of entries session) command before reply after
-  does (Load main text) h = loaded (stamp_of entries session) before reply after main text h.answer h.given h.replied
-  does (Offer signal) h = offered (stamp_of entries session) before reply after signal h.answer h.given h.replied
-  does Discard h =
+  does (Move (Load l)) h = loaded (stamp_of entries session) before reply after l.main l.text h.answer h.given h.replied
+  does (Move (Offer signal)) h = offered (stamp_of entries session) before reply after signal h.answer h.given h.replied
+  does (Move Discard) h =
       inr (inr (record {
         accepted = subst IsAccepted (sym h.replied) tt;
-        done = action.Discard;
+        done = Discard;
         asked = refl;
         added = h.added;
         told = h.replied;
       }))
-  does Step h =
+  does (Move (Step u)) h =
       inr (inr (record {
         accepted = subst IsAccepted (sym h.replied) tt;
-        done = action.Step _;
+        done = Step _;
         asked = refl;
         added = h.adds.appended;
         told = h.replied;
       }))
-  does Unload h =
+  does (Move Unload) h =
       inr (inr (record {
         accepted = subst IsAccepted (sym h.replied) tt;
-        done = action.Unload;
+        done = Unload;
         asked = refl;
         added = h.added;
         told = h.replied;
       }))
-  does (Look n) h = inr (inl (record { adds_none = no_look n; stays = h.stays }))
-  does Audit h = inr (inl (record { adds_none = no_audit; stays = h.stays }))
+  does (Look n) h = inr (inl (record { adds_none = λ a e. cc; stays = h.stays }))
+  does Audit h = inr (inl (record { adds_none = λ a e. cc; stays = h.stays }))
 
   -- a slot step refuses its command, answers what it asks, or adds one entry that it asks for
   pub moves : (command : SlotCommand) → SlotStep entries slot session command before reply after
@@ -383,10 +369,10 @@ module _ (list : List Entry) (slot : ℕ) (journal : List SlotEntry) (legal : Is
 
   -- the session of an entry had what its command needs, at the entry's version
   pub entry_allowed : (at : ℕ) (x : SlotEntry) → slice_get journal at ≡ Some x
-      → Needs (take x.stamp.version list) slot x.stamp.session (command_of x.action)
+      → Needs (take x.stamp.version list) slot x.stamp.session (Move (asked x.done))
   entry_allowed at x there =
       let added = (legal at x (slice_get_within journal at x there) there).added in
-      has_needed (take x.stamp.version list) slot x.stamp.session (command_of x.action)
-      (accepted_access (take x.stamp.version list) slot x.stamp.session (command_of x.action)
+      has_needed (take x.stamp.version list) slot x.stamp.session (Move (asked x.done))
+      (accepted_access (take x.stamp.version list) slot x.stamp.session (Move (asked x.done))
       (take at journal) added.reply
       (take at journal ++ x ∷ []) added.accepted added.step)

@@ -9,7 +9,7 @@ use Rattle.est_kernel.specs.Bits.{bits}
 use Rattle.est_kernel.specs.declared.interface.Declaration.{Declaration}
 use Rattle.est_relations.specs.Offers.{IsFirstExcluded}
 use Rattle.rbac_policy.specs.declared.commands.Entry.{Entry}
-use Rattle.reactor_core.specs.declared.entry.Action.TheVariants as action
+use Rattle.reactor_core.specs.declared.entry.Move.TheVariants.{Load, Offer, Discard, Step, Unload}
 use Rattle.reactor_core.specs.declared.entry.PastInstant.{PastInstant}
 use Rattle.reactor_core.specs.declared.entry.SlotEntry.{SlotEntry}
 use Rattle.reactor_core.specs.declared.entry.Stamp.{Stamp}
@@ -22,7 +22,7 @@ use Rattle.reactor_core.specs.Loading.{GivenModule, Gives, IsLoadFault}
 use Rattle.reactor_core.specs.Meaning.{entry, instant, Running, pending_of}
 use Rattle.reactor_core.proofs.OneMeaning.{OneModule, same_running, same_outcome, not_both, ready_or_lacking}
 use Rattle.access_core.specs.declared.command.SlotCommand.{SlotCommand}
-use Rattle.access_core.specs.declared.command.SlotCommand.TheVariants.{Load, Offer, Discard, Step, Unload, Look, Audit}
+use Rattle.access_core.specs.declared.command.SlotCommand.TheVariants.{Move, Look, Audit}
 use Rattle.access_core.specs.declared.refusal.Refusal.{Refusal}
 use Rattle.access_core.specs.declared.refusal.Refusal.TheVariants.{Stuck, Memory}
 use Rattle.access_core.specs.declared.reply.Reply.{Reply}
@@ -78,7 +78,7 @@ no_err x y e = absurd cc
 -- what a load is answered, by its rules
 abbrev LoadDone : Stamp → (main text : List ℕ) → (before : List SlotEntry) → Reply → (after : List SlotEntry) → Type 0
 LoadDone stamp main text before reply after =
-    (after ≡ before ++ entry stamp (action.Load (load_of main text)) ∷ [])
+    (after ≡ before ++ entry stamp (Load (load_of main text)) ∷ [])
     × (reply ≡ tells_added word.Load stamp.version after)
 
 load_by_rules : (stamp : Stamp) (main text : List ℕ) (before : List SlotEntry) (reply : Reply) (after : List SlotEntry)
@@ -107,7 +107,7 @@ load_by_rules stamp main text before reply after h = by_answer h.answer h.given 
 -- what an offer is answered, by its rules
 abbrev OfferDone : Stamp → (signal : List ℕ) → (before : List SlotEntry) → Reply → (after : List SlotEntry) → Type 0
 OfferDone stamp signal before reply after =
-    (after ≡ before ++ entry stamp (action.Offer signal) ∷ []) × (reply ≡ tells_added word.Offer stamp.version after)
+    (after ≡ before ++ entry stamp (Offer signal) ∷ []) × (reply ≡ tells_added word.Offer stamp.version after)
 
 offer_by_rules : (stamp : Stamp) (signal : List ℕ) (before : List SlotEntry) (reply : Reply) (after : List SlotEntry)
     → (h : Offers stamp signal before reply after)
@@ -116,7 +116,7 @@ offer_by_rules : (stamp : Stamp) (signal : List ℕ) (before : List SlotEntry) (
 offer_by_rules stamp signal before reply after h = by_answer h.answer h.given.running h.given.given h.replied where
   by_answer : (answer : Result (Unit {0}) ReactorRefusal) (r : Running)
       → Answers (offer_rules before r signal) (λ refusal. (answer ≡ Err refusal) × (after ≡ before))
-      ((answer ≡ Ok (record {})) × (after ≡ before ++ entry stamp (action.Offer signal) ∷ []))
+      ((answer ≡ Ok (record {})) × (after ≡ before ++ entry stamp (Offer signal) ∷ []))
       → MatchResult answer (λ _. reply ≡ tells_added word.Offer stamp.version after)
       (λ refusal. IsRefused (of_reactor refusal) before reply after)
       → Answers (offer_rules before r signal) (λ refusal. IsRefused (of_reactor refusal) before reply after)
@@ -205,18 +205,18 @@ module _ (modules : OneModule) (one_load : OneLoad) (entries : List Entry) (slot
 
   -- the rules of each command are settled
   slot_settled : (command : SlotCommand) → AllSettled IsWant (slot_rules entries slot session command before)
-  slot_settled (Load main text) = (settled_unless, (settled_unless, (settled_says, record {})))
-  slot_settled (Offer signal) = (settled_unless, (settled_unless, (settled_unless, record {})))
-  slot_settled Discard =
+  slot_settled (Move (Load l)) = (settled_unless, (settled_unless, (settled_says, record {})))
+  slot_settled (Move (Offer signal)) = (settled_unless, (settled_unless, (settled_unless, record {})))
+  slot_settled (Move Discard) =
       (settled_unless, (settled_unless, (settled_unless, (settled_unless, (settled_apart, record {})))))
-  slot_settled Step = (
+  slot_settled (Move (Step i)) = (
     settled_unless,
     (
       settled_unless,
       (settled_unless, (lacking_settled, (settled_apart, (reaction_settled, (settled_unless, record {}))))),
     ),
   )
-  slot_settled Unload =
+  slot_settled (Move Unload) =
       (settled_unless, (settled_unless, (settled_unless, (settled_unless, (settled_apart, record {})))))
   slot_settled (Look n) = (settled_unless, (settled_unless, (settled_says, (settled_apart, record {}))))
   slot_settled Audit = (settled_unless, (settled_unless, record {}))
@@ -269,7 +269,7 @@ module _ (modules : OneModule) (one_load : OneLoad) (entries : List Entry) (slot
         same_mask x.outputs y.outputs (same_outcome modules before x.outputs y.outputs x.next y.next o p).0 in
         let inputs : o.running.pending ≡ p.running.pending = ap (λ (q : Running). q.pending) run in
         let added : (inputs outputs : ℕ) → List SlotEntry =
-        λ inputs outputs. before ++ entry stamp (action.Step (instant inputs outputs)) ∷ [] in
+        λ inputs outputs. before ++ entry stamp (Step (instant inputs outputs)) ∷ [] in
         told word.Step stamp.version
         (x.adds.appended ∙ ap (λ i. added i x.outputs) inputs ∙ ap (added p.running.pending) outputs
         ∙ sym y.adds.appended) x.replied y.replied
@@ -294,11 +294,11 @@ module _ (modules : OneModule) (one_load : OneLoad) (entries : List Entry) (slot
     -- what a command does that no rule refuses
     does : (command : SlotCommand) → Does entries slot session command before r a
         → Does entries slot session command before s b → Same r s a b
-    does (Load main text) x y = loads (stamp_of entries session) main text x y
-    does (Offer signal) x y = offers (stamp_of entries session) signal x y
-    does Discard x y = told word.Discard (length entries) (x.added ∙ sym y.added) x.replied y.replied
-    does Step x y = steps (stamp_of entries session) x y
-    does Unload x y = told word.Unload (length entries) (x.added ∙ sym y.added) x.replied y.replied
+    does (Move (Load l)) x y = loads (stamp_of entries session) l.main l.text x y
+    does (Move (Offer signal)) x y = offers (stamp_of entries session) signal x y
+    does (Move Discard) x y = told word.Discard (length entries) (x.added ∙ sym y.added) x.replied y.replied
+    does (Move (Step i)) x y = steps (stamp_of entries session) x y
+    does (Move Unload) x y = told word.Unload (length entries) (x.added ∙ sym y.added) x.replied y.replied
     does (Look n) x y = looks n x y
     does Audit x y = (x.replied ∙ sym y.replied, x.stays ∙ sym y.stays)
 

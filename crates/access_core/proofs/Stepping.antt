@@ -9,6 +9,7 @@ use Rattle.rbac_policy.specs.declared.objects.Operation.TheVariants.{Step as ToS
 use Rattle.rbac_policy.specs.declared.objects.Object.TheVariants.{Slot}
 use Rattle.rbac_policy.specs.Facts.{IsLive, May}
 use Rattle.reactor_core.specs.declared.entry.Stamp.{Stamp}
+use Rattle.reactor_core.specs.declared.entry.Move.TheVariants.{Step}
 use Rattle.reactor_core.specs.declared.entry.SlotEntry.{SlotEntry}
 use Rattle.reactor_core.specs.declared.entry.Word.TheVariants as word
 use Rattle.reactor_core.specs.declared.refusal.Refusal.{Refusal as ReactorRefusal}
@@ -19,7 +20,7 @@ use Rattle.reactor_core.specs.Instants.{KeepsRelations}
 use Rattle.reactor_core.proofs.OneMeaning.{OneModule, is_loaded_where, not_both, ready_or_lacking}
 use Rattle.reactor_core.proofs.Joining.{no_ok, same_err}
 use Rattle.access_core.specs.declared.command.SlotCommand.{SlotCommand}
-use Rattle.access_core.specs.declared.command.SlotCommand.TheVariants.{Step}
+use Rattle.access_core.specs.declared.command.SlotCommand.TheVariants.{Move}
 use Rattle.access_core.specs.declared.refusal.Refusal.{Refusal}
 use Rattle.access_core.specs.declared.refusal.Refusal.TheVariants.{Stuck, JournalFull, Memory}
 use Rattle.access_core.specs.declared.reply.Reply.{Reply}
@@ -107,28 +108,6 @@ module _ (entries : List Entry) (slot session : ℕ) (stamp : Stamp) (before : L
       (subst (λ (journal : List SlotEntry). ByRules (settle_rules entries slot session journal)
       (Steps stamp) journal reply after) same h)
 
-  -- an instant whose pending inputs lack an implied one
-  pub step_lacking : (refused : ReactorRefusal × List SlotEntry) → OpenAnswer before (Err refused)
-      → ByRules (step_rules entries slot session before) (Steps stamp) before (Refused (of_reactor refused.0)) refused.1
-  step_lacking refused (inl lacks) =
-      let same : refused ≡ (lacks.refusal, before) = same_err refused (lacks.refusal, before) lacks.answered in
-      let why = lacks.given in
-      refuse (implied why.0 why.1) (why.0, why.1, refl, why.3) (record {
-        replied = ap (λ (r : ReactorRefusal). Refused (of_reactor r))
-            (ap (λ (r : ReactorRefusal × List SlotEntry). r.0) same ∙ why.2);
-        stays = ap (λ (r : ReactorRefusal × List SlotEntry). r.1) same;
-      })
-  step_lacking refused (inr passes) = absurd (no_ok before refused passes.next)
-
--- the reactor of an instant that isn't opened is loaded
-pub lacking_loaded : (before : List SlotEntry) (refused : ReactorRefusal × List SlotEntry)
-    → OpenAnswer before (Err refused) → is_loaded refused.1 ≡ true
-lacking_loaded before refused (inl lacks) =
-    ap (λ (r : ReactorRefusal × List SlotEntry). is_loaded r.1)
-    (same_err refused (lacks.refusal, before) lacks.answered)
-    ∙ is_loaded_where before lacks.given.3.running lacks.given.3.runs
-lacking_loaded before refused (inr passes) = absurd (no_ok before refused passes.next)
-
 module _ (modules : OneModule) (entries : List Entry) (slot session : ℕ) (stamp : Stamp) (before : List SlotEntry)
     (reply : Reply) (after : List SlotEntry) where
   -- where there is an outcome, the step isn't stuck
@@ -176,7 +155,8 @@ module _ (modules : OneModule) (entries : List Entry) (slot session : ℕ) (stam
 at_reactor : OneModule → (entries : List Entry) (slot session : ℕ) (before : List SlotEntry) (reply : Reply)
     (after : List SlotEntry)
     → IsLive entries session → May entries session ToStep (Slot slot) → is_loaded before ≡ true → KeepsRelations before
-    → SlotStep entries slot session Step before reply after → IsStuckExactly entries slot session before reply
+    → SlotStep entries slot session (Move (Step (record {}))) before reply after
+    → IsStuckExactly entries slot session before reply
 at_reactor modules entries slot session before reply after live may runs keeps (inl dead) = absurd (dead.given.1 live)
 at_reactor modules entries slot session before reply after live may runs keeps (inr passes) =
     permitted passes.next where

@@ -4,30 +4,17 @@ use Rattle.std.specs.Prelude.{◌≡◌, ℕ, ◌<◌, ◌≤◌, List, [], ◌�
 use Rattle.rbac_policy.specs.declared.commands.Entry.{Entry}
 use Rattle.rbac_policy.specs.Entries.{logins}
 use Rattle.rbac_policy.specs.Facts.{IsLive}
-use Rattle.reactor_core.specs.declared.entry.Action.{Action}
-use Rattle.reactor_core.specs.declared.entry.Action.TheVariants as action
+use Rattle.reactor_core.specs.Meaning.{asked, signal_of}
 use Rattle.reactor_core.specs.declared.entry.SlotEntry.{SlotEntry}
 use Rattle.access_core.specs.declared.command.SlotCommand.{SlotCommand}
-use Rattle.access_core.specs.declared.command.SlotCommand.TheVariants.{Load, Offer, Discard, Step, Unload, Look, Audit}
+use Rattle.access_core.specs.declared.command.SlotCommand.TheVariants.{Move, Look, Audit}
 use Rattle.access_core.specs.declared.reply.Reply.{Reply}
 use Rattle.access_core.specs.Needs.{IsAccepted}
 use Rattle.access_core.specs.SlotStep.{SlotStep}
 
--- the command that asked for an entry's action; a step's command names neither inputs nor outputs
-abbrev pub command_of : Action → SlotCommand
-command_of (action.Load l) = Load l.main l.text
-command_of (action.Offer signal) = Offer signal
-command_of action.Discard = Discard
-command_of (action.Step i) = Step
-command_of action.Unload = Unload
-
 -- the signal that a command offers
 abbrev pub signal_asked : SlotCommand → Option (List ℕ)
-signal_asked (Load main text) = None
-signal_asked (Offer signal) = Some signal
-signal_asked Discard = None
-signal_asked Step = None
-signal_asked Unload = None
+signal_asked (Move asked) = signal_of asked
 signal_asked (Look n) = None
 signal_asked Audit = None
 
@@ -44,7 +31,7 @@ pub record HasRightVersion (list : List Entry) (before : List SlotEntry) (entry 
 abbrev pub Judges : (judged : List Entry) → (slot : ℕ) → (before : List SlotEntry) → SlotEntry → Reply
     → (after : List SlotEntry) → Type 0
 Judges judged slot before entry reply after =
-    SlotStep judged slot entry.stamp.session (command_of entry.action) before reply after
+    SlotStep judged slot entry.stamp.session (Move (asked entry.done)) before reply after
 
 -- the slot step accepts the entry's command, and adds this entry
 pub record Adds (judged : List Entry) (slot : ℕ) (before : List SlotEntry) (entry added : SlotEntry) : Type 0 where

@@ -7,8 +7,9 @@ use Rattle.rbac_policy.specs.declared.objects.Operation.{Operation}
 use Rattle.rbac_policy.specs.declared.objects.Object.{Object}
 use Rattle.rbac_policy.specs.declared.objects.Object.TheVariants.{Policy, Slot, Signal}
 use Rattle.rbac_policy.specs.Facts.{IsLive, May}
+use Rattle.reactor_core.specs.declared.entry.Move.TheVariants.{Load, Offer, Discard, Step, Unload}
 use Rattle.access_core.specs.declared.command.SlotCommand.{SlotCommand}
-use Rattle.access_core.specs.declared.command.SlotCommand.TheVariants.{Load, Offer, Discard, Step, Unload, Look, Audit}
+use Rattle.access_core.specs.declared.command.SlotCommand.TheVariants.{Move, Look, Audit}
 use Rattle.access_core.specs.declared.reply.Reply.{Reply}
 use Rattle.access_core.specs.declared.reply.Reply.TheVariants.{Refused, Login, Changed, Added, Look as Shown}
 use Rattle.access_core.specs.declared.reply.Reply.TheVariants.{Audit as Audited, Check}
@@ -17,11 +18,11 @@ use Rattle.access_core.specs.declared.reply.Reply.TheVariants.{Audit as Audited,
 -- and a discard, `offer` on the signal for an offer, `audit` on the policy for an audit, and none for a look (this
 -- project's own form)
 abbrev pub permission_of : (slot : ℕ) → SlotCommand → Option (Operation × Object)
-permission_of slot (Load main text) = Some (ToLoad, Slot slot)
-permission_of slot (Offer signal) = Some (ToOffer, Signal slot signal)
-permission_of slot Discard = Some (ToStep, Slot slot)
-permission_of slot Step = Some (ToStep, Slot slot)
-permission_of slot Unload = Some (ToLoad, Slot slot)
+permission_of slot (Move (Load l)) = Some (ToLoad, Slot slot)
+permission_of slot (Move (Offer signal)) = Some (ToOffer, Signal slot signal)
+permission_of slot (Move Discard) = Some (ToStep, Slot slot)
+permission_of slot (Move (Step i)) = Some (ToStep, Slot slot)
+permission_of slot (Move Unload) = Some (ToLoad, Slot slot)
 permission_of slot (Look n) = None
 permission_of slot Audit = Some (ToAudit, Policy)
 

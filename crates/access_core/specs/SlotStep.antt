@@ -14,8 +14,8 @@ use Rattle.rbac_policy.specs.Facts.{IsLive, May}
 use Rattle.rbac_admin.specs.declared.refusal.Refusal.TheVariants as policy
 use Rattle.reactor_core.specs.declared.entry.Stamp.{Stamp}
 use Rattle.reactor_core.specs.declared.entry.PastInstant.{PastInstant}
-use Rattle.reactor_core.specs.declared.entry.Action.{Action}
-use Rattle.reactor_core.specs.declared.entry.Action.TheVariants as action
+use Rattle.reactor_core.specs.Meaning.{PastMove}
+use Rattle.reactor_core.specs.declared.entry.Move.TheVariants.{Load, Offer, Discard, Step, Unload}
 use Rattle.reactor_core.specs.declared.entry.SlotEntry.{SlotEntry}
 use Rattle.reactor_core.specs.declared.entry.Word.{Word}
 use Rattle.reactor_core.specs.declared.entry.Word.TheVariants as word
@@ -25,7 +25,7 @@ use Rattle.reactor_core.specs.Meaning.{entry, is_loaded, instants_of, word_of, R
 use Rattle.reactor_core.specs.Answers.{LoadAnswer, OfferAnswer, HasRoom, IsInstant, HasNoInstant}
 use Rattle.reactor_core.specs.Instants.{IsOutcome, HasNoOutcome, AddsInstant, not_ready}
 use Rattle.access_core.specs.declared.command.SlotCommand.{SlotCommand}
-use Rattle.access_core.specs.declared.command.SlotCommand.TheVariants.{Load, Offer, Discard, Step, Unload, Look, Audit}
+use Rattle.access_core.specs.declared.command.SlotCommand.TheVariants.{Move, Look, Audit}
 use Rattle.access_core.specs.declared.refusal.Refusal.{Refusal}
 use Rattle.access_core.specs.declared.refusal.Refusal.TheVariants.{Policy, Module, Stuck, Occupied, Empty, JournalFull}
 use Rattle.access_core.specs.declared.reply.Reply.{Reply}
@@ -93,11 +93,11 @@ pub record Offers (stamp : Stamp) (signal : List ℕ) (before : List SlotEntry) 
       (λ _. reply ≡ tells_added word.Offer stamp.version after)
       (λ refusal. IsRefused (of_reactor refusal) before reply after)
 
--- the entry of the action is appended, and the reply tells so
-pub record AddsEntry (action : Action) (stamp : Stamp) (before : List SlotEntry) (reply : Reply)
+-- the entry of the move is appended, and the reply tells so
+pub record AddsEntry (done : PastMove) (stamp : Stamp) (before : List SlotEntry) (reply : Reply)
     (after : List SlotEntry) : Type 0 where
-  pub added : after ≡ before ++ entry stamp action ∷ []
-  pub replied : reply ≡ tells_added (word_of action) stamp.version after
+  pub added : after ≡ before ++ entry stamp done ∷ []
+  pub replied : reply ≡ tells_added (word_of done) stamp.version after
 
 -- the next instant has no outcome: its pending inputs have no constructive reaction, and the refusal names those of the
 -- undecided outputs and inputoutputs that the session may observe
@@ -183,11 +183,11 @@ step_rules entries slot session journal = not_ready implied journal ▸ settle_r
 
 -- the rules of what the command asks of the slot
 abbrev pub journal_rules : List Entry → (slot session : ℕ) → SlotCommand → List SlotEntry → Rules Refusal
-journal_rules entries slot session (Load main text) journal = occupied journal ▸ accept
-journal_rules entries slot session (Offer signal) journal = empty journal ▸ accept
-journal_rules entries slot session Discard journal = empty journal ▸ entry_rules journal
-journal_rules entries slot session Step journal = empty journal ▸ step_rules entries slot session journal
-journal_rules entries slot session Unload journal = empty journal ▸ entry_rules journal
+journal_rules entries slot session (Move (Load l)) journal = occupied journal ▸ accept
+journal_rules entries slot session (Move (Offer signal)) journal = empty journal ▸ accept
+journal_rules entries slot session (Move Discard) journal = empty journal ▸ entry_rules journal
+journal_rules entries slot session (Move (Step i)) journal = empty journal ▸ step_rules entries slot session journal
+journal_rules entries slot session (Move Unload) journal = empty journal ▸ entry_rules journal
 journal_rules entries slot session (Look n) journal = empty journal ▸ no_instant journal n ▸ no_memory ▸ accept
 journal_rules entries slot session Audit journal = accept
 
@@ -200,11 +200,11 @@ slot_rules entries slot session command journal =
 -- answer, which may be a refusal
 abbrev pub Does : List Entry → (slot session : ℕ) → SlotCommand → (before : List SlotEntry) → Reply
     → (after : List SlotEntry) → Type 0
-Does entries slot session (Load main text) = Loads (stamp_of entries session) main text
-Does entries slot session (Offer signal) = Offers (stamp_of entries session) signal
-Does entries slot session Discard = AddsEntry action.Discard (stamp_of entries session)
-Does entries slot session Step = Steps (stamp_of entries session)
-Does entries slot session Unload = AddsEntry action.Unload (stamp_of entries session)
+Does entries slot session (Move (Load l)) = Loads (stamp_of entries session) l.main l.text
+Does entries slot session (Move (Offer signal)) = Offers (stamp_of entries session) signal
+Does entries slot session (Move Discard) = AddsEntry Discard (stamp_of entries session)
+Does entries slot session (Move (Step i)) = Steps (stamp_of entries session)
+Does entries slot session (Move Unload) = AddsEntry Unload (stamp_of entries session)
 Does entries slot session (Look n) = Looks entries slot session n
 Does entries slot session Audit = Audits entries
 

@@ -4,11 +4,12 @@ use Rattle.rbac_policy.specs.declared.commands.Entry.{Entry}
 use Rattle.rbac_policy.specs.declared.objects.Operation.TheVariants.{Step as ToStep}
 use Rattle.rbac_policy.specs.declared.objects.Object.TheVariants.{Slot}
 use Rattle.rbac_policy.specs.Facts.{IsLive, May}
+use Rattle.reactor_core.specs.declared.entry.Move.TheVariants.{Step}
 use Rattle.reactor_core.specs.declared.entry.SlotEntry.{SlotEntry}
 use Rattle.reactor_core.specs.Meaning.{is_loaded}
 use Rattle.reactor_core.specs.Instants.{HasNoOutcome, KeepsRelations}
 use Rattle.access_core.specs.declared.command.SlotCommand.{SlotCommand}
-use Rattle.access_core.specs.declared.command.SlotCommand.TheVariants.{Step}
+use Rattle.access_core.specs.declared.command.SlotCommand.TheVariants.{Move}
 use Rattle.access_core.specs.declared.refusal.Refusal.TheVariants.{Stuck, Memory}
 use Rattle.access_core.specs.declared.reply.Reply.{Reply}
 use Rattle.access_core.specs.declared.reply.Reply.TheVariants.{Refused}
@@ -18,7 +19,7 @@ use Rattle.access_core.specs.SlotStep.{NamesUndecided}
 -- each of its relations holds of the pending inputs
 pub record ReachesReactor (entries : List Entry) (slot session : ℕ) (command : SlotCommand)
     (journal : List SlotEntry) : Type 0 where
-  pub steps : command ≡ Step
+  pub steps : command ≡ Move (Step (record {}))
   pub lives : IsLive entries session
   pub may : May entries session ToStep (Slot slot)
   pub loaded : is_loaded journal ≡ true

@@ -3,6 +3,7 @@
 ghost use Rattle.std.specs.Prelude.{◌≡◌, ℕ, ◌≤◌, List, Option, Some, slice_get, take};
 ghost use Rattle.rbac_policy.specs.declared.commands.AdminCommand.{AdminCommand};
 ghost use Rattle.rbac_policy.specs.declared.commands.Entry.{Entry};
+ghost use Rattle.reactor_core.specs.Meaning.{asked};
 ghost use Rattle.reactor_core.specs.declared.entry.SlotEntry.{SlotEntry};
 ghost use Rattle.access_core.specs.declared.reply.Reply.{Reply};
 ghost use Rattle.access_core.specs.SlotStep.{SlotStep};
@@ -10,9 +11,10 @@ ghost use Rattle.access_core.specs.Needs.{Needs, IsAccepted};
 ghost use Rattle.access_core.specs.StuckSteps.{ReachesReactor, IsStuckExactly};
 ghost use Rattle.access_core.specs.Desk.{DeskState, AdminStep, DeskStep};
 ghost use Rattle.access_core.specs.declared.command.SlotCommand.{SlotCommand};
+ghost use Rattle.access_core.specs.declared.command.SlotCommand.TheVariants.{Move};
 ghost use Rattle.access_core.specs.declared.refusal.Refusal.{Refusal};
 ghost use Rattle.access_core.specs.declared.refusal.Refusal.TheVariants.{Memory};
-ghost use Rattle.access_core.specs.Journals.{command_of, IsLegal, HasEnded};
+ghost use Rattle.access_core.specs.Journals.{IsLegal, HasEnded};
 ghost use Rattle.rbac_admin.specs.PolicyLists.{Begins};
 ghost use Rattle.access_core.specs.declared.reply.Reply.TheVariants.{Refused};
 ghost use Rattle.access_core.specs.Refusals.{row_of, NamesObjects};
@@ -81,7 +83,7 @@ pub fn journals_are_legal()
         → x.stamp.version ≤ y.stamp.version }
     ensures allowed { (list : List Entry) (slot at : ℕ) (journal : List SlotEntry) (x : SlotEntry)
         → IsLegal list slot journal → slice_get journal at ≡ Some x
-        → Needs (take x.stamp.version list) slot x.stamp.session (command_of x.action) }
+        → Needs (take x.stamp.version list) slot x.stamp.session (Move (asked x.done)) }
 {}
 
 /// Once an entry of a slot was judged at or after a session's end, no later entry of that slot is

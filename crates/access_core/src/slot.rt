@@ -1,19 +1,16 @@
 //! One slot, and the answer to a command on it.
 ghost use Rattle.std.specs.Prelude.{◌≡◌, ◌⊎◌, ℕ, List, true, false, MatchOption};
-ghost use Rattle.est_kernel.specs.Term.{Term};
 ghost use Rattle.rbac_policy.specs.declared.commands.Entry.{Entry};
 ghost use Rattle.rbac_policy.specs.StandsFor.{StandsFor};
 ghost use Rattle.refusal_rules.specs.Rules.{accept, ◌▸◌, TestsAll};
 ghost use Rattle.access_core.specs.Answering.{ByRules, no_memory};
 ghost use Rattle.access_core.specs.SlotStep.{SlotStep, access_rules, IsAdmitted, no_instant};
-ghost use Rattle.access_core.specs.SlotStep.{NamesUndecided, settle_rules, step_rules, entry_rules};
-ghost use Rattle.access_core.specs.SlotStep.{journal_full, stamp_of, Offers, AddsEntry, Steps};
+ghost use Rattle.access_core.specs.SlotStep.{NamesUndecided, step_rules, entry_rules};
+ghost use Rattle.access_core.specs.SlotStep.{stamp_of, Offers, AddsEntry, Steps};
 ghost use Rattle.access_core.specs.SlotStep.{Looks, Audits, Loads, tells_added};
 ghost use Rattle.reactor_core.specs.Meaning.{is_loaded};
-ghost use Rattle.reactor_core.specs.declared.entry.Action.TheVariants as action;
-ghost use Rattle.reactor_core.specs.Instants.{IsOutcome, HasNoOutcome};
+ghost use Rattle.reactor_core.specs.Instants.{HasNoOutcome};
 ghost use Rattle.access_core.specs.Needs.{permission_of};
-ghost use Rattle.access_core.specs.declared.command.SlotCommand.TheVariants.{Load};
 ghost use Rattle.access_core.specs.Holding.{journal_of, IsHeldRight};
 
 use crate::command::SlotCommand;
@@ -26,12 +23,10 @@ use rbac_admin::refusal::Refusal as PolicyRefusal;
 use rbac_policy::commands::SessionId;
 use rbac_policy::objects::{Object, Operation, SlotNumber};
 use rbac_policy::policy::Policy;
-use reactor_core::entry::{Stamp, Word};
+use reactor_core::entry::{Load, Move, Stamp, Word};
 use reactor_core::journal::Journal;
 use reactor_core::reactor::Reactor;
-use reactor_core::reactor::instant::{Instant, Settled};
 use reactor_core::refusal::ModuleRefusal;
-use reactor_core::text::Text;
 use std::alloc::Global;
 use std::marker::Model;
 use std::mem;
@@ -145,18 +140,12 @@ fn added_to(reactor: &Reactor, word: Word, stamp: Stamp) -> Reply
 }
 
 /// Loads a module: the reply, and what the slot holds afterwards.
-fn load_module(
-    alloc: Global,
-    journal: Journal,
-    stamp: Stamp,
-    main: &str,
-    text: &str,
-) -> (Reply, Content)
+fn load_module(alloc: Global, journal: Journal, stamp: Stamp, load: Load) -> (Reply, Content)
     requires { is_loaded journal ≡ false }
     ensures held { IsHeldRight result.1 }
-    ensures step { Loads stamp main.now text.now journal result.0 (journal_of result.1) }
+    ensures step { Loads stamp load.main load.text journal result.0 (journal_of result.1) }
 {
-    match Reactor::load(alloc, journal, stamp, main, text) {
+    match Reactor::load(alloc, journal, stamp, load) {
         Ok(reactor) => {
             let reply = added_to(&reactor, Word::Load, stamp);
             (reply, Content::Loaded(reactor))
@@ -182,7 +171,7 @@ fn offer_signal(reactor: &mut Reactor, stamp: Stamp, signal: &Identifier) -> Rep
 /// Takes the reactor's pending inputs away.
 fn discard_inputs(reactor: &mut Reactor, stamp: Stamp) -> Reply
     ensures loaded { is_loaded reactor.new ≡ true }
-    ensures step { ByRules (entry_rules reactor.old) (AddsEntry action.Discard stamp)
+    ensures step { ByRules (entry_rules reactor.old) (AddsEntry Move.Discard stamp)
         reactor.old result reactor.new }
 {
     match reactor.discard(stamp) {
@@ -195,7 +184,7 @@ fn discard_inputs(reactor: &mut Reactor, stamp: Stamp) -> Reply
 fn unload_module(reactor: Reactor, stamp: Stamp) -> (Reply, Content)
     requires { is_loaded reactor ≡ true }
     ensures held { IsHeldRight result.1 }
-    ensures step { ByRules (entry_rules reactor) (AddsEntry action.Unload stamp) reactor
+    ensures step { ByRules (entry_rules reactor) (AddsEntry Move.Unload stamp) reactor
         result.0 (journal_of result.1) }
 {
     match reactor.unload(stamp) {
@@ -215,45 +204,8 @@ fn unload_module(reactor: Reactor, stamp: Stamp) -> (Reply, Content)
     }
 }
 
-/// Commits the instant: the reply to the step, and the reactor afterwards.
-fn commit_step(settled: Settled, stamp: Stamp) -> (Reply, Reactor)
-    requires { (next : Term) × IsOutcome settled.journal settled.outputs next }
-    ensures loaded { is_loaded result.1 ≡ true }
-    ensures step { ByRules (no_memory ▸ journal_full settled.journal ▸ accept) (Steps stamp)
-        settled.journal result.0 result.1 }
-{
-    match settled.commit(stamp) {
-        Ok(reactor) => {
-            let reply = added_to(&reactor, Word::Step, stamp);
-            (reply, reactor)
-        }
-        Err((refusal, reactor)) => (Reply::Refused(Refusal::from(refusal)), reactor),
-    }
-}
-
-/// Settles the instant and commits it: the reply to the step, and the reactor afterwards.
-fn settle_step(
-    alloc: Global,
-    policy: &Policy,
-    slot: SlotNumber,
-    session: SessionId,
-    opened: Instant,
-) -> (Reply, Reactor)
-    ensures loaded { is_loaded result.1 ≡ true }
-    ensures step { (entries : List Entry) → StandsFor policy.now entries
-        → ByRules (settle_rules entries slot session opened) (Steps (stamp_of entries session))
-        opened result.0 result.1 }
-{
-    match opened.settle() {
-        Ok(settled) => commit_step(settled, stamp(policy, session)),
-        Err((stuck, reactor)) => {
-            let refusal = refuse_stuck(alloc, policy, slot, session, &reactor, stuck);
-            (Reply::Refused(refusal), reactor)
-        }
-    }
-}
-
-/// Steps the reactor: the reply, and the reactor afterwards.
+/// Steps the reactor: opens the next instant, settles it and commits it. The reply, and the reactor
+/// afterwards.
 fn step_reactor(
     alloc: Global,
     policy: &Policy,
@@ -266,15 +218,27 @@ fn step_reactor(
         → ByRules (step_rules entries slot session reactor) (Steps (stamp_of entries session))
         reactor result.0 result.1 }
 {
-    match reactor.open() {
-        Ok(opened) => settle_step(alloc, policy, slot, session, opened),
+    let opened = match reactor.open() {
+        Ok(opened) => opened,
+        Err((refusal, reactor)) => return (Reply::Refused(Refusal::from(refusal)), reactor),
+    };
+    let settled = match opened.settle() {
+        Ok(settled) => settled,
+        Err((stuck, reactor)) => {
+            let refusal = refuse_stuck(alloc, policy, slot, session, &reactor, stuck);
+            return (Reply::Refused(refusal), reactor);
+        }
+    };
+    let stamp = stamp(policy, session);
+    match settled.commit(stamp) {
+        Ok(reactor) => (added_to(&reactor, Word::Step, stamp), reactor),
         Err((refusal, reactor)) => (Reply::Refused(Refusal::from(refusal)), reactor),
     }
 }
 
 impl Slot {
     ghost use Rattle.access_core.specs.Desk.{empty_slot};
-    ghost use Rattle.access_core.specs.SlotStep.{occupied, empty};
+    ghost use Rattle.access_core.specs.SlotStep.{occupied, empty, journal_rules, Does};
 
     /// An empty slot with an empty journal. It takes no memory.
     pub fn new(alloc: Global, number: SlotNumber) -> Slot
@@ -326,16 +290,17 @@ impl Slot {
         }
     }
 
-    fn load(&mut self, stamp: Stamp, main: &str, text: &str) -> Reply
+    fn load(&mut self, stamp: Stamp, load: Load) -> Reply
         ensures number { self.new.number ≡ self.old.number }
-        ensures step { ByRules (occupied self.old.journal ▸ accept) (Loads stamp main.now text.now)
+        ensures step { ByRules (occupied self.old.journal ▸ accept)
+            (Loads stamp load.main load.text)
             self.old.journal result self.new.journal }
     {
         // The content is moved out; each arm puts it back.
         let empty = Content::Empty(Journal::new(self.alloc));
         match mem::replace(&mut self.content, empty) {
             Content::Empty(journal) => {
-                let (reply, loaded) = load_module(self.alloc, journal, stamp, main, text);
+                let (reply, loaded) = load_module(self.alloc, journal, stamp, load);
                 self.content = loaded;
                 reply
             }
@@ -388,7 +353,7 @@ impl Slot {
     fn discard(&mut self, stamp: Stamp) -> Reply
         ensures number { self.new.number ≡ self.old.number }
         ensures step { ByRules (empty self.old.journal ▸ entry_rules self.old.journal)
-            (AddsEntry action.Discard stamp)
+            (AddsEntry Move.Discard stamp)
             self.old.journal result self.new.journal }
     {
         if let Content::Loaded(reactor) = &mut self.content {
@@ -400,7 +365,7 @@ impl Slot {
     fn unload(&mut self, stamp: Stamp) -> Reply
         ensures number { self.new.number ≡ self.old.number }
         ensures step { ByRules (empty self.old.journal ▸ entry_rules self.old.journal)
-            (AddsEntry action.Unload stamp)
+            (AddsEntry Move.Unload stamp)
             self.old.journal result self.new.journal }
     {
         // The content is moved out; each arm puts it back.
@@ -415,6 +380,24 @@ impl Slot {
                 self.content = content;
                 reply
             }
+        }
+    }
+
+    /// Makes the move, which the session may make.
+    fn make_move(&mut self, policy: &Policy, session: SessionId, asked: Move<()>) -> Reply
+        ensures number { self.new.number ≡ self.old.number }
+        ensures step { (entries : List Entry) → StandsFor policy.now entries
+            → ByRules (journal_rules entries self.old.number session (SlotCommand.Move asked)
+            self.old.journal)
+            (Does entries self.old.number session (SlotCommand.Move asked)) self.old.journal result
+            self.new.journal }
+    {
+        match asked {
+            Move::Load(load) => self.load(stamp(policy, session), load),
+            Move::Offer(signal) => self.offer(stamp(policy, session), &signal),
+            Move::Discard => self.discard(stamp(policy, session)),
+            Move::Step(()) => self.step(policy, session),
+            Move::Unload => self.unload(stamp(policy, session)),
         }
     }
 
@@ -459,11 +442,13 @@ fn permission_of(slot: SlotNumber, command: &SlotCommand) -> Option<(Operation, 
     ensures { result ≡ permission_of slot command.now }
 {
     match command {
-        SlotCommand::Load { .. } => Some((Operation::Load, Object::Slot(slot))),
-        SlotCommand::Offer { signal } => Some((Operation::Offer, Object::Signal(slot, *signal))),
-        SlotCommand::Discard => Some((Operation::Step, Object::Slot(slot))),
-        SlotCommand::Step => Some((Operation::Step, Object::Slot(slot))),
-        SlotCommand::Unload => Some((Operation::Load, Object::Slot(slot))),
+        SlotCommand::Move(Move::Load(_)) => Some((Operation::Load, Object::Slot(slot))),
+        SlotCommand::Move(Move::Offer(signal)) => {
+            Some((Operation::Offer, Object::Signal(slot, *signal)))
+        }
+        SlotCommand::Move(Move::Discard) => Some((Operation::Step, Object::Slot(slot))),
+        SlotCommand::Move(Move::Step(())) => Some((Operation::Step, Object::Slot(slot))),
+        SlotCommand::Move(Move::Unload) => Some((Operation::Load, Object::Slot(slot))),
         SlotCommand::Look { .. } => None,
         SlotCommand::Audit => Some((Operation::Audit, Object::Policy)),
     }
@@ -509,20 +494,16 @@ pub fn admit_load(policy: &Policy, slot: SlotNumber, session: SessionId) -> Resu
 
 /// Answers a load of the slot, given what `admit_load` answered: as `decide_slot` answers it at
 /// that policy.
-pub fn load_admitted(
-    admitted: Result<Stamp, Refusal>,
-    slot: &mut Slot,
-    main: &Identifier,
-    text: &Text,
-) -> Reply
+pub fn load_admitted(admitted: Result<Stamp, Refusal>, slot: &mut Slot, load: Load) -> Reply
     ensures number { slot.new.number ≡ slot.old.number }
     ensures step { (entries : List Entry) → (session : ℕ)
         → IsAdmitted entries slot.old.number session admitted
-        → SlotStep entries slot.old.number session (Load main.now text.now) slot.old.journal result
+        → SlotStep entries slot.old.number session
+        (SlotCommand.Move (Move.Load load)) slot.old.journal result
         slot.new.journal }
 {
     match admitted {
-        Ok(stamp) => slot.load(stamp, main.as_str(), text.as_str()),
+        Ok(stamp) => slot.load(stamp, load),
         Err(refusal) => Reply::Refused(refusal),
     }
 }
@@ -549,13 +530,7 @@ pub fn decide_slot(
         return Reply::Refused(refusal);
     }
     match command {
-        SlotCommand::Load { main, text } => {
-            slot.load(stamp(policy, session), main.as_str(), text.as_str())
-        }
-        SlotCommand::Offer { signal } => slot.offer(stamp(policy, session), &signal),
-        SlotCommand::Discard => slot.discard(stamp(policy, session)),
-        SlotCommand::Step => slot.step(policy, session),
-        SlotCommand::Unload => slot.unload(stamp(policy, session)),
+        SlotCommand::Move(asked) => slot.make_move(policy, session, asked),
         SlotCommand::Look { instant } => slot.look(policy, session, instant),
         SlotCommand::Audit => slot.audit(policy),
     }

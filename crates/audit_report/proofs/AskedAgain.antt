@@ -18,8 +18,8 @@ use Rattle.est_meaning.specs.States.{state_term}
 use Rattle.est_left.proofs.Alike.{one_state}
 use Rattle.est_rounds.specs.Contract.{IsReaction, HasNoReaction}
 use Rattle.rbac_policy.specs.declared.commands.Entry.{Entry}
-use Rattle.reactor_core.specs.declared.entry.Action.{Action}
-use Rattle.reactor_core.specs.declared.entry.Action.TheVariants as action
+use Rattle.reactor_core.specs.Meaning.{PastMove, asked}
+use Rattle.reactor_core.specs.declared.entry.Move.TheVariants.{Step}
 use Rattle.reactor_core.specs.declared.entry.Load.{Load as LoadEntry}
 use Rattle.reactor_core.specs.declared.entry.PastInstant.{PastInstant}
 use Rattle.reactor_core.specs.declared.entry.SlotEntry.{SlotEntry}
@@ -36,7 +36,7 @@ use Rattle.access_core.specs.declared.reply.Reply.{Reply}
 use Rattle.access_core.specs.declared.reply.Reply.TheVariants.{Refused}
 use Rattle.access_core.specs.Answering.{IsRefused}
 use Rattle.access_core.specs.SlotStep.{SlotStep, slot_rules, Does, stamp_of}
-use Rattle.access_core.specs.Journals.{command_of}
+use Rattle.access_core.specs.declared.command.SlotCommand.TheVariants.{Move}
 use Rattle.access_core.proofs.Legality.{steps_where}
 use Rattle.access_core.proofs.OneNaming.{same_mask}
 use Rattle.audit_report.specs.Inner.Asking.{Predicts, LeavesOther, Thinks, ThinksOfStep, Fails}
@@ -113,7 +113,7 @@ pub none_at_all : OneModule → (journal : List SlotEntry) (undecided b : ℕ) �
 none_at_all modules journal undecided b none next other = not_both modules journal b next undecided other none
 
 -- nothing is asked where no module runs
-pub nothing_runs : (journal : List SlotEntry) (a : Action) → is_loaded journal ≡ false → Thinks journal a NotAsked
+pub nothing_runs : (journal : List SlotEntry) (a : PastMove) → is_loaded journal ≡ false → Thinks journal a NotAsked
 nothing_runs journal a none = by_instant (instant_of a) where
   by_instant : (i : Option PastInstant)
       → MatchOption i (NotAsked ≡ NotAsked)
@@ -121,8 +121,8 @@ nothing_runs journal a none = by_instant (instant_of a) where
   by_instant None = refl
   by_instant (Some i) = inl (none, refl)
 
--- what is thought of a step is thought of the action that keeps its instant
-pub thinks_of : (journal : List SlotEntry) (a : Action) (o : Opinion) (i : PastInstant) → Some i ≡ instant_of a
+-- what is thought of a step is thought of the move that keeps its instant
+pub thinks_of : (journal : List SlotEntry) (a : PastMove) (o : Opinion) (i : PastInstant) → Some i ≡ instant_of a
     → ((is_loaded journal ≡ false) × (o ≡ NotAsked)) ⊎ ThinksOfStep journal i.outputs o → Thinks journal a o
 thinks_of journal a o i is h =
     subst
@@ -138,7 +138,7 @@ record KeepsOutcome (before : List SlotEntry) (i : PastInstant) (after : List Sl
 
 module _ (modules : OneModule) (judged : List Entry) (slot session : ℕ) (before : List SlotEntry) (reply : Reply)
     (after : List SlotEntry) (not : (given : Refusal) → reply ≡ Refused given → ⊥) where
-  step_keeps : (i : PastInstant) → SlotStep judged slot session (command_of (action.Step i)) before reply after
+  step_keeps : (i : PastInstant) → SlotStep judged slot session (Move (asked (Step i))) before reply after
       → last_instant after ≡ Some i → KeepsOutcome before i after
   step_keeps i h keeps =
       ⊎_elim
@@ -146,7 +146,7 @@ module _ (modules : OneModule) (judged : List Entry) (slot session : ℕ) (befor
       (λ passed.
       let adds = passed.1.adds in
       let done = instant adds.outcome.running.pending passed.1.outputs in
-      let added = entry (stamp_of judged session) (action.Step done) in
+      let added = entry (stamp_of judged session) (Step done) in
       let last : Some done ≡ Some i =
       sym (last_pushed before added) ∙ ap last_instant (sym adds.appended) ∙ keeps in
       let same : passed.1.outputs ≡ i.outputs = ap (λ (p : PastInstant). p.outputs) (same_Some done i last) in
@@ -156,9 +156,9 @@ module _ (modules : OneModule) (judged : List Entry) (slot session : ℕ) (befor
         leaves = adds.leaves;
         loads = sym (ap last_load adds.appended ∙ after_snoc load_after None before added);
       })
-      (first_or_none (slot_rules judged slot session (command_of (action.Step i)) before)
+      (first_or_none (slot_rules judged slot session (Move (asked (Step i))) before)
       (λ refusal. IsRefused refusal before reply after)
-      (Does judged slot session (command_of (action.Step i)) before reply after) h)
+      (Does judged slot session (Move (asked (Step i))) before reply after) h)
 
   -- the term that was told is left
   left_as_told : (i : PastInstant) (next : State) → KeepsOutcome before i after → Predicts before i.outputs next
@@ -186,7 +186,7 @@ module _ (modules : OneModule) (judged : List Entry) (slot session : ℕ) (befor
   unasked o none fails = subst (λ (p : Opinion). Fails after p) none fails
 
   -- where an entry is kept, it is as the second engine has it
-  pub opinion_holds : (a : Action) (o : Opinion) → SlotStep judged slot session (command_of a) before reply after
+  pub opinion_holds : (a : PastMove) (o : Opinion) → SlotStep judged slot session (Move (asked a)) before reply after
       → Thinks before a o → KeepsInstant after a → Fails after o → ⊥
   opinion_holds a o h thinks keeps fails = by_instant (instant_of a) refl thinks keeps where
     by_instant : (i : Option PastInstant) → instant_of a ≡ i
@@ -195,6 +195,7 @@ module _ (modules : OneModule) (judged : List Entry) (slot session : ℕ) (befor
         → MatchOption i (Unit {0}) (λ i. last_instant after ≡ Some i) → ⊥
     by_instant None is thinks keeps = unasked o thinks fails
     by_instant (Some i) is thinks keeps =
-        let step : SlotStep judged slot session (command_of (action.Step i)) before reply after =
-        subst (λ (d : Action). SlotStep judged slot session (command_of d) before reply after) (steps_where a i is) h in
+        let step : SlotStep judged slot session (Move (asked (Step i))) before reply after =
+        subst (λ (d : PastMove). SlotStep judged slot session (Move (asked d)) before reply after)
+        (steps_where a i is) h in
         ⊎_elim (λ none. unasked o none.1 fails) (λ told. step_holds i o (step_keeps i step keeps) told fails) thinks

@@ -8,6 +8,7 @@ use Rattle.rbac_policy.specs.declared.commands.Entry.{Entry}
 use Rattle.rbac_policy.specs.Opening.{opening_entries}
 use Rattle.rbac_policy.proofs.Steps.{get_last}
 use Rattle.rbac_admin.specs.PolicyLists.{IsPolicyList}
+use Rattle.reactor_core.specs.Meaning.{asked}
 use Rattle.reactor_core.specs.declared.entry.SlotEntry.{SlotEntry}
 use Rattle.access_core.specs.declared.command.SlotCommand.{SlotCommand}
 use Rattle.access_core.specs.declared.refusal.Refusal.{Refusal}
@@ -15,7 +16,8 @@ use Rattle.access_core.specs.declared.refusal.Refusal.TheVariants as refusal
 use Rattle.access_core.specs.declared.reply.Reply.{Reply}
 use Rattle.access_core.specs.declared.reply.Reply.TheVariants as reply
 use Rattle.access_core.specs.Needs.{IsAccepted}
-use Rattle.access_core.specs.Journals.{command_of, Adds, IsLegalEntry, IsLegal}
+use Rattle.access_core.specs.declared.command.SlotCommand.TheVariants.{Move}
+use Rattle.access_core.specs.Journals.{Adds, IsLegalEntry, IsLegal}
 use Rattle.access_core.specs.Refusals.{code_of}
 use Rattle.access_core.specs.SlotStep.{SlotStep}
 use Rattle.audit_report.specs.declared.finding.Finding.{Finding}
@@ -83,7 +85,7 @@ module _ (answers : OneSlotAnswer) (judged : List Entry) (slot : ℕ) (before : 
   refused_or_added : (code : ℕ) (added : SlotEntry) → IsRefusedWith judged slot before e code
       → Adds judged slot before e added → ⊥
   refused_or_added code added x y =
-      let same = answers judged slot e.stamp.session (command_of e.action) before (reply.Refused x.given) y.reply before
+      let same = answers judged slot e.stamp.session (Move (asked e.done)) before (reply.Refused x.given) y.reply before
       (before ++ added ∷ [])
       x.step y.step (told x.given x.ample) (ample y.reply y.accepted) in
       subst IsAccepted (sym same.0) y.accepted
@@ -92,7 +94,7 @@ module _ (answers : OneSlotAnswer) (judged : List Entry) (slot : ℕ) (before : 
   one_code : (code other : ℕ) → IsRefusedWith judged slot before e code → IsRefusedWith judged slot before e other
       → code ≡ other
   one_code code other x y =
-      let same = answers judged slot e.stamp.session (command_of e.action) before (reply.Refused x.given)
+      let same = answers judged slot e.stamp.session (Move (asked e.done)) before (reply.Refused x.given)
       (reply.Refused y.given) before before
       x.step y.step (told x.given x.ample) (told y.given y.ample) in
       x.numbered ∙ ap code_of (same_refusal x.given y.given same.0) ∙ sym y.numbered
@@ -100,7 +102,7 @@ module _ (answers : OneSlotAnswer) (judged : List Entry) (slot : ℕ) (before : 
   -- and adds one entry
   one_added : (x y : SlotEntry) → Adds judged slot before e x → Adds judged slot before e y → x ≡ y
   one_added x y a b =
-      let same = answers judged slot e.stamp.session (command_of e.action) before a.reply b.reply (before ++ x ∷ [])
+      let same = answers judged slot e.stamp.session (Move (asked e.done)) before a.reply b.reply (before ++ x ∷ [])
       (before ++ y ∷ [])
       a.step b.step (ample a.reply a.accepted) (ample b.reply b.accepted) in
       same_last before x y same.1

@@ -5,7 +5,7 @@ use Rattle.std.specs.Prelude.{◌≡◌, ℕ, ◌+◌, ◌<◌, List, Some, Resu
 use Rattle.rbac_policy.specs.declared.commands.Entry.{Entry}
 use Rattle.rbac_admin.specs.PolicyLists.{IsPolicyList}
 use Rattle.reactor_core.specs.declared.entry.PastInstant.{PastInstant}
-use Rattle.reactor_core.specs.declared.entry.Action.TheVariants as action
+use Rattle.reactor_core.specs.declared.entry.Move.TheVariants.{Step}
 use Rattle.reactor_core.specs.declared.entry.SlotEntry.{SlotEntry}
 use Rattle.access_core.specs.declared.refusal.Refusal.{Refusal}
 use Rattle.access_core.specs.declared.refusal.Refusal.TheVariants as refusal
@@ -43,7 +43,7 @@ pub record IsRefusedWith (judged : List Entry) (slot : ℕ) (before : List SlotE
 -- the entry is a step that is accepted, but its inputs or its outputs aren't those of the reaction
 pub record ReactsOtherwise (judged : List Entry) (slot : ℕ) (before : List SlotEntry) (entry : SlotEntry) : Type 0 where
   pub stored : PastInstant
-  pub steps : entry.action ≡ action.Step stored
+  pub steps : entry.done ≡ Step stored
   pub added : SlotEntry
   pub adds : Adds judged slot before entry added
   pub other : ¬ (added ≡ entry)

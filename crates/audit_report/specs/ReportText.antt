@@ -2,19 +2,19 @@
 use Rattle.std.specs.Prelude.{ℕ, ◌+◌, Bool, true, false, List, [], ◌∷◌, ◌++◌, Result, Ok, Err, length, codes, decimal}
 use Rattle.std.specs.Prelude.{count_by}
 use Rattle.rbac_policy.specs.declared.commands.Entry.{Entry}
-use Rattle.reactor_core.specs.declared.entry.Action.{Action}
-use Rattle.reactor_core.specs.declared.entry.Action.TheVariants.{Load, Step}
+use Rattle.reactor_core.specs.Meaning.{PastMove}
+use Rattle.reactor_core.specs.declared.entry.Move.TheVariants.{Load, Step}
 use Rattle.reactor_core.specs.declared.entry.SlotEntry.{SlotEntry}
 use Rattle.audit_report.specs.declared.finding.Finding.{Finding}
 use Rattle.audit_report.specs.declared.finding.Finding.TheVariants.{Policy, Version, Refused, Reaction, Memory}
 
--- the action is a load
-abbrev pub is_load : Action → Bool
+-- the move is a load
+abbrev pub is_load : PastMove → Bool
 is_load (Load l) = true
 is_load _ = false
 
--- the action is a step
-abbrev pub is_step : Action → Bool
+-- the move is a step
+abbrev pub is_step : PastMove → Bool
 is_step (Step i) = true
 is_step _ = false
 
@@ -26,8 +26,8 @@ policy_line entries = codes "policy: " ++ (decimal (length entries) ++ codes " e
 abbrev pub counts_line : (slot : ℕ) → List SlotEntry → List ℕ
 counts_line slot journal =
     codes "slot " ++ (decimal slot ++ (codes ": " ++ (decimal (length journal) ++ (codes " entries, "
-    ++ (decimal (count_by (λ (e : SlotEntry). is_load e.action) journal) ++ (codes " loads, "
-    ++ (decimal (count_by (λ (e : SlotEntry). is_step e.action) journal) ++ codes " instants\n")))))))
+    ++ (decimal (count_by (λ (e : SlotEntry). is_load e.done) journal) ++ (codes " loads, "
+    ++ (decimal (count_by (λ (e : SlotEntry). is_step e.done) journal) ++ codes " instants\n")))))))
 
 -- the line of a slot, if its journal has entries
 abbrev pub slot_line : (slot : ℕ) → List SlotEntry → List ℕ

@@ -17,7 +17,7 @@ use est_kernel::state::{Inputs, Outcome, State};
 use est_left::order::is_in_order;
 use est_left::states::is_same_state;
 use est_rounds::engine::Engine;
-use reactor_core::entry::Action;
+use reactor_core::entry::{Move, PastInstant};
 use reactor_core::laws::one_module;
 use reactor_core::nesting::nests_locals;
 use reactor_core::reactor::Reactor;
@@ -26,12 +26,12 @@ use reactor_core::reactor::Reactor;
 /// plain engine takes twice as long.
 const ASKED_LOCALS: u16 = 6;
 
-/// What the second engine says of an action before it is replayed.
+/// What the second engine says of a move before it is replayed.
 #[derive(Clone, Copy)]
 pub(crate) enum Opinion {
     /// It is not asked.
     NotAsked,
-    /// It has no reaction, or one with other outputs than the action keeps.
+    /// It has no reaction, or one with other outputs than the entry keeps.
     Other,
     /// It has one with these outputs. Its next state says nothing of the slot's.
     SameOutputs,
@@ -90,15 +90,19 @@ fn opinion_of_step<E: Engine>(engine: &mut E, reactor: &Reactor, outputs: u64) -
     }
 }
 
-/// What this engine says of an action, if it is a step of what runs in the slot.
-pub(crate) fn opinion_of<E: Engine>(engine: &mut E, slot: &Slot, action: &Action) -> Opinion
+/// What this engine says of a move, if it is a step of what runs in the slot.
+pub(crate) fn opinion_of<E: Engine>(
+    engine: &mut E,
+    slot: &Slot,
+    done: &Move<PastInstant>,
+) -> Opinion
     requires { (e : E) (kernel : KernelValue) → E.is_for e kernel }
-    ensures { Thinks slot.now.journal action.now result }
+    ensures { Thinks slot.now.journal done.now result }
 {
     let Some(reactor) = slot.reactor() else {
         return Opinion::NotAsked;
     };
-    match action.instant() {
+    match done.instant() {
         Some(stored) => opinion_of_step(engine, reactor, stored.outputs),
         None => Opinion::NotAsked,
     }
@@ -117,7 +121,7 @@ fn leaves(slot: &Slot, next: &State) -> bool
 }
 
 impl Opinion {
-    /// Whether the slot is, after the action, as the opinion has it.
+    /// Whether the slot is, after the move, as the opinion has it.
     pub(crate) fn holds_after(&self, slot: &Slot) -> bool
         ensures same { result ≡ true → Holds slot.now.journal self.now }
         ensures other { result ≡ false → Fails slot.now.journal self.now }

@@ -3,7 +3,8 @@
 ghost use Rattle.std.specs.Prelude.{◌≡◌, ℕ, List, Some, slice_get, take};
 ghost use Rattle.rbac_policy.specs.declared.commands.Entry.{Entry};
 ghost use Rattle.reactor_core.specs.declared.entry.SlotEntry.{SlotEntry};
-ghost use Rattle.access_core.specs.Journals.{command_of};
+ghost use Rattle.reactor_core.specs.Meaning.{asked};
+ghost use Rattle.access_core.specs.declared.command.SlotCommand.TheVariants.{Move};
 ghost use Rattle.access_core.specs.Needs.{Needs};
 ghost use Rattle.audit_report.specs.declared.finding.Finding.{Finding};
 ghost use Rattle.audit_report.specs.declared.finding.Finding.TheVariants.{Memory};
@@ -31,7 +32,7 @@ pub fn each_entry_was_allowed()
         → HaveNoFinding entries slots → slice_get slots number ≡ Some journal
         → slice_get journal at ≡ Some entry
         → Needs (take entry.stamp.version entries) number entry.stamp.session
-        (command_of entry.action) }
+        (Move (asked entry.done)) }
 {
     journals_are_legal();
 }

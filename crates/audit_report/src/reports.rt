@@ -10,27 +10,27 @@ use crate::audit::check;
 use crate::finding::Finding;
 use rbac_policy::journal::PolicyJournal;
 use rbac_policy::objects::SLOTS;
-use reactor_core::entry::{Action, SlotEntry};
+use reactor_core::entry::{Move, SlotEntry};
 use reactor_core::journal::Journal;
 use std::alloc::{AllocError, Global};
 
 /// How many of the entries are loads.
 fn count_loads(entries: &[SlotEntry]) -> usize
-    ensures { result ≡ count_by (λ (e : SlotEntry). is_load e.action) entries.now }
+    ensures { result ≡ count_by (λ (e : SlotEntry). is_load e.done) entries.now }
 {
     entries
         .iter()
-        .filter(|entry| matches!(entry.action, Action::Load(_)))
+        .filter(|entry| matches!(entry.done, Move::Load(_)))
         .count()
 }
 
 /// How many of the entries are steps.
 fn count_steps(entries: &[SlotEntry]) -> usize
-    ensures { result ≡ count_by (λ (e : SlotEntry). is_step e.action) entries.now }
+    ensures { result ≡ count_by (λ (e : SlotEntry). is_step e.done) entries.now }
 {
     entries
         .iter()
-        .filter(|entry| matches!(entry.action, Action::Step(_)))
+        .filter(|entry| matches!(entry.done, Move::Step(_)))
         .count()
 }
 

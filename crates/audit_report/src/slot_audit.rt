@@ -20,7 +20,7 @@ use est_rounds::engine::Engine;
 use rbac_policy::commands::{Entry, SessionId};
 use rbac_policy::objects::SlotNumber;
 use rbac_policy::policy::Policy;
-use reactor_core::entry::{Action, PastInstant, SlotEntry};
+use reactor_core::entry::{Move, PastInstant, SlotEntry};
 use reactor_core::laws::one_module;
 use std::alloc::Global;
 
@@ -40,16 +40,16 @@ fn last_instant(entries: &[SlotEntry]) -> Option<PastInstant>
     ensures { result ≡ last_instant entries.now }
 {
     match entries.last() {
-        Some(entry) => entry.action.instant(),
+        Some(entry) => entry.done.instant(),
         None => None,
     }
 }
 
-/// Whether the last of the entries keeps the instant that the action does, where that is a step.
-fn keeps_instant(entries: &[SlotEntry], action: &Action) -> bool
-    ensures { IsTrue result ↔ KeepsInstant entries.now action.now }
+/// Whether the last of the entries keeps the instant that the move does, where that is a step.
+fn keeps_instant(entries: &[SlotEntry], done: &Move<PastInstant>) -> bool
+    ensures { IsTrue result ↔ KeepsInstant entries.now done.now }
 {
-    match action.instant() {
+    match done.instant() {
         Some(stored) => last_instant(entries) == Some(stored),
         None => true,
     }
@@ -91,17 +91,17 @@ fn replay_entry<E: Engine>(
         → length judged ≡ entry.now.stamp.version
         → Replays judged slot.old.number slot.old.journal entry.now result slot.new.journal }
 {
-    let Ok(command) = SlotCommand::of_action(alloc, &entry.action) else {
+    let Ok(asked) = entry.done.asked(alloc) else {
         return Err(Fault::Memory);
     };
     let session = SessionId::new(entry.stamp.session);
     one_module();
-    let opinion = opinion_of(engine, slot, &entry.action);
-    match decide_slot(policy, slot, session, command) {
+    let opinion = opinion_of(engine, slot, &entry.done);
+    match decide_slot(policy, slot, session, SlotCommand::Move(asked)) {
         Reply::Refused(refusal) => Err(fault_of(&refusal)),
         _ => {
             let holds = opinion.holds_after(slot);
-            if holds && keeps_instant(slot.journal().entries(), &entry.action) {
+            if holds && keeps_instant(slot.journal().entries(), &entry.done) {
                 Ok(())
             } else {
                 Err(Fault::Reaction)

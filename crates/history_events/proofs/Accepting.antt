@@ -19,7 +19,8 @@ use Rattle.reactor_core.specs.Answers.{OfferAnswer}
 use Rattle.reactor_core.specs.Instants.{KeepsRelations}
 use Rattle.reactor_core.proofs.OneMeaning.{OneModule, same_running, is_loaded_where, not_both, ready_or_lacking}
 use Rattle.access_core.specs.declared.command.SlotCommand.{SlotCommand}
-use Rattle.access_core.specs.declared.command.SlotCommand.TheVariants.{Offer, Step}
+use Rattle.reactor_core.specs.declared.entry.Move.TheVariants.{Offer, Step}
+use Rattle.access_core.specs.declared.command.SlotCommand.TheVariants.{Move}
 use Rattle.access_core.specs.declared.refusal.Refusal.{Refusal}
 use Rattle.access_core.specs.declared.reply.Reply.{Reply}
 use Rattle.access_core.specs.declared.reply.Reply.TheVariants.{Refused}
@@ -111,7 +112,7 @@ module _ (modules : OneModule) (entries : List Entry) (slot session : ℕ) (befo
         (λ p. absurd (no_ok refusal p.next.0)) p.next) p.next) p.next) p.next) p.next) given.given
 
   pub offer_accepted : (name : List ℕ) → CanOffer running name → May entries session ToOffer (Signal slot name)
-      → SlotStep entries slot session (Offer name) before reply after → IsAccepted reply
+      → SlotStep entries slot session (Move (Offer name)) before reply after → IsAccepted reply
   offer_accepted name can may =
       ⊎_elim (λ r. absurd (r.given.1 (may.user, may.lives)))
       (λ p. ⊎_elim (λ r. absurd (r.given.1 may))
@@ -119,7 +120,7 @@ module _ (modules : OneModule) (entries : List Entry) (slot session : ℕ) (befo
       (λ p. offer_taken name can p.next) p.next) p.next)
 
   pub step_accepted : May entries session ToStep (Slot slot) → KeepsRelations before → HasReaction before
-      → SlotStep entries slot session Step before reply after → IsAccepted reply
+      → SlotStep entries slot session (Move (Step (record {}))) before reply after → IsAccepted reply
   step_accepted may keeps has =
       ⊎_elim (λ r. absurd (r.given.1 (may.user, may.lives)))
       (λ p. ⊎_elim (λ r. absurd (r.given.1 may))
@@ -178,24 +179,25 @@ can_offer running name input new kept = record {
 
 pub offer_law : OneModule → (past : List Moment) (m : Moment) (seat version slot session : ℕ) (name : List ℕ)
     (running : Running) → Comes past m
-    → m.event ≡ OnSlot seat version slot session (Offer name) → MeetsNoLimit m.reply
+    → m.event ≡ OnSlot seat version slot session (Move (Offer name)) → MeetsNoLimit m.reply
     → RunsAfter (journal_at m.before slot) running → IsInputName running.interface name → ¬ (WasOffered past slot name)
     → (IsAccepted m.reply
     ↔ (May (take version m.before.entries) session ToOffer (Signal slot name) × ¬ (IsExcluded running name)))
 offer_law modules past m seat version slot session name running comes is limit runs input new =
-    let step : EventStep (OnSlot seat version slot session (Offer name)) m.before m.reply m.after =
+    let step : EventStep (OnSlot seat version slot session (Move (Offer name))) m.before m.reply m.after =
     subst (λ e. EventStep e m.before m.reply m.after) is (step_of past m comes) in
     let no_stand : StandsIn running.interface running.pending name → ⊥ =
     λ s. new ((pending_as_offered modules past m comes slot running runs name).0 s) in (
       λ accepted.
-          let added = adds_entry m seat version slot session (Offer name) (offer_adds name (Offer name) refl) accepted
-          (by_event m (OnSlot seat version slot session (Offer name)) step) in
+          let added = adds_entry m seat version slot session (Move (Offer name))
+          (offer_adds name (Move (Offer name)) refl) accepted
+          (by_event m (OnSlot seat version slot session (Move (Offer name))) step) in
           let here : RunsAfter (journal_at m.before slot) added.is.running =
           subst (λ j. RunsAfter j added.is.running) (sym (ap journal_in added.there)) added.is.runs in
           let same : added.is.running ≡ running = same_running modules
           (journal_at m.before slot) added.is.running running here runs in
           (added.allowed, (subst (λ (r : Running). CanOffer r name) same added.is.can).kept),
-      λ both. judged_accepted m seat version slot session (Offer name) limit (both.0.user, both.0.lives)
+      λ both. judged_accepted m seat version slot session (Move (Offer name)) limit (both.0.user, both.0.lives)
           (slot_below m.before.slots slot running (sixteen_slots past m comes) runs)
           (λ after h. offer_accepted modules (take version m.before.entries) slot session
           (journal_at m.before slot) m.reply after limit running runs
@@ -205,23 +207,24 @@ offer_law modules past m seat version slot session name running comes is limit r
 
 pub step_law : OneModule → (past : List Moment) (m : Moment) (seat version slot session : ℕ) (running : Running)
     → Comes past m
-    → m.event ≡ OnSlot seat version slot session Step → MeetsNoLimit m.reply
+    → m.event ≡ OnSlot seat version slot session (Move (Step (record {}))) → MeetsNoLimit m.reply
     → RunsAfter (journal_at m.before slot) running
     → (IsAccepted m.reply
     ↔ (May (take version m.before.entries) session ToStep (Slot slot) × KeepsRelations (journal_at m.before slot)
     × HasReaction (journal_at m.before slot)))
 step_law modules past m seat version slot session running comes is limit runs =
-    let step : EventStep (OnSlot seat version slot session Step) m.before m.reply m.after =
+    let step : EventStep (OnSlot seat version slot session (Move (Step (record {})))) m.before m.reply m.after =
     subst (λ e. EventStep e m.before m.reply m.after) is (step_of past m comes) in (
       λ accepted.
-          let added = adds_entry m seat version slot session Step (step_adds Step refl) accepted
-          (by_event m (OnSlot seat version slot session Step) step) in
+          let added = adds_entry m seat version slot session (Move (Step (record {})))
+          (step_adds (Move (Step (record {}))) refl) accepted
+          (by_event m (OnSlot seat version slot session (Move (Step (record {})))) step) in
           let here = sym (ap journal_in added.there) in (
             added.allowed,
             subst KeepsRelations here added.is.lawful,
             subst HasReaction here (added.is.outputs, added.is.next, added.is.outcome),
           ),
-      λ all. judged_accepted m seat version slot session Step limit (all.0.user, all.0.lives)
+      λ all. judged_accepted m seat version slot session (Move (Step (record {}))) limit (all.0.user, all.0.lives)
           (slot_below m.before.slots slot running (sixteen_slots past m comes) runs)
           (λ after h. step_accepted modules (take version m.before.entries) slot session
           (journal_at m.before slot) m.reply after limit running runs

@@ -8,7 +8,7 @@ use Rattle.rbac_policy.specs.declared.commands.Entry.{Entry}
 use Rattle.rbac_policy.specs.Facts.{IsLive}
 use Rattle.rbac_admin.specs.declared.refusal.Refusal.{Refusal as PolicyRefusal}
 use Rattle.rbac_admin.specs.PolicyStep.{PolicyStep, policy_rules, entry_of}
-use Rattle.reactor_core.specs.declared.entry.Action.{Action}
+use Rattle.reactor_core.specs.Meaning.{PastMove}
 use Rattle.reactor_core.specs.declared.entry.SlotEntry.{SlotEntry}
 use Rattle.reactor_core.specs.declared.entry.Word.TheVariants as word
 use Rattle.reactor_core.specs.declared.refusal.Refusal.{Refusal as ReactorRefusal}
@@ -17,8 +17,9 @@ use Rattle.est_relations.specs.Offers.{offer_rules as pending_rules}
 use Rattle.reactor_core.specs.Converting.{all_converted}
 use Rattle.reactor_core.specs.Faults.{refusal_of_pending}
 use Rattle.reactor_core.specs.Meaning.{Running, pending_of}
+use Rattle.reactor_core.specs.declared.entry.Move.TheVariants.{Load, Offer, Discard, Step, Unload}
 use Rattle.access_core.specs.declared.command.SlotCommand.{SlotCommand}
-use Rattle.access_core.specs.declared.command.SlotCommand.TheVariants.{Load, Offer, Discard, Step, Unload, Look, Audit}
+use Rattle.access_core.specs.declared.command.SlotCommand.TheVariants.{Move, Look, Audit}
 use Rattle.access_core.specs.declared.refusal.Refusal.{Refusal}
 use Rattle.access_core.specs.declared.refusal.Refusal.TheVariants.{Policy, JournalFull, Memory}
 use Rattle.access_core.specs.declared.reply.Reply.{Reply}
@@ -153,8 +154,8 @@ module _ (entries : List Entry) (slot session : ℕ) (before : List SlotEntry) (
         (first_or_none rules _ _ (split rules (entry_rules before) _ _ given.given))
 
   -- an entry that has room is added, where no memory is refused
-  adds_named : {action : Action} → Answers (slot_entry_rules before) (λ refusal. IsRefused refusal before reply after)
-      (AddsEntry action (stamp_of entries session) before reply after)
+  adds_named : {move : PastMove} → Answers (slot_entry_rules before) (λ refusal. IsRefused refusal before reply after)
+      (AddsEntry move (stamp_of entries session) before reply after)
       → Named (journal_full before ▸ accept) reply
   adds_named = on (λ _ h. let adds = unmoved h in subst IsAccepted (sym adds.replied) tt)
 
@@ -162,18 +163,18 @@ module _ (entries : List Entry) (slot session : ℕ) (before : List SlotEntry) (
   slot_named : (command : SlotCommand) → IsLive entries session
       → SlotStep entries slot session command before reply after
       → Named (asked_rules entries slot session command before) reply
-  slot_named (Load main text) live =
-      ⊎_elim (λ r. absurd (r.given.1 live)) (λ p. on (λ _. on (λ _ h. loads main text h)) p.next)
-  slot_named (Offer signal) live =
+  slot_named (Move (Load l)) live =
+      ⊎_elim (λ r. absurd (r.given.1 live)) (λ p. on (λ _. on (λ _ h. loads l.main l.text h)) p.next)
+  slot_named (Move (Offer signal)) live =
       ⊎_elim (λ r. absurd (r.given.1 live)) (λ p. on (λ _. on (λ _ h. offers signal h)) p.next)
-  slot_named Discard live =
+  slot_named (Move Discard) live =
       ⊎_elim (λ r. absurd (r.given.1 live)) (λ p. on (λ _. on (λ _. adds_named)) p.next)
-  slot_named Step live =
+  slot_named (Move (Step i)) live =
       ⊎_elim (λ r. absurd (r.given.1 live))
       (λ p. on
       (λ _. on (λ _. on (λ _ h. on (λ _. on (λ _ steps. subst IsAccepted (sym steps.replied) tt)) (unmoved h))))
       p.next)
-  slot_named Unload live =
+  slot_named (Move Unload) live =
       ⊎_elim (λ r. absurd (r.given.1 live)) (λ p. on (λ _. on (λ _. adds_named)) p.next)
   slot_named (Look n) live =
       ⊎_elim (λ r. absurd (r.given.1 live))

@@ -1,17 +1,17 @@
 -- A signal enters an instant where it was offered.
 use Rattle.std.proofs.Common.{◌≡◌, ◌↔◌, ℕ, List, [], ◌∷◌, ◌++◌, take, sym, ◌∙◌, ap, inl, inr, subst}
-use Rattle.reactor_core.specs.declared.entry.Action.{Action}
-use Rattle.reactor_core.specs.declared.entry.Action.TheVariants as action
+use Rattle.reactor_core.specs.Meaning.{PastMove}
+use Rattle.reactor_core.specs.declared.entry.Move.TheVariants.{Step}
 use Rattle.reactor_core.specs.declared.entry.Stamp.{Stamp}
 use Rattle.reactor_core.specs.declared.entry.PastInstant.{PastInstant}
 use Rattle.reactor_core.specs.declared.entry.SlotEntry.{SlotEntry}
 use Rattle.reactor_core.specs.Meaning.{entry, instant, Running}
 use Rattle.reactor_core.proofs.OneMeaning.{OneModule, same_running}
 use Rattle.access_core.specs.declared.command.SlotCommand.{SlotCommand}
-use Rattle.access_core.specs.declared.command.SlotCommand.TheVariants.{Step}
+use Rattle.access_core.specs.declared.command.SlotCommand.TheVariants.{Move}
 use Rattle.history_events.specs.declared.event.Event.{Event}
 use Rattle.history_events.specs.declared.event.Event.TheVariants.{Admin, OnSlot}
-use Rattle.history_events.specs.Changing.{Moves, IsActionOf, RunsInstant}
+use Rattle.history_events.specs.Changing.{Moves, IsMoveOf, RunsInstant}
 use Rattle.history_events.specs.Entering.{Accepts, IsOn, IsStep, WasOffered, StandsIn, AddsInstantAt, Enters}
 use Rattle.history_events.specs.Runs.{Moment, EventStep, Comes, journal_at}
 use Rattle.history_events.proofs.Following.{reached}
@@ -30,9 +30,9 @@ step_of past m comes = (reached (λ past world. Unit {0}) (λ past m were step. 
 pub same_instant : OneModule → (m : Moment) (slot : ℕ) (r s : Running) (i j : PastInstant) → AddsInstantAt m slot r i
     → AddsInstantAt m slot s j → (r ≡ s) × (i ≡ j)
 same_instant modules m slot r s i j one other =
-    let entries : entry one.stamp (action.Step i) ≡ entry other.stamp (action.Step j) =
+    let entries : entry one.stamp (Step i) ≡ entry other.stamp (Step j) =
     last_same (journal_at m.before slot) _ _ (sym one.added ∙ other.added) in
-    let actions : action.Step i ≡ action.Step j = ap (λ (e : SlotEntry). e.action) entries in
+    let moves : Step i ≡ Step j = ap (λ (e : SlotEntry). e.done) entries in
     (same_running modules (journal_at m.before slot) r s one.runs other.runs, cc)
 
 -- an accepted step of the slot adds the instant of what is pending
@@ -44,7 +44,7 @@ pub record Steps (m : Moment) (slot : ℕ) : Type 0 where
 pub accepted_steps : (m : Moment) (slot : ℕ) → EventStep m.event m.before m.reply m.after → Accepts slot IsStep m
     → Steps m slot
 accepted_steps m slot step accepts = by_event m.event step accepts.0 where
-  stepped : (number : ℕ) (stamp : Stamp) (does : Action) → RunsInstant (journal_at m.before number) does
+  stepped : (number : ℕ) (stamp : Stamp) (does : PastMove) → RunsInstant (journal_at m.before number) does
       → journal_at m.after number ≡ journal_at m.before number ++ entry stamp does ∷ [] → Steps m number
   stepped number stamp does is added = record {
     running = is.outcome.running;
@@ -56,11 +56,11 @@ accepted_steps m slot step accepts = by_event m.event step accepts.0 where
     };
   }
 
-  by_moves : (version number session : ℕ) (command : SlotCommand) → command ≡ Step
+  by_moves : (version number session : ℕ) (command : SlotCommand) → command ≡ Move (Step (record {}))
       → Moves (take version m.before.entries) session command (journal_at m.before number) m.reply
       (journal_at m.after number) → Steps m number
   by_moves version number session command c (inl h) =
-      stepped number _ h.does (subst (λ c. IsActionOf c (journal_at m.before number) h.does) c h.is) h.added
+      stepped number _ h.does (subst (λ c. IsMoveOf c (journal_at m.before number) h.does) c h.is) h.added
   by_moves version number session command c (inr h) =
       absurd (step_adds command c (h.no_more accepts.1))
 

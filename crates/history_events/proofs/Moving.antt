@@ -4,7 +4,7 @@ use Rattle.std.specs.Prelude.{Result, Ok, Err, MatchResult}
 use Rattle.refusal_rules.specs.Rules.{AllPass}
 use Rattle.refusal_rules.proofs.RuleLemmas.{all_passed, first_or_none}
 use Rattle.rbac_policy.specs.declared.commands.Entry.{Entry}
-use Rattle.reactor_core.specs.declared.entry.Action.TheVariants as action
+use Rattle.reactor_core.specs.declared.entry.Move.TheVariants.{Load, Offer, Discard, Step, Unload}
 use Rattle.reactor_core.specs.declared.entry.SlotEntry.{SlotEntry}
 use Rattle.reactor_core.specs.declared.entry.Word.TheVariants as word
 use Rattle.reactor_core.specs.declared.refusal.Refusal.{Refusal as ReactorRefusal}
@@ -12,7 +12,7 @@ use Rattle.reactor_core.specs.Meaning.{instant, is_loaded}
 use Rattle.reactor_core.specs.Answers.{HasRoom, LoadAnswer, OfferAnswer, AddsLoad, load_of, load_rules, offer_rules}
 use Rattle.reactor_core.specs.Instants.{KeepsRelations}
 use Rattle.access_core.specs.declared.command.SlotCommand.{SlotCommand}
-use Rattle.access_core.specs.declared.command.SlotCommand.TheVariants.{Load, Offer, Discard, Step, Unload, Look, Audit}
+use Rattle.access_core.specs.declared.command.SlotCommand.TheVariants.{Move, Look, Audit}
 use Rattle.access_core.specs.declared.refusal.Refusal.{Refusal}
 use Rattle.access_core.specs.declared.reply.Reply.{Reply}
 use Rattle.access_core.specs.declared.reply.Reply.TheVariants.{Refused}
@@ -34,14 +34,14 @@ module _ (entries : List Entry) (slot session : ℕ) (before : List SlotEntry) (
 
   loads : (main text : List ℕ) → (is_loaded before ≡ true → ⊥)
       → Loads (stamp_of entries session) main text before reply after
-      → Moves entries session (Load main text) before reply after
+      → Moves entries session (Move (Load (load_of main text))) before reply after
   loads main text none h = by_answer h.answer h.given h.replied where
     by_answer : (answer : Result (List SlotEntry) (ReactorRefusal × List SlotEntry))
         → LoadAnswer before (stamp_of entries session) main text answer
         → MatchResult answer
         (λ journal. (after ≡ journal) × (reply ≡ tells_added word.Load (length entries) after))
         (λ refused. IsRefused (of_reactor refused.0) before reply after)
-        → Moves entries session (Load main text) before reply after
+        → Moves entries session (Move (Load (load_of main text))) before reply after
     by_answer (Ok journal) given replied =
         let passed = all_passed (load_rules before main text) (λ refusal. Ok journal ≡ Err (refusal, before))
         ((longer : List SlotEntry) × (Ok journal ≡ Ok longer)
@@ -52,29 +52,29 @@ module _ (entries : List Entry) (slot session : ℕ) (before : List SlotEntry) (
         let same : journal ≡ longer = cc in
         inl (record {
           accepted = subst IsAccepted (sym replied.1) tt;
-          does = action.Load (load_of main text);
+          does = Load (load_of main text);
           is = record { empty = none; given = adds.given; gives = adds.gives; is = refl };
           room = passed.0.1.0;
           added = replied.0 ∙ same ∙ adds.added;
           told = replied.1;
         })
-    by_answer (Err refusal) given replied = refused (Load main text) _ replied
+    by_answer (Err refusal) given replied = refused (Move (Load (load_of main text))) _ replied
 
   offers : (signal : List ℕ) → Offers (stamp_of entries session) signal before reply after
-      → Moves entries session (Offer signal) before reply after
+      → Moves entries session (Move (Offer signal)) before reply after
   offers signal h = by_answer h.answer h.given h.replied where
     by_answer : (answer : Result (Unit {0}) ReactorRefusal)
         → OfferAnswer before (stamp_of entries session) signal answer after
         → MatchResult answer
         (λ _. reply ≡ tells_added word.Offer (length entries) after)
         (λ refusal. IsRefused (of_reactor refusal) before reply after)
-        → Moves entries session (Offer signal) before reply after
+        → Moves entries session (Move (Offer signal)) before reply after
     by_answer (Ok done) given replied =
         let passed = all_passed (offer_rules before given.running signal) _ _
         (λ refusal e. let no = e.0 in cc) given.given in
         inl (record {
           accepted = subst IsAccepted (sym replied) tt;
-          does = action.Offer signal;
+          does = Offer signal;
           is = record {
             running = given.running;
             runs = given.runs;
@@ -90,13 +90,13 @@ module _ (entries : List Entry) (slot session : ℕ) (before : List SlotEntry) (
           added = passed.1.1;
           told = replied;
         })
-    by_answer (Err refusal) given replied = refused (Offer signal) _ replied
+    by_answer (Err refusal) given replied = refused (Move (Offer signal)) _ replied
 
   steps : KeepsRelations before → HasRoom before → Steps (stamp_of entries session) before reply after
-      → Moves entries session Step before reply after
+      → Moves entries session (Move (Step (record {}))) before reply after
   steps lawful room h = inl (record {
     accepted = subst IsAccepted (sym h.replied) tt;
-    does = action.Step (instant h.adds.outcome.running.pending h.outputs);
+    does = Step (instant h.adds.outcome.running.pending h.outputs);
     is = record { lawful = lawful; outputs = h.outputs; next = h.next; outcome = h.adds.outcome; is = refl };
     room = room;
     added = h.adds.appended;
@@ -107,20 +107,20 @@ module _ (entries : List Entry) (slot session : ℕ) (before : List SlotEntry) (
   does : (command : SlotCommand) → AllPass (slot_rules entries slot session command before)
       → Does entries slot session command before reply after
       → Moves entries session command before reply after
-  does (Load main text) all h = loads main text all.1.1.0 h
-  does (Offer signal) all h = offers signal h
-  does Discard all h = inl (record {
+  does (Move (Load l)) all h = loads l.main l.text all.1.1.0 h
+  does (Move (Offer signal)) all h = offers signal h
+  does (Move Discard) all h = inl (record {
     accepted = subst IsAccepted (sym h.replied) tt;
-    does = action.Discard;
+    does = Discard;
     is = record { loaded = all.1.1.0; is = refl };
     room = all.1.1.1.0;
     added = h.added;
     told = h.replied;
   })
-  does Step all h = steps all.1.1.1.0 all.1.1.1.1.1.1.0 h
-  does Unload all h = inl (record {
+  does (Move (Step i)) all h = steps all.1.1.1.0 all.1.1.1.1.1.1.0 h
+  does (Move Unload) all h = inl (record {
     accepted = subst IsAccepted (sym h.replied) tt;
-    does = action.Unload;
+    does = Unload;
     is = record { loaded = all.1.1.0; is = refl };
     room = all.1.1.1.0;
     added = h.added;

@@ -2,19 +2,19 @@
 use Rattle.std.proofs.Common.{◌≡◌, ◌⊎◌, ◌↔◌, ℕ, List, [], ◌∷◌, ◌++◌, take, refl, sym, ◌∙◌, ap, inl, inr, subst}
 use Rattle.std.specs.Prelude.{None, Some}
 use Rattle.est_relations.specs.Offers.{place_of}
-use Rattle.reactor_core.specs.declared.entry.Action.{Action}
+use Rattle.reactor_core.specs.Meaning.{PastMove}
 use Rattle.reactor_core.specs.declared.entry.SlotEntry.{SlotEntry}
-use Rattle.reactor_core.specs.declared.entry.Action.TheVariants as action
+use Rattle.reactor_core.specs.declared.entry.Move.TheVariants.{Load, Offer, Discard, Step, Unload}
 use Rattle.reactor_core.specs.Meaning.{entry, last_load, load_after, offers_of, offers_after, instants_of, mask_of}
 use Rattle.reactor_core.specs.Meaning.{with_signal, Running, RunsAfter}
 use Rattle.reactor_core.proofs.OneMeaning.{OneModule, same_running}
 use Rattle.reactor_core.proofs.Steps.{after_snoc}
 use Rattle.access_core.specs.declared.command.SlotCommand.{SlotCommand}
-use Rattle.access_core.specs.declared.command.SlotCommand.TheVariants.{Load, Offer, Discard, Step, Unload, Look, Audit}
+use Rattle.access_core.specs.declared.command.SlotCommand.TheVariants.{Move, Look, Audit}
 use Rattle.access_core.specs.SlotStep.{stamp_of}
 use Rattle.history_events.specs.declared.event.Event.{Event}
 use Rattle.history_events.specs.declared.event.Event.TheVariants.{Admin, OnSlot}
-use Rattle.history_events.specs.Changing.{AddsAction, IsActionOf}
+use Rattle.history_events.specs.Changing.{AddsMove, IsMoveOf}
 use Rattle.history_events.specs.Entering.{Accepts, IsOn, IsOfferOf, IsLoad, IsStep, EmptiesPending, WasOffered}
 use Rattle.history_events.specs.Entering.{StandsIn}
 use Rattle.history_events.specs.Runs.{Moment, Comes, journal_at}
@@ -57,19 +57,20 @@ no_question command other same no_look no_audit (inr audit) = no_audit (sym same
 
 -- an offer adds an entry
 pub offer_adds : (name : List ℕ) (command : SlotCommand) → IsOfferOf name command → Adds command
-offer_adds name command offer = no_question command (Offer name) offer (λ n e. absurd cc) (λ e. absurd cc)
+offer_adds name command offer = no_question command (Move (Offer name)) offer (λ n e. absurd cc) (λ e. absurd cc)
 
 -- so do a load, a step and a discard
 pub load_adds : (command : SlotCommand) → IsLoad command → Adds command
-load_adds command load = no_question command (Load load.0 load.1) load.2 (λ n e. absurd cc) (λ e. absurd cc)
+load_adds command load = no_question command (Move (Load load.0)) load.1 (λ n e. absurd cc) (λ e. absurd cc)
 
 pub step_adds : (command : SlotCommand) → IsStep command → Adds command
-step_adds command step = no_question command Step step (λ n e. absurd cc) (λ e. absurd cc)
+step_adds command step = no_question command (Move (Step (record {}))) step (λ n e. absurd cc) (λ e. absurd cc)
 
 emptying_adds : (command : SlotCommand) → EmptiesPending command → Adds command
 emptying_adds command (inl load) = load_adds command load
 emptying_adds command (inr (inl step)) = step_adds command step
-emptying_adds command (inr (inr discard)) = no_question command Discard discard (λ n e. absurd cc) (λ e. absurd cc)
+emptying_adds command (inr (inr discard)) = no_question command (Move Discard) discard (λ n e. absurd cc)
+    (λ e. absurd cc)
 
 -- a fact of the command of an event follows from another one
 pub on_more : {P Q : SlotCommand → Type 0} (slot : ℕ) (m : Moment) → ((command : SlotCommand) → P command → Q command)
@@ -90,7 +91,7 @@ idle past m slot journal none were r runs name =
 
 module _ (one : OneModule) (past : List Moment) (m : Moment) (seat version slot session : ℕ) (command : SlotCommand)
     (is : m.event ≡ OnSlot seat version slot session command)
-    (a : AddsAction (take version m.before.entries) session command (journal_at m.before slot) m.reply
+    (a : AddsMove (take version m.before.entries) session command (journal_at m.before slot) m.reply
     (journal_at m.after slot))
     (were : PendingAsOffered past slot (journal_at m.before slot)) where
   abbrev Pushed : List ℕ → Type 0
@@ -106,14 +107,14 @@ module _ (one : OneModule) (past : List Moment) (m : Moment) (seat version slot 
   of_command : (P : SlotCommand → Type 0) → Accepts slot P m → P command
   of_command P h = (subst (IsOn slot P) is h.0).1
 
-  offers_then : (does : Action) → a.does ≡ does → offers_of (journal_at m.after slot)
+  offers_then : (does : PastMove) → a.does ≡ does → offers_of (journal_at m.after slot)
       ≡ offers_after (offers_of (journal_at m.before slot)) does
   offers_then does same =
       ap offers_of a.added ∙ after_snoc offers_after [] (journal_at m.before slot)
       (entry (stamp_of (take version m.before.entries) session) a.does)
       ∙ ap (offers_after (offers_of (journal_at m.before slot))) same
 
-  load_then : (does : Action) → a.does ≡ does → last_load (journal_at m.after slot)
+  load_then : (does : PastMove) → a.does ≡ does → last_load (journal_at m.after slot)
       ≡ load_after (last_load (journal_at m.before slot)) does
   load_then does same =
       ap last_load a.added ∙ after_snoc load_after None (journal_at m.before slot)
@@ -128,7 +129,8 @@ module _ (one : OneModule) (past : List Moment) (m : Moment) (seat version slot 
       emptied_history _ _ _ _ _ (none_stands r.interface r.pending name (runs.offered ∙ ap (mask_of r.interface) none))
       (λ made. no_offer name (of_command (IsOfferOf name) made)) (accepts EmptiesPending empties) (pushed name)
 
-  offers : (signal : List ℕ) → command ≡ Offer signal → IsActionOf (Offer signal) (journal_at m.before slot) a.does
+  offers : (signal : List ℕ) → command ≡ Move (Offer signal)
+      → IsMoveOf (Move (Offer signal)) (journal_at m.before slot) a.does
       → PendingAsOffered (past ++ m ∷ []) slot (journal_at m.after slot)
   offers signal e h r runs name =
       let before : List SlotEntry = journal_at m.before slot in
@@ -141,7 +143,7 @@ module _ (one : OneModule) (past : List Moment) (m : Moment) (seat version slot 
       } in
       let runs_old : RunsAfter before old = record {
         load = runs.load;
-        last = sym (load_then (action.Offer signal) h.is) ∙ runs.last;
+        last = sym (load_then (Offer signal) h.is) ∙ runs.last;
         term = runs.term;
         is = runs.is;
         offered = refl;
@@ -151,33 +153,33 @@ module _ (one : OneModule) (past : List Moment) (m : Moment) (seat version slot 
       let there : place_of r.interface signal ≡ Some h.can.signal.place =
       subst (λ (s : Running). place_of s.interface signal ≡ Some h.can.signal.place) same h.can.signal.there in
       let pending : r.pending ≡ with_signal old.pending (place_of r.interface signal) =
-      runs.offered ∙ ap (mask_of r.interface) (offers_then (action.Offer signal) h.is) in
+      runs.offered ∙ ap (mask_of r.interface) (offers_then (Offer signal) h.is) in
       subst (λ (p : ℕ). StandsIn r.interface p name ↔ WasOffered (past ++ m ∷ []) slot name) (sym pending)
       (more_history _ _ _ _ _ _ _ (offered_stands r.interface old.pending signal name h.can.signal.place there)
       (were old runs_old name) (
-        λ same_name. accepts (IsOfferOf name) (e ∙ ap Offer same_name),
-        λ made. let named : Offer signal ≡ Offer name = sym e ∙ of_command (IsOfferOf name) made in cc,
+        λ same_name. accepts (IsOfferOf name) (e ∙ ap (λ n. Move (Offer n)) same_name),
+        λ made. let named : Move (Offer signal) ≡ Move (Offer name) = sym e ∙ of_command (IsOfferOf name) made in cc,
       )
       (λ undone. not_emptying (subst EmptiesPending e (of_command EmptiesPending undone))) (pushed name)) where
-        not_emptying : EmptiesPending (Offer signal) → ⊥
-        not_emptying (inl load) = let same = load.2 in absurd cc
+        not_emptying : EmptiesPending (Move (Offer signal)) → ⊥
+        not_emptying (inl load) = let same = load.1 in absurd cc
         not_emptying (inr (inl step)) = absurd cc
         not_emptying (inr (inr discard)) = absurd cc
 
-  by_command : (c : SlotCommand) → command ≡ c → IsActionOf c (journal_at m.before slot) a.does
+  by_command : (c : SlotCommand) → command ≡ c → IsMoveOf c (journal_at m.before slot) a.does
       → PendingAsOffered (past ++ m ∷ []) slot (journal_at m.after slot)
-  by_command (Load main text) e h =
-      emptied (offers_then _ h.is) (λ name offer. let same : Load main text ≡ Offer name = sym e ∙ offer in absurd cc)
-      (inl (main, text, e))
-  by_command Step e h =
-      emptied (offers_then _ h.is) (λ name offer. let same : Step ≡ Offer name = sym e ∙ offer in absurd cc)
-      (inr (inl e))
-  by_command Discard e h =
-      emptied (offers_then action.Discard h.is) (λ name offer. let same : Discard ≡ Offer name = sym e ∙ offer in
-      absurd cc) (inr (inr e))
-  by_command Unload e h = λ r runs name. let none : None ≡ Some runs.load =
-      sym (load_then action.Unload h.is) ∙ runs.last in absurd cc
-  by_command (Offer signal) e h = offers signal e h
+  by_command (Move (Load l)) e h =
+      emptied (offers_then _ h.is)
+      (λ name offer. let same : Move (Load l) ≡ Move (Offer name) = sym e ∙ offer in absurd cc) (inl (l, e))
+  by_command (Move (Step i)) e h =
+      emptied (offers_then _ h.is)
+      (λ name offer. let same : Move (Step i) ≡ Move (Offer name) = sym e ∙ offer in absurd cc) (inr (inl e))
+  by_command (Move Discard) e h =
+      emptied (offers_then Discard h.is)
+      (λ name offer. let same : Move Discard ≡ Move (Offer name) = sym e ∙ offer in absurd cc) (inr (inr e))
+  by_command (Move Unload) e h = λ r runs name. let none : None ≡ Some runs.load =
+      sym (load_then Unload h.is) ∙ runs.last in absurd cc
+  by_command (Move (Offer signal)) e h = offers signal e h
   by_command (Look n) e h = absurd h
   by_command Audit e h = absurd h
 

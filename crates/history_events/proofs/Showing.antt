@@ -9,8 +9,8 @@ use Rattle.est_kernel.specs.declared.interface.Declaration.{Declaration}
 use Rattle.rbac_policy.specs.declared.commands.Entry.{Entry}
 use Rattle.rbac_policy.specs.Facts.{IsLive}
 use Rattle.rbac_policy.proofs.Steps.{get_push, take_front, take_whole}
-use Rattle.reactor_core.specs.declared.entry.Action.{Action}
-use Rattle.reactor_core.specs.declared.entry.Action.TheVariants as action
+use Rattle.reactor_core.specs.Meaning.{PastMove}
+use Rattle.reactor_core.specs.declared.entry.Move.TheVariants.{Load, Offer, Discard, Step, Unload}
 use Rattle.reactor_core.specs.declared.entry.Load.{Load as LoadEntry}
 use Rattle.reactor_core.specs.declared.entry.PastInstant.{PastInstant}
 use Rattle.reactor_core.specs.declared.entry.Stamp.{Stamp}
@@ -23,7 +23,7 @@ use Rattle.reactor_core.specs.Reacting.{ReactsWith}
 use Rattle.reactor_core.proofs.OneMeaning.{OneModule, one_term, same_running}
 use Rattle.reactor_core.proofs.Steps.{after_snoc}
 use Rattle.access_core.specs.declared.command.SlotCommand.{SlotCommand}
-use Rattle.access_core.specs.declared.command.SlotCommand.TheVariants.{Load, Offer, Discard, Step, Unload, Look, Audit}
+use Rattle.access_core.specs.declared.command.SlotCommand.TheVariants.{Move, Look, Audit}
 use Rattle.access_core.specs.declared.reply.Reply.{Reply}
 use Rattle.access_core.specs.declared.reply.Reply.TheVariants.{Added, Look as Shown}
 use Rattle.access_core.specs.Answering.{IsRefused}
@@ -32,14 +32,14 @@ use Rattle.access_core.specs.Needs.{IsAccepted}
 use Rattle.access_core.specs.Shown.{shown_of}
 use Rattle.access_core.specs.SlotStep.{SlotStep, stamp_of, tells_added, Looks}
 use Rattle.history_events.specs.declared.event.Event.TheVariants.{OnSlot}
-use Rattle.history_events.specs.Changing.{AddsAction, IsActionOf}
+use Rattle.history_events.specs.Changing.{AddsMove, IsMoveOf}
 use Rattle.history_events.specs.Entering.{Accepts, IsOn, IsStep, IsLoad, StandsIn, WasOffered}
 use Rattle.history_events.specs.Runs.{Moment, EventStep, Comes, desk_of, version_rules, Judged, journal_in, journal_at}
 use Rattle.history_events.specs.Showing.{Reactions, starts, goes_on, WasStep, ShowsReaction}
 use Rattle.history_events.specs.Since.{Since}
 use Rattle.refusal_rules.specs.Rules.{accept, ◌▸◌}
 use Rattle.refusal_rules.proofs.RuleLemmas.{all_passed}
-use Rattle.reactor_core.specs.Answers.{IsInstant, load_of}
+use Rattle.reactor_core.specs.Answers.{IsInstant}
 use Rattle.reactor_core.specs.Loading.{GivenModule}
 use Rattle.access_core.specs.Desk.{no_slot}
 use Rattle.access_core.specs.SlotStep.{no_session, slot_rules}
@@ -117,7 +117,7 @@ idle past m slot journal none known r runs =
 
 module _ (modules : OneModule) (past : List Moment) (m : Moment) (seat version slot session : ℕ) (command : SlotCommand)
     (is : m.event ≡ OnSlot seat version slot session command)
-    (a : AddsAction (take version m.before.entries) session command (journal_at m.before slot) m.reply
+    (a : AddsMove (take version m.before.entries) session command (journal_at m.before slot) m.reply
     (journal_at m.after slot))
     (known : KnownSlot past slot (journal_at m.before slot)) where
   abbrev before : List SlotEntry
@@ -129,13 +129,13 @@ module _ (modules : OneModule) (past : List Moment) (m : Moment) (seat version s
   abbrev stamp : Stamp
   stamp = stamp_of (take version m.before.entries) session
 
-  added : (does : Action) → a.does ≡ does → after ≡ before ++ entry stamp does ∷ []
+  added : (does : PastMove) → a.does ≡ does → after ≡ before ++ entry stamp does ∷ []
   added does same = a.added ∙ ap (λ does. before ++ entry stamp does ∷ []) same
 
-  load_then : (does : Action) → a.does ≡ does → last_load after ≡ load_after (last_load before) does
+  load_then : (does : PastMove) → a.does ≡ does → last_load after ≡ load_after (last_load before) does
   load_then does same = ap last_load (added does same) ∙ after_snoc load_after None before (entry stamp does)
 
-  instants_then : (does : Action) → a.does ≡ does → instants_of after ≡ instants_after (instants_of before) does
+  instants_then : (does : PastMove) → a.does ≡ does → instants_of after ≡ instants_after (instants_of before) does
   instants_then does same = ap instants_of (added does same) ∙ after_snoc instants_after [] before (entry stamp does)
 
   -- the reply to a step, with this number of its instant
@@ -167,22 +167,20 @@ module _ (modules : OneModule) (past : List Moment) (m : Moment) (seat version s
     past = refl;
   }
 
-  not_load : (c : SlotCommand) → command ≡ c → ((main text : List ℕ) → c ≡ Load main text → ⊥) → Accepts slot IsLoad m
-      → ⊥
+  not_load : (c : SlotCommand) → command ≡ c → ((l : LoadEntry) → c ≡ Move (Load l) → ⊥) → Accepts slot IsLoad m → ⊥
   not_load c e none loads =
       let load = (subst (IsOn slot IsLoad) is loads.0).1 in
-      none load.0 load.1 (sym e ∙ load.2)
+      none load.0 (sym e ∙ load.1)
 
-  loads : (main text : List ℕ) → IsActionOf (Load main text) before a.does → KnownSlot (past ++ m ∷ []) slot after
-  loads main text h r runs =
-      let l : LoadEntry = load_of main text in
+  loads : (l : LoadEntry) → IsMoveOf (Move (Load l)) before a.does → KnownSlot (past ++ m ∷ []) slot after
+  loads l h r runs =
       let given : GivenModule = record { interface = r.interface; relations = r.relations; term = runs.term } in
-      let same : l ≡ runs.load = same_Some l runs.load (sym (load_then (action.Load l) h.is) ∙ runs.last) in
+      let same : l ≡ runs.load = same_Some l runs.load (sym (load_then (Load l) h.is) ∙ runs.last) in
       let begins : ModuleOf l given = subst (λ (l : LoadEntry). ModuleOf l given) (sym same) runs.is in
-      let none : instants_of after ≡ [] = instants_then (action.Load l) h.is in
+      let none : instants_of after ≡ [] = instants_then (Load l) h.is in
       record {
         term = runs.term;
-        leaves = subst (λ j. Leaves j runs.term) (sym (added (action.Load l) h.is))
+        leaves = subst (λ j. Leaves j runs.term) (sym (added (Load l) h.is))
             (loaded before stamp l given begins);
         reactions = subst (λ is. Reactions r.interface runs.term is runs.term) (sym none) starts;
         stepped =
@@ -194,7 +192,7 @@ module _ (modules : OneModule) (past : List Moment) (m : Moment) (seat version s
       }
 
   -- where neither term nor instants change
-  stays : (c : SlotCommand) → command ≡ c → ((main text : List ℕ) → c ≡ Load main text → ⊥) → (does : Action)
+  stays : (c : SlotCommand) → command ≡ c → ((l : LoadEntry) → c ≡ Move (Load l) → ⊥) → (does : PastMove)
       → a.does ≡ does
       → load_after (last_load before) does ≡ last_load before
       → instants_after (instants_of before) does ≡ instants_of before
@@ -217,23 +215,23 @@ module _ (modules : OneModule) (past : List Moment) (m : Moment) (seat version s
             }));
       }
 
-  steps : command ≡ Step → (h : IsActionOf Step before a.does)
+  steps : command ≡ Move (Step (record {})) → (h : IsMoveOf (Move (Step (record {}))) before a.does)
       → m.reply ≡ tells_added (word_of a.does) (length (take version m.before.entries)) after
       → KnownSlot (past ++ m ∷ []) slot after
   steps e h told r runs =
       let o = h.outcome in
       let now : PastInstant = instant o.running.pending h.outputs in
-      let runs_old : RunsAfter before (ran r) = ran_before r runs (load_then (action.Step now) h.is) in
+      let runs_old : RunsAfter before (ran r) = ran_before r runs (load_then (Step now) h.is) in
       let k = known (ran r) runs_old in
       let same_run : o.running ≡ ran r = same_running modules before o.running (ran r) o.runs runs_old in
       let declares : o.running.interface ≡ r.interface = ap (λ (s : Running). s.interface) same_run in
       let same_term : o.term ≡ k.term = one_term modules before o.term k.term o.leaves k.leaves in
       let reacts : ReactsWith o.running.interface k.term o.running.pending h.outputs h.next =
       subst (λ t. ReactsWith o.running.interface t o.running.pending h.outputs h.next) same_term o.reacts in
-      let more : instants_of after ≡ instants_of before ++ now ∷ [] = instants_then (action.Step now) h.is in
+      let more : instants_of after ≡ instants_of before ++ now ∷ [] = instants_then (Step now) h.is in
       record {
         term = h.next;
-        leaves = subst (λ j. Leaves j h.next) (sym (added (action.Step now) h.is))
+        leaves = subst (λ j. Leaves j h.next) (sym (added (Step now) h.is))
             (stepped before k.term k.leaves o.running o.runs h.outputs h.next reacts stamp);
         reactions = subst (λ is. Reactions r.interface runs.term is h.next) (sym more)
             (goes_on (instants_of before) k.term k.reactions o.running.pending h.outputs h.next
@@ -243,7 +241,7 @@ module _ (modules : OneModule) (past : List Moment) (m : Moment) (seat version s
             subst (λ is. slice_get is (n - 1) ≡ Some i) more there.there in
             elim (get_push (instants_of before) now i (n - 1) at) [
               | inl old ↦ still_since (WasStep slot n r.interface i) (Accepts slot IsLoad) past m
-                  (not_load Step e (λ main text no. cc))
+                  (not_load (Move (Step (record {}))) e (λ l no. cc))
                   (k.stepped n i (record { counted = there.counted; there = old.1 }))
               | inr last ↦
                   let number : length (instants_of after) ≡ n =
@@ -260,26 +258,26 @@ module _ (modules : OneModule) (past : List Moment) (m : Moment) (seat version s
                     adds = record {
                       stamp = stamp;
                       runs = o.runs;
-                      added = added (action.Step now) h.is ∙ ap (λ i. before ++ entry stamp (action.Step i) ∷ [])
+                      added = added (Step now) h.is ∙ ap (λ i. before ++ entry stamp (Step i) ∷ [])
                           last.1;
                     };
                   }))
             ];
       }
 
-  by_command : (c : SlotCommand) → command ≡ c → IsActionOf c before a.does
+  by_command : (c : SlotCommand) → command ≡ c → IsMoveOf c before a.does
       → m.reply ≡ tells_added (word_of a.does) (length (take version m.before.entries)) after
       → KnownSlot (past ++ m ∷ []) slot after
-  by_command (Load main text) e h told = loads main text h
-  by_command (Offer signal) e h told =
-      stays (Offer signal) e (λ main text no. cc) (action.Offer signal) h.is refl refl
+  by_command (Move (Load l)) e h told = loads l h
+  by_command (Move (Offer signal)) e h told =
+      stays (Move (Offer signal)) e (λ l no. cc) (Offer signal) h.is refl refl
       (λ term leaves. offered before term leaves stamp signal)
-  by_command Discard e h told =
-      stays Discard e (λ main text no. cc) action.Discard h.is refl refl
+  by_command (Move Discard) e h told =
+      stays (Move Discard) e (λ l no. cc) Discard h.is refl refl
       (λ term leaves. discarded before term leaves stamp)
-  by_command Unload e h told = λ r runs. let none : None ≡ Some runs.load =
-      sym (load_then action.Unload h.is) ∙ runs.last in absurd cc
-  by_command Step e h told = steps e h told
+  by_command (Move Unload) e h told = λ r runs. let none : None ≡ Some runs.load =
+      sym (load_then Unload h.is) ∙ runs.last in absurd cc
+  by_command (Move (Step i)) e h told = steps e h told
   by_command (Look n) e h told = absurd h
   by_command Audit e h told = absurd h
 

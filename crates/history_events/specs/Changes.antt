@@ -7,7 +7,7 @@ use Rattle.rbac_policy.specs.Entries.{is_administrative}
 use Rattle.rbac_admin.specs.Conditions.{Administers}
 use Rattle.rbac_admin.specs.PolicyStep.{PolicyStep, entry_of}
 use Rattle.rbac_admin.specs.Room.{HasRoomFor}
-use Rattle.reactor_core.specs.declared.entry.Action.{Action}
+use Rattle.reactor_core.specs.Meaning.{PastMove}
 use Rattle.reactor_core.specs.Answers.{HasRoom}
 use Rattle.reactor_core.specs.Meaning.{entry, word_of}
 use Rattle.access_core.specs.declared.command.SlotCommand.{SlotCommand}
@@ -17,7 +17,7 @@ use Rattle.access_core.specs.SlotState.{SlotState}
 use Rattle.access_core.specs.SlotStep.{tells_added}
 use Rattle.history_events.specs.declared.event.Event.{Event}
 use Rattle.history_events.specs.declared.event.Event.TheVariants.{Admin, OnSlot}
-use Rattle.history_events.specs.Changing.{IsActionOf, OnlyAsks}
+use Rattle.history_events.specs.Changing.{IsMoveOf, OnlyAsks}
 use Rattle.history_events.specs.Runs.{Moment}
 
 -- one entry is added to the policy list, which has room for it: that of the command, with the session that gave it,
@@ -40,8 +40,8 @@ pub record AddsSlotEntry (version slot session : ℕ) (command : SlotCommand) (m
   pub allowed : Needs (take version m.before.entries) slot session command
   pub old : SlotState
   pub there : slice_get m.before.slots slot ≡ Some old
-  pub does : Action
-  pub is : IsActionOf command old.journal does
+  pub does : PastMove
+  pub is : IsMoveOf command old.journal does
   pub room : HasRoom old.journal
   pub added : let new : SlotState =
       record old { journal = old.journal ++ entry (record { version = version; session = session }) does ∷ [] } in

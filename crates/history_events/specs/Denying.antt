@@ -15,8 +15,9 @@ use Rattle.reactor_core.specs.Converting.{all_converted}
 use Rattle.reactor_core.specs.Faults.{refusal_of_pending}
 use Rattle.reactor_core.specs.Instants.{not_ready}
 use Rattle.reactor_core.specs.Meaning.{Running, RunsAfter, pending_of}
+use Rattle.reactor_core.specs.declared.entry.Move.TheVariants.{Load, Offer, Discard, Step, Unload}
 use Rattle.access_core.specs.declared.command.SlotCommand.{SlotCommand}
-use Rattle.access_core.specs.declared.command.SlotCommand.TheVariants.{Load, Offer, Discard, Step, Unload, Look, Audit}
+use Rattle.access_core.specs.declared.command.SlotCommand.TheVariants.{Move, Look, Audit}
 use Rattle.access_core.specs.declared.refusal.Refusal.{Refusal}
 use Rattle.access_core.specs.declared.refusal.Refusal.TheVariants.{Policy as OfPolicy}
 use Rattle.access_core.specs.declared.reply.Reply.{Reply}
@@ -55,20 +56,21 @@ bad_offer journal name = record {
 
 -- the rules of what a command asks of its slot, for a session that lives; memory apart
 abbrev pub asked_rules : List Entry → (slot session : ℕ) → SlotCommand → List SlotEntry → Rules Refusal
-asked_rules entries slot session (Load main text) journal =
-    no_permission entries session ToLoad (Slot slot) ▸ occupied journal ▸ told_as of_reactor (gives_module main text)
+asked_rules entries slot session (Move (Load l)) journal =
+    no_permission entries session ToLoad (Slot slot) ▸ occupied journal
+    ▸ told_as of_reactor (gives_module l.main l.text)
     ▸ journal_full journal
     ▸ accept
-asked_rules entries slot session (Offer signal) journal =
+asked_rules entries slot session (Move (Offer signal)) journal =
     no_permission entries session ToOffer (Signal slot signal) ▸ empty journal ▸ bad_offer journal signal
     ▸ journal_full journal ▸ accept
-asked_rules entries slot session Discard journal =
+asked_rules entries slot session (Move Discard) journal =
     no_permission entries session ToStep (Slot slot) ▸ empty journal ▸ journal_full journal ▸ accept
-asked_rules entries slot session Step journal =
+asked_rules entries slot session (Move (Step i)) journal =
     no_permission entries session ToStep (Slot slot) ▸ empty journal ▸ not_ready implied journal
     ▸ no_reaction entries slot session journal
     ▸ journal_full journal ▸ accept
-asked_rules entries slot session Unload journal =
+asked_rules entries slot session (Move Unload) journal =
     no_permission entries session ToLoad (Slot slot) ▸ empty journal ▸ journal_full journal ▸ accept
 asked_rules entries slot session (Look n) journal = empty journal ▸ no_instant journal n ▸ accept
 asked_rules entries slot session Audit journal = no_permission entries session ToAudit Policy ▸ accept

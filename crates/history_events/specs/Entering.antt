@@ -4,11 +4,12 @@ use Rattle.est_kernel.specs.Bits.{bits}
 use Rattle.est_kernel.specs.declared.interface.Declaration.{Declaration}
 use Rattle.reactor_core.specs.declared.entry.Stamp.{Stamp}
 use Rattle.reactor_core.specs.declared.entry.PastInstant.{PastInstant}
-use Rattle.reactor_core.specs.declared.entry.Action.TheVariants as action
+use Rattle.reactor_core.specs.declared.entry.Load.{Load as LoadEntry}
+use Rattle.reactor_core.specs.declared.entry.Move.TheVariants.{Load, Offer, Discard, Step}
 use Rattle.est_relations.specs.Offers.{place_of}
 use Rattle.reactor_core.specs.Meaning.{entry, Running, RunsAfter}
 use Rattle.access_core.specs.declared.command.SlotCommand.{SlotCommand}
-use Rattle.access_core.specs.declared.command.SlotCommand.TheVariants.{Load, Offer, Discard, Step}
+use Rattle.access_core.specs.declared.command.SlotCommand.TheVariants.{Move}
 use Rattle.access_core.specs.Needs.{IsAccepted}
 use Rattle.history_events.specs.declared.event.Event.{Event}
 use Rattle.history_events.specs.declared.event.Event.TheVariants.{Admin, OnSlot}
@@ -22,19 +23,19 @@ IsOn slot P (OnSlot seat version number session command) = (number ≡ slot) × 
 
 -- the command is an offer of the signal of this name
 abbrev pub IsOfferOf : List ℕ → SlotCommand → Type 0
-IsOfferOf name command = command ≡ Offer name
+IsOfferOf name command = command ≡ Move (Offer name)
 
 -- the command is a step
 abbrev pub IsStep : SlotCommand → Type 0
-IsStep command = command ≡ Step
+IsStep command = command ≡ Move (Step (record {}))
 
 -- the command is a discard
 abbrev pub IsDiscard : SlotCommand → Type 0
-IsDiscard command = command ≡ Discard
+IsDiscard command = command ≡ Move Discard
 
 -- the command is a load
 abbrev pub IsLoad : SlotCommand → Type 0
-IsLoad command = (main : List ℕ) × (text : List ℕ) × (command ≡ Load main text)
+IsLoad command = (load : LoadEntry) × (command ≡ Move (Load load))
 
 -- nothing is pending after the command, where it is accepted. An unload is left out: before the slot's next offer or
 -- step is accepted there is a load
@@ -59,7 +60,7 @@ pub record StandsIn (interface : List Declaration) (signals : ℕ) (name : List 
 pub record AddsInstantAt (m : Moment) (slot : ℕ) (running : Running) (i : PastInstant) : Type 0 where
   pub stamp : Stamp
   pub runs : RunsAfter (journal_at m.before slot) running
-  pub added : journal_at m.after slot ≡ journal_at m.before slot ++ entry stamp (action.Step i) ∷ []
+  pub added : journal_at m.after slot ≡ journal_at m.before slot ++ entry stamp (Step i) ∷ []
 
 -- at this moment an instant of the slot is run, and the signal of this name stands in its inputs
 pub record Enters (m : Moment) (slot : ℕ) (name : List ℕ) : Type 0 where

@@ -6,7 +6,8 @@ use Rattle.rbac_policy.specs.declared.objects.Object.TheVariants.{Slot, Signal}
 use Rattle.rbac_policy.specs.Facts.{IsLive, May}
 use Rattle.reactor_core.specs.Instants.{KeepsRelations}
 use Rattle.reactor_core.specs.Meaning.{Running, RunsAfter, is_loaded}
-use Rattle.access_core.specs.declared.command.SlotCommand.TheVariants.{Offer, Step, Look}
+use Rattle.reactor_core.specs.declared.entry.Move.TheVariants.{Offer, Step}
+use Rattle.access_core.specs.declared.command.SlotCommand.TheVariants.{Move, Look}
 use Rattle.access_core.specs.declared.refusal.Refusal.TheVariants.{Memory}
 use Rattle.access_core.specs.declared.reply.Reply.TheVariants.{Refused}
 use Rattle.access_core.specs.Needs.{IsAccepted}
@@ -42,7 +43,7 @@ EntersWhereOffered past m =
 abbrev pub OffersWhereAllowed : (past : List Moment) → Moment → Type 0
 OffersWhereAllowed past m =
     (seat version slot session : ℕ) (name : List ℕ) (running : Running)
-    → m.event ≡ OnSlot seat version slot session (Offer name) → MeetsNoLimit m.reply
+    → m.event ≡ OnSlot seat version slot session (Move (Offer name)) → MeetsNoLimit m.reply
     → RunsAfter (journal_at m.before slot) running → IsInputName running.interface name → ¬ (WasOffered past slot name)
     → (IsAccepted m.reply
     ↔ (May (take version m.before.entries) session ToOffer (Signal slot name) × ¬ (IsExcluded running name)))
@@ -52,7 +53,7 @@ OffersWhereAllowed past m =
 abbrev pub StepsWhereAllowed : (past : List Moment) → Moment → Type 0
 StepsWhereAllowed past m =
     (seat version slot session : ℕ) (running : Running)
-    → m.event ≡ OnSlot seat version slot session Step → MeetsNoLimit m.reply
+    → m.event ≡ OnSlot seat version slot session (Move (Step (record {}))) → MeetsNoLimit m.reply
     → RunsAfter (journal_at m.before slot) running
     → (IsAccepted m.reply
     ↔ (May (take version m.before.entries) session ToStep (Slot slot) × KeepsRelations (journal_at m.before slot)

@@ -15,13 +15,14 @@ use Rattle.rbac_policy.specs.Facts.{IsLive}
 use Rattle.rbac_policy.proofs.OfSlots.Slots.{get_set_same}
 use Rattle.rbac_admin.specs.PolicyLists.{IsAccepted as MayFollow}
 use Rattle.reactor_core.specs.declared.entry.SlotEntry.{SlotEntry}
-use Rattle.reactor_core.specs.Meaning.{entry, word_of}
+use Rattle.reactor_core.specs.Meaning.{asked, entry, word_of}
 use Rattle.access_core.specs.declared.command.SlotCommand.{SlotCommand}
 use Rattle.access_core.specs.declared.refusal.Refusal.{Refusal}
 use Rattle.access_core.specs.declared.reply.Reply.{Reply}
 use Rattle.access_core.specs.Answering.{IsRefused}
 use Rattle.access_core.specs.Desk.{accepted_reply, change_of}
-use Rattle.access_core.specs.Journals.{command_of, last_version as version_of_last, IsLegalEntry}
+use Rattle.access_core.specs.declared.command.SlotCommand.TheVariants.{Move}
+use Rattle.access_core.specs.Journals.{last_version as version_of_last, IsLegalEntry}
 use Rattle.access_core.specs.Needs.{permission_of}
 use Rattle.access_core.specs.SlotState.{SlotState}
 use Rattle.access_core.specs.SlotStep.{SlotStep, slot_rules, access_rules, journal_rules, Does, stamp_of, tells_added}
@@ -107,7 +108,7 @@ pub record IsNext (policy : List Entry) (seat : ℕ) (r : SlotReceipt) (e : Slot
 abbrev pub slot_moment : (seat : ℕ) → SlotReceipt → SlotEntry → SlotState → WorldState → Reply → Moment
 slot_moment seat r e slot world reply = record {
   before = world;
-  event = event.OnSlot seat r.version r.slot r.session (command_of e.action);
+  event = event.OnSlot seat r.version r.slot r.session (Move (asked e.done));
   reply = reply;
   after = record {
     entries = world.entries;
@@ -126,7 +127,7 @@ module _ (policy : List Entry) (seat : ℕ) (r : SlotReceipt) (e : SlotEntry) (s
   Given = slot_moment seat r e slot world reply
 
   abbrev Step : List Entry → (session : ℕ) → Type 0
-  Step judged session = SlotStep judged r.slot session (command_of e.action) slot.journal reply (slot.journal ++ e ∷ [])
+  Step judged session = SlotStep judged r.slot session (Move (asked e.done)) slot.journal reply (slot.journal ++ e ∷ [])
 
   judged : take e.stamp.version policy ≡ take r.version world.entries
   judged =
@@ -142,7 +143,7 @@ module _ (policy : List Entry) (seat : ℕ) (r : SlotReceipt) (e : SlotEntry) (s
   alive : IsLive (take r.version world.entries) r.session
   alive =
       let list : List Entry = take r.version world.entries in
-      let command : SlotCommand = command_of e.action in
+      let command : SlotCommand = Move (asked e.done) in
       let passed = all_passed (slot_rules list r.slot r.session command slot.journal)
       (λ refusal. IsRefused refusal slot.journal reply (slot.journal ++ e ∷ []))
       (Does list r.slot r.session command slot.journal reply (slot.journal ++ e ∷ []))
@@ -182,28 +183,28 @@ module _ (policy : List Entry) (seat : ℕ) (r : SlotReceipt) (e : SlotEntry) (s
   slot_after = ap journal_in (get_set_same world.slots r.slot _ (slice_get_within world.slots r.slot slot next.there))
 
   -- the slot step adds one entry that the command asks for, and the reply tells so
-  told : reply ≡ tells_added (word_of e.action) r.version (journal_at Given.after r.slot)
+  told : reply ≡ tells_added (word_of e.done) r.version (journal_at Given.after r.slot)
   told =
       let list : List Entry = take r.version world.entries in
       let after : List SlotEntry = slot.journal ++ e ∷ [] in
-      let command : SlotCommand = command_of e.action in
+      let command : SlotCommand = Move (asked e.done) in
       let taken : IsTaken (stamp_of list r.session) command slot.journal reply after =
       ⊎_elim (λ left. absurd (not_accepted reply left.refusal left.is.replied next.legal.added.accepted))
-      (⊎_elim (λ asks. absurd (asks.adds_none e.action refl)) (λ taken. taken))
+      (⊎_elim (λ asks. absurd (asks.adds_none e.done refl)) (λ taken. taken))
       (moves list r.slot r.session slot.journal reply after command steps) in
       let last : entry (stamp_of list r.session) taken.done ∷ [] ≡ e ∷ [] =
       append_cancel_left slot.journal _ _ (sym taken.added) in
       let same : entry (stamp_of list r.session) taken.done ≡ e = cc in
       let long : length list ≡ r.version =
       ap length (ap (λ n. take n world.entries) next.now ∙ take-length world.entries) ∙ sym next.now in
-      taken.told ∙ ap (λ (x : SlotEntry). tells_added (word_of x.action) (length list) after) same
-      ∙ ap (λ n. tells_added (word_of e.action) n after) long
-      ∙ ap (tells_added (word_of e.action) r.version) (sym slot_after)
+      taken.told ∙ ap (λ (x : SlotEntry). tells_added (word_of x.done) (length list) after) same
+      ∙ ap (λ n. tells_added (word_of e.done) n after) long
+      ∙ ap (tells_added (word_of e.done) r.version) (sym slot_after)
 
   pub slot_call : seat < SEATS → IsSlotCall seat r Given
   slot_call seated = record {
     seated = seated;
-    action = e.action;
+    done = e.done;
     word = sym next.tells.word;
     signal = sym next.tells.signal;
     is = refl;

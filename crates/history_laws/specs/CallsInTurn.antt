@@ -2,12 +2,11 @@
 use Rattle.std.specs.Prelude.{◌≡◌, ◌<◌, ℕ, List, ◌∷◌, [], ◌++◌, length, map}
 use Rattle.std.specs.List.{AllZip}
 use Rattle.rbac_policy.specs.declared.commands.Entry.{Entry}
-use Rattle.reactor_core.specs.declared.entry.Action.{Action}
 use Rattle.reactor_core.specs.declared.entry.SlotEntry.{SlotEntry}
-use Rattle.reactor_core.specs.Meaning.{word_of, signal_of}
+use Rattle.reactor_core.specs.Meaning.{PastMove, asked, word_of, signal_of}
+use Rattle.access_core.specs.declared.command.SlotCommand.TheVariants.{Move}
 use Rattle.access_core.specs.declared.reply.Reply.{Reply}
 use Rattle.access_core.specs.Desk.{accepted_reply}
-use Rattle.access_core.specs.Journals.{command_of}
 use Rattle.access_core.specs.Needs.{IsAccepted}
 use Rattle.access_core.specs.SlotState.{SlotState}
 use Rattle.access_core.specs.SlotStep.{tells_added}
@@ -32,14 +31,14 @@ pub record IsPolicyCall (seat version : ℕ) (entry : Entry) (m : Moment) : Type
   pub makes : length m.after.entries ≡ version
 
 -- the moment is the call of which this seat keeps this receipt: through the seat, the receipt's session gave on its
--- slot, at its version, the command of an action of its word and its signal. The command was accepted, the slot's
+-- slot, at its version, the command of a move of its word and its signal. The command was accepted, the slot's
 -- journal then ends at the receipt's place, and the reply tells so
 pub record IsSlotCall (seat : ℕ) (r : SlotReceipt) (m : Moment) : Type 0 where
   pub seated : seat < SEATS
-  pub action : Action
-  pub word : word_of action ≡ r.word
-  pub signal : signal_of action ≡ r.signal
-  pub is : m.event ≡ event.OnSlot seat r.version r.slot r.session (command_of action)
+  pub done : PastMove
+  pub word : word_of done ≡ r.word
+  pub signal : signal_of done ≡ r.signal
+  pub is : m.event ≡ event.OnSlot seat r.version r.slot r.session (Move (asked done))
   pub accepted : IsAccepted m.reply
   pub told : m.reply ≡ tells_added r.word r.version (journal_at m.after r.slot)
   pub place : length (journal_at m.after r.slot) ≡ r.place

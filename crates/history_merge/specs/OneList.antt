@@ -15,8 +15,8 @@ use Rattle.history_merge.specs.ToldCalls.{ToldCall, of_seat, of_policy, of_slot}
 pub record Tells (r : SlotReceipt) (e : SlotEntry) : Type 0 where
   pub version : r.version ≡ e.stamp.version
   pub session : r.session ≡ e.stamp.session
-  pub word : r.word ≡ word_of e.action
-  pub signal : r.signal ≡ signal_of e.action
+  pub word : r.word ≡ word_of e.done
+  pub signal : r.signal ≡ signal_of e.done
 
 -- receipts and entries match one for one: places go up by one from here, and numbers rise
 abbrev pub Tell : (place : ℕ) → (number : Option ℕ) → List SlotReceipt → List SlotEntry → Type 0

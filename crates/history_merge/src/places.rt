@@ -34,8 +34,8 @@ fn tells(receipt: &SlotReceipt, entry: &SlotEntry) -> bool
 {
     receipt.version == entry.stamp.version
         && receipt.session == entry.stamp.session
-        && receipt.word == entry.action.word()
-        && is_same_signal(&receipt.signal, &entry.action.signal())
+        && receipt.word == entry.done.word()
+        && is_same_signal(&receipt.signal, &entry.done.signal())
 }
 
 /// Whether this entry stands in the policy list after the opening ones, at the place of this

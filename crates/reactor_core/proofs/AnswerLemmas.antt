@@ -10,7 +10,7 @@ use Rattle.est_relations.proofs.OffersKeep.{no_fault}
 use Rattle.refusal_rules.specs.Rules.{Rules, ◌▸▸◌, Answers}
 use Rattle.refusal_rules.proofs.RuleLemmas.{refuse, pass, answered}
 use Rattle.reactor_core.specs.declared.entry.Stamp.{Stamp}
-use Rattle.reactor_core.specs.declared.entry.Action.TheVariants.{Offer}
+use Rattle.reactor_core.specs.declared.entry.Move.TheVariants.{Offer}
 use Rattle.reactor_core.specs.declared.entry.SlotEntry.{SlotEntry}
 use Rattle.reactor_core.specs.declared.loaded.Module.{Module}
 use Rattle.reactor_core.specs.declared.refusal.Refusal.{Refusal}
@@ -147,12 +147,3 @@ commit_adds settled stamp after h =
           added.2.1,
     ))
     h
-
--- a refused commit gives the reactor back
-pub commit_stays : (settled : SettledInstant) (stamp : Stamp) (refused : Refusal × List SlotEntry)
-    → CommitAnswer settled stamp (Err refused) → refused.1 ≡ settled.journal
-commit_stays settled stamp refused h =
-    answered (entry_rules settled.journal) _ _ (refused.1 ≡ settled.journal)
-    (λ refusal told. let same : refused ≡ (refusal, settled.journal) = cc in
-    ap (λ (r : Refusal × List SlotEntry). r.1) same)
-    (λ added. let no = added.1 in absurd cc) h

@@ -9,8 +9,8 @@ use Rattle.est_kernel.proofs.Masks.{bits_or, bits_pow}
 use Rattle.est_kernel.specs.Term.{Term}
 use Rattle.est_relations.specs.Offers.{place_of}
 use Rattle.reactor_core.specs.declared.entry.Stamp.{Stamp}
-use Rattle.reactor_core.specs.declared.entry.Action.{Action}
-use Rattle.reactor_core.specs.declared.entry.Action.TheVariants.{Load, Offer, Discard, Step, Unload}
+use Rattle.reactor_core.specs.Meaning.{PastMove}
+use Rattle.reactor_core.specs.declared.entry.Move.TheVariants.{Load, Offer, Discard, Step, Unload}
 use Rattle.reactor_core.specs.declared.entry.SlotEntry.{SlotEntry}
 use Rattle.reactor_core.specs.Meaning.{entry, after_all, offers_after, offers_of, with_signal, mask_of, Running}
 use Rattle.reactor_core.specs.Meaning.{RunsAfter}
@@ -25,7 +25,7 @@ Among name (n ∷ names) = (n ≡ name) ⊎ Among name names
 
 -- all these entries are offers
 abbrev AreOffers : List SlotEntry → Type 0
-AreOffers entries = AllByRecursion (λ e. KeepsOffers e.action) entries
+AreOffers entries = AllByRecursion (λ e. KeepsOffers e.done) entries
 
 -- ---- the names
 
@@ -52,7 +52,7 @@ came_anew e names later name (inr o) = inr (one_earlier e later name o)
 
 -- the same after an offer
 came_offered : (e : SlotEntry) (m : List ℕ) (names : List (List ℕ)) (later : List SlotEntry) (name : List ℕ)
-    → e.action ≡ Offer m
+    → e.done ≡ Offer m
     → Came (m ∷ names) later name → Came names (e ∷ later) name
 came_offered e m names later name is (inr o) = inr (one_earlier e later name o)
 came_offered e m names later name is (inl kept) = elim kept.0 [
@@ -60,15 +60,15 @@ came_offered e m names later name is (inl kept) = elim kept.0 [
     before = [];
     stamp = e.stamp;
     later = later;
-    there = ap (λ (a : Action). entry e.stamp a ∷ later) (is ∙ ap Offer same);
+    there = ap (λ (a : PastMove). entry e.stamp a ∷ later) (is ∙ ap Offer same);
     since = kept.1;
   })
   | inr among ↦ inl (among, (subst KeepsOffers (sym is) tt, kept.1))
 ]
 
-came_after : (e : SlotEntry) (action : Action) (names : List (List ℕ)) (later : List SlotEntry) (name : List ℕ)
-    → e.action ≡ action
-    → Came (offers_after names action) later name → Came names (e ∷ later) name
+came_after : (e : SlotEntry) (move : PastMove) (names : List (List ℕ)) (later : List SlotEntry) (name : List ℕ)
+    → e.done ≡ move
+    → Came (offers_after names move) later name → Came names (e ∷ later) name
 came_after e (Load l) names later name is h = came_anew e names later name h
 came_after e (Offer m) names later name is h = came_offered e m names later name is h
 came_after e Discard names later name is h = came_anew e names later name h
@@ -78,8 +78,8 @@ came_after e Unload names later name is h = came_anew e names later name h
 came : (names : List (List ℕ)) (entries : List SlotEntry) (name : List ℕ)
     → Among name (after_all offers_after names entries) → Came names entries name
 came names [] name h = inl (h, tt)
-came names (e ∷ later) name h = came_after e e.action names later name refl
-    (came (offers_after names e.action) later name h)
+came names (e ∷ later) name h = came_after e e.done names later name refl
+    (came (offers_after names e.done) later name h)
 
 -- what is offered was offered
 was_offered : (journal : List SlotEntry) (name : List ℕ) → Among name (offers_of journal) → IsOffered journal name
@@ -88,8 +88,8 @@ was_offered journal name h = elim (came [] journal name h) [
   | inr o ↦ o
 ]
 
-kept_by : (action : Action) (names : List (List ℕ)) (name : List ℕ) → KeepsOffers action → Among name names
-    → Among name (offers_after names action)
+kept_by : (move : PastMove) (names : List (List ℕ)) (name : List ℕ) → KeepsOffers move → Among name names
+    → Among name (offers_after names move)
 kept_by (Load l) names name keeps h = absurd keeps
 kept_by (Offer m) names name keeps h = inr h
 kept_by Discard names name keeps h = absurd keeps
@@ -100,13 +100,13 @@ kept_by Unload names name keeps h = absurd keeps
 kept : (names : List (List ℕ)) (entries : List SlotEntry) (name : List ℕ) → AreOffers entries → Among name names
     → Among name (after_all offers_after names entries)
 kept names [] name all h = h
-kept names (e ∷ later) name all h = kept (offers_after names e.action) later name all.1
-    (kept_by e.action names name all.0 h)
+kept names (e ∷ later) name all h = kept (offers_after names e.done) later name all.1
+    (kept_by e.done names name all.0 h)
 
 after_append : (names : List (List ℕ)) (first later : List SlotEntry)
     → after_all offers_after names (first ++ later) ≡ after_all offers_after (after_all offers_after names first) later
 after_append names [] later = refl
-after_append names (e ∷ first) later = after_append (offers_after names e.action) first later
+after_append names (e ∷ first) later = after_append (offers_after names e.done) first later
 
 -- what was offered is offered
 is_offered : (journal : List SlotEntry) (name : List ℕ) → IsOffered journal name → Among name (offers_of journal)

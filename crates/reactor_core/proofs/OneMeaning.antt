@@ -13,8 +13,8 @@ use Rattle.est_meaning.specs.Rounds.{judged_signals}
 use Rattle.est_meaning.proofs.OneReactionAtMost.{one_reaction}
 use Rattle.reactor_core.specs.declared.entry.Load.{Load as LoadEntry}
 use Rattle.reactor_core.specs.declared.entry.PastInstant.{PastInstant}
-use Rattle.reactor_core.specs.declared.entry.Action.{Action}
-use Rattle.reactor_core.specs.declared.entry.Action.TheVariants.{Load, Offer, Discard, Step, Unload}
+use Rattle.reactor_core.specs.Meaning.{PastMove}
+use Rattle.reactor_core.specs.declared.entry.Move.TheVariants.{Load, Offer, Discard, Step, Unload}
 use Rattle.reactor_core.specs.declared.entry.SlotEntry.{SlotEntry}
 use Rattle.reactor_core.specs.Loading.{GivenModule}
 use Rattle.reactor_core.specs.Reacting.{ReactsWith}
@@ -88,7 +88,7 @@ record StepLeaves (before : List SlotEntry) (inputs : ℕ) (next : Term) : Type 
   reacts : ReactsWith r.interface term r.pending outputs next
 
 -- what the last entry, after those before it, leaves
-abbrev LeavesAfter : List SlotEntry → Action → Term → Type 0
+abbrev LeavesAfter : List SlotEntry → PastMove → Term → Type 0
 LeavesAfter before (Load l) t = (m : GivenModule) × (m.term ≡ t) × ModuleOf l m
 LeavesAfter before (Offer name) t = Leaves before t
 LeavesAfter before Discard t = Leaves before t
@@ -99,7 +99,7 @@ record IsLast (journal : List SlotEntry) (t : Term) : Type 0 where
   before : List SlotEntry
   last : SlotEntry
   whole : journal ≡ before ++ last ∷ []
-  leaves : LeavesAfter before last.action t
+  leaves : LeavesAfter before last.done t
 
 last_of : (journal : List SlotEntry) (t : Term) → Leaves journal t → IsLast journal t
 last_of _ _ (loaded before stamp l m is) =
@@ -133,22 +133,22 @@ pub one_term : OneModule → (journal : List SlotEntry) (t u : Term) → Leaves 
 one_term modules _ _ u (loaded before stamp l m is) h =
     let g = last_of _ u h in
     let s = snoc_same before g.before (entry stamp (Load l)) g.last g.whole in
-    let x = subst (λ (e : SlotEntry). LeavesAfter g.before e.action u) (sym s.1) g.leaves in
+    let x = subst (λ (e : SlotEntry). LeavesAfter g.before e.done u) (sym s.1) g.leaves in
     ap (λ (n : GivenModule). n.term) (modules l m x.0 is x.2) ∙ x.1
 one_term modules _ _ u (offered before term k stamp name) h =
     let g = last_of _ u h in
     let s = snoc_same before g.before (entry stamp (Offer name)) g.last g.whole in
-    let x = subst (λ (e : SlotEntry). LeavesAfter g.before e.action u) (sym s.1) g.leaves in
+    let x = subst (λ (e : SlotEntry). LeavesAfter g.before e.done u) (sym s.1) g.leaves in
     one_term modules before term u k (subst (λ (b : List SlotEntry). Leaves b u) (sym s.0) x)
 one_term modules _ _ u (discarded before term k stamp) h =
     let g = last_of _ u h in
     let s = snoc_same before g.before (entry stamp Discard) g.last g.whole in
-    let x = subst (λ (e : SlotEntry). LeavesAfter g.before e.action u) (sym s.1) g.leaves in
+    let x = subst (λ (e : SlotEntry). LeavesAfter g.before e.done u) (sym s.1) g.leaves in
     one_term modules before term u k (subst (λ (b : List SlotEntry). Leaves b u) (sym s.0) x)
 one_term modules _ _ u (stepped before term k r running outputs next reacts stamp) h =
     let g = last_of _ u h in
     let s = snoc_same before g.before (entry stamp (Step (instant r.pending outputs))) g.last g.whole in
-    let x = subst (λ (e : SlotEntry). LeavesAfter g.before e.action u) (sym s.1) g.leaves in
+    let x = subst (λ (e : SlotEntry). LeavesAfter g.before e.done u) (sym s.1) g.leaves in
     let terms : term ≡ x.term = one_term modules before term x.term k
     (subst (λ (b : List SlotEntry). Leaves b x.term) (sym s.0) x.leaves) in
     let runs : r ≡ x.r = same_running modules before r x.r running

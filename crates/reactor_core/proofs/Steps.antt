@@ -19,8 +19,8 @@ use Rattle.est_rounds.specs.Contract.{HasNoReaction}
 use Rattle.reactor_core.specs.declared.entry.Stamp.{Stamp}
 use Rattle.reactor_core.specs.declared.entry.PastInstant.{PastInstant}
 use Rattle.reactor_core.specs.declared.entry.Load.{Load as LoadEntry}
-use Rattle.reactor_core.specs.declared.entry.Action.{Action}
-use Rattle.reactor_core.specs.declared.entry.Action.TheVariants.{Load, Offer, Discard, Step, Unload}
+use Rattle.reactor_core.specs.Meaning.{PastMove}
+use Rattle.reactor_core.specs.declared.entry.Move.TheVariants.{Load, Offer, Discard, Step, Unload}
 use Rattle.reactor_core.specs.declared.entry.SlotEntry.{SlotEntry}
 use Rattle.reactor_core.specs.declared.loaded.Module.{Module}
 use Rattle.reactor_core.specs.declared.refusal.Refusal.TheVariants.{Module as OfModule}
@@ -35,14 +35,14 @@ use Rattle.reactor_core.specs.Answers.{HasRoom, ShownAnswer, within_mask}
 use Rattle.reactor_core.proofs.Joining.{adds_where}
 
 -- what one more entry makes
-pub after_snoc : {A : Type 0} (after : A → Action → A) (value : A) (before : List SlotEntry) (e : SlotEntry)
-    → after_all after value (before ++ e ∷ []) ≡ after (after_all after value before) e.action
+pub after_snoc : {A : Type 0} (after : A → PastMove → A) (value : A) (before : List SlotEntry) (e : SlotEntry)
+    → after_all after value (before ++ e ∷ []) ≡ after (after_all after value before) e.done
 after_snoc after value [] e = refl
-after_snoc after value (d ∷ before) e = after_snoc after (after value d.action) before e
+after_snoc after value (d ∷ before) e = after_snoc after (after value d.done) before e
 
 -- what an entry that takes all offers away leaves pending
 pub none_offered : (interface : List Declaration) (before : List SlotEntry) (e : SlotEntry)
-    → offers_after (offers_of before) e.action ≡ []
+    → offers_after (offers_of before) e.done ≡ []
     → 0 ≡ mask_of interface (offers_of (before ++ e ∷ []))
 none_offered interface before e none = sym (ap (mask_of interface) (after_snoc offers_after [] before e ∙ none))
 

@@ -8,7 +8,7 @@ use Rattle.est_kernel.specs.declared.state.Stuck.{Stuck}
 use Rattle.est_relations.specs.Keeping.{AreLawful}
 use Rattle.est_relations.specs.Offers.{IsFirstImplied}
 use Rattle.reactor_core.specs.declared.entry.Stamp.{Stamp}
-use Rattle.reactor_core.specs.declared.entry.Action.TheVariants.{Step}
+use Rattle.reactor_core.specs.declared.entry.Move.TheVariants.{Step}
 use Rattle.reactor_core.specs.declared.entry.SlotEntry.{SlotEntry}
 use Rattle.reactor_core.specs.declared.refusal.Refusal.{Refusal}
 use Rattle.reactor_core.specs.Faults.{implied}

@@ -6,8 +6,8 @@ use Rattle.est_kernel.specs.declared.interface.Declaration.{Declaration}
 use Rattle.reactor_core.specs.declared.entry.Stamp.{Stamp}
 use Rattle.reactor_core.specs.declared.entry.PastInstant.{PastInstant}
 use Rattle.reactor_core.specs.declared.entry.Load.{Load as LoadEntry}
-use Rattle.reactor_core.specs.declared.entry.Action.{Action}
-use Rattle.reactor_core.specs.declared.entry.Action.TheVariants.{Load, Offer, Discard, Step, Unload}
+use Rattle.reactor_core.specs.declared.entry.Move.{Move}
+use Rattle.reactor_core.specs.declared.entry.Move.TheVariants.{Load, Offer, Discard, Step, Unload}
 use Rattle.reactor_core.specs.declared.entry.SlotEntry.{SlotEntry}
 use Rattle.reactor_core.specs.declared.entry.Word.{Word}
 use Rattle.reactor_core.specs.declared.entry.Word.TheVariants as word
@@ -16,15 +16,31 @@ use Rattle.est_relations.specs.declared.relations.Relation.{Relation}
 use Rattle.reactor_core.specs.Loading.{GivenModule, Gives}
 use Rattle.reactor_core.specs.Reacting.{ReactsWith}
 
--- the entry of an action, given with this stamp
-abbrev pub entry : Stamp → Action → SlotEntry
-entry stamp action = record { stamp = stamp; action = action }
+-- a move that is asked for
+abbrev pub AskedMove : Type 0
+AskedMove = Move (Unit {0})
+
+-- a move that was done: of a step its instant is known
+abbrev pub PastMove : Type 0
+PastMove = Move PastInstant
+
+-- the entry of a move, given with this stamp
+abbrev pub entry : Stamp → PastMove → SlotEntry
+entry stamp done = record { stamp = stamp; done = done }
 
 abbrev pub instant : (inputs outputs : ℕ) → PastInstant
 instant inputs outputs = record { inputs = inputs; outputs = outputs }
 
--- the word that asks for an action
-abbrev pub word_of : Action → Word
+-- the move that was asked for where this one was done; a step is asked for by neither inputs nor outputs
+abbrev pub asked : PastMove → AskedMove
+asked (Load l) = Load l
+asked (Offer name) = Offer name
+asked Discard = Discard
+asked (Step i) = Step (record {})
+asked Unload = Unload
+
+-- the word that asks for a move
+abbrev pub word_of : {I : Type 0} → Move I → Word
 word_of (Load l) = word.Load
 word_of (Offer name) = word.Offer
 word_of Discard = word.Discard
@@ -48,7 +64,7 @@ is_step word.Step = true
 is_step word.Unload = false
 
 -- the signal of an offer
-abbrev pub signal_of : Action → Option (List ℕ)
+abbrev pub signal_of : {I : Type 0} → Move I → Option (List ℕ)
 signal_of (Load l) = None
 signal_of (Offer name) = Some name
 signal_of Discard = None
@@ -56,36 +72,36 @@ signal_of (Step i) = None
 signal_of Unload = None
 
 -- the instant of a step
-abbrev pub instant_of : Action → Option PastInstant
+abbrev pub instant_of : PastMove → Option PastInstant
 instant_of (Load l) = None
 instant_of (Offer name) = None
 instant_of Discard = None
 instant_of (Step i) = Some i
 instant_of Unload = None
 
--- the value that the actions of the entries make of this one, the oldest first
-abbrev pub after_all : {A : Type 0} → (A → Action → A) → A → List SlotEntry → A
+-- the value that the moves of the entries make of this one, the oldest first
+abbrev pub after_all : {A : Type 0} → (A → PastMove → A) → A → List SlotEntry → A
 after_all after value [] = value
-after_all after value (e ∷ later) = after_all after (after value e.action) later
+after_all after value (e ∷ later) = after_all after (after value e.done) later
 
--- the load whose module runs after an action: an unload leaves none
-abbrev pub load_after : Option LoadEntry → Action → Option LoadEntry
+-- the load whose module runs after a move: an unload leaves none
+abbrev pub load_after : Option LoadEntry → PastMove → Option LoadEntry
 load_after before (Load l) = Some l
 load_after before (Offer name) = before
 load_after before Discard = before
 load_after before (Step i) = before
 load_after before Unload = None
 
--- the instants after an action: a step adds its own, a load begins anew, and where no module runs there are none
-abbrev pub instants_after : List PastInstant → Action → List PastInstant
+-- the instants after a move: a step adds its own, a load begins anew, and where no module runs there are none
+abbrev pub instants_after : List PastInstant → PastMove → List PastInstant
 instants_after instants (Load l) = []
 instants_after instants (Offer name) = instants
 instants_after instants Discard = instants
 instants_after instants (Step i) = instants ++ i ∷ []
 instants_after instants Unload = []
 
--- the names that are offered after an action, the last one first: all other actions take them all away
-abbrev pub offers_after : List (List ℕ) → Action → List (List ℕ)
+-- the names that are offered after a move, the last one first: all other moves take them all away
+abbrev pub offers_after : List (List ℕ) → PastMove → List (List ℕ)
 offers_after names (Load l) = []
 offers_after names (Offer name) = name ∷ names
 offers_after names Discard = []

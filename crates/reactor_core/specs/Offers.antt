@@ -4,14 +4,14 @@ use Rattle.std.specs.List.{AllByRecursion}
 use Rattle.est_kernel.specs.Bits.{bits}
 use Rattle.est_kernel.specs.declared.interface.Declaration.{Declaration}
 use Rattle.reactor_core.specs.declared.entry.Stamp.{Stamp}
-use Rattle.reactor_core.specs.declared.entry.Action.{Action}
-use Rattle.reactor_core.specs.declared.entry.Action.TheVariants.{Offer, Step}
+use Rattle.reactor_core.specs.Meaning.{PastMove}
+use Rattle.reactor_core.specs.declared.entry.Move.TheVariants.{Offer, Step}
 use Rattle.reactor_core.specs.declared.entry.SlotEntry.{SlotEntry}
 use Rattle.est_relations.specs.Offers.{place_of}
 use Rattle.reactor_core.specs.Meaning.{entry, instant, Running, RunsAfter}
 
--- the action takes no offer away: it is an offer itself, and no load, discard, step or unload
-abbrev pub KeepsOffers : Action → Type 0
+-- the move takes no offer away: it is an offer itself, and no load, discard, step or unload
+abbrev pub KeepsOffers : PastMove → Type 0
 KeepsOffers (Offer name) = Unit {0}
 KeepsOffers _ = ⊥
 
@@ -21,7 +21,7 @@ pub record IsOffered (journal : List SlotEntry) (name : List ℕ) : Type 0 where
   pub stamp : Stamp
   pub later : List SlotEntry
   pub there : journal ≡ before ++ entry stamp (Offer name) ∷ later
-  pub since : AllByRecursion (λ e. KeepsOffers e.action) later
+  pub since : AllByRecursion (λ e. KeepsOffers e.done) later
 
 -- the signal at this place of the interface is offered
 pub record IsOfferedAt (journal : List SlotEntry) (interface : List Declaration) (place : ℕ) : Type 0 where

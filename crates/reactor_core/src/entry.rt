@@ -1,9 +1,11 @@
 //! The entries of a slot's journal.
-ghost use Rattle.std.specs.Prelude.{◌≡◌};
+ghost use Rattle.std.specs.Prelude.{◌≡◌, IfOk};
 ghost use Rattle.reactor_core.specs.Meaning.{word_of, word_text, is_step, signal_of, instant_of};
+ghost use Rattle.reactor_core.specs.Meaning.{asked};
 
 use crate::text::Text;
 use est_text::identifier::Identifier;
+use std::alloc::{AllocError, Global};
 
 /// The policy version at which a command was judged, and the number of the session that gave it.
 #[derive(Clone, Copy, PartialEq, Eq)]
@@ -20,15 +22,26 @@ pub struct PastInstant {
     pub outputs: u64,
 }
 
-/// An accepted load: the name of the main module, and the text. What runs is the module that the
-/// two give.
+/// A load: the name of the main module, and the text. What runs is the module that the two give.
 #[derive(Drop)]
 pub struct Load {
     pub main: Identifier,
     pub text: Text,
 }
 
-/// The word by which a line asks for an entry, and by which its reply names it.
+impl Load {
+    /// A copy, or the error where memory was refused.
+    pub fn try_clone(&self, alloc: Global) -> Result<Load, AllocError>
+        ensures { IfOk result (λ copy. copy ≡ self.now) }
+    {
+        Ok(Load {
+            main: self.main,
+            text: Text::copied(alloc, self.text.as_str())?,
+        })
+    }
+}
+
+/// The word by which a line asks for a move, and by which its reply names it.
 #[derive(Clone, Copy, PartialEq, Eq)]
 pub enum Word {
     Load,
@@ -60,29 +73,34 @@ impl Word {
     }
 }
 
-/// What was accepted.
+/// What a command does to a slot. `I` is what is known of a step's instant: nothing where the move
+/// is asked for, its inputs and outputs where it was done.
 #[derive(Drop)]
-pub enum Action {
+pub enum Move<I> {
+    /// Reads a text, and makes a module of it the running one.
     Load(Load),
+    /// Makes an input present in the next instant.
     Offer(Identifier),
-    /// The pending inputs were taken away.
+    /// Takes the pending inputs away.
     Discard,
-    Step(PastInstant),
-    /// The module was taken out of the slot, with its pending inputs and its instants.
+    /// Runs the next instant.
+    Step(I),
+    /// Takes the module out of the slot, with its pending inputs and its instants. The slot keeps
+    /// its journal.
     Unload,
 }
 
-impl Action {
+impl<I> Move<I> {
     /// The word that asks for it.
     pub fn word(&self) -> Word
         ensures { result ≡ word_of self.now }
     {
         match self {
-            Action::Load(_) => Word::Load,
-            Action::Offer(_) => Word::Offer,
-            Action::Discard => Word::Discard,
-            Action::Step(_) => Word::Step,
-            Action::Unload => Word::Unload,
+            Move::Load(_) => Word::Load,
+            Move::Offer(_) => Word::Offer,
+            Move::Discard => Word::Discard,
+            Move::Step(_) => Word::Step,
+            Move::Unload => Word::Unload,
         }
     }
 
@@ -91,18 +109,48 @@ impl Action {
         ensures { result ≡ signal_of self.now }
     {
         match self {
-            Action::Offer(signal) => Some(*signal),
-            Action::Load(_) | Action::Discard | Action::Step(_) | Action::Unload => None,
+            Move::Offer(signal) => Some(*signal),
+            Move::Load(_) | Move::Discard | Move::Step(_) | Move::Unload => None,
         }
     }
+}
 
+impl Move<()> {
+    /// A copy, or the error where memory was refused.
+    pub fn try_clone(&self, alloc: Global) -> Result<Move<()>, AllocError>
+        ensures { IfOk result (λ copy. copy ≡ self.now) }
+    {
+        match self {
+            Move::Load(load) => Ok(Move::Load(load.try_clone(alloc)?)),
+            Move::Offer(signal) => Ok(Move::Offer(*signal)),
+            Move::Discard => Ok(Move::Discard),
+            Move::Step(()) => Ok(Move::Step(())),
+            Move::Unload => Ok(Move::Unload),
+        }
+    }
+}
+
+impl Move<PastInstant> {
     /// The instant of a step.
     pub fn instant(&self) -> Option<PastInstant>
         ensures { result ≡ instant_of self.now }
     {
         match self {
-            Action::Step(instant) => Some(*instant),
-            Action::Load(_) | Action::Offer(_) | Action::Discard | Action::Unload => None,
+            Move::Step(instant) => Some(*instant),
+            Move::Load(_) | Move::Offer(_) | Move::Discard | Move::Unload => None,
+        }
+    }
+
+    /// The move that was asked for, or the error where memory was refused.
+    pub fn asked(&self, alloc: Global) -> Result<Move<()>, AllocError>
+        ensures { IfOk result (λ wanted. wanted ≡ asked self.now) }
+    {
+        match self {
+            Move::Load(load) => Ok(Move::Load(load.try_clone(alloc)?)),
+            Move::Offer(signal) => Ok(Move::Offer(*signal)),
+            Move::Discard => Ok(Move::Discard),
+            Move::Step(_) => Ok(Move::Step(())),
+            Move::Unload => Ok(Move::Unload),
         }
     }
 }
@@ -111,5 +159,5 @@ impl Action {
 #[derive(Drop)]
 pub struct SlotEntry {
     pub stamp: Stamp,
-    pub action: Action,
+    pub done: Move<PastInstant>,
 }

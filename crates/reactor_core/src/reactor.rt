@@ -12,16 +12,15 @@ ghost use Rattle.reactor_core.specs.Standing.{given_by};
 ghost use Rattle.reactor_core.specs.Instants.{OpenAnswer};
 ghost use Rattle.reactor_core.specs.Left.{IsKernelOf, IsLeftOf};
 ghost use Rattle.reactor_core.specs.Answers.{LoadAnswer, OfferAnswer, DiscardAnswer, UnloadAnswer};
-ghost use Rattle.reactor_core.specs.Answers.{ShownAnswer, HasRoom, RefusesEntry, load_of};
+ghost use Rattle.reactor_core.specs.Answers.{ShownAnswer, HasRoom, RefusesEntry};
 
-use crate::entry::{Action, Load, PastInstant, SlotEntry, Stamp};
+use crate::entry::{Load, Move, PastInstant, SlotEntry, Stamp};
 use crate::journal::Journal;
 use crate::loaded::Module;
 use crate::reactor::instant::Instant;
 use crate::reactor::parts::{Parts, check_relations, join};
 use crate::reading::read_module;
 use crate::refusal::{ModuleRefusal, Refusal};
-use crate::text::Text;
 use est_kernel::interface::Interface;
 use est_kernel::kernel::Kernel;
 use est_kernel::state::State;
@@ -78,22 +77,15 @@ fn instant_at(instants: &[PastInstant], n: u64) -> Option<PastInstant>
     Some(instants[(n - 1) as usize])
 }
 
-/// The load of the module `main` of a text: its entry keeps copies of both, its module is read from
-/// the text, and the engine is that of the module's kernel. If `main` is no identifier,
-/// `read_module` has refused it, so the last arm is never taken.
-fn read_load(alloc: Global, main: &str, text: &str) -> Result<(Load, Module, Micro), Refusal>
-    ensures entry { IfOk result (λ read. read.0 ≡ load_of main.now text.now) }
-    ensures given { IfOk result (λ read. ModuleOf read.0 (given_by read.1)) }
-    ensures engine { IfOk result (λ read. IsNetOf read.2.net read.1.kernel) }
-    ensures fault { IfErr result (IsLoadFault main.now text.now) }
+/// The module of a load, which is read from its text, and the engine of the module's kernel.
+fn read_load(alloc: Global, load: &Load) -> Result<(Module, Micro), Refusal>
+    ensures given { IfOk result (λ read. ModuleOf load.now (given_by read.0)) }
+    ensures engine { IfOk result (λ read. IsNetOf read.1.net read.0.kernel) }
+    ensures fault { IfErr result (IsLoadFault load.now.main load.now.text) }
 {
-    let text = Text::copied(alloc, text)?;
-    let loaded = read_module(alloc, main, text.as_str())?;
+    let loaded = read_module(alloc, load.main.as_str(), load.text.as_str())?;
     let engine = Micro::new(Net::build(alloc, &loaded.kernel)?);
-    match Identifier::from_text(main) {
-        Some(main) => Ok((Load { main, text }, loaded, engine)),
-        None => Err(Refusal::Module(ModuleRefusal::MisnamedMain)),
-    }
+    Ok((loaded, engine))
 }
 
 impl Reactor {
@@ -160,22 +152,19 @@ impl Reactor {
         self.parts.pending
     }
 
-    /// Loads the module `main` of a text: the reactor has not begun, and its journal has the load's
-    /// entry, with copies of both. A refusal, by the text, JournalFull or Memory, gives the journal
-    /// back as it was. A name that is no identifier is UnknownModule: no module has it.
+    /// Loads the main module of a text: the reactor has not begun, and its journal has the load's
+    /// entry, which keeps the text. A refusal, by the text, JournalFull or Memory, gives the
+    /// journal back as it was.
     pub fn load(
         alloc: Global,
         journal: Journal,
         stamp: Stamp,
-        main: &str,
-        text: &str,
+        load: Load,
     ) -> Result<Reactor, (Refusal, Journal)>
-        ensures { LoadAnswer journal stamp main.now text.now result }
+        ensures { LoadAnswer journal stamp load.main load.text result }
     {
-        match read_load(alloc, main, text) {
-            Ok((load, loaded, engine)) => {
-                Reactor::begin(alloc, journal, stamp, load, loaded, engine)
-            }
+        match read_load(alloc, &load) {
+            Ok((loaded, engine)) => Reactor::begin(alloc, journal, stamp, load, loaded, engine),
             Err(fault) => Err((fault, journal)),
         }
     }
@@ -193,13 +182,13 @@ impl Reactor {
         requires given { ModuleOf load (given_by loaded) }
         requires engine { IsNetOf engine.net loaded.kernel }
         ensures { MatchResult result
-            (λ r. HasRoom journal × (r ≡ journal ++ entry stamp (Action.Load load) ∷ []))
+            (λ r. HasRoom journal × (r ≡ journal ++ entry stamp (Move.Load load) ∷ []))
             (λ refused. RefusesEntry journal refused.0 × (refused.1 ≡ journal)) }
     {
         let mut journal = journal;
         let entry = SlotEntry {
             stamp,
-            action: Action::Load(load),
+            done: Move::Load(load),
         };
         match journal.append(entry) {
             Ok(()) => Ok(Reactor {
@@ -226,7 +215,7 @@ impl Reactor {
         };
         let entry = SlotEntry {
             stamp,
-            action: Action::Offer(*name),
+            done: Move::Offer(*name),
         };
         match self.parts.journal.append(entry) {
             Ok(()) => {
@@ -245,7 +234,7 @@ impl Reactor {
     {
         let entry = SlotEntry {
             stamp,
-            action: Action::Discard,
+            done: Move::Discard,
         };
         match self.parts.journal.append(entry) {
             Ok(()) => {
@@ -266,7 +255,7 @@ impl Reactor {
         let mut parts = parts;
         let entry = SlotEntry {
             stamp,
-            action: Action::Unload,
+            done: Move::Unload,
         };
         match parts.journal.append(entry) {
             Ok(()) => Ok(parts.journal),

@@ -59,13 +59,17 @@ fn decide_and_leave<B: BoardName>(
         slot.new.journal }
     ensures reader { result.1 ≡ reading }
 {
-    if let SlotCommand::Load { main, text } = &command {
-        let admitted = admit_load(reading.policy(), slot.number(), session);
-        let reader = reading.leave();
-        return (load_admitted(admitted, slot, main, text), reader);
+    match command.into_load() {
+        Ok(load) => {
+            let admitted = admit_load(reading.policy(), slot.number(), session);
+            let reader = reading.leave();
+            (load_admitted(admitted, slot, load), reader)
+        }
+        Err(command) => {
+            let reply = decide_slot(reading.policy(), slot, session, command);
+            (reply, reading.leave())
+        }
     }
-    let reply = decide_slot(reading.policy(), slot, session, command);
-    (reply, reading.leave())
 }
 
 /// Has the slot's reader read the policy, answers the command at what was read, and hands the

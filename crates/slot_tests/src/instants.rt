@@ -1,6 +1,7 @@
 //! An instant that is given up, which no line of the protocol asks for.
+use crate::audit::journals::load_of;
 use est_text::identifier::Identifier;
-use reactor_core::entry::{Action, PastInstant, Stamp};
+use reactor_core::entry::{Move, PastInstant, Stamp};
 use reactor_core::journal::Journal;
 use reactor_core::reactor::Reactor;
 use reactor_core::reactor::instant::{Instant, Settled};
@@ -15,7 +16,8 @@ const STAMP: Stamp = Stamp {
 /// A module that runs.
 fn loaded(rt: &impl Abort, alloc: Global) -> Reactor {
     let text = "module M: input I; output O; present I then emit O end; pause end module";
-    match Reactor::load(alloc, Journal::new(alloc), STAMP, "M", text) {
+    let load = load_of(rt, alloc, text);
+    match Reactor::load(alloc, Journal::new(alloc), STAMP, load) {
         Ok(reactor) => reactor,
         Err((_, _journal)) => None.expect(rt, "a module"),
     }
@@ -78,7 +80,7 @@ fn is_kept(journal: &Journal) -> bool {
         outputs: 2,
     };
     match journal.entries().last() {
-        Some(entry) => matches!(&entry.action, Action::Step(kept) if *kept == wanted),
+        Some(entry) => matches!(&entry.done, Move::Step(kept) if *kept == wanted),
         None => false,
     }
 }

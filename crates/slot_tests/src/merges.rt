@@ -8,7 +8,7 @@ use history_receipts::receipt_list::Receipts;
 use rbac_policy::commands::{AdminCommand, Entry, SessionId};
 use rbac_policy::names::Name;
 use rbac_policy::opening::opening_entries;
-use reactor_core::entry::{Action, Word};
+use reactor_core::entry::{Move, Word};
 use reactor_core::journal::Journal;
 use std::alloc::Global;
 use std::process::Abort;
@@ -134,8 +134,8 @@ fn policy(rt: &impl Abort, alloc: Global) -> Vec<Entry> {
 fn journals(rt: &impl Abort, alloc: Global) -> [Journal; 16] {
     let (a, b) = (identifier(rt, "A"), identifier(rt, "B"));
     let two = vec![in alloc;
-        stamped(5, 1, Action::Offer(a)),
-        stamped(6, 1, Action::Offer(b)),
+        stamped(5, 1, Move::Offer(a)),
+        stamped(6, 1, Move::Offer(b)),
     ];
     let three = vec![in alloc; stamped(6, 1, stepped(0, 0))];
     let two = (2, two.expect(rt, "room"));

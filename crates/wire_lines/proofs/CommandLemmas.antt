@@ -29,7 +29,9 @@ use Rattle.rbac_policy.specs.declared.objects.Operation.{Operation}
 use Rattle.rbac_policy.specs.declared.objects.Object.{Object}
 use Rattle.rbac_policy.proofs.OfNames.ObjectTexts.{operation_of-exact, object_of-exact, chained, object_of-object_text}
 use Rattle.rbac_policy.proofs.OfNames.ObjectTexts.{operation_of-operation_text}
-use Rattle.access_core.specs.declared.command.SlotCommand.TheVariants.{Load, Offer, Discard, Step, Unload, Look, Audit}
+use Rattle.reactor_core.specs.declared.entry.Move.TheVariants.{Load, Offer, Discard, Step, Unload}
+use Rattle.reactor_core.specs.Answers.{load_of}
+use Rattle.access_core.specs.declared.command.SlotCommand.TheVariants.{Move, Look, Audit}
 use Rattle.wire_lines.proofs.MemberLemmas.{mapped, same_text, brace_is, end_is, last_is, IsMember}
 use Rattle.wire_lines.proofs.MemberLemmas.{text_is, text_member_is, tested_is, object_is, operation_is}
 use Rattle.wire_lines.proofs.MemberLemmas.{number_member_is, number_back, roles_are, roles_back}
@@ -166,9 +168,9 @@ Suits word count_name_roles = (count : ℕ) (set : List ℕ) (roles : List (List
     → IsSpelt (Policy (CreateDsdSet set count roles)) word (said.count_name_roles count set roles)
 Suits word (slot_alone command) = (slot : ℕ) → IsSpelt (Slot slot command) word (said.slot_alone slot)
 Suits word main_slot_text = (main : List ℕ) (slot : ℕ) (text : List ℕ)
-    → IsSpelt (Slot slot (Load main text)) word (said.main_slot_text main slot text)
+    → IsSpelt (Slot slot (Move (Load (load_of main text)))) word (said.main_slot_text main slot text)
 Suits word signal_slot = (signal : List ℕ) (slot : ℕ)
-    → IsSpelt (Slot slot (Offer signal)) word (said.signal_slot signal slot)
+    → IsSpelt (Slot slot (Move (Offer signal))) word (said.signal_slot signal slot)
 Suits word instant_slot = (instant slot : ℕ) → IsSpelt (Slot slot (Look instant)) word (said.instant_slot instant slot)
 Suits word object_operation = (on : Object) (operation : Operation)
     → IsSpelt (Check operation on) word (said.object_operation on operation)
@@ -439,11 +441,11 @@ request_back (Policy (CreateSession user roles)) f =
 request_back (Policy DeleteSession) f = refl
 request_back (Policy (AddActiveRole role)) f = rw f refl
 request_back (Policy (DropActiveRole role)) f = rw f refl
-request_back (Slot slot (Load main text)) f = rw (f.0, number_back slot f.1) refl
-request_back (Slot slot (Offer signal)) f = rw (f.0, number_back slot f.1) refl
-request_back (Slot slot Discard) f = rw (number_back slot f) refl
-request_back (Slot slot Step) f = rw (number_back slot f) refl
-request_back (Slot slot Unload) f = rw (number_back slot f) refl
+request_back (Slot slot (Move (Load l))) f = rw (f.0, number_back slot f.1) refl
+request_back (Slot slot (Move (Offer signal))) f = rw (f.0, number_back slot f.1) refl
+request_back (Slot slot (Move Discard)) f = rw (number_back slot f) refl
+request_back (Slot slot (Move (Step i))) f = rw (number_back slot f) refl
+request_back (Slot slot (Move Unload)) f = rw (number_back slot f) refl
 request_back (Slot slot (Look instant)) f = rw (number_back instant f.0, number_back slot f.1) refl
 request_back (Slot slot Audit) f = rw (number_back slot f) refl
 request_back (Check operation on) f = rw (object_of-object_text on f, operation_of-operation_text operation) refl

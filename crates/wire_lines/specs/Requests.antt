@@ -17,8 +17,9 @@ use Rattle.rbac_policy.specs.declared.objects.Object.{Object}
 use Rattle.rbac_policy.specs.declared.objects.Operation.{Operation}
 use Rattle.rbac_policy.specs.Names.{is_name}
 use Rattle.rbac_policy.specs.Texts.{operation_text, object_text, IsObject}
+use Rattle.reactor_core.specs.declared.entry.Move.TheVariants.{Load, Offer, Discard, Step, Unload}
 use Rattle.access_core.specs.declared.command.SlotCommand.{SlotCommand}
-use Rattle.access_core.specs.declared.command.SlotCommand.TheVariants.{Load, Offer, Discard, Step, Unload, Look, Audit}
+use Rattle.access_core.specs.declared.command.SlotCommand.TheVariants.{Move, Look, Audit}
 use Rattle.access_core.specs.declared.refusal.Refusal.{Refusal}
 use Rattle.access_core.specs.declared.refusal.Refusal.TheVariants as refusal
 use Rattle.wire_lines.specs.declared.request.Request.{Request}
@@ -135,11 +136,11 @@ policy_spelling (DropActiveRole role) = spelt (codes "drop") (one_name (codes "r
 
 -- the table of commands on the slot of this number
 abbrev pub slot_spelling : (slot : ℕ) → SlotCommand → Spelling
-slot_spelling slot (Load main text) = spelt (codes "load") (main_slot_text main slot text)
-slot_spelling slot (Offer signal) = spelt (codes "offer") (signal_slot signal slot)
-slot_spelling slot Discard = spelt (codes "discard") (slot_alone slot)
-slot_spelling slot Step = spelt (codes "step") (slot_alone slot)
-slot_spelling slot Unload = spelt (codes "unload") (slot_alone slot)
+slot_spelling slot (Move (Load l)) = spelt (codes "load") (main_slot_text l.main slot l.text)
+slot_spelling slot (Move (Offer signal)) = spelt (codes "offer") (signal_slot signal slot)
+slot_spelling slot (Move Discard) = spelt (codes "discard") (slot_alone slot)
+slot_spelling slot (Move (Step i)) = spelt (codes "step") (slot_alone slot)
+slot_spelling slot (Move Unload) = spelt (codes "unload") (slot_alone slot)
 slot_spelling slot (Look instant) = spelt (codes "look") (instant_slot instant slot)
 slot_spelling slot Audit = spelt (codes "audit") (slot_alone slot)
 

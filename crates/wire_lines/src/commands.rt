@@ -24,6 +24,7 @@ use json::{Reader, Scratch};
 use rbac_policy::commands::AdminCommand;
 use rbac_policy::names::Name;
 use rbac_policy::objects::{Object, Operation};
+use reactor_core::entry::{Load, Move};
 use reactor_core::text::Text;
 use std::alloc::{AllocError, Global};
 
@@ -120,7 +121,7 @@ fn load(alloc: Global, reader: &mut Reader<'_>) -> Result<Option<Request>, Alloc
         return Ok(None);
     }
     let text = Text::copied(alloc, text)?;
-    let command = SlotCommand::Load { main, text };
+    let command = SlotCommand::Move(Move::Load(Load { main, text }));
     Ok(Some(Request::Slot { slot, command }))
 }
 
@@ -140,7 +141,7 @@ fn offer(reader: &mut Reader<'_>) -> Option<Request>
 {
     let signal = take_identifier(reader, "signal")?;
     let slot = last_slot(reader)?;
-    let command = SlotCommand::Offer { signal };
+    let command = SlotCommand::Move(Move::Offer(signal));
     Some(Request::Slot { slot, command })
 }
 
@@ -283,13 +284,13 @@ fn request_of(
     ensures { IfOk result (λ request. request ≡ request_in rows word.now reader.old) }
 {
     match word {
-        "step" => Ok(on_slot(reader, SlotCommand::Step)),
+        "step" => Ok(on_slot(reader, SlotCommand::Move(Move::Step(())))),
         "look" => Ok(look(reader)),
         "offer" => Ok(offer(reader)),
         "check" => Ok(check(reader)),
         "load" => load(alloc, reader),
-        "discard" => Ok(on_slot(reader, SlotCommand::Discard)),
-        "unload" => Ok(on_slot(reader, SlotCommand::Unload)),
+        "discard" => Ok(on_slot(reader, SlotCommand::Move(Move::Discard))),
+        "unload" => Ok(on_slot(reader, SlotCommand::Move(Move::Unload))),
         "audit" => Ok(on_slot(reader, SlotCommand::Audit)),
         _ => policy(alloc, reader, word),
     }

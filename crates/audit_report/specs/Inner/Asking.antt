@@ -7,7 +7,7 @@ use Rattle.est_kernel.specs.declared.kernel.Kernel.{Kernel}
 use Rattle.est_kernel.specs.declared.state.State.{State}
 use Rattle.est_left.specs.Orders.{are_in_order}
 use Rattle.est_meaning.specs.States.{state_term}
-use Rattle.reactor_core.specs.declared.entry.Action.{Action}
+use Rattle.reactor_core.specs.Meaning.{PastMove}
 use Rattle.reactor_core.specs.declared.entry.SlotEntry.{SlotEntry}
 use Rattle.reactor_core.specs.Instants.{IsOutcome}
 use Rattle.reactor_core.specs.Left.{IsKernelOf, IsLeftOf}
@@ -41,10 +41,10 @@ ThinksOfStep journal outputs Other = GivesOtherwise journal outputs
 ThinksOfStep journal outputs SameOutputs = (next : Term) × IsOutcome journal outputs next
 ThinksOfStep journal outputs (Same next) = Predicts journal outputs next
 
--- what the opinion of an action says: of each but a step nothing is asked, nor where nothing runs
-abbrev pub Thinks : List SlotEntry → Action → Opinion → Type 0
-Thinks journal action opinion =
-    MatchOption (instant_of action) (opinion ≡ NotAsked)
+-- what the opinion of a move says: of each but a step nothing is asked, nor where nothing runs
+abbrev pub Thinks : List SlotEntry → PastMove → Opinion → Type 0
+Thinks journal done opinion =
+    MatchOption (instant_of done) (opinion ≡ NotAsked)
     (λ i. ((is_loaded journal ≡ false) × (opinion ≡ NotAsked)) ⊎ ThinksOfStep journal i.outputs opinion)
 
 -- the term of this state of the running module's kernel is left, if one runs and its pauses are numbered in text order

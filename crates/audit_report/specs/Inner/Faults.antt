@@ -3,7 +3,7 @@ use Rattle.std.specs.Prelude.{◌≡◌, ℕ, ◌-◌, List, [], ◌∷◌, ◌+
 use Rattle.std.specs.Prelude.{slice_get, MatchOption}
 use Rattle.rbac_policy.specs.declared.commands.Entry.{Entry}
 use Rattle.reactor_core.specs.declared.entry.PastInstant.{PastInstant}
-use Rattle.reactor_core.specs.declared.entry.Action.{Action}
+use Rattle.reactor_core.specs.Meaning.{PastMove}
 use Rattle.reactor_core.specs.declared.entry.SlotEntry.{SlotEntry}
 use Rattle.reactor_core.specs.Meaning.{instant_of}
 use Rattle.access_core.specs.declared.refusal.Refusal.{Refusal}
@@ -19,15 +19,15 @@ use Rattle.audit_report.specs.Findings.{IsRefusedWith, ReactsOtherwise}
 -- the instant that an entry keeps, if there is one and it is a step
 abbrev pub instant_in : Option SlotEntry → Option PastInstant
 instant_in None = None
-instant_in (Some e) = instant_of e.action
+instant_in (Some e) = instant_of e.done
 
 -- the instant that the last of the entries keeps, if it is a step
 abbrev pub last_instant : List SlotEntry → Option PastInstant
 last_instant entries = instant_in (slice_get entries (length entries - 1))
 
--- where the action is a step, the last of the entries keeps its instant
-abbrev pub KeepsInstant : List SlotEntry → Action → Type 0
-KeepsInstant entries action = MatchOption (instant_of action) (Unit {0}) (λ i. last_instant entries ≡ Some i)
+-- where the move is a step, the last of the entries keeps its instant
+abbrev pub KeepsInstant : List SlotEntry → PastMove → Type 0
+KeepsInstant entries done = MatchOption (instant_of done) (Unit {0}) (λ i. last_instant entries ≡ Some i)
 
 -- the fault of an entry whose command is refused so
 abbrev pub fault_of : Refusal → Fault

@@ -11,7 +11,7 @@ ghost use Rattle.reactor_core.specs.Standing.{RefusesName, RefusesInstant};
 ghost use Rattle.reactor_core.specs.Instants.{AddsInstant};
 ghost use Rattle.reactor_core.specs.Answers.{HasRoom, RefusesEntry};
 
-use crate::entry::{Action, PastInstant, SlotEntry, Stamp};
+use crate::entry::{Move, PastInstant, SlotEntry, Stamp};
 use crate::journal::Journal;
 use crate::loaded::Module;
 use crate::refusal::Refusal;
@@ -88,7 +88,7 @@ fn append_step(
 ) -> Result<(), Refusal>
     ensures { MatchResult result
         (λ _. HasRoom journal.old
-        × (journal.new ≡ journal.old ++ entry stamp (Action.Step instant) ∷ [])
+        × (journal.new ≡ journal.old ++ entry stamp (Move.Step instant) ∷ [])
         × (instants.new.items ≡ instants.old.items ++ instant ∷ []))
         (λ e. RefusesEntry journal.old e
         × (journal.new ≡ journal.old) × (instants.new.items ≡ instants.old.items)) }
@@ -102,7 +102,7 @@ fn append_step(
     }
     let entry = SlotEntry {
         stamp,
-        action: Action::Step(instant),
+        done: Move::Step(instant),
     };
     journal.append(entry)?;
     instants.push_reserved(instant);

@@ -9,7 +9,7 @@ use policy_board::seat::{Receipt, Seat};
 use rbac_policy::commands::{AdminCommand, SessionId};
 use rbac_policy::names::{Name, RoleNames};
 use rbac_policy::objects::{Object, Operation, SlotNumber};
-use reactor_core::entry::Word;
+use reactor_core::entry::{Load, Move, Word};
 use reactor_core::text::Text;
 use slot_table::table::SlotTable;
 use std::alloc::{AllocError, Global};
@@ -114,10 +114,10 @@ pub(crate) fn begin<B: BoardName, R: Wait + Abort>(
             grant(Name::root(), operation, Object::Slot(slot)),
         );
     }
-    let load = SlotCommand::Load {
+    let load = SlotCommand::Move(Move::Load(Load {
         main: Identifier::from_text("M").expect(rt, "a name"),
         text: Text::copied(alloc, ONCE).ok().expect(rt, "room"),
-    };
+    }));
     let reply = table.command(rt, board, seat, root(), u64::from(number), load);
     assert!(rt;
         matches!(

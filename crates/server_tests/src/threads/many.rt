@@ -14,7 +14,7 @@ use policy_board::seat::Seat;
 use policy_board::sharing::boards_are_shared;
 use rbac_policy::names::Name;
 use rbac_policy::objects::{Object, Operation, SLOTS, SlotNumber};
-use reactor_core::entry::Word;
+use reactor_core::entry::{Move, Word};
 use server_threads::workers::{Turn, Work, run_each};
 use slot_table::closing::Histories;
 use slot_table::table::SlotTable;
@@ -97,7 +97,14 @@ fn step<B: BoardName, R: Wait>(
         return Turn::Over(worker);
     }
     let slot = (worker.asked % SLOTS as usize) as u64;
-    let reply = table.command(rt, board, &mut worker.seat, root(), slot, SlotCommand::Step);
+    let reply = table.command(
+        rt,
+        board,
+        &mut worker.seat,
+        root(),
+        slot,
+        SlotCommand::Move(Move::Step(())),
+    );
     worker.asked(matches!(
         reply,
         Reply::Added(Added {

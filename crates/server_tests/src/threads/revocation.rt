@@ -18,7 +18,7 @@ use rbac_admin::refusal::Refusal as PolicyRefusal;
 use rbac_policy::commands::{AdminCommand, SessionId};
 use rbac_policy::names::Name;
 use rbac_policy::objects::{Object, Operation, SlotNumber};
-use reactor_core::entry::{Action, SlotEntry, Word};
+use reactor_core::entry::{Move, SlotEntry, Word};
 use slot_table::closing::Histories;
 use slot_table::table::SlotTable;
 use std::alloc::Global;
@@ -80,9 +80,8 @@ fn offer<B: BoardName, R: Wait + Abort>(
     table: &SlotTable<B>,
     seat: &mut Seat<B>,
 ) -> Reply {
-    let command = SlotCommand::Offer {
-        signal: Identifier::from_text(INPUT).expect(rt, "a name"),
-    };
+    let signal = Identifier::from_text(INPUT).expect(rt, "a name");
+    let command = SlotCommand::Move(Move::Offer(signal));
     table.command(rt, board, seat, ann(), 0, command)
 }
 
@@ -118,7 +117,14 @@ fn step_on<B: BoardName, R: Wait + Abort>(
 ) -> Seat<B> {
     for _ in 0..COMMANDS {
         let before = seat.seen();
-        let reply = table.command(rt, board, &mut seat, root(), 0, SlotCommand::Step);
+        let reply = table.command(
+            rt,
+            board,
+            &mut seat,
+            root(),
+            0,
+            SlotCommand::Move(Move::Step(())),
+        );
         assert!(rt;
             matches!(
                 reply,
@@ -255,7 +261,7 @@ fn offers_of_ann(entries: &[SlotEntry]) -> usize {
     entries
         .iter()
         .filter(|entry| {
-            entry.stamp.session == ann().number() && matches!(entry.action, Action::Offer(_))
+            entry.stamp.session == ann().number() && matches!(entry.done, Move::Offer(_))
         })
         .count()
 }

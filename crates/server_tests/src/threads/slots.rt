@@ -12,7 +12,7 @@ use policy_board::reader::SlotReader;
 use policy_board::seat::Seat;
 use policy_board::sharing::boards_are_shared;
 use rbac_policy::names::Name;
-use reactor_core::entry::Word;
+use reactor_core::entry::{Move, Word};
 use slot_table::table::SlotTable;
 use std::alloc::Global;
 use std::marker::Brand;
@@ -52,7 +52,7 @@ fn step_often<B: BoardName, R: Wait + Abort>(
             &mut seat,
             root(),
             u64::from(slot),
-            SlotCommand::Step,
+            SlotCommand::Move(Move::Step(())),
         ) {
             Reply::Added(
                 Added {

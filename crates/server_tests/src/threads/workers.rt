@@ -8,7 +8,7 @@ use client_loop::workers::run_workers;
 use policy_board::board_list::{BoardName, FreshList};
 use rbac_policy::commands::SessionId;
 use rbac_policy::journal::PolicyJournal;
-use reactor_core::entry::{Action, SlotEntry};
+use reactor_core::entry::{Move, SlotEntry};
 use reactor_core::journal::Journal;
 use slot_table::closing::Histories;
 use std::alloc::Global;
@@ -104,15 +104,15 @@ fn session_of<R: Abort>(rt: &R, journal: &Journal) -> u16 {
         [
             SlotEntry {
                 stamp: loaded,
-                action: Action::Load(_),
+                done: Move::Load(_),
             },
             SlotEntry {
                 stamp: first,
-                action: Action::Step(_),
+                done: Move::Step(_),
             },
             SlotEntry {
                 stamp: second,
-                action: Action::Step(_),
+                done: Move::Step(_),
             },
         ] => {
             assert_eq!(rt; loaded.session, first.session);

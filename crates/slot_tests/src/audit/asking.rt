@@ -1,15 +1,13 @@
 //! How often an audit asks its second engine.
 use crate::audit::journals::{
-    journals_of_one, policy_entries, policy_of, slot_entries, stamped, stepped,
+    journals_of_one, load_of, policy_entries, policy_of, slot_entries, stamped, stepped,
 };
 use audit_report::audit::check_with;
 use est_kernel::kernel::Kernel;
 use est_kernel::state::{Inputs, Outcome, State, Stuck};
 use est_rounds::engine::Engine;
 use est_rounds::rounds::Rounds;
-use est_text::identifier::Identifier;
-use reactor_core::entry::{Action, Load, SlotEntry};
-use reactor_core::text::Text;
+use reactor_core::entry::{Move, SlotEntry};
 use std::alloc::Global;
 use std::process::Abort;
 
@@ -51,13 +49,10 @@ const SEVEN: &str = "module M: output O; signal A in signal B in signal C in sig
 
 /// A load of the text, and an instant with O, and one without it.
 fn two_instants(rt: &impl Abort, alloc: Global, text: &str) -> Vec<SlotEntry> {
-    let load = Load {
-        main: Identifier::from_text("M").expect(rt, "an identifier"),
-        text: Text::copied(alloc, text).expect(rt, "room"),
-    };
+    let load = load_of(rt, alloc, text);
     let mut entries = Vec::new(alloc);
-    for action in [Action::Load(load), stepped(0, 1), stepped(0, 0)] {
-        entries.push(stamped(9, 1, action)).expect(rt, "room");
+    for done in [Move::Load(load), stepped(0, 1), stepped(0, 0)] {
+        entries.push(stamped(9, 1, done)).expect(rt, "room");
     }
     entries
 }

@@ -2,7 +2,7 @@
 use crate::audit::journals::{loaded, stepped};
 use crate::lines::entry;
 use rbac_policy::commands::{Entry, SessionId};
-use reactor_core::entry::{Action, SlotEntry};
+use reactor_core::entry::{Move, SlotEntry};
 use std::alloc::Global;
 use std::process::Abort;
 
@@ -65,14 +65,14 @@ fn change_policy(rt: &impl Abort, alloc: Global, entries: &mut Vec<Entry>, chang
     }
 }
 
-/// Changes an entry of the slot, if the change is one of an entry's stamp or action.
+/// Changes an entry of the slot, if the change is one of an entry's stamp or move.
 fn change_entry(rt: &impl Abort, alloc: Global, entry: &mut SlotEntry, change: Change) {
     match change {
         Change::Version(_, version) => entry.stamp.version = version,
         Change::Session(_, session) => entry.stamp.session = session,
-        Change::Steps(_, inputs, outputs) => entry.action = stepped(inputs, outputs),
-        Change::Loads(_) => entry.action = loaded(rt, alloc),
-        Change::Unloads(_) => entry.action = Action::Unload,
+        Change::Steps(_, inputs, outputs) => entry.done = stepped(inputs, outputs),
+        Change::Loads(_) => entry.done = loaded(rt, alloc),
+        Change::Unloads(_) => entry.done = Move::Unload,
         _ => {}
     }
 }

@@ -4,7 +4,7 @@ use est_text::identifier::Identifier;
 use rbac_policy::commands::Entry;
 use rbac_policy::journal::PolicyJournal;
 use rbac_policy::opening::opening_entries;
-use reactor_core::entry::{Action, Load, PastInstant, SlotEntry, Stamp};
+use reactor_core::entry::{Load, Move, PastInstant, SlotEntry, Stamp};
 use reactor_core::journal::Journal;
 use reactor_core::text::Text;
 use std::alloc::Global;
@@ -27,25 +27,30 @@ const SCRIPT: &[(u16, &str)] = &[
     (1, LOGOUT),
 ];
 
-/// The entry of an action of this session at this version.
-pub fn stamped(version: u64, session: u16, action: Action) -> SlotEntry {
+/// The entry of a move of this session at this version.
+pub fn stamped(version: u64, session: u16, done: Move<PastInstant>) -> SlotEntry {
     SlotEntry {
         stamp: Stamp { version, session },
-        action,
+        done,
+    }
+}
+
+/// The load of this text's module M.
+pub fn load_of(rt: &impl Abort, alloc: Global, text: &str) -> Load {
+    Load {
+        main: Identifier::from_text("M").expect(rt, "an identifier"),
+        text: Text::copied(alloc, text).expect(rt, "room"),
     }
 }
 
 /// The load of the module that the opening script loads.
-pub fn loaded(rt: &impl Abort, alloc: Global) -> Action {
-    Action::Load(Load {
-        main: Identifier::from_text("M").expect(rt, "an identifier"),
-        text: Text::copied(alloc, TWO_OUTPUTS).expect(rt, "room"),
-    })
+pub fn loaded(rt: &impl Abort, alloc: Global) -> Move<PastInstant> {
+    Move::Load(load_of(rt, alloc, TWO_OUTPUTS))
 }
 
 /// A step with these inputs and outputs.
-pub fn stepped(inputs: u64, outputs: u64) -> Action {
-    Action::Step(PastInstant { inputs, outputs })
+pub fn stepped(inputs: u64, outputs: u64) -> Move<PastInstant> {
+    Move::Step(PastInstant { inputs, outputs })
 }
 
 /// The policy list of the opening script.

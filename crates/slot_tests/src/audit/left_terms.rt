@@ -1,4 +1,5 @@
 //! Which states of a module leave one term.
+use crate::audit::journals::load_of;
 use est_kernel::pause_set::PauseSet;
 use est_kernel::state::State;
 use est_kernel::statement::{PauseIndex, Statement};
@@ -20,7 +21,8 @@ fn loaded(rt: &impl Abort, alloc: Global, body: &str) -> Reactor {
     let text = format!(in alloc; "module M: input I; output O; output P; {body} end module").expect(
         rt, "room",
     );
-    match Reactor::load(alloc, Journal::new(alloc), STAMP, "M", text.as_str()) {
+    let load = load_of(rt, alloc, text.as_str());
+    match Reactor::load(alloc, Journal::new(alloc), STAMP, load) {
         Ok(reactor) => reactor,
         Err((_, _journal)) => None.expect(rt, "a module"),
     }

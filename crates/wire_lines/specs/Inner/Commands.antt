@@ -13,8 +13,10 @@ use Rattle.rbac_policy.specs.declared.commands.AdminCommand.TheVariants.{RevokeP
 use Rattle.rbac_policy.specs.declared.commands.AdminCommand.TheVariants.{DeleteInheritance, CreateDsdSet, DeleteDsdSet}
 use Rattle.rbac_policy.specs.declared.commands.AdminCommand.TheVariants.{CreateSession, DeleteSession, AddActiveRole}
 use Rattle.rbac_policy.specs.declared.commands.AdminCommand.TheVariants.{DropActiveRole}
+use Rattle.reactor_core.specs.declared.entry.Move.TheVariants.{Load, Offer, Discard, Step, Unload}
+use Rattle.reactor_core.specs.Answers.{load_of}
 use Rattle.access_core.specs.declared.command.SlotCommand.{SlotCommand}
-use Rattle.access_core.specs.declared.command.SlotCommand.TheVariants.{Load, Offer, Discard, Step, Unload, Look, Audit}
+use Rattle.access_core.specs.declared.command.SlotCommand.TheVariants.{Move, Look, Audit}
 use Rattle.wire_lines.specs.Inner.Members.{name_of, identifier_of, parsed_after, text_after, number_after, roles_after}
 use Rattle.wire_lines.specs.Inner.Members.{two_values, permission_values, word_at, ends, last}
 use Rattle.wire_lines.specs.declared.request.Request.{Request}
@@ -52,10 +54,11 @@ request_of (slot_alone command) tokens =
     option_map (λ slot. Slot slot command) (last (number_after (codes "slot") tokens))
 request_of main_slot_text tokens =
     option_and_then (λ main. option_and_then
-    (λ slot. option_map (λ text. Slot slot.0 (Load main.0 text)) (last (text_after (codes "text") slot.1)))
+    (λ slot. option_map (λ text. Slot slot.0 (Move (Load (load_of main.0 text))))
+    (last (text_after (codes "text") slot.1)))
     (number_after (codes "slot") main.1)) (parsed_after identifier_of (codes "main") tokens)
 request_of signal_slot tokens =
-    option_and_then (λ signal. option_map (λ slot. Slot slot (Offer signal.0))
+    option_and_then (λ signal. option_map (λ slot. Slot slot (Move (Offer signal.0)))
     (last (number_after (codes "slot") signal.1))) (parsed_after identifier_of (codes "signal") tokens)
 request_of instant_slot tokens =
     option_and_then (λ instant. option_map (λ slot. Slot slot (Look instant.0))
@@ -104,9 +107,10 @@ policy_rows = (codes "login", roles_user) ∷ (codes "dsd", count_name_roles) �
 -- the commands on slots, checks, and all policy commands
 unfoldable pub rows : List Row
 rows =
-    (codes "step", slot_alone Step) ∷ (codes "look", instant_slot) ∷ (codes "offer", signal_slot) ∷
+    (codes "step", slot_alone (Move (Step (record {})))) ∷ (codes "look", instant_slot) ∷ (codes "offer", signal_slot) ∷
     (codes "check", object_operation)
-    ∷ (codes "load", main_slot_text) ∷ (codes "discard", slot_alone Discard) ∷ (codes "unload", slot_alone Unload) ∷
+    ∷ (codes "load", main_slot_text) ∷ (codes "discard", slot_alone (Move Discard))
+    ∷ (codes "unload", slot_alone (Move Unload)) ∷
     (codes "audit", slot_alone Audit)
     ∷ policy_rows
 

@@ -1,4 +1,4 @@
-use Rattle.access_core.specs.declared.command.SlotCommand.TheVariants.{Load, Offer, Discard, Step, Unload, Look, Audit}
+use Rattle.access_core.specs.declared.command.SlotCommand.TheVariants.{Move, Look, Audit}
 use Rattle.access_core.proofs.Deciding.{allowed_step, denied_step}
 use Rattle.access_core.proofs.slot.decide_slot.Goals as goal
 
@@ -7,43 +7,13 @@ returns-in-Err-clause-step c = λ entries stands.
     let why = rw (c.permission_of-needed.ensures, c.number.ensures) at c.in-Err.ensures entries stands in
     denied_step _ _ _ _ _ _ why
 
-pub returns-in-Load-clause-step : goal.returns-in-Load-clause-step
-returns-in-Load-clause-step c = λ entries stands.
-    let may = rw (c.permission_of-needed.ensures, c.number.ensures, c.in-Load.is) at c.in_default.ensures entries
+pub returns-in-Move-clause-step : goal.returns-in-Move-clause-step
+returns-in-Move-clause-step c = λ entries stands.
+    let may = rw (c.permission_of-needed.ensures, c.number.ensures, c.in-Move.is) at c.in_default.ensures entries
     stands in
-    let done = rw (c.stamp.ensures entries stands, c.as_str.ensures.same, c.as_str-in-Load.ensures) at
-    c.load.ensures.step in
-    rw c.in-Load.is
-    (allowed_step entries c.args.slot.now.number c.args.session (Load c.in-Load.main c.in-Load.text) _ _ _ may done)
-
-pub returns-in-Offer-clause-step : goal.returns-in-Offer-clause-step
-returns-in-Offer-clause-step c = λ entries stands.
-    let may = rw (c.permission_of-needed.ensures, c.number.ensures, c.in-Offer.is) at c.in_default.ensures entries
-    stands in
-    let done = rw (c.stamp-in-Offer.ensures entries stands) at c.offer.ensures.step in
-    rw c.in-Offer.is
-    (allowed_step entries c.args.slot.now.number c.args.session (Offer c.in-Offer.signal) _ _ _ may done)
-
-pub returns-in-Discard-clause-step : goal.returns-in-Discard-clause-step
-returns-in-Discard-clause-step c = λ entries stands.
-    let may = rw (c.permission_of-needed.ensures, c.number.ensures, c.in-Discard.is) at c.in_default.ensures entries
-    stands in
-    let done = rw (c.stamp-in-Discard.ensures entries stands) at c.discard.ensures.step in
-    rw c.in-Discard.is (allowed_step entries c.args.slot.now.number c.args.session Discard _ _ _ may done)
-
-pub returns-in-Step-clause-step : goal.returns-in-Step-clause-step
-returns-in-Step-clause-step c = λ entries stands.
-    let may = rw (c.permission_of-needed.ensures, c.number.ensures, c.in-Step.is) at c.in_default.ensures entries
-    stands in
-    rw c.in-Step.is
-    (allowed_step entries c.args.slot.now.number c.args.session Step _ _ _ may (c.step.ensures.step entries stands))
-
-pub returns-in-Unload-clause-step : goal.returns-in-Unload-clause-step
-returns-in-Unload-clause-step c = λ entries stands.
-    let may = rw (c.permission_of-needed.ensures, c.number.ensures, c.in-Unload.is) at c.in_default.ensures entries
-    stands in
-    let done = rw (c.stamp-in-Unload.ensures entries stands) at c.unload.ensures.step in
-    rw c.in-Unload.is (allowed_step entries c.args.slot.now.number c.args.session Unload _ _ _ may done)
+    rw c.in-Move.is
+    (allowed_step entries c.args.slot.now.number c.args.session (Move c.in-Move.asked) _ _ _ may
+    (c.make_move.ensures.step entries stands))
 
 pub returns-in-Look-clause-step : goal.returns-in-Look-clause-step
 returns-in-Look-clause-step c = λ entries stands.

@@ -14,7 +14,7 @@ returns-in-Ok-clause-step c = record {
 
 pub returns-in-Err-clause-held : goal.returns-in-Err-clause-held
 returns-in-Err-clause-held c =
-    ap is_loaded (load_stays c.args.journal c.args.stamp c.args.main.now c.args.text.now
+    ap is_loaded (load_stays c.args.journal c.args.stamp c.args.load.main c.args.load.text
     (c.in-Err.refusal, c.in-Err.journal) c.in-Err.ensures)
     ∙ c.requires
 
@@ -24,7 +24,7 @@ returns-in-Err-clause-step c = record {
   given = c.in-Err.ensures;
   replied = record {
     replied = ap Refused c.from.ensures;
-    stays = load_stays c.args.journal c.args.stamp c.args.main.now c.args.text.now
+    stays = load_stays c.args.journal c.args.stamp c.args.load.main c.args.load.text
         (c.in-Err.refusal, c.in-Err.journal) c.in-Err.ensures;
   };
 }

@@ -1,7 +1,7 @@
 use Rattle.std.proofs.Common.{◌∙◌, ap}
 use Rattle.std.specs.Prelude.{Err, None, is_some}
 use Rattle.refusal_rules.proofs.RuleLemmas.{all_passed}
-use Rattle.reactor_core.specs.declared.entry.Action.TheVariants as action
+use Rattle.reactor_core.specs.declared.entry.Move.TheVariants.{Offer}
 use Rattle.reactor_core.specs.Answers.{offer_rules}
 use Rattle.reactor_core.specs.Meaning.{entry, is_loaded, load_after}
 use Rattle.reactor_core.proofs.OneMeaning.{is_loaded_where}
@@ -16,7 +16,7 @@ returns-in-Ok-clause-loaded c =
     let passed = all_passed (offer_rules c.args.reactor.now answer.running c.args.signal.now) _ _
     (λ refusal e. let no = e.0 in cc) answer.given in
     ap is_loaded passed.1.1
-    ∙ ap is_some (after_snoc load_after None c.args.reactor.now (entry c.args.stamp (action.Offer c.args.signal.now)))
+    ∙ ap is_some (after_snoc load_after None c.args.reactor.now (entry c.args.stamp (Offer c.args.signal.now)))
     ∙ is_loaded_where c.args.reactor.now answer.running answer.runs
 
 pub returns-in-Err-clause-loaded : goal.returns-in-Err-clause-loaded

@@ -5,7 +5,7 @@ use Rattle.audit_report.proofs.AskedAgain.{nothing_runs, thinks_of}
 use Rattle.audit_report.proofs.asked_again.opinion_of.Goals as goal
 
 pub returns-in_default : goal.returns-in_default
-returns-in_default g c = nothing_runs c.args.slot.now.journal c.args.action.now c.in_default.ensures
+returns-in_default g c = nothing_runs c.args.slot.now.journal c.args.done.now c.in_default.ensures
 
 pub returns-in-Some-instant : goal.returns-in-Some-instant
 returns-in-Some-instant g c =
@@ -13,4 +13,4 @@ returns-in-Some-instant g c =
     let here : ThinksOfStep journal c.in-Some-instant.stored.outputs c.opinion_of_step.result =
     subst (λ (j : List SlotEntry). ThinksOfStep j c.in-Some-instant.stored.outputs c.opinion_of_step.result)
     c.in-Some.ensures c.opinion_of_step.ensures in
-    thinks_of journal c.args.action.now _ _ c.in-Some-instant.ensures (inr here)
+    thinks_of journal c.args.done.now _ _ c.in-Some-instant.ensures (inr here)

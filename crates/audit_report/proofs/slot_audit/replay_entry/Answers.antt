@@ -1,5 +1,6 @@
-use Rattle.std.proofs.Common.{◌∙◌, List, rules, subst, sym}
+use Rattle.std.proofs.Common.{◌∙◌, List, ap, rules, subst, sym}
 use Rattle.reactor_core.specs.declared.entry.SlotEntry.{SlotEntry}
+use Rattle.access_core.specs.declared.command.SlotCommand.TheVariants.{Move}
 use Rattle.audit_report.specs.Inner.Faults.{IsFaultOf, KeepsInstant}
 use Rattle.audit_report.proofs.AskedAgain.{opinion_holds}
 use Rattle.audit_report.proofs.Replayed.{judges, fault_is, adds, otherwise}
@@ -11,9 +12,9 @@ pub returns-in-Refused-clause-step : goal.returns-in-Refused-clause-step
 returns-in-Refused-clause-step g c = λ judged stands version.
     let slot = c.args.slot.now in
     let e = c.args.entry.now in
-    let step = judges judged slot.number c.new-session.result c.in-Ok.command slot.journal e _
+    let step = judges judged slot.number c.new-session.result (Move c.in-Ok.asked) slot.journal e _
     c.decide_slot.new.slot.journal
-    c.new-session.ensures c.in-Ok.ensures (c.in-Refused.ensures.step judged stands) in
+    c.new-session.ensures (ap Move c.in-Ok.ensures) (c.in-Refused.ensures.step judged stands) in
     subst (IsFaultOf judged slot.number slot.journal e) (sym c.fault_of.ensures)
     (fault_is judged slot.number slot.journal e c.in-Refused.refusal c.decide_slot.new.slot.journal version step)
 
@@ -22,14 +23,14 @@ returns-then-keeps_instant g c =
     let slot = c.args.slot.now in
     let e = c.args.entry.now in
     let after = c.decide_slot.new.slot.journal in
-    let keeps : KeepsInstant after e.action =
-    subst (λ (j : List SlotEntry). KeepsInstant j e.action) (c.entries.ensures ∙ c.journal.ensures)
+    let keeps : KeepsInstant after e.done =
+    subst (λ (j : List SlotEntry). KeepsInstant j e.done) (c.entries.ensures ∙ c.journal.ensures)
     (c.if-keeps_instant.ensures.0 (search rules)) in
     record {
       number = c.decide_slot.ensures.number;
       step = λ judged stands version. adds judged slot.number slot.journal e c.decide_slot.result after version
-          (judges judged slot.number c.new-session.result c.in-Ok.command slot.journal e c.decide_slot.result after
-          c.new-session.ensures c.in-Ok.ensures (c.decide_slot.ensures.step judged stands))
+          (judges judged slot.number c.new-session.result (Move c.in-Ok.asked) slot.journal e c.decide_slot.result after
+          c.new-session.ensures (ap Move c.in-Ok.ensures) (c.decide_slot.ensures.step judged stands))
           c.in_default-decide_slot.not-Refused keeps;
     }
 
@@ -41,18 +42,19 @@ returns g c =
     record {
       number = c.decide_slot.ensures.number;
       step = λ judged stands version.
-          let step = judges judged slot.number c.new-session.result c.in-Ok.command slot.journal e c.decide_slot.result
-          after c.new-session.ensures c.in-Ok.ensures (c.decide_slot.ensures.step judged stands) in
-          let loses : KeepsInstant after e.action → ⊥ = λ keeps. elim c.else-holds.branch [
+          let step = judges judged slot.number c.new-session.result
+          (Move c.in-Ok.asked) slot.journal e c.decide_slot.result
+          after c.new-session.ensures (ap Move c.in-Ok.ensures) (c.decide_slot.ensures.step judged stands) in
+          let loses : KeepsInstant after e.done → ⊥ = λ keeps. elim c.else-holds.branch [
             | else-holds-via-then-holds+else-keeps_instant w ↦
                 absurd (search (
                   rules,
-                  w.if-keeps_instant.ensures.1 (subst (λ (j : List SlotEntry). KeepsInstant j e.action)
+                  w.if-keeps_instant.ensures.1 (subst (λ (j : List SlotEntry). KeepsInstant j e.done)
                       (sym (w.entries.ensures ∙ w.journal.ensures)) keeps),
                 ))
             | else-holds-via-else-holds w ↦
                 opinion_holds c.one_module.ensures judged slot.number e.stamp.session slot.journal
-                c.decide_slot.result after c.in_default-decide_slot.not-Refused e.action
+                c.decide_slot.result after c.in_default-decide_slot.not-Refused e.done
                 c.opinion_of-opinion.result step c.opinion_of-opinion.ensures keeps
                 (c.holds_after-holds.ensures.other w.if-holds.false)
           ] in
