@@ -6,12 +6,12 @@ use Rattle.refusal_rules.proofs.RuleLemmas.{refuse, pass, answered}
 use Rattle.reactor_core.specs.declared.entry.Stamp.{Stamp}
 use Rattle.reactor_core.specs.Meaning.{PastMove}
 use Rattle.reactor_core.specs.declared.entry.Move.TheVariants.{Unload}
-use Rattle.reactor_core.specs.declared.entry.Word.TheVariants as word
+use Rattle.reactor_core.specs.declared.entry.SlotWord.TheVariants as word
 use Rattle.reactor_core.specs.declared.entry.SlotEntry.{SlotEntry}
-use Rattle.reactor_core.specs.declared.refusal.Refusal.{Refusal as ReactorRefusal}
-use Rattle.reactor_core.specs.declared.refusal.Refusal.TheVariants as reactor
+use Rattle.reactor_core.specs.declared.refusal.ReactorRefusal.{ReactorRefusal}
+use Rattle.reactor_core.specs.declared.refusal.ReactorRefusal.TheVariants as reactor
 use Rattle.reactor_core.specs.Meaning.{entry, word_of, instants_of, instants_after}
-use Rattle.reactor_core.specs.Answers.{entry_rules as reactor_rules, UnloadAnswer}
+use Rattle.reactor_core.specs.Answers.{slot_entry_rules as reactor_rules, UnloadAnswer}
 use Rattle.reactor_core.proofs.Steps.{after_snoc}
 use Rattle.access_core.specs.declared.refusal.Refusal.{Refusal}
 use Rattle.access_core.specs.declared.refusal.Refusal.TheVariants.{JournalFull, Memory}
@@ -19,7 +19,7 @@ use Rattle.access_core.specs.declared.reply.Reply.{Reply}
 use Rattle.access_core.specs.declared.reply.Reply.TheVariants.{Refused, Added}
 use Rattle.access_core.specs.Answering.{ByRules, no_memory}
 use Rattle.access_core.specs.Refusals.{of_reactor}
-use Rattle.access_core.specs.SlotStep.{entry_rules, AddsEntry, tells_added}
+use Rattle.access_core.specs.SlotStep.{slot_entry_rules, AddsEntry, tells_added}
 
 module _ {Given : ReactorRefusal → Type 0} {Told : Refusal → Type 0} {Entered Accepted : Type 0} where
   -- memory is refused for the entry, or it is added
@@ -32,7 +32,7 @@ module _ {Given : ReactorRefusal → Type 0} {Told : Refusal → Type 0} {Entere
   -- the rules of the entry of a slot are those of the reactor's
   pub by_entry : (journal : List SlotEntry) → ((refusal : ReactorRefusal) → Given refusal → Told (of_reactor refusal))
       → (Entered → Accepted)
-      → Answers (reactor_rules journal) Given Entered → Answers (entry_rules journal) Told Accepted
+      → Answers (reactor_rules journal) Given Entered → Answers (slot_entry_rules journal) Told Accepted
   by_entry journal refused added (inl full) =
       refuse JournalFull (refl, full.given.1) (refused reactor.JournalFull (subst Given full.given.0 full.answered))
   by_entry journal refused added (inr room) = pass room.passed (by_memory refused added room.next)
@@ -44,7 +44,7 @@ pub entry_answered : (before : List SlotEntry) (move : PastMove) (stamp : Stamp)
     ((answer ≡ Ok (record {})) × (after ≡ before ++ entry stamp move ∷ []))
     → MatchResult answer (λ _. reply ≡ tells_added (word_of move) stamp.version after)
     (λ refusal. reply ≡ Refused (of_reactor refusal))
-    → ByRules (entry_rules before) (AddsEntry move stamp) before reply after
+    → ByRules (slot_entry_rules before) (AddsEntry move stamp) before reply after
 entry_answered before move stamp (Ok done) reply after h told =
     by_entry before (λ refusal no. let e = no.0 in absurd cc) (λ added. record { added = added.1; replied = told }) h
 entry_answered before move stamp (Err refusal) reply after h told =
@@ -62,7 +62,7 @@ pub unload_answered : (before : List SlotEntry) (stamp : Stamp)
     → MatchResult answer
     (λ journal. (after ≡ journal) × (reply ≡ tells_added word.Unload stamp.version after))
     (λ refused. (after ≡ refused.1) × (reply ≡ Refused (of_reactor refused.0)))
-    → ByRules (entry_rules before) (AddsEntry Unload stamp) before reply after
+    → ByRules (slot_entry_rules before) (AddsEntry Unload stamp) before reply after
 unload_answered before stamp (Ok journal) reply after h told =
     by_entry before (λ refusal no. absurd cc)
     (λ added.

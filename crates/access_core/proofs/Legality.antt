@@ -14,8 +14,8 @@ use Rattle.reactor_core.specs.declared.entry.Stamp.{Stamp}
 use Rattle.reactor_core.specs.declared.entry.Move.TheVariants.{Load, Offer, Discard, Step, Unload}
 use Rattle.reactor_core.specs.declared.entry.PastInstant.{PastInstant}
 use Rattle.reactor_core.specs.declared.entry.SlotEntry.{SlotEntry}
-use Rattle.reactor_core.specs.declared.entry.Word.TheVariants as word
-use Rattle.reactor_core.specs.declared.refusal.Refusal.{Refusal as ReactorRefusal}
+use Rattle.reactor_core.specs.declared.entry.SlotWord.TheVariants as word
+use Rattle.reactor_core.specs.declared.refusal.ReactorRefusal.{ReactorRefusal}
 use Rattle.reactor_core.specs.Meaning.{PastMove, AskedMove, asked, entry, word_of, instant_of}
 use Rattle.reactor_core.specs.Answers.{LoadAnswer, OfferAnswer, AddsLoad, load_of, load_rules, offer_rules}
 use Rattle.access_core.specs.declared.command.SlotCommand.{SlotCommand}
@@ -113,13 +113,13 @@ pub record OnlyAsks (command : SlotCommand) (before after : List SlotEntry) : Ty
   pub stays : after ≡ before
 
 -- the command is refused, or it only asks, or it is taken
-abbrev pub Moves : Stamp → SlotCommand → (before : List SlotEntry) → Reply → (after : List SlotEntry) → Type 0
-Moves stamp command before reply after =
+abbrev pub ChangesJournal : Stamp → SlotCommand → (before : List SlotEntry) → Reply → (after : List SlotEntry) → Type 0
+ChangesJournal stamp command before reply after =
     IsLeft before reply after ⊎ OnlyAsks command before after ⊎ IsTaken stamp command before reply after
 
 module _ (stamp : Stamp) (before : List SlotEntry) (reply : Reply) (after : List SlotEntry) where
   left : (command : SlotCommand) (refusal : Refusal) → IsRefused refusal before reply after
-      → Moves stamp command before reply after
+      → ChangesJournal stamp command before reply after
   left command refusal h = inl (record { refusal = refusal; is = h })
 
   loaded : (main text : List ℕ) (answer : Result (List SlotEntry) (ReactorRefusal × List SlotEntry))
@@ -127,7 +127,7 @@ module _ (stamp : Stamp) (before : List SlotEntry) (reply : Reply) (after : List
       → MatchResult answer
       (λ journal. (after ≡ journal) × (reply ≡ tells_added word.Load stamp.version after))
       (λ refused. IsRefused (of_reactor refused.0) before reply after)
-      → Moves stamp (Move (Load (load_of main text))) before reply after
+      → ChangesJournal stamp (Move (Load (load_of main text))) before reply after
   loaded main text (Ok journal) given replied =
       let passed = all_passed (load_rules before main text) (λ refusal. Ok journal ≡ Err (refusal, before))
       ((longer : List SlotEntry) × (Ok journal ≡ Ok longer) × AddsLoad before stamp main text longer)
@@ -147,7 +147,7 @@ module _ (stamp : Stamp) (before : List SlotEntry) (reply : Reply) (after : List
       → MatchResult answer
       (λ _. reply ≡ tells_added word.Offer stamp.version after)
       (λ refusal. IsRefused (of_reactor refusal) before reply after)
-      → Moves stamp (Move (Offer signal)) before reply after
+      → ChangesJournal stamp (Move (Offer signal)) before reply after
   offered signal (Ok done) given replied =
       let passed = all_passed (offer_rules before given.running signal) _ _
       (λ refusal e. let no = e.0 in cc) given.given in
@@ -163,7 +163,7 @@ module _ (stamp : Stamp) (before : List SlotEntry) (reply : Reply) (after : List
 module _ (entries : List Entry) (slot session : ℕ) (before : List SlotEntry) (reply : Reply)
     (after : List SlotEntry) where
   does : (command : SlotCommand) → Does entries slot session command before reply after
-      → Moves (stamp_of entries session) command before reply after
+      → ChangesJournal (stamp_of entries session) command before reply after
   does (Move (Load l)) h = loaded (stamp_of entries session) before reply after l.main l.text h.answer h.given h.replied
   does (Move (Offer signal)) h = offered (stamp_of entries session) before reply after signal h.answer h.given h.replied
   does (Move Discard) h =
@@ -195,14 +195,14 @@ module _ (entries : List Entry) (slot session : ℕ) (before : List SlotEntry) (
 
   -- a slot step refuses its command, answers what it asks, or adds one entry that it asks for
   pub moves : (command : SlotCommand) → SlotStep entries slot session command before reply after
-      → Moves (stamp_of entries session) command before reply after
+      → ChangesJournal (stamp_of entries session) command before reply after
   moves command h =
       answered (slot_rules entries slot session command before) (λ refusal. IsRefused refusal before reply after)
       (Does entries slot session command before reply after)
-      (Moves (stamp_of entries session) command before reply after)
+      (ChangesJournal (stamp_of entries session) command before reply after)
       (left (stamp_of entries session) before reply after command) (does command) h
 
-  stays_or_adds : (command : SlotCommand) → Moves (stamp_of entries session) command before reply after
+  stays_or_adds : (command : SlotCommand) → ChangesJournal (stamp_of entries session) command before reply after
       → AddsOne (stamp_of entries session) command before reply after
   stays_or_adds command (inl left) = inl left.is.stays
   stays_or_adds command (inr (inl asks)) = inl asks.stays
@@ -216,7 +216,7 @@ module _ (entries : List Entry) (slot session : ℕ) (before : List SlotEntry) (
 -- a refused command leaves the journal
 pub refused_stays : (stamp : Stamp) (command : SlotCommand) (before : List SlotEntry) (refusal : Refusal)
     (after : List SlotEntry)
-    → Moves stamp command before (Refused refusal) after → after ≡ before
+    → ChangesJournal stamp command before (Refused refusal) after → after ≡ before
 refused_stays stamp command before refusal after (inl left) = left.is.stays
 refused_stays stamp command before refusal after (inr (inl asks)) = asks.stays
 refused_stays stamp command before refusal after (inr (inr taken)) = absurd taken.accepted
@@ -246,10 +246,6 @@ last_within most start (x ∷ later) low all =
     last_within most x.stamp.version later (all 0 x refl) (λ at e there. all (suc at) e there)
 
 -- ---- legal journals
-
--- the empty journal is legal
-pub none_legal : (list : List Entry) (slot : ℕ) → IsLegal list slot []
-none_legal list slot = λ at e low there. absurd (omega (arith, low))
 
 -- with one more entry it is legal
 pub legal_more : (list : List Entry) (slot : ℕ) (journal : List SlotEntry) (at : ℕ) (e : SlotEntry)

@@ -18,7 +18,7 @@ use Rattle.reactor_core.specs.Instants.{LacksImplied, HasNoOutcome}
 use Rattle.reactor_core.specs.Meaning.{Running, pending_of}
 use Rattle.reactor_core.specs.Reacting.{IsStuck}
 use Rattle.reactor_core.proofs.OneMeaning.{OneModule, same_running, one_term}
-use Rattle.access_core.specs.Shown.{Sees}
+use Rattle.access_core.specs.Shown.{Observes}
 use Rattle.access_core.proofs.Places.{kept_place, passed_place}
 
 same_digit : (x y : ℕ) → x < 2 → y < 2 → nat_eq x 1 ≡ nat_eq y 1 → x ≡ y
@@ -94,7 +94,7 @@ same_test true false there back = sym (there refl)
 same_test false true there back = back refl
 
 pub same_sight : (entries : List Entry) (session slot : ℕ) (interface : List Declaration) (sees others : ℕ → Bool)
-    → Sees entries session slot interface sees → Sees entries session slot interface others
+    → Observes entries session slot interface sees → Observes entries session slot interface others
     → (place : ℕ) → place < length interface → sees place ≡ others place
 same_sight entries session slot interface sees others x y place below = elim (slice_get_cases interface place).1 [
   | inl at ↦

@@ -13,10 +13,10 @@ use Rattle.reactor_core.specs.declared.entry.Move.TheVariants.{Load, Offer, Disc
 use Rattle.reactor_core.specs.declared.entry.PastInstant.{PastInstant}
 use Rattle.reactor_core.specs.declared.entry.SlotEntry.{SlotEntry}
 use Rattle.reactor_core.specs.declared.entry.Stamp.{Stamp}
-use Rattle.reactor_core.specs.declared.entry.Word.{Word}
-use Rattle.reactor_core.specs.declared.entry.Word.TheVariants as word
-use Rattle.reactor_core.specs.declared.refusal.Refusal.{Refusal as ReactorRefusal}
-use Rattle.reactor_core.specs.declared.refusal.Refusal.TheVariants as reactor
+use Rattle.reactor_core.specs.declared.entry.SlotWord.{SlotWord}
+use Rattle.reactor_core.specs.declared.entry.SlotWord.TheVariants as word
+use Rattle.reactor_core.specs.declared.refusal.ReactorRefusal.{ReactorRefusal}
+use Rattle.reactor_core.specs.declared.refusal.ReactorRefusal.TheVariants as reactor
 use Rattle.reactor_core.specs.Answers.{LoadAnswer, load_of, load_rules, offer_rules}
 use Rattle.reactor_core.specs.Loading.{GivenModule, Gives, IsLoadFault}
 use Rattle.reactor_core.specs.Meaning.{entry, instant, Running, pending_of}
@@ -29,7 +29,7 @@ use Rattle.access_core.specs.declared.reply.Reply.{Reply}
 use Rattle.access_core.specs.declared.reply.Reply.TheVariants.{Refused, Look as Shown}
 use Rattle.access_core.specs.Answering.{IsRefused}
 use Rattle.access_core.specs.Refusals.{of_reactor}
-use Rattle.access_core.specs.Shown.{Sees, name_at, status_at, names_of, shown_of}
+use Rattle.access_core.specs.Shown.{Observes, name_at, status_at, names_of, shown_of}
 use Rattle.access_core.specs.SlotStep.{SlotStep, slot_rules, Does, Loads, Offers, Steps, Looks, NamesUndecided}
 use Rattle.access_core.specs.SlotStep.{stamp_of, no_reaction, implied, tells_added}
 use Rattle.reactor_core.specs.Instants.{not_ready}
@@ -175,8 +175,8 @@ module _ (modules : OneModule) (one_load : OneLoad) (entries : List Entry) (slot
 
   -- the names of the undecided outputs that the session sees
   same_names : (interface : List Declaration) (sees others : ℕ → Bool) (undecided : ℕ)
-      → Sees entries session slot interface sees
-      → Sees entries session slot interface others → names_of interface sees undecided
+      → Observes entries session slot interface sees
+      → Observes entries session slot interface others → names_of interface sees undecided
       ≡ names_of interface others undecided
   same_names interface sees others undecided x y =
       same_kept (name_at interface) (λ place. sees place && bits undecided place)
@@ -189,8 +189,8 @@ module _ (modules : OneModule) (one_load : OneLoad) (entries : List Entry) (slot
   same_undecided a b x y =
       let runs : x.running ≡ y.running = same_running modules before x.running y.running x.runs y.runs in
       let mask : x.undecided ≡ y.undecided = one_undecided modules before x.undecided y.undecided x.none y.none in
-      let observes : Sees entries session slot x.running.interface y.sees =
-      subst (λ (r : Running). Sees entries session slot r.interface y.sees) (sym runs) y.observes in
+      let observes : Observes entries session slot x.running.interface y.sees =
+      subst (λ (r : Running). Observes entries session slot r.interface y.sees) (sym runs) y.observes in
       x.named
       ∙ ap Stuck (same_names x.running.interface x.sees y.sees x.undecided x.observes observes)
       ∙ ap (λ (u : ℕ). Stuck (names_of x.running.interface y.sees u)) mask
@@ -235,7 +235,7 @@ module _ (modules : OneModule) (one_load : OneLoad) (entries : List Entry) (slot
     both_refused refusal x y = (x.replied ∙ sym y.replied, x.stays ∙ sym y.stays)
 
     -- two replies that tell of the same journal afterwards
-    told : (asked : Word) (version : ℕ) → a ≡ b → r ≡ tells_added asked version a → s ≡ tells_added asked version b
+    told : (asked : SlotWord) (version : ℕ) → a ≡ b → r ≡ tells_added asked version a → s ≡ tells_added asked version b
         → Same r s a b
     told asked version same x y = (x ∙ ap (tells_added asked version) same ∙ sym y, same)
 
@@ -278,8 +278,8 @@ module _ (modules : OneModule) (one_load : OneLoad) (entries : List Entry) (slot
     looks n x y =
         let run : x.running ≡ y.running = same_running modules before x.running y.running x.runs y.runs in
         let same : x.instant ≡ y.instant = same_Some x.instant y.instant (sym x.there.there ∙ y.there.there) in
-        let observes : Sees entries session slot x.running.interface y.sees =
-        subst (λ (q : Running). Sees entries session slot q.interface y.sees) (sym run) y.observes in
+        let observes : Observes entries session slot x.running.interface y.sees =
+        subst (λ (q : Running). Observes entries session slot q.interface y.sees) (sym run) y.observes in
         let shown : shown_of x.running.interface x.sees x.instant ≡ shown_of x.running.interface y.sees x.instant =
         same_kept (status_at x.running.interface x.instant) x.sees y.sees (length x.running.interface)
         (same_sight entries session slot x.running.interface x.sees y.sees x.observes observes) in (

@@ -13,12 +13,8 @@ use Rattle.reactor_core.specs.Meaning.{is_loaded, instants_of, Running, RunsAfte
 use Rattle.reactor_core.specs.Answers.{IsInstant, HasNoInstant, within_mask as masked}
 use Rattle.access_core.specs.declared.reply.Reply.TheVariants.{Look}
 use Rattle.access_core.specs.declared.reply.ShownSignal.{ShownSignal}
-use Rattle.access_core.specs.Shown.{Sees, places_of, present_at, name_at, shown_of}
+use Rattle.access_core.specs.Shown.{Observes, places_of, present_at, name_at, shown_of}
 use Rattle.access_core.specs.SlotStep.{no_instant, Looks}
-
--- where no module runs, the slot is not loaded
-pub not_loaded : (journal : List SlotEntry) → is_loaded journal ≡ false → is_loaded journal ≡ true → ⊥
-not_loaded journal none runs = cc
 
 pub instant_within : (journal : List SlotEntry) (n : ℕ) (i : PastInstant) → IsInstant journal n i
     → HasNoInstant journal n
@@ -66,7 +62,7 @@ pub looks_from : (entries : List Entry) (slot session n : ℕ) (journal : List S
     (interface : List Declaration) (i : PastInstant)
     (seen : ℕ) (shown : Shown) (signals : List ShownSignal) (version : ℕ)
     → RunsAfter journal r → interface ≡ r.interface → IsInstant journal n i → shown ≡ masked i seen
-    → Sees entries session slot interface (bits seen)
+    → Observes entries session slot interface (bits seen)
     → signals ≡ map (present_at interface shown.present) (filter (bits shown.mask) (places_of interface))
     → version ≡ length entries
     → Looks entries slot session n journal (Look n signals version) journal
@@ -77,7 +73,7 @@ looks_from entries slot session n journal r interface i seen shown signals versi
       instant = i;
       there = there;
       sees = bits seen;
-      observes = subst (λ ds. Sees entries session slot ds (bits seen)) same observes;
+      observes = subst (λ ds. Observes entries session slot ds (bits seen)) same observes;
       replied = ap (λ xs. Look n xs version) (all ∙ ap (λ ds. shown_of ds (bits seen) i) same)
           ∙ ap (λ v. Look n (shown_of r.interface (bits seen) i) v) judged;
       stays = refl;

@@ -11,9 +11,9 @@ use Rattle.rbac_policy.specs.Facts.{IsLive, May}
 use Rattle.reactor_core.specs.declared.entry.Stamp.{Stamp}
 use Rattle.reactor_core.specs.declared.entry.Move.TheVariants.{Step}
 use Rattle.reactor_core.specs.declared.entry.SlotEntry.{SlotEntry}
-use Rattle.reactor_core.specs.declared.entry.Word.TheVariants as word
-use Rattle.reactor_core.specs.declared.refusal.Refusal.{Refusal as ReactorRefusal}
-use Rattle.reactor_core.specs.declared.refusal.Refusal.TheVariants as reactor
+use Rattle.reactor_core.specs.declared.entry.SlotWord.TheVariants as word
+use Rattle.reactor_core.specs.declared.refusal.ReactorRefusal.{ReactorRefusal}
+use Rattle.reactor_core.specs.declared.refusal.ReactorRefusal.TheVariants as reactor
 use Rattle.reactor_core.specs.Meaning.{is_loaded}
 use Rattle.reactor_core.specs.Instants.{IsOutcome, AddsInstant, SettledInstant, CommitAnswer, OpenAnswer}
 use Rattle.reactor_core.specs.Instants.{KeepsRelations}

@@ -5,12 +5,12 @@ use Rattle.refusal_rules.specs.Rules.{accept, ◌▸◌}
 use Rattle.refusal_rules.proofs.RuleLemmas.{answered, all_passed}
 use Rattle.rbac_policy.specs.declared.commands.Entry.{Entry}
 use Rattle.rbac_policy.specs.declared.commands.AdminCommand.{AdminCommand}
-use Rattle.rbac_admin.specs.declared.refusal.Refusal.{Refusal as PolicyRefusal}
+use Rattle.rbac_admin.specs.declared.refusal.PolicyRefusal.{PolicyRefusal}
 use Rattle.reactor_core.specs.declared.entry.SlotEntry.{SlotEntry}
 use Rattle.access_core.specs.declared.command.SlotCommand.{SlotCommand}
 use Rattle.access_core.specs.declared.refusal.Refusal.{Refusal}
 use Rattle.access_core.specs.declared.refusal.Refusal.TheVariants.{Policy}
-use Rattle.access_core.specs.declared.reply.Change.{Change}
+use Rattle.access_core.specs.declared.reply.PolicyWord.{PolicyWord}
 use Rattle.access_core.specs.declared.reply.Reply.{Reply}
 use Rattle.access_core.specs.declared.reply.Reply.TheVariants.{Refused}
 use Rattle.access_core.specs.Answering.{IsRefused, ByRules, no_memory}
@@ -30,7 +30,7 @@ same_place (first ∷ others) zero slot there = let e : first ≡ slot = cc in a
 same_place (first ∷ others) (suc number) slot there = ap (λ slots. first ∷ slots) (same_place others number slot there)
 
 -- the reply to an accepted command is not a refusal
-not_accepted : (change : Option Change) (entries : List Entry) (refusal : Refusal)
+not_accepted : (change : Option PolicyWord) (entries : List Entry) (refusal : Refusal)
     → Refused refusal ≡ reply_of_change change entries → ⊥
 not_accepted None entries refusal e = cc
 not_accepted (Some change) entries refusal e = cc

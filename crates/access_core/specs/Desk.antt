@@ -20,8 +20,8 @@ use Rattle.reactor_core.specs.declared.entry.SlotEntry.{SlotEntry}
 use Rattle.access_core.specs.declared.command.SlotCommand.{SlotCommand}
 use Rattle.access_core.specs.declared.refusal.Refusal.{Refusal}
 use Rattle.access_core.specs.declared.refusal.Refusal.TheVariants.{Policy, NoSlot, JournalFull, Memory}
-use Rattle.access_core.specs.declared.reply.Change.{Change}
-use Rattle.access_core.specs.declared.reply.Change.TheVariants as change
+use Rattle.access_core.specs.declared.reply.PolicyWord.{PolicyWord}
+use Rattle.access_core.specs.declared.reply.PolicyWord.TheVariants as change
 use Rattle.access_core.specs.declared.reply.Reply.{Reply}
 use Rattle.access_core.specs.declared.reply.Reply.TheVariants.{Login, Changed}
 use Rattle.access_core.specs.Answering.{IsRefused, ByRules}
@@ -59,7 +59,7 @@ abbrev pub list_full : List Entry → Entry → Rule Refusal
 list_full = room.list_full JournalFull
 
 -- which change of the policy the command is; a login is none of them
-abbrev pub change_of : AdminCommand → Option Change
+abbrev pub change_of : AdminCommand → Option PolicyWord
 change_of (CreateSession user roles) = None
 change_of (AddUser user) = Some change.AddUser
 change_of (DeleteUser user) = Some change.DeleteUser
@@ -79,7 +79,7 @@ change_of (DropActiveRole role) = Some change.DropActiveRole
 
 -- the reply to an accepted command that makes this change, or is a login, on this policy list: a login tells the number
 -- of its session, and each tells the new version
-abbrev pub reply_of_change : Option Change → List Entry → Reply
+abbrev pub reply_of_change : Option PolicyWord → List Entry → Reply
 reply_of_change None entries = Login (logins entries + 1) (length entries + 1)
 reply_of_change (Some change) entries = Changed change (length entries + 1)
 

@@ -6,10 +6,10 @@ use Rattle.rbac_policy.specs.Texts.{IsObject}
 use Rattle.rbac_policy.specs.declared.objects.Object.{Object}
 use Rattle.rbac_policy.specs.declared.objects.Operation.{Operation}
 use Rattle.rbac_admin.specs.Refusals.{row_of as policy_row}
-use Rattle.rbac_admin.specs.declared.refusal.Refusal.TheVariants as policy
+use Rattle.rbac_admin.specs.declared.refusal.PolicyRefusal.TheVariants as policy
 use Rattle.reactor_core.specs.Refusals.{row_of as module_row}
-use Rattle.reactor_core.specs.declared.refusal.Refusal.{Refusal as ReactorRefusal}
-use Rattle.reactor_core.specs.declared.refusal.Refusal.TheVariants as reactor
+use Rattle.reactor_core.specs.declared.refusal.ReactorRefusal.{ReactorRefusal}
+use Rattle.reactor_core.specs.declared.refusal.ReactorRefusal.TheVariants as reactor
 use Rattle.access_core.specs.declared.refusal.Refusal.{Refusal}
 use Rattle.access_core.specs.declared.refusal.Refusal.TheVariants as refusal
 

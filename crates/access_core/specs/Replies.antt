@@ -1,10 +1,10 @@
 -- The words of replies (this project's own form).
 use Rattle.std.specs.Prelude.{ℕ, List, codes}
-use Rattle.access_core.specs.declared.reply.Change.{Change}
-use Rattle.access_core.specs.declared.reply.Change.TheVariants as change
+use Rattle.access_core.specs.declared.reply.PolicyWord.{PolicyWord}
+use Rattle.access_core.specs.declared.reply.PolicyWord.TheVariants as change
 
 -- the word by which a line asks for a policy command, and by which its reply names it
-abbrev pub word_of : Change → List ℕ
+abbrev pub word_of : PolicyWord → List ℕ
 word_of change.AddUser = codes "adduser"
 word_of change.DeleteUser = codes "deluser"
 word_of change.AddRole = codes "addrole"

@@ -12,7 +12,7 @@ use Rattle.reactor_core.specs.declared.entry.PastInstant.{PastInstant}
 use Rattle.access_core.specs.declared.reply.ShownSignal.{ShownSignal}
 
 -- the session sees exactly the places of the interface whose signals it may observe in this slot
-pub record Sees (entries : List Entry) (session slot : ℕ) (interface : List Declaration)
+pub record Observes (entries : List Entry) (session slot : ℕ) (interface : List Declaration)
     (sees : ℕ → Bool) : Type 0 where
   pub exactly : (place : ℕ) (d : Declaration) → slice_get interface place ≡ Some d
       → (IsTrue (sees place) ↔ May entries session Observe (Signal slot d.name))

@@ -11,15 +11,15 @@ use Rattle.rbac_policy.specs.declared.objects.Object.{Object}
 use Rattle.rbac_policy.specs.declared.objects.Operation.TheVariants.{Load as ToLoad}
 use Rattle.rbac_policy.specs.declared.objects.Object.TheVariants.{Slot}
 use Rattle.rbac_policy.specs.Facts.{IsLive, May}
-use Rattle.rbac_admin.specs.declared.refusal.Refusal.TheVariants as policy
+use Rattle.rbac_admin.specs.declared.refusal.PolicyRefusal.TheVariants as policy
 use Rattle.reactor_core.specs.declared.entry.Stamp.{Stamp}
 use Rattle.reactor_core.specs.declared.entry.PastInstant.{PastInstant}
 use Rattle.reactor_core.specs.Meaning.{PastMove}
 use Rattle.reactor_core.specs.declared.entry.Move.TheVariants.{Load, Offer, Discard, Step, Unload}
 use Rattle.reactor_core.specs.declared.entry.SlotEntry.{SlotEntry}
-use Rattle.reactor_core.specs.declared.entry.Word.{Word}
-use Rattle.reactor_core.specs.declared.entry.Word.TheVariants as word
-use Rattle.reactor_core.specs.declared.refusal.Refusal.{Refusal as ReactorRefusal}
+use Rattle.reactor_core.specs.declared.entry.SlotWord.{SlotWord}
+use Rattle.reactor_core.specs.declared.entry.SlotWord.TheVariants as word
+use Rattle.reactor_core.specs.declared.refusal.ReactorRefusal.{ReactorRefusal}
 use Rattle.reactor_core.specs.declared.refusal.ModuleRefusal.TheVariants.{Pending, NoInstant}
 use Rattle.reactor_core.specs.Meaning.{entry, is_loaded, instants_of, word_of, Running, RunsAfter}
 use Rattle.reactor_core.specs.Answers.{LoadAnswer, OfferAnswer, HasRoom, IsInstant, HasNoInstant}
@@ -33,7 +33,7 @@ use Rattle.access_core.specs.declared.reply.Reply.TheVariants.{Added, Look as Sh
 use Rattle.access_core.specs.Answering.{IsRefused, ByRules, no_memory}
 use Rattle.access_core.specs.Needs.{permission_of}
 use Rattle.access_core.specs.Refusals.{of_reactor}
-use Rattle.access_core.specs.Shown.{Sees, shown_of, names_of}
+use Rattle.access_core.specs.Shown.{Observes, shown_of, names_of}
 
 -- refuses a session that doesn't live
 abbrev pub no_session : List Entry → (session : ℕ) → Rule Refusal
@@ -65,7 +65,7 @@ abbrev pub stamp_of : List Entry → (session : ℕ) → Stamp
 stamp_of entries session = record { version = length entries; session = session }
 
 -- the reply to the command of this word, which was judged at this version and added the last entry of this journal
-abbrev pub tells_added : Word → (version : ℕ) → (after : List SlotEntry) → Reply
+abbrev pub tells_added : SlotWord → (version : ℕ) → (after : List SlotEntry) → Reply
 tells_added asked version after = Added (record {
   word = asked;
   place = length after;
@@ -108,7 +108,7 @@ pub record NamesUndecided (entries : List Entry) (slot session : ℕ) (journal :
   pub running : Running
   pub runs : RunsAfter journal running
   pub sees : ℕ → Bool
-  pub observes : Sees entries session slot running.interface sees
+  pub observes : Observes entries session slot running.interface sees
   pub named : refusal ≡ Stuck (names_of running.interface sees undecided)
 
 -- refuses where the next instant has no outcome; where it has one, hands the outcome on
@@ -137,7 +137,7 @@ pub record Looks (entries : List Entry) (slot session n : ℕ) (before : List Sl
   pub instant : PastInstant
   pub there : IsInstant before n instant
   pub sees : ℕ → Bool
-  pub observes : Sees entries session slot running.interface sees
+  pub observes : Observes entries session slot running.interface sees
   pub replied : reply ≡ Shown n (shown_of running.interface sees instant) (length entries)
   pub stays : after ≡ before
 
@@ -169,8 +169,8 @@ IsAdmitted entries slot session answer =
     (FirstRefuses (admit_rules entries slot session))
 
 -- the rules of an entry where a module runs: the journal has room, and memory may be refused
-abbrev pub entry_rules : List SlotEntry → Rules Refusal
-entry_rules journal = journal_full journal ▸ no_memory ▸ accept
+abbrev pub slot_entry_rules : List SlotEntry → Rules Refusal
+slot_entry_rules journal = journal_full journal ▸ no_memory ▸ accept
 
 -- the rules of an instant that may take the pending inputs
 abbrev pub settle_rules : List Entry → (slot session : ℕ) → List SlotEntry → Rules Refusal
@@ -185,9 +185,9 @@ step_rules entries slot session journal = not_ready implied journal ▸ settle_r
 abbrev pub journal_rules : List Entry → (slot session : ℕ) → SlotCommand → List SlotEntry → Rules Refusal
 journal_rules entries slot session (Move (Load l)) journal = occupied journal ▸ accept
 journal_rules entries slot session (Move (Offer signal)) journal = empty journal ▸ accept
-journal_rules entries slot session (Move Discard) journal = empty journal ▸ entry_rules journal
+journal_rules entries slot session (Move Discard) journal = empty journal ▸ slot_entry_rules journal
 journal_rules entries slot session (Move (Step i)) journal = empty journal ▸ step_rules entries slot session journal
-journal_rules entries slot session (Move Unload) journal = empty journal ▸ entry_rules journal
+journal_rules entries slot session (Move Unload) journal = empty journal ▸ slot_entry_rules journal
 journal_rules entries slot session (Look n) journal = empty journal ▸ no_instant journal n ▸ no_memory ▸ accept
 journal_rules entries slot session Audit journal = accept
 

@@ -3,8 +3,8 @@ ghost use Rattle.std.specs.Prelude.{◌≡◌};
 ghost use Rattle.access_core.specs.Refusals.{code_of, name_of};
 
 use crate::reply::SignalNames;
-use rbac_admin::refusal::Refusal as PolicyRefusal;
-use reactor_core::refusal::{ModuleRefusal, Refusal as ReactorRefusal};
+use rbac_admin::refusal::PolicyRefusal;
+use reactor_core::refusal::{ModuleRefusal, ReactorRefusal};
 
 /// Why a line was refused. A refusal leaves policy, slots, journals and pending signals as they
 /// were.

@@ -5,7 +5,7 @@ ghost use Rattle.access_core.specs.Replies.{word_of};
 use crate::refusal::Refusal;
 use est_text::identifier::Identifier;
 use rbac_policy::commands::SessionId;
-use reactor_core::entry::Word;
+use reactor_core::entry::SlotWord;
 use std::alloc::{AllocError, Global};
 use std::marker::Model;
 
@@ -102,7 +102,7 @@ impl ShownSignals {
 
 /// The policy commands that are answered by the new version alone: all but the login.
 #[derive(Clone, Copy, PartialEq, Eq)]
-pub enum Change {
+pub enum PolicyWord {
     AddUser,
     DeleteUser,
     AddRole,
@@ -120,27 +120,27 @@ pub enum Change {
     DropActiveRole,
 }
 
-impl Change {
+impl PolicyWord {
     /// The word by which a line asks for the command, and by which its reply names it.
     pub fn word(&self) -> &'static str
         ensures { result.now ≡ word_of self.now }
     {
         match self {
-            Change::AddUser => "adduser",
-            Change::DeleteUser => "deluser",
-            Change::AddRole => "addrole",
-            Change::DeleteRole => "delrole",
-            Change::AssignUser => "assign",
-            Change::DeassignUser => "deassign",
-            Change::GrantPermission => "grant",
-            Change::RevokePermission => "revoke",
-            Change::AddInheritance => "inherit",
-            Change::DeleteInheritance => "disinherit",
-            Change::CreateDsdSet => "dsd",
-            Change::DeleteDsdSet => "undsd",
-            Change::DeleteSession => "logout",
-            Change::AddActiveRole => "activate",
-            Change::DropActiveRole => "drop",
+            PolicyWord::AddUser => "adduser",
+            PolicyWord::DeleteUser => "deluser",
+            PolicyWord::AddRole => "addrole",
+            PolicyWord::DeleteRole => "delrole",
+            PolicyWord::AssignUser => "assign",
+            PolicyWord::DeassignUser => "deassign",
+            PolicyWord::GrantPermission => "grant",
+            PolicyWord::RevokePermission => "revoke",
+            PolicyWord::AddInheritance => "inherit",
+            PolicyWord::DeleteInheritance => "disinherit",
+            PolicyWord::CreateDsdSet => "dsd",
+            PolicyWord::DeleteDsdSet => "undsd",
+            PolicyWord::DeleteSession => "logout",
+            PolicyWord::AddActiveRole => "activate",
+            PolicyWord::DropActiveRole => "drop",
         }
     }
 }
@@ -149,7 +149,7 @@ impl Change {
 #[derive(Clone, Copy)]
 pub struct Added {
     /// The command's word.
-    pub word: Word,
+    pub word: SlotWord,
     /// The place of the entry.
     pub place: u64,
     /// The version at which the command was judged.
@@ -171,7 +171,7 @@ pub enum Reply {
     },
     /// The policy was changed. The version is the one with the new entry.
     Changed {
-        change: Change,
+        change: PolicyWord,
         version: u64,
     },
     /// A command on a slot added its entry.

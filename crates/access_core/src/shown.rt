@@ -6,7 +6,7 @@ ghost use Rattle.rbac_policy.specs.declared.objects.Operation.TheVariants.{Obser
 ghost use Rattle.rbac_policy.specs.declared.objects.Object.TheVariants.{Signal};
 ghost use Rattle.rbac_policy.specs.Facts.{May};
 ghost use Rattle.rbac_policy.specs.StandsFor.{StandsFor};
-ghost use Rattle.access_core.specs.Shown.{Sees, places_of, name_at, present_at};
+ghost use Rattle.access_core.specs.Shown.{Observes, places_of, name_at, present_at};
 
 use crate::reply::{ShownSignal, ShownSignals, SignalNames};
 use est_kernel::interface::Interface;
@@ -33,7 +33,7 @@ pub fn find_observed(
     interface: &Interface,
 ) -> u64
     ensures { (entries : List Entry) → StandsFor policy.now entries
-        → Sees entries session slot interface.now (bits result) }
+        → Observes entries session slot interface.now (bits result) }
 {
     let declarations = interface.declarations();
     let mut seen = 0;
@@ -68,7 +68,7 @@ pub fn list_statuses(
 }
 
 /// Of these signals, those that are seen.
-pub fn keep_seen(seen: u64, signals: u64) -> u64
+pub fn keep_observed(seen: u64, signals: u64) -> u64
     ensures { (place : ℕ) → bits result place ≡ (bits seen place && bits signals place) }
 {
     mask::intersection(seen, signals)

@@ -15,10 +15,10 @@ ghost use Rattle.access_core.specs.Desk.{DeskStep};
 
 use crate::command::SlotCommand;
 use crate::refusal::Refusal;
-use crate::reply::{Change, Reply};
+use crate::reply::{PolicyWord, Reply};
 use crate::slot::{Slot, decide_slot};
 use rbac_admin::decisions::decide;
-use rbac_admin::refusal::Refusal as PolicyRefusal;
+use rbac_admin::refusal::PolicyRefusal;
 use rbac_admin::room::has_room;
 use rbac_policy::commands::{AdminCommand, Entry, SessionId};
 use rbac_policy::journal::PolicyJournal;
@@ -60,26 +60,26 @@ impl Model for Single {
 }
 
 /// The change by which a reply names the command; None for a login.
-pub fn change_of(command: &AdminCommand) -> Option<Change>
+pub fn change_of(command: &AdminCommand) -> Option<PolicyWord>
     ensures { result ≡ change_of command.now }
 {
     match command {
-        AdminCommand::AddUser { .. } => Some(Change::AddUser),
-        AdminCommand::DeleteUser { .. } => Some(Change::DeleteUser),
-        AdminCommand::AddRole { .. } => Some(Change::AddRole),
-        AdminCommand::DeleteRole { .. } => Some(Change::DeleteRole),
-        AdminCommand::AssignUser { .. } => Some(Change::AssignUser),
-        AdminCommand::DeassignUser { .. } => Some(Change::DeassignUser),
-        AdminCommand::GrantPermission { .. } => Some(Change::GrantPermission),
-        AdminCommand::RevokePermission { .. } => Some(Change::RevokePermission),
-        AdminCommand::AddInheritance { .. } => Some(Change::AddInheritance),
-        AdminCommand::DeleteInheritance { .. } => Some(Change::DeleteInheritance),
-        AdminCommand::CreateDsdSet { .. } => Some(Change::CreateDsdSet),
-        AdminCommand::DeleteDsdSet { .. } => Some(Change::DeleteDsdSet),
+        AdminCommand::AddUser { .. } => Some(PolicyWord::AddUser),
+        AdminCommand::DeleteUser { .. } => Some(PolicyWord::DeleteUser),
+        AdminCommand::AddRole { .. } => Some(PolicyWord::AddRole),
+        AdminCommand::DeleteRole { .. } => Some(PolicyWord::DeleteRole),
+        AdminCommand::AssignUser { .. } => Some(PolicyWord::AssignUser),
+        AdminCommand::DeassignUser { .. } => Some(PolicyWord::DeassignUser),
+        AdminCommand::GrantPermission { .. } => Some(PolicyWord::GrantPermission),
+        AdminCommand::RevokePermission { .. } => Some(PolicyWord::RevokePermission),
+        AdminCommand::AddInheritance { .. } => Some(PolicyWord::AddInheritance),
+        AdminCommand::DeleteInheritance { .. } => Some(PolicyWord::DeleteInheritance),
+        AdminCommand::CreateDsdSet { .. } => Some(PolicyWord::CreateDsdSet),
+        AdminCommand::DeleteDsdSet { .. } => Some(PolicyWord::DeleteDsdSet),
         AdminCommand::CreateSession { .. } => None,
-        AdminCommand::DeleteSession => Some(Change::DeleteSession),
-        AdminCommand::AddActiveRole { .. } => Some(Change::AddActiveRole),
-        AdminCommand::DropActiveRole { .. } => Some(Change::DropActiveRole),
+        AdminCommand::DeleteSession => Some(PolicyWord::DeleteSession),
+        AdminCommand::AddActiveRole { .. } => Some(PolicyWord::AddActiveRole),
+        AdminCommand::DropActiveRole { .. } => Some(PolicyWord::DropActiveRole),
     }
 }
 
@@ -99,7 +99,7 @@ fn take_in(policy: &mut Policy, entries: &mut PolicyJournal, entry: Entry) -> Re
 }
 
 /// The reply to an accepted entry that the policy has just taken in; `change` is None for a login.
-fn answer_accepted(policy: &Policy, change: Option<Change>) -> Reply
+fn answer_accepted(policy: &Policy, change: Option<PolicyWord>) -> Reply
     ensures { (before : List Entry) (entry : Entry) → StandsFor policy.now (before ++ entry ∷ [])
         → change ≡ change_of entry.command
         → result ≡ accepted_reply before entry.command }

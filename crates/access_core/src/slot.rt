@@ -5,7 +5,7 @@ ghost use Rattle.rbac_policy.specs.StandsFor.{StandsFor};
 ghost use Rattle.refusal_rules.specs.Rules.{accept, ◌▸◌, TestsAll};
 ghost use Rattle.access_core.specs.Answering.{ByRules, no_memory};
 ghost use Rattle.access_core.specs.SlotStep.{SlotStep, access_rules, IsAdmitted, no_instant};
-ghost use Rattle.access_core.specs.SlotStep.{NamesUndecided, step_rules, entry_rules};
+ghost use Rattle.access_core.specs.SlotStep.{NamesUndecided, step_rules, slot_entry_rules};
 ghost use Rattle.access_core.specs.SlotStep.{stamp_of, Offers, AddsEntry, Steps};
 ghost use Rattle.access_core.specs.SlotStep.{Looks, Audits, Loads, tells_added};
 ghost use Rattle.reactor_core.specs.Meaning.{is_loaded};
@@ -16,14 +16,14 @@ ghost use Rattle.access_core.specs.Holding.{journal_of, IsHeldRight};
 use crate::command::SlotCommand;
 use crate::refusal::Refusal;
 use crate::reply::{Added, Reply};
-use crate::shown::{find_observed, keep_seen, list_names, list_statuses};
+use crate::shown::{find_observed, keep_observed, list_names, list_statuses};
 use est_kernel::state::Stuck;
 use est_text::identifier::Identifier;
-use rbac_admin::refusal::Refusal as PolicyRefusal;
+use rbac_admin::refusal::PolicyRefusal;
 use rbac_policy::commands::SessionId;
 use rbac_policy::objects::{Object, Operation, SlotNumber};
 use rbac_policy::policy::Policy;
-use reactor_core::entry::{Load, Move, Stamp, Word};
+use reactor_core::entry::{Load, Move, SlotWord, Stamp};
 use reactor_core::journal::Journal;
 use reactor_core::reactor::Reactor;
 use reactor_core::refusal::ModuleRefusal;
@@ -120,7 +120,7 @@ fn refuse_stuck(
 {
     let interface = reactor.interface();
     let seen = find_observed(policy, slot, session, interface);
-    let undecided = keep_seen(seen, stuck.undecided);
+    let undecided = keep_observed(seen, stuck.undecided);
     match list_names(alloc, interface, undecided) {
         Ok(undecided) => Refusal::Stuck { undecided },
         Err(_) => Refusal::Memory,
@@ -128,7 +128,7 @@ fn refuse_stuck(
 }
 
 /// The reply to the command of this word, which added the last entry of the reactor's journal.
-fn added_to(reactor: &Reactor, word: Word, stamp: Stamp) -> Reply
+fn added_to(reactor: &Reactor, word: SlotWord, stamp: Stamp) -> Reply
     ensures { result ≡ tells_added word stamp.version reactor.now }
 {
     Reply::Added(Added {
@@ -147,7 +147,7 @@ fn load_module(alloc: Global, journal: Journal, stamp: Stamp, load: Load) -> (Re
 {
     match Reactor::load(alloc, journal, stamp, load) {
         Ok(reactor) => {
-            let reply = added_to(&reactor, Word::Load, stamp);
+            let reply = added_to(&reactor, SlotWord::Load, stamp);
             (reply, Content::Loaded(reactor))
         }
         Err((refusal, journal)) => (
@@ -163,7 +163,7 @@ fn offer_signal(reactor: &mut Reactor, stamp: Stamp, signal: &Identifier) -> Rep
     ensures step { Offers stamp signal.now reactor.old result reactor.new }
 {
     match reactor.offer(stamp, signal) {
-        Ok(()) => added_to(reactor, Word::Offer, stamp),
+        Ok(()) => added_to(reactor, SlotWord::Offer, stamp),
         Err(refusal) => Reply::Refused(Refusal::from(refusal)),
     }
 }
@@ -171,11 +171,11 @@ fn offer_signal(reactor: &mut Reactor, stamp: Stamp, signal: &Identifier) -> Rep
 /// Takes the reactor's pending inputs away.
 fn discard_inputs(reactor: &mut Reactor, stamp: Stamp) -> Reply
     ensures loaded { is_loaded reactor.new ≡ true }
-    ensures step { ByRules (entry_rules reactor.old) (AddsEntry Move.Discard stamp)
+    ensures step { ByRules (slot_entry_rules reactor.old) (AddsEntry Move.Discard stamp)
         reactor.old result reactor.new }
 {
     match reactor.discard(stamp) {
-        Ok(()) => added_to(reactor, Word::Discard, stamp),
+        Ok(()) => added_to(reactor, SlotWord::Discard, stamp),
         Err(refusal) => Reply::Refused(Refusal::from(refusal)),
     }
 }
@@ -184,13 +184,13 @@ fn discard_inputs(reactor: &mut Reactor, stamp: Stamp) -> Reply
 fn unload_module(reactor: Reactor, stamp: Stamp) -> (Reply, Content)
     requires { is_loaded reactor ≡ true }
     ensures held { IsHeldRight result.1 }
-    ensures step { ByRules (entry_rules reactor) (AddsEntry Move.Unload stamp) reactor
+    ensures step { ByRules (slot_entry_rules reactor) (AddsEntry Move.Unload stamp) reactor
         result.0 (journal_of result.1) }
 {
     match reactor.unload(stamp) {
         Ok(journal) => {
             let reply = Reply::Added(Added {
-                word: Word::Unload,
+                word: SlotWord::Unload,
                 place: journal.len() as u64,
                 version: stamp.version,
                 instants: 0,
@@ -231,7 +231,7 @@ fn step_reactor(
     };
     let stamp = stamp(policy, session);
     match settled.commit(stamp) {
-        Ok(reactor) => (added_to(&reactor, Word::Step, stamp), reactor),
+        Ok(reactor) => (added_to(&reactor, SlotWord::Step, stamp), reactor),
         Err((refusal, reactor)) => (Reply::Refused(Refusal::from(refusal)), reactor),
     }
 }
@@ -352,7 +352,7 @@ impl Slot {
 
     fn discard(&mut self, stamp: Stamp) -> Reply
         ensures number { self.new.number ≡ self.old.number }
-        ensures step { ByRules (empty self.old.journal ▸ entry_rules self.old.journal)
+        ensures step { ByRules (empty self.old.journal ▸ slot_entry_rules self.old.journal)
             (AddsEntry Move.Discard stamp)
             self.old.journal result self.new.journal }
     {
@@ -364,7 +364,7 @@ impl Slot {
 
     fn unload(&mut self, stamp: Stamp) -> Reply
         ensures number { self.new.number ≡ self.old.number }
-        ensures step { ByRules (empty self.old.journal ▸ entry_rules self.old.journal)
+        ensures step { ByRules (empty self.old.journal ▸ slot_entry_rules self.old.journal)
             (AddsEntry Move.Unload stamp)
             self.old.journal result self.new.journal }
     {
@@ -455,7 +455,7 @@ fn permission_of(slot: SlotNumber, command: &SlotCommand) -> Option<(Operation, 
 }
 
 /// Whether the session lives and has the permission that is needed, if any, and else why not.
-fn check_access(
+fn admit_command(
     policy: &Policy,
     session: SessionId,
     needed: Option<(Operation, Object)>,
@@ -488,7 +488,7 @@ pub fn admit_load(policy: &Policy, slot: SlotNumber, session: SessionId) -> Resu
     ensures { (entries : List Entry) → StandsFor policy.now entries
         → IsAdmitted entries slot session result }
 {
-    check_access(policy, session, Some((Operation::Load, Object::Slot(slot))))?;
+    admit_command(policy, session, Some((Operation::Load, Object::Slot(slot))))?;
     Ok(stamp(policy, session))
 }
 
@@ -526,7 +526,7 @@ pub fn decide_slot(
         slot.new.journal }
 {
     let needed = permission_of(slot.number(), &command);
-    if let Err(refusal) = check_access(policy, session, needed) {
+    if let Err(refusal) = admit_command(policy, session, needed) {
         return Reply::Refused(refusal);
     }
     match command {

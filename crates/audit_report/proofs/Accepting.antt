@@ -4,7 +4,7 @@ use Rattle.std.specs.Prelude.{Option, Result, Ok, Err}
 use Rattle.rbac_policy.specs.declared.commands.AdminCommand.{AdminCommand}
 use Rattle.rbac_policy.specs.declared.commands.AdminCommand.TheVariants.{CreateSession}
 use Rattle.rbac_policy.specs.declared.commands.Entry.{Entry}
-use Rattle.rbac_admin.specs.declared.refusal.Refusal.{Refusal}
+use Rattle.rbac_admin.specs.declared.refusal.PolicyRefusal.{PolicyRefusal}
 use Rattle.rbac_admin.specs.PolicyStep.{PolicyStep, entry_of}
 use Rattle.rbac_admin.specs.Room.{HasRoomFor}
 use Rattle.rbac_admin.specs.PolicyLists.{IsAccepted}
@@ -16,14 +16,14 @@ same_command : (session : Option ℕ) (command : AdminCommand) → (entry_of ses
 same_command session (CreateSession user roles) = refl
 same_command session command = refl
 
-same_ok : (a b : Entry) → (let r : Result Entry Refusal = Ok a in r) ≡ Ok b → a ≡ b
+same_ok : (a b : Entry) → (let r : Result Entry PolicyRefusal = Ok a in r) ≡ Ok b → a ≡ b
 same_ok a b e = cc
 
-no_ok : (a : Refusal) (b : Entry) → (let r : Result Entry Refusal = Err a in r) ≡ Ok b → ⊥
+no_ok : (a : PolicyRefusal) (b : Entry) → (let r : Result Entry PolicyRefusal = Err a in r) ≡ Ok b → ⊥
 no_ok a b e = absurd cc
 
 module _ (before : List Entry) (entry asked : Entry) (copied : asked ≡ entry) where
-  stepped : (answer : Result Entry Refusal) → PolicyStep before asked.session asked.command answer
+  stepped : (answer : Result Entry PolicyRefusal) → PolicyStep before asked.session asked.command answer
       → PolicyStep before entry.session entry.command answer
   stepped answer step = subst (λ (e : Entry). PolicyStep before e.session e.command answer) copied step
 
@@ -53,7 +53,7 @@ module _ (before : List Entry) (entry asked : Entry) (copied : asked ≡ entry) 
       (one_answer before entry.session entry.command (Ok given) (Ok entry) (stepped (Ok given) step) accepted.step))
 
   -- where the command is refused, the entry is not accepted
-  pub refuses : (refusal : Refusal) → PolicyStep before asked.session asked.command (Err refusal)
+  pub refuses : (refusal : PolicyRefusal) → PolicyStep before asked.session asked.command (Err refusal)
       → IsAccepted before entry → ⊥
   refuses refusal step accepted =
       no_ok refusal entry

@@ -9,16 +9,6 @@ use Rattle.audit_report.specs.declared.finding.Finding.TheVariants.{Policy, Vers
 use Rattle.audit_report.specs.Findings.{IsPolicyFinding, AreSlotsLegal, IsFirstOfSlot, IsFirstInSlots, IsFirst}
 use Rattle.audit_report.specs.Findings.{HaveNoFinding, IsVerdict}
 
--- a finding of the policy list is the first of all
-pub first_of_policy : (entries : List Entry) (slots : List (List SlotEntry)) (finding : Finding)
-    → IsPolicyFinding entries finding
-    → IsFirst entries slots finding
-first_of_policy entries slots (Policy place) h = h
-first_of_policy entries slots (Version slot place) h = absurd h
-first_of_policy entries slots (Refused slot place code) h = absurd h
-first_of_policy entries slots (Reaction slot place) h = absurd h
-first_of_policy entries slots Memory h = tt
-
 module _ (entries : List Entry) (slots : List (List SlotEntry)) (slot : ℕ) (journal : List SlotEntry)
     (policy : IsPolicyList entries)
     (earlier : AreSlotsLegal entries slots slot) (there : slice_get slots slot ≡ Some journal) where
@@ -39,14 +29,3 @@ module _ (entries : List Entry) (slots : List (List SlotEntry)) (slot : ℕ) (jo
       subst (λ k. IsFirstInSlots entries slots k (Reaction k place)) (sym h.0)
       (in_slots (Reaction slot place) (refl, h.1))
   first_of_slot Memory h = tt
-
--- what an audit answers is its verdict, where memory wasn't refused
-pub is_verdict : (entries : List Entry) (slots : List (List SlotEntry)) (verdict : Result (Unit {0}) Finding)
-    → OnOk verdict (HaveNoFinding entries slots) → IfErr verdict (IsFirst entries slots) → ¬ (verdict ≡ Err Memory)
-    → IsVerdict entries slots verdict
-is_verdict entries slots (Ok done) ok err ample = ok
-is_verdict entries slots (Err (Policy place)) ok err ample = err
-is_verdict entries slots (Err (Version slot place)) ok err ample = err
-is_verdict entries slots (Err (Refused slot place code)) ok err ample = err
-is_verdict entries slots (Err (Reaction slot place)) ok err ample = err
-is_verdict entries slots (Err Memory) ok err ample = absurd (ample refl)

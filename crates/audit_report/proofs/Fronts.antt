@@ -114,17 +114,6 @@ opens_within L right =
     let n = ap length opens.is in
     omega (arith, n, length-append opening_entries opens.rest)
 
--- a place of the opening is right where its entry stands there
-pub right_opening : (L : List Entry) (at : ℕ) → at < 4 → slice_get L at ≡ slice_get opening_entries at → IsRightAt L at
-right_opening L at low same = record { opens = λ _. same; accepted = λ e late there. absurd (omega (arith, low, late)) }
-
--- else it is the first wrong one, where those before it are right
-pub wrong_opening : (L : List Entry) (at : ℕ) → at < 4 → ((k : ℕ) → k < at → IsRightAt L k)
-    → ¬ (slice_get L at ≡ slice_get opening_entries at)
-    → IsFirstWrong L (at + 1)
-wrong_opening L at low before other =
-    record { at = at; counted = refl; before = before; wrong = λ right. other (right.opens low) }
-
 -- a later place is right where its entry is accepted
 pub right_later : (L : List Entry) (at : ℕ) (e : Entry) → 4 ≤ at → slice_get L at ≡ Some e → IsAccepted (take at L) e
     → IsRightAt L at

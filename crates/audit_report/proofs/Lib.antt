@@ -6,4 +6,4 @@ pub mod Accepting
 pub mod Walking
 pub mod Lines
 pub mod Uniqueness
-pub mod AskedAgain
+pub mod SecondEngine

@@ -21,7 +21,7 @@ use Rattle.access_core.specs.SlotStep.{SlotStep, stamp_of}
 use Rattle.access_core.specs.Journals.{Judges, Adds}
 use Rattle.audit_report.specs.Findings.{ReactsOtherwise}
 use Rattle.audit_report.specs.Inner.Faults.{instant_in, last_instant, KeepsInstant, fault_of, IsFaultOf}
-use Rattle.access_core.proofs.Legality.{Moves, IsTaken, moves, refused_stays, same_move}
+use Rattle.access_core.proofs.Legality.{ChangesJournal, IsTaken, moves, refused_stays, same_move}
 use Rattle.access_core.proofs.Legality.{also_none, steps_where}
 
 -- the instant that the last of the entries keeps
@@ -64,14 +64,14 @@ module _ (judged : List Entry) (slot : ℕ) (before : List SlotEntry) (e : SlotE
     (after : List SlotEntry)
     (version : length judged ≡ e.stamp.version) (step : Judges judged slot before e reply after) where
   -- what the slot step does with the entry's command
-  moved : Moves (stamp_of judged e.stamp.session) (Move (asked e.done)) before reply after
+  moved : ChangesJournal (stamp_of judged e.stamp.session) (Move (asked e.done)) before reply after
   moved = moves judged slot e.stamp.session before reply after (Move (asked e.done)) step
 
   -- a refused command leaves the journal
   pub stays_where : (given : Refusal) → reply ≡ Refused given → after ≡ before
   stays_where given is =
       refused_stays (stamp_of judged e.stamp.session) (Move (asked e.done)) before given after
-      (subst (λ r. Moves (stamp_of judged e.stamp.session) (Move (asked e.done)) before r after) is moved)
+      (subst (λ r. ChangesJournal (stamp_of judged e.stamp.session) (Move (asked e.done)) before r after) is moved)
 
   abbrev Taken : Type 0
   Taken = IsTaken (stamp_of judged e.stamp.session) (Move (asked e.done)) before reply after

@@ -4,8 +4,8 @@ ghost use Rattle.est_kernel.specs.declared.kernel.Kernel.{Kernel as KernelValue}
 ghost use Rattle.audit_report.specs.Findings.{HaveNoFinding, IsFirst};
 
 use crate::finding::Finding;
-use crate::policy_audit::check_policy;
-use crate::slot_audit::check_slot;
+use crate::policy_audit::audit_policy;
+use crate::slot_audit::audit_slot;
 use est_rounds::engine::Engine;
 use est_rounds::rounds::Rounds;
 use rbac_policy::journal::PolicyJournal;
@@ -35,7 +35,7 @@ pub(crate) fn slot_at(number: usize) -> SlotNumber
 ///
 /// The first finding: in the policy list, then in the journals by number; of one entry its version
 /// before its refusal, and that before its reaction. Or Memory, where memory was refused.
-pub fn check_with<E: Engine>(
+pub fn audit_journals_with<E: Engine>(
     alloc: Global,
     policy: &PolicyJournal,
     slots: &[Journal; SLOTS as usize],
@@ -46,9 +46,9 @@ pub fn check_with<E: Engine>(
     ensures err { IfErr result (IsFirst policy.now slots.now) }
 {
     let entries = policy.entries();
-    check_policy(entries)?;
+    audit_policy(entries)?;
     for (number, journal) in slots.iter().enumerate() {
-        check_slot(alloc, entries, slot_at(number), journal.entries(), engine)?;
+        audit_slot(alloc, entries, slot_at(number), journal.entries(), engine)?;
     }
     Ok(())
 }
@@ -58,8 +58,8 @@ pub fn check_with<E: Engine>(
 ///
 /// # Errors
 ///
-/// As `check_with` has them.
-pub fn check(
+/// As `audit_journals_with` has them.
+pub fn audit_journals(
     alloc: Global,
     policy: &PolicyJournal,
     slots: &[Journal; SLOTS as usize],
@@ -67,5 +67,5 @@ pub fn check(
     ensures ok { OnOk result (HaveNoFinding policy.now slots.now) }
     ensures err { IfErr result (IsFirst policy.now slots.now) }
 {
-    check_with(alloc, policy, slots, &mut Rounds::new())
+    audit_journals_with(alloc, policy, slots, &mut Rounds::new())
 }

@@ -94,7 +94,7 @@ fn is_accepted(policy: &Policy, before: &[Entry], entry: &Entry) -> Result<bool,
 }
 
 /// Ok if the list is a policy list, else the first finding in it, or that memory was refused.
-pub(crate) fn check_policy(entries: &[Entry]) -> Result<(), Finding>
+pub(crate) fn audit_policy(entries: &[Entry]) -> Result<(), Finding>
     ensures ok { OnOk result (IsPolicyList entries.now) }
     ensures err { IfErr result (IsPolicyFinding entries.now) }
 {

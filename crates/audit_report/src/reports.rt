@@ -6,7 +6,7 @@ ghost use Rattle.audit_report.specs.Findings.{IsVerdict};
 ghost use Rattle.audit_report.specs.ReportText.{is_load, is_step, slot_line, verdict_text};
 ghost use Rattle.audit_report.specs.ReportText.{report_text};
 
-use crate::audit::check;
+use crate::audit::audit_journals;
 use crate::finding::Finding;
 use rbac_policy::journal::PolicyJournal;
 use rbac_policy::objects::SLOTS;
@@ -74,7 +74,7 @@ pub fn report(
         × IsVerdict policy.now slots.now verdict
         × (string_bytes text ≡ report_text policy.now slots.now verdict)) }
 {
-    let verdict = check(alloc, policy, slots);
+    let verdict = audit_journals(alloc, policy, slots);
     if let Err(Finding::Memory) = verdict {
         return Err(AllocError);
     }

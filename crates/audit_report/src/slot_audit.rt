@@ -10,8 +10,8 @@ ghost use Rattle.audit_report.specs.Findings.{IsFirstOfSlot};
 ghost use Rattle.audit_report.specs.Inner.Faults.{last_instant, KeepsInstant, fault_of, Replays};
 ghost use Rattle.audit_report.specs.Inner.Faults.{finding_of};
 
-use crate::asked_again::opinion_of;
 use crate::finding::Finding;
+use crate::second_engine::opinion_of;
 use access_core::command::SlotCommand;
 use access_core::refusal::Refusal;
 use access_core::reply::Reply;
@@ -137,7 +137,7 @@ fn finding_of(fault: Fault, slot: SlotNumber, place: u64) -> Finding
 /// finding in it, or that memory was refused.
 ///
 /// The journal is replayed on an empty slot, each entry at the policy of its version.
-pub(crate) fn check_slot<E: Engine>(
+pub(crate) fn audit_slot<E: Engine>(
     alloc: Global,
     entries: &[Entry],
     number: SlotNumber,

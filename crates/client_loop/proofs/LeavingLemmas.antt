@@ -6,10 +6,10 @@ use Rattle.access_core.specs.declared.refusal.Refusal.TheVariants.{Memory}
 use Rattle.client_loop.specs.declared.login.Logout.{Logout}
 use Rattle.client_loop.specs.declared.login.Logout.TheVariants.{Ended, WasEnded}
 use Rattle.client_loop.specs.Asking.{Ask}
-use Rattle.client_loop.specs.Logins.{Says, LogsOut, EndsSession, left_after, Leaves, logs_out}
+use Rattle.client_loop.specs.Logins.{IsLogoutOutcome, LogsOut, EndsSession, left_after, LogsOutHeld, logs_out}
 
 -- a logout that was done leaves nothing
-none_left : (done : Logout) (given : Reply) (session : ℕ) → Says done given → left_after given session ≡ None
+none_left : (done : Logout) (given : Reply) (session : ℕ) → IsLogoutOutcome done given → left_after given session ≡ None
 none_left Ended (reply.Refused refusal) session says = absurd says
 none_left Ended (reply.Login number version) session says = refl
 none_left Ended (reply.Changed change version) session says = refl
@@ -21,12 +21,12 @@ none_left WasEnded given session says = ap (λ (g : Reply). left_after g session
 
 pub left_none : {D : Type 0} (answers : D → Ask → Reply → D → Type 0) (session : ℕ) (before : D) (done : Logout)
     (after : D)
-    → LogsOut answers session before done after → Leaves answers (Some session) before after None
+    → LogsOut answers session before done after → LogsOutHeld answers (Some session) before after None
 left_none answers session before done after out =
-    subst (λ (left : Option ℕ). Leaves answers (Some session) before after left)
+    subst (λ (left : Option ℕ). LogsOutHeld answers (Some session) before after left)
     (none_left done out.given session out.says) (logs_out session before after out.given out.asked)
 
 pub left_some : {D : Type 0} (answers : D → Ask → Reply → D → Type 0) (session : ℕ) (before after : D)
     → EndsSession answers session before (reply.Refused Memory) after
-    → Leaves answers (Some session) before after (Some session)
+    → LogsOutHeld answers (Some session) before after (Some session)
 left_some answers session before after asked = logs_out session before after (reply.Refused Memory) asked

@@ -14,21 +14,21 @@ use Rattle.rbac_policy.specs.declared.commands.AdminCommand.TheVariants.{CreateS
 use Rattle.rbac_policy.specs.declared.commands.AdminCommand.TheVariants.{DropActiveRole}
 use Rattle.rbac_policy.specs.declared.commands.Entry.{Entry}
 use Rattle.rbac_policy.specs.Entries.{is_login, logins}
-use Rattle.rbac_admin.specs.declared.refusal.Refusal.{Refusal as PolicyRefusal}
+use Rattle.rbac_admin.specs.declared.refusal.PolicyRefusal.{PolicyRefusal}
 use Rattle.rbac_admin.specs.Room as room
-use Rattle.rbac_admin.specs.declared.refusal.Refusal.TheVariants as policy
+use Rattle.rbac_admin.specs.declared.refusal.PolicyRefusal.TheVariants as policy
 use Rattle.rbac_admin.specs.PolicyStep.{PolicyStep, entry_of}
 use Rattle.access_core.specs.declared.refusal.Refusal.TheVariants.{Policy, JournalFull, Memory}
 use Rattle.client_loop.specs.Asking.{IsLogoutReply}
-use Rattle.access_core.specs.declared.reply.Change.{Change}
+use Rattle.access_core.specs.declared.reply.PolicyWord.{PolicyWord}
 use Rattle.access_core.specs.declared.reply.Reply.{Reply}
 use Rattle.access_core.specs.declared.reply.Reply.TheVariants.{Refused, Login, Changed}
 use Rattle.access_core.specs.Answering.{ByRules, IsRefused, no_memory}
 use Rattle.access_core.specs.Desk.{DeskState, AdminStep, Appends, list_full, change_of, accepted_reply, reply_of_change}
 use Rattle.access_core.specs.SlotState.{SlotState}
-use Rattle.policy_board.specs.declared.refusal.Refusal.{Refusal}
-use Rattle.policy_board.specs.declared.refusal.Refusal.TheVariants as board
-use Rattle.policy_board.specs.declared.seat.Receipt.{Receipt}
+use Rattle.policy_board.specs.declared.refusal.BoardRefusal.{BoardRefusal}
+use Rattle.policy_board.specs.declared.refusal.BoardRefusal.TheVariants as board
+use Rattle.policy_board.specs.declared.seat.Acceptance.{Acceptance}
 use Rattle.policy_board.specs.PolicyCommands as board_step
 use Rattle.policy_board.specs.PolicyCommands.{IsPublished, session_made}
 use Rattle.policy_board.specs.SeatState.{SeatState}
@@ -58,24 +58,25 @@ login_makes_session (DropActiveRole role) session is = absurd cc
 
 module _ {B : Type 0} where
   -- what a receipt of a published entry tells
-  record Tells (receipt : Receipt B) (entry : Entry) (before : List Entry) : Type 0 where
+  record Tells (receipt : Acceptance B) (entry : Entry) (before : List Entry) : Type 0 where
     pub entry_is : receipt.entry ≡ entry
     pub version : length receipt.list ≡ length before + 1
     pub session : receipt.session ≡ session_made before entry
 
-  published_tells : (receipt : Receipt B) (entry : Entry) (before after : List Entry)
+  published_tells : (receipt : Acceptance B) (entry : Entry) (before after : List Entry)
       → IsPublished entry before (Ok receipt) after → Tells receipt entry before
   published_tells receipt entry before after p =
       let same : receipt ≡ p.receipt = (let is = p.answered in cc) in
-      let list : receipt.list ≡ before ++ entry ∷ [] = ap (λ (r : Receipt B). r.list) same ∙ (p.list_is ∙ p.appended) in
+      let list : receipt.list ≡ before ++ entry ∷ [] = ap (λ (r : Acceptance B). r.list) same
+          ∙ (p.list_is ∙ p.appended) in
       record {
-        entry_is = ap (λ (r : Receipt B). r.entry) same ∙ p.entry_is;
+        entry_is = ap (λ (r : Acceptance B). r.entry) same ∙ p.entry_is;
         version = ap (λ (l : List Entry). length l) list ∙ length-append before (entry ∷ []);
-        session = ap (λ (r : Receipt B). r.session) same ∙ p.session_is;
+        session = ap (λ (r : Acceptance B). r.session) same ∙ p.session_is;
       }
 
   -- the reply to a receipt whose command makes this change
-  pub reply_changed : (receipt : Receipt B) (entry : Entry) (before after : List Entry) (change : Change)
+  pub reply_changed : (receipt : Acceptance B) (entry : Entry) (before after : List Entry) (change : Change)
       → IsPublished entry before (Ok receipt) after
       → change_of receipt.entry.command ≡ Some change → Changed change (length receipt.list)
       ≡ accepted_reply before entry.command
@@ -86,7 +87,7 @@ module _ {B : Type 0} where
       ap (λ n. Changed change n) t.version ∙ sym (ap (λ c. reply_of_change c before) made)
 
   -- a receipt of a login has the session that it made
-  pub session_of_login : (receipt : Receipt B) (entry : Entry) (before after : List Entry)
+  pub session_of_login : (receipt : Acceptance B) (entry : Entry) (before after : List Entry)
       → IsPublished entry before (Ok receipt) after
       → change_of receipt.entry.command ≡ None → receipt.session ≡ Some (logins before + 1)
   session_of_login receipt entry before after p is =
@@ -96,7 +97,7 @@ module _ {B : Type 0} where
       (login_makes_session entry.command entry.session made)
 
   -- the reply to a receipt of a login
-  pub reply_login : (receipt : Receipt B) (entry : Entry) (before after : List Entry) (session : ℕ)
+  pub reply_login : (receipt : Acceptance B) (entry : Entry) (before after : List Entry) (session : ℕ)
       → IsPublished entry before (Ok receipt) after
       → change_of receipt.entry.command ≡ None → receipt.session ≡ Some session
       → Login session (length receipt.list) ≡ accepted_reply before entry.command
@@ -109,7 +110,7 @@ module _ {B : Type 0} where
       ∙ (ap (λ n. Login (logins before + 1) n) t.version ∙ sym (ap (λ c. reply_of_change c before) none))
 
   -- an accepted command published an entry
-  published_by : (old new : List Entry) (receipt : Receipt B) (decided : Result Entry PolicyRefusal)
+  published_by : (old new : List Entry) (receipt : Acceptance B) (decided : Result Entry PolicyRefusal)
       → MatchResult decided
       (λ entry. Answers (room.list_full board.JournalFull old entry ▸ MayRefuse board.Memory ▸ accept)
       (λ refusal. board_step.IsRefused refusal old (Ok receipt) new) (IsPublished entry old (Ok receipt) new))
@@ -117,13 +118,13 @@ module _ {B : Type 0} where
       → (entry : Entry) × IsPublished entry old (Ok receipt) new
   published_by old new receipt (Ok e) h =
       let all = all_passed (room.list_full board.JournalFull old e ▸ MayRefuse board.Memory ▸ accept)
-      (λ (r : Refusal). board_step.IsRefused r old (Ok receipt) new) (IsPublished e old (Ok receipt) new)
+      (λ (r : BoardRefusal). board_step.IsRefused r old (Ok receipt) new) (IsPublished e old (Ok receipt) new)
       (λ r refused. let is = refused.answered in absurd cc) h in
       (e, all.1)
   published_by old new receipt (Err r) h = let is = h.answered in absurd cc
 
   -- a refused command left the list
-  stayed_by : (old new : List Entry) (answer : Result (Receipt B) Refusal) (refusal : Refusal)
+  stayed_by : (old new : List Entry) (answer : Result (Acceptance B) BoardRefusal) (refusal : BoardRefusal)
       (decided : Result Entry PolicyRefusal) → answer ≡ Err refusal
       → MatchResult decided
       (λ entry. Answers (room.list_full board.JournalFull old entry ▸ MayRefuse board.Memory ▸ accept)
@@ -139,7 +140,7 @@ module _ {B : Type 0} where
   stayed_by old new answer refusal (Err r) is h = h.stays
 
   -- the seat keeps the receipt of the entry that the command added, if it added one
-  pub keeps_added : (old new : List Entry) (answer : Result (Receipt B) Refusal) (seat after : SeatState)
+  pub keeps_added : (old new : List Entry) (answer : Result (Acceptance B) BoardRefusal) (seat after : SeatState)
       (session : Option ℕ) (command : AdminCommand)
       → board_step.BoardStep old session command answer new → board_step.SeatAfter seat answer new after
       → KeepsAdded old new seat after
@@ -152,7 +153,7 @@ module _ {B : Type 0} where
 
   -- the receipt, if the answer is one, is of a published entry
   pub published : (session : Option ℕ) (command : AdminCommand) (old new : List Entry)
-      (answer : Result (Receipt B) Refusal)
+      (answer : Result (Acceptance B) BoardRefusal)
       → board_step.BoardStep old session command answer new
       → IfOk answer
       (λ receipt. (entry : Entry) × (o : List Entry) × (n : List Entry) × IsPublished entry o (Ok receipt) n)
@@ -160,12 +161,13 @@ module _ {B : Type 0} where
       (p.0, old, new, p.1)
   published session command old new (Err refusal) step = tt
 
-  module _ (slots : List SlotState) (old new : List Entry) (answer : Result (Receipt B) Refusal) (given : Reply) where
-    refused_same : (refusal : Refusal) → given ≡ Refused (of_board refusal) → new ≡ old
+  module _ (slots : List SlotState) (old new : List Entry) (answer : Result (Acceptance B) BoardRefusal)
+      (given : Reply) where
+    refused_same : (refusal : BoardRefusal) → given ≡ Refused (of_board refusal) → new ≡ old
         → IsRefused (of_board refusal) (desk_with old slots) given (desk_with new slots)
     refused_same refusal replied stays = record { replied = replied; stays = ap (λ l. desk_with l slots) stays }
 
-    decided_same : ((refusal : Refusal) → answer ≡ Err refusal → given ≡ Refused (of_board refusal))
+    decided_same : ((refusal : BoardRefusal) → answer ≡ Err refusal → given ≡ Refused (of_board refusal))
         → ((entry : Entry) → IsPublished entry old answer new → given ≡ accepted_reply old entry.command)
         → (decided : Result Entry PolicyRefusal)
         → MatchResult decided
@@ -180,7 +182,7 @@ module _ {B : Type 0} where
         (refused (board.Policy refusal) h.answered) h.stays
     decided_same refused accepted (Ok entry) (inl r) =
         let replied : given ≡ Refused JournalFull = refused r.refusal r.answered.answered
-        ∙ ap (λ (x : Refusal). Refused (of_board x)) r.given.0 in
+        ∙ ap (λ (x : BoardRefusal). Refused (of_board x)) r.given.0 in
         inl (record {
           refusal = JournalFull;
           given = (refl, λ room. r.given.1 (room));
@@ -192,16 +194,17 @@ module _ {B : Type 0} where
           → ByRules (no_memory ▸ accept) (Appends entry) (desk_with old slots) given (desk_with new slots)
       later (inl m) =
           let replied : given ≡ Refused Memory = refused m.refusal m.answered.answered
-          ∙ ap (λ (x : Refusal). Refused (of_board x)) m.given in
+          ∙ ap (λ (x : BoardRefusal). Refused (of_board x)) m.given in
           inl (record { refusal = Memory; given = refl; answered = refused_same board.Memory replied m.answered.stays })
       later (inr q) = inr (record {
         passed = tt;
         next = record { replied = accepted entry q.next; appended = ap (λ l. desk_with l slots) q.next.appended };
       })
 
-    refused_at : IfErr answer (λ refusal. given ≡ Refused (of_board refusal)) → (refusal : Refusal)
+    refused_at : IfErr answer (λ refusal. given ≡ Refused (of_board refusal)) → (refusal : BoardRefusal)
         → answer ≡ Err refusal → given ≡ Refused (of_board refusal)
-    refused_at h refusal is = subst (λ (a : Result (Receipt B) Refusal). IfErr a (λ r. given ≡ Refused (of_board r))) is
+    refused_at h refusal is = subst (λ (a : Result (Acceptance B) BoardRefusal). IfErr a
+    (λ r. given ≡ Refused (of_board r))) is
         h
 
     -- the board's answer to a policy command is a desk's, where the reply is made so of it

@@ -4,10 +4,10 @@ use Rattle.rbac_policy.specs.declared.commands.AdminCommand.{AdminCommand}
 use Rattle.rbac_policy.specs.declared.objects.Operation.{Operation}
 use Rattle.rbac_policy.specs.declared.objects.Object.{Object}
 use Rattle.rbac_policy.specs.Facts.{May}
-use Rattle.rbac_admin.specs.declared.refusal.Refusal.TheVariants as policy
+use Rattle.rbac_admin.specs.declared.refusal.PolicyRefusal.TheVariants as policy
 use Rattle.access_core.specs.declared.command.SlotCommand.{SlotCommand}
 use Rattle.access_core.specs.declared.refusal.Refusal.TheVariants.{Policy, Memory}
-use Rattle.access_core.specs.declared.reply.Change.TheVariants.{DeleteSession as SessionDeleted}
+use Rattle.access_core.specs.declared.reply.PolicyWord.TheVariants.{DeleteSession as SessionDeleted}
 use Rattle.access_core.specs.declared.reply.Reply.{Reply}
 use Rattle.access_core.specs.declared.reply.Reply.TheVariants.{Refused, Changed, Check}
 use Rattle.access_core.specs.Desk.{DeskState, AdminStep, DeskStep}

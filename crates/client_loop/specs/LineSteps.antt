@@ -2,7 +2,7 @@
 -- form).
 use Rattle.std.specs.Prelude.{◌≡◌, ◌≢◌, ℕ, ◌<◌, ◌≤◌, ◌⊎◌, List, Option, Some, None, Err, length}
 use Rattle.rbac_policy.specs.declared.commands.AdminCommand.TheVariants.{CreateSession, DeleteSession}
-use Rattle.rbac_admin.specs.declared.refusal.Refusal.TheVariants as policy
+use Rattle.rbac_admin.specs.declared.refusal.PolicyRefusal.TheVariants as policy
 use Rattle.access_core.specs.declared.refusal.Refusal.{Refusal}
 use Rattle.access_core.specs.declared.refusal.Refusal.TheVariants as fault
 use Rattle.access_core.specs.declared.reply.Reply.{Reply}

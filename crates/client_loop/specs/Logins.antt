@@ -1,7 +1,7 @@
 -- Logins: when one is held, and what ends it (this project's own form).
 use Rattle.std.specs.Prelude.{◌≡◌, ℕ, Option, Some, None}
 use Rattle.rbac_policy.specs.declared.commands.AdminCommand.TheVariants.{DeleteSession}
-use Rattle.rbac_admin.specs.declared.refusal.Refusal.TheVariants as policy
+use Rattle.rbac_admin.specs.declared.refusal.PolicyRefusal.TheVariants as policy
 use Rattle.access_core.specs.declared.refusal.Refusal.TheVariants.{Policy, Memory}
 use Rattle.access_core.specs.declared.reply.Reply.{Reply}
 use Rattle.access_core.specs.declared.reply.Reply.TheVariants as reply
@@ -28,9 +28,9 @@ after_logout (reply.Refused (Policy policy.NoSession)) before = None
 after_logout _ before = before
 
 -- what this reply to a logout says
-abbrev pub Says : Logout → Reply → Type 0
-Says Ended given = IsAccepted given
-Says WasEnded given = given ≡ reply.Refused (Policy policy.NoSession)
+abbrev pub IsLogoutOutcome : Logout → Reply → Type 0
+IsLogoutOutcome Ended given = IsAccepted given
+IsLogoutOutcome WasEnded given = given ≡ reply.Refused (Policy policy.NoSession)
 
 -- the desk was asked to end the session, and this was its reply
 abbrev pub EndsSession : {D : Type 0} → (answers : D → Ask → Reply → D → Type 0) → (session : ℕ) → (before : D) → Reply
@@ -42,7 +42,7 @@ pub record LogsOut {D : Type 0} (answers : D → Ask → Reply → D → Type 0)
     (after : D) : Type 0 where
   pub given : Reply
   pub asked : EndsSession answers session before given after
-  pub says : Says done given
+  pub says : IsLogoutOutcome done given
 
 -- the desk was asked to end the session any number of times, and each time memory was refused
 pub data RefusesLogouts {D : Type 0} (answers : D → Ask → Reply → D → Type 0) (session : ℕ) : (before after : D)
@@ -66,8 +66,8 @@ left_after _ session = None
 
 -- the end of a connection with this login: where one is held, its logout is asked; the login is left over only if
 -- memory was refused
-pub data Leaves {D : Type 0} (answers : D → Ask → Reply → D → Type 0) : (held : Option ℕ) → (before after : D)
+pub data LogsOutHeld {D : Type 0} (answers : D → Ask → Reply → D → Type 0) : (held : Option ℕ) → (before after : D)
     → (left : Option ℕ) → Type 0 where
-  none_held : (desk : D) → Leaves answers None desk desk None
+  none_held : (desk : D) → LogsOutHeld answers None desk desk None
   logs_out : (session : ℕ) → (before after : D) → (given : Reply) → EndsSession answers session before given after
-      → Leaves answers (Some session) before after (left_after given session)
+      → LogsOutHeld answers (Some session) before after (left_after given session)

@@ -10,7 +10,7 @@ use Rattle.wire_reader.specs.declared.serving.EndReason.TheVariants.{Memory}
 use Rattle.wire_lines.specs.Replies.{line_of}
 use Rattle.client_loop.specs.Asking.{Ask}
 use Rattle.client_loop.specs.LineSteps.{DeskAndLogin, with_login, Tells, TellsNothing}
-use Rattle.client_loop.specs.Logins.{Leaves}
+use Rattle.client_loop.specs.Logins.{LogsOutHeld}
 
 -- what an over-long line is answered
 abbrev pub too_long_text : List ℕ
@@ -39,4 +39,4 @@ pub record ServesDesk {D : Type 0} (answers : D → Ask → Reply → D → Type
     (before : D) (why : EndReason) (desk : D) (left : Option ℕ) (written after : Option (List ℕ)) : Type 0 where
   pub last : DeskAndLogin D
   pub lines : ServesLines answers refused ahead before why last written after
-  pub leaves : Leaves answers last.login last.desk desk left
+  pub leaves : LogsOutHeld answers last.login last.desk desk left

@@ -12,7 +12,7 @@ use Rattle.access_core.specs.declared.reply.Reply.{Reply}
 use Rattle.access_core.specs.declared.reply.Reply.TheVariants.{Refused, Check}
 use Rattle.access_core.specs.Desk.{DeskState, AdminStep}
 use Rattle.access_core.specs.SlotState.{SlotState}
-use Rattle.policy_board.specs.declared.refusal.Refusal.{Refusal}
+use Rattle.policy_board.specs.declared.refusal.BoardRefusal.{BoardRefusal}
 use Rattle.policy_board.specs.Reads.{AnswersFor}
 use Rattle.policy_board.specs.SeatState.{SeatState}
 use Rattle.history_receipts.specs.declared.receipt.Kept.TheVariants.{Admin}
@@ -47,14 +47,14 @@ pub record IsAdministered (session : Option ℕ) (command : AdminCommand) (seat 
   pub seat_keeps : KeepsAdded old new seat after
 
 -- the reply to a check that the board answered so
-abbrev pub check_reply : Result Bool Refusal → Reply
+abbrev pub check_reply : Result Bool BoardRefusal → Reply
 check_reply (Ok allowed) = Check allowed
 check_reply (Err refusal) = Refused (of_board refusal)
 
 -- whether the session may is answered for a policy list that the seat has read, or the read is refused
 pub record IsCheckedAt (session : ℕ) (operation : Operation) (object : Object) (seat : SeatState) (given : Reply)
     (after : SeatState) : Type 0 where
-  pub answer : Result Bool Refusal
+  pub answer : Result Bool BoardRefusal
   pub asks : AnswersFor (λ entries. May entries session operation object) seat answer after
   pub replied : given ≡ check_reply answer
 

@@ -12,7 +12,7 @@ use crate::login::{Login, held_session, log_in};
 use access_core::command::SlotCommand;
 use access_core::refusal::Refusal;
 use access_core::reply::Reply;
-use rbac_admin::refusal::Refusal as PolicyRefusal;
+use rbac_admin::refusal::PolicyRefusal;
 use rbac_policy::commands::{AdminCommand, SessionId};
 use rbac_policy::names::{Name, RoleNames};
 use rbac_policy::objects::{Object, Operation};
@@ -22,7 +22,7 @@ use wire_lines::request::Request;
 use wire_reader::lines::LINE_BYTES;
 
 /// What a line is answered, and the login that the connection holds afterwards.
-pub(crate) struct Turn {
+pub(crate) struct LineAnswer {
     pub(crate) reply: Reply,
     pub(crate) login: Option<Login>,
 }
@@ -71,26 +71,31 @@ fn check_permission<D: Desk>(
 }
 
 /// Answers a login of this user in these roles; AlreadyLoggedIn if the connection holds a login.
-fn ask_login<D: Desk>(desk: &mut D, login: Option<Login>, user: Name, roles: RoleNames) -> Turn
+fn ask_login<D: Desk>(
+    desk: &mut D,
+    login: Option<Login>,
+    user: Name,
+    roles: RoleNames,
+) -> LineAnswer
     ensures asked { Asks D.answers (Policy (CreateSession user roles)) (session_of login)
         desk.old result.reply desk.new }
     ensures login { session_of result.login
         ≡ login_after (Policy (CreateSession user roles)) result.reply (session_of login) }
 {
     match login {
-        Some(login) => Turn {
+        Some(login) => LineAnswer {
             reply: Reply::Refused(Refusal::AlreadyLoggedIn),
             login: Some(login),
         },
         None => {
             let (reply, login) = log_in(desk, user, roles);
-            Turn { reply, login }
+            LineAnswer { reply, login }
         }
     }
 }
 
 /// Answers a logout; NoSession if the connection holds no login.
-fn ask_logout<D: Desk>(desk: &mut D, login: Option<Login>) -> Turn
+fn ask_logout<D: Desk>(desk: &mut D, login: Option<Login>) -> LineAnswer
     ensures asked { Asks D.answers (Policy DeleteSession) (session_of login)
         desk.old result.reply desk.new }
     ensures login { session_of result.login
@@ -99,9 +104,9 @@ fn ask_logout<D: Desk>(desk: &mut D, login: Option<Login>) -> Turn
     match login {
         Some(login) => {
             let (reply, login) = login.end(desk);
-            Turn { reply, login }
+            LineAnswer { reply, login }
         }
-        None => Turn {
+        None => LineAnswer {
             reply: Reply::Refused(Refusal::Policy(PolicyRefusal::NoSession)),
             login: None,
         },
@@ -110,7 +115,7 @@ fn ask_logout<D: Desk>(desk: &mut D, login: Option<Login>) -> Turn
 
 /// Answers a policy command on a connection that holds this login. An accepted login or logout
 /// changes what login the connection holds; so does a logout whose session had ended.
-fn ask_policy<D: Desk>(desk: &mut D, login: Option<Login>, command: AdminCommand) -> Turn
+fn ask_policy<D: Desk>(desk: &mut D, login: Option<Login>, command: AdminCommand) -> LineAnswer
     ensures asked { Asks D.answers (Policy command) (session_of login)
         desk.old result.reply desk.new }
     ensures login { session_of result.login
@@ -121,13 +126,13 @@ fn ask_policy<D: Desk>(desk: &mut D, login: Option<Login>, command: AdminCommand
         AdminCommand::DeleteSession => ask_logout(desk, login),
         command => {
             let reply = command_policy(desk, &held_session(&login), command);
-            Turn { reply, login }
+            LineAnswer { reply, login }
         }
     }
 }
 
 /// Answers a request on a connection that holds this login.
-fn ask<D: Desk>(desk: &mut D, login: Option<Login>, request: Request) -> Turn
+fn ask<D: Desk>(desk: &mut D, login: Option<Login>, request: Request) -> LineAnswer
     ensures asked { Asks D.answers request (session_of login) desk.old result.reply desk.new }
     ensures login { session_of result.login
         ≡ login_after request result.reply (session_of login) }
@@ -138,7 +143,7 @@ fn ask<D: Desk>(desk: &mut D, login: Option<Login>, request: Request) -> Turn
         Request::Slot { slot, command } => command_slot(desk, held, slot, command),
         Request::Check { operation, object } => check_permission(desk, held, operation, &object),
     };
-    Turn { reply, login }
+    LineAnswer { reply, login }
 }
 
 /// Answers a line on a connection that holds this login.
@@ -148,7 +153,7 @@ pub(crate) fn respond<D: Desk>(
     desk: &mut D,
     login: Option<Login>,
     line: &[u8],
-) -> Turn
+) -> LineAnswer
     ensures { LineStep D.answers line.now (with_login desk.old (session_of login))
         result.reply (with_login desk.new (session_of result.login)) }
 {
@@ -156,13 +161,13 @@ pub(crate) fn respond<D: Desk>(
     // every line.
     if line.len() > LINE_BYTES {
         let reply = Reply::Refused(Refusal::TooLong);
-        return Turn { reply, login };
+        return LineAnswer { reply, login };
     }
     match requests.read(alloc, line) {
         Ok(request) => ask(desk, login, request),
         Err(refusal) => {
             let reply = Reply::Refused(refusal);
-            Turn { reply, login }
+            LineAnswer { reply, login }
         }
     }
 }

@@ -2,7 +2,7 @@
 ghost use Rattle.client_loop.specs.LineSteps.{Tells, TellsNothing};
 ghost use Rattle.client_loop.specs.Inner.Clients.{seen_of};
 
-use crate::answer::{Turn, respond};
+use crate::answer::{LineAnswer, respond};
 use crate::desk::Desk;
 use crate::gate::Gate;
 use crate::login::{Login, hold};
@@ -30,7 +30,7 @@ impl<'g, D: Desk, G: Gate> Answerer<D> for LineAnswerer<'g, G> {
     fn answer(&mut self, alloc: Global, desk: &mut D, line: &[u8]) -> Result<Text, AllocError> {
         self.gate.before(self.worker);
         let held = self.login.take();
-        let Turn { reply, login } = respond(alloc, &mut self.requests, desk, held, line);
+        let LineAnswer { reply, login } = respond(alloc, &mut self.requests, desk, held, line);
         hold(&mut self.login, login);
         self.gate.after(self.worker);
         reply_text(alloc, &reply)

@@ -10,7 +10,7 @@ ghost use Rattle.client_loop.specs.Logins.{LogsOut, LogsOutAtLast};
 use crate::desk::Desk;
 use access_core::refusal::Refusal;
 use access_core::reply::Reply;
-use rbac_admin::refusal::Refusal as PolicyRefusal;
+use rbac_admin::refusal::PolicyRefusal;
 use rbac_policy::commands::{AdminCommand, SessionId};
 use rbac_policy::names::{Name, RoleNames};
 use std::mem;

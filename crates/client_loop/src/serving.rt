@@ -3,7 +3,7 @@ ghost use Rattle.std.specs.Prelude.{◌≡◌, true};
 ghost use Rattle.wire_reader.specs.Meters.{IsStopped, has_failed};
 ghost use Rattle.wire_reader.specs.declared.serving.EndReason.TheVariants as why;
 ghost use Rattle.client_loop.specs.LineSteps.{with_login};
-ghost use Rattle.client_loop.specs.Logins.{session_of, Leaves};
+ghost use Rattle.client_loop.specs.Logins.{session_of, LogsOutHeld};
 ghost use Rattle.client_loop.specs.Serving.{too_long_text, ServesLines, ServesDesk};
 
 use crate::client::LineAnswerer;
@@ -79,7 +79,7 @@ fn answer_lines<R: Read, W: Write, D: Desk, G: Gate>(
 
 /// Logs out if a login is held. If memory is refused for that, the login comes back.
 fn leave<D: Desk>(desk: &mut D, held: Option<Login>) -> Option<Login>
-    ensures { Leaves D.answers (session_of held) desk.old desk.new (session_of result) }
+    ensures { LogsOutHeld D.answers (session_of held) desk.old desk.new (session_of result) }
 {
     let Some(login) = held else {
         return None;

@@ -13,8 +13,8 @@ use access_core::reply::Reply;
 use access_core::single::change_of;
 use policy_board::board::Board;
 use policy_board::board_list::BoardName;
-use policy_board::refusal::Refusal;
-use policy_board::seat::{Receipt, Seat};
+use policy_board::refusal::BoardRefusal;
+use policy_board::seat::{Acceptance, Seat};
 use rbac_policy::commands::{AdminCommand, SessionId};
 use rbac_policy::objects::{Object, Operation};
 use slot_table::conversions::of_board;
@@ -40,7 +40,7 @@ impl<'a, B: BoardName, R> Model for SharedDesk<'a, B, R> {
 }
 
 /// The reply to an accepted policy command.
-fn reply_to<B: BoardName>(receipt: &Receipt<B>) -> Reply
+fn reply_to<B: BoardName>(receipt: &Acceptance<B>) -> Reply
     requires { (entry : Entry) × (old : List Entry) × (new : List Entry)
         × IsPublished entry old (Ok receipt.now) new }
     ensures { (entry : Entry) (old new : List Entry) → IsPublished entry old (Ok receipt.now) new
@@ -57,7 +57,7 @@ fn reply_to<B: BoardName>(receipt: &Receipt<B>) -> Reply
 }
 
 /// The board's answer to a policy command, as a reply.
-fn reply_of<B: BoardName>(answer: Result<Receipt<B>, Refusal>) -> Reply
+fn reply_of<B: BoardName>(answer: Result<Acceptance<B>, BoardRefusal>) -> Reply
     requires { IfOk answer (λ receipt. (entry : Entry) × (old : List Entry) × (new : List Entry)
         × IsPublished entry old (Ok receipt) new) }
     ensures accepted { (entry : Entry) (old new : List Entry) → IsPublished entry old answer new

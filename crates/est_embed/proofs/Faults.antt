@@ -7,8 +7,8 @@ use Rattle.reactor_core.specs.declared.refusal.ModuleRefusal.TheVariants.{Pendin
 use Rattle.reactor_core.specs.declared.refusal.ModuleRefusal.TheVariants.{MisnamedMain, UnknownModule, RecursiveRun}
 use Rattle.reactor_core.specs.declared.refusal.ModuleRefusal.TheVariants.{UnknownName, DuplicateName, EmitInput}
 use Rattle.reactor_core.specs.declared.refusal.ModuleRefusal.TheVariants.{BadRename, InstantLoop, TooLarge, Semantics}
-use Rattle.reactor_core.specs.declared.refusal.Refusal.{Refusal}
-use Rattle.reactor_core.specs.declared.refusal.Refusal.TheVariants as refusal
+use Rattle.reactor_core.specs.declared.refusal.ReactorRefusal.{ReactorRefusal}
+use Rattle.reactor_core.specs.declared.refusal.ReactorRefusal.TheVariants as refusal
 use Rattle.est_host.specs.Faults.{IsLoadFaultTold, fault_in_text, fault_of, not_text, refused, no_memory}
 use Rattle.est_host.specs.declared.loading.Fault.{Fault}
 
@@ -32,7 +32,7 @@ in_text InstantLoop e = omega (arith, e)
 in_text (TooLarge limit) e = omega (arith, e)
 in_text (Semantics relation) e = omega (arith, e)
 
-of_refusal : (why : Refusal) → (fault_of why).code ≢ 0
+of_refusal : (why : ReactorRefusal) → (fault_of why).code ≢ 0
 of_refusal (refusal.Module why) e = in_text why e
 of_refusal refusal.JournalFull e = omega (arith, e)
 of_refusal refusal.Memory e = omega (arith, e)

@@ -5,8 +5,8 @@ use Rattle.est_kernel.specs.declared.state.State.TheVariants.{Fresh}
 use Rattle.reactor_core.specs.Refusals.{code_of}
 use Rattle.reactor_core.specs.declared.refusal.ModuleRefusal.{ModuleRefusal}
 use Rattle.reactor_core.specs.declared.refusal.ModuleRefusal.TheVariants.{Lexical, Syntax}
-use Rattle.reactor_core.specs.declared.refusal.Refusal.{Refusal}
-use Rattle.reactor_core.specs.declared.refusal.Refusal.TheVariants as refusal
+use Rattle.reactor_core.specs.declared.refusal.ReactorRefusal.{ReactorRefusal}
+use Rattle.reactor_core.specs.declared.refusal.ReactorRefusal.TheVariants as refusal
 use Rattle.reactor_core.specs.Loading.{Gives, IsLoadFault}
 use Rattle.est_machine.specs.Machines.{MachineState}
 use Rattle.est_host.specs.Digests.{digest_of}
@@ -25,7 +25,7 @@ fault_in_text (Syntax place) = fault (code_of (Syntax place)) place.line place.c
 fault_in_text other = fault (code_of other) 0 0
 
 -- what is told of a refusal
-abbrev pub fault_of : Refusal → Fault
+abbrev pub fault_of : ReactorRefusal → Fault
 fault_of (refusal.Module why) = fault_in_text why
 fault_of refusal.JournalFull = fault MEMORY 0 0
 fault_of refusal.Memory = fault MEMORY 0 0
@@ -33,7 +33,7 @@ fault_of refusal.Memory = fault MEMORY 0 0
 -- what is told of a load that is refused: name or text isn't UTF-8, or it is the first fault, or memory was refused
 pub data IsLoadFaultTold (main text : List ℕ) : Fault → Type 0 where
   not_text : (IsUtf8 main → IsUtf8 text → ⊥) → IsLoadFaultTold main text (fault NOT_TEXT 0 0)
-  refused : (why : Refusal) → IsLoadFault main text why → IsLoadFaultTold main text (fault_of why)
+  refused : (why : ReactorRefusal) → IsLoadFault main text why → IsLoadFaultTold main text (fault_of why)
   no_memory : IsLoadFaultTold main text (fault MEMORY 0 0)
 
 -- the module that the text and the name of its main module give stands before its first instant

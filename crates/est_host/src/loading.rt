@@ -11,7 +11,7 @@ use est_machine::machine::Machine;
 use est_text::place::Place;
 use reactor_core::loaded::Module;
 use reactor_core::reading::read_module;
-use reactor_core::refusal::{ModuleRefusal, Refusal};
+use reactor_core::refusal::{ModuleRefusal, ReactorRefusal};
 use sha2::{Digest, Sha256};
 use std::alloc::{AllocError, Global};
 
@@ -65,13 +65,13 @@ fn fault_in_text(refusal: &ModuleRefusal) -> Fault
 }
 
 /// What C is told of a refusal.
-fn fault_of(refusal: &Refusal) -> Fault
+fn fault_of(refusal: &ReactorRefusal) -> Fault
     ensures { result ≡ fault_of refusal.now }
 {
     match refusal {
-        Refusal::Module(refusal) => fault_in_text(refusal),
-        Refusal::JournalFull => without_place(MEMORY),
-        Refusal::Memory => without_place(MEMORY),
+        ReactorRefusal::Module(refusal) => fault_in_text(refusal),
+        ReactorRefusal::JournalFull => without_place(MEMORY),
+        ReactorRefusal::Memory => without_place(MEMORY),
     }
 }
 
@@ -88,7 +88,7 @@ fn digest_of(main: &str, text: &str) -> [u8; 32]
 
 /// The machine of the module `main` of a text, which has not begun; or its first fault, or memory
 /// was refused.
-fn begin(alloc: Global, main: &str, text: &str) -> Result<Machine, Refusal>
+fn begin(alloc: Global, main: &str, text: &str) -> Result<Machine, ReactorRefusal>
     ensures begun { IfOk result (IsBegun main.now text.now) }
     ensures fault { IfErr result (IsLoadFault main.now text.now) }
 {

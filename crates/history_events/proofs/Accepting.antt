@@ -12,8 +12,8 @@ use Rattle.rbac_policy.specs.declared.objects.Operation.TheVariants.{Offer as To
 use Rattle.rbac_policy.specs.declared.objects.Object.TheVariants.{Slot, Signal}
 use Rattle.rbac_policy.specs.Facts.{IsLive, May}
 use Rattle.reactor_core.specs.declared.entry.SlotEntry.{SlotEntry}
-use Rattle.reactor_core.specs.declared.entry.Word.TheVariants as word
-use Rattle.reactor_core.specs.declared.refusal.Refusal.{Refusal as ReactorRefusal}
+use Rattle.reactor_core.specs.declared.entry.SlotWord.TheVariants as word
+use Rattle.reactor_core.specs.declared.refusal.ReactorRefusal.{ReactorRefusal}
 use Rattle.reactor_core.specs.Meaning.{last_load, Running, RunsAfter}
 use Rattle.reactor_core.specs.Answers.{OfferAnswer}
 use Rattle.reactor_core.specs.Instants.{KeepsRelations}

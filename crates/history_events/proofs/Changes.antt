@@ -13,7 +13,7 @@ use Rattle.rbac_policy.specs.declared.commands.AdminCommand.TheVariants.{DeleteI
 use Rattle.rbac_policy.specs.declared.commands.AdminCommand.TheVariants.{CreateSession, DeleteSession, AddActiveRole}
 use Rattle.rbac_policy.specs.declared.commands.AdminCommand.TheVariants.{DropActiveRole}
 use Rattle.rbac_policy.specs.declared.commands.Entry.{Entry}
-use Rattle.rbac_admin.specs.declared.refusal.Refusal.{Refusal as PolicyRefusal}
+use Rattle.rbac_admin.specs.declared.refusal.PolicyRefusal.{PolicyRefusal}
 use Rattle.rbac_admin.specs.PolicyStep.{PolicyStep, entry_of}
 use Rattle.rbac_admin.specs.Room.{HasRoomFor}
 use Rattle.rbac_admin.proofs.Accepted.{accepted_administers, accepted_entry}
@@ -21,7 +21,7 @@ use Rattle.reactor_core.specs.Meaning.{entry, word_of}
 use Rattle.access_core.specs.declared.command.SlotCommand.{SlotCommand}
 use Rattle.access_core.specs.declared.refusal.Refusal.{Refusal}
 use Rattle.access_core.specs.declared.refusal.Refusal.TheVariants.{Policy}
-use Rattle.access_core.specs.declared.reply.Change.{Change}
+use Rattle.access_core.specs.declared.reply.PolicyWord.{PolicyWord}
 use Rattle.access_core.specs.Answering.{IsRefused, ByRules, no_memory}
 use Rattle.access_core.specs.Needs.{IsAccepted}
 use Rattle.access_core.specs.SlotStep.{no_session, tells_added}
@@ -36,15 +36,9 @@ use Rattle.history_events.proofs.Following.{reached}
 use Rattle.history_events.proofs.Moving.{moves, not_accepted}
 
 -- the reply to an accepted policy command is no refusal
-pub accepted_change : (change : Option Change) (entries : List Entry) → IsAccepted (reply_of_change change entries)
+pub accepted_change : (change : Option PolicyWord) (entries : List Entry) → IsAccepted (reply_of_change change entries)
 accepted_change None entries = tt
 accepted_change (Some change) entries = tt
-
-no_refusal : (e : Entry) (refusal : PolicyRefusal) → (let r : Result Entry PolicyRefusal = Ok e in r) ≡ Err refusal → ⊥
-no_refusal e refusal is = absurd cc
-
-same_entry : (e given : Entry) → (let r : Result Entry PolicyRefusal = Ok e in r) ≡ Ok given → e ≡ given
-same_entry e given is = cc
 
 -- the entry of a command has this command
 own_command : (session : Option ℕ) (command : AdminCommand) → (entry_of session command).command ≡ command

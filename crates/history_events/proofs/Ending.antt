@@ -18,10 +18,6 @@ after_more : (world : WorldState) (moments : List Moment) (m : Moment) → world
 after_more world [] m = refl
 after_more world (x ∷ moments) m = after_more x.after moments m
 
-pub nothing_yet : EndsIn [] [] opening_world
-nothing_yet =
-    record { moments = []; run = tt; are = refl; answered = refl; ends = refl; ample = λ place reply there. cc }
-
 pub one_more : (events : List Event) (replies : List Reply) (before : WorldState) (event : Event) (reply : Reply)
     (after : WorldState)
     → EndsIn events replies before → EventStep event before reply after → wants_memory reply ≡ false

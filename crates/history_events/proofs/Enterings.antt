@@ -11,7 +11,7 @@ use Rattle.access_core.specs.declared.command.SlotCommand.{SlotCommand}
 use Rattle.access_core.specs.declared.command.SlotCommand.TheVariants.{Move}
 use Rattle.history_events.specs.declared.event.Event.{Event}
 use Rattle.history_events.specs.declared.event.Event.TheVariants.{Admin, OnSlot}
-use Rattle.history_events.specs.Changing.{Moves, IsMoveOf, RunsInstant}
+use Rattle.history_events.specs.Changing.{ChangesJournal, IsMoveOf, RunsInstant}
 use Rattle.history_events.specs.Entering.{Accepts, IsOn, IsStep, WasOffered, StandsIn, AddsInstantAt, Enters}
 use Rattle.history_events.specs.Runs.{Moment, EventStep, Comes, journal_at}
 use Rattle.history_events.proofs.Following.{reached}
@@ -57,7 +57,7 @@ accepted_steps m slot step accepts = by_event m.event step accepts.0 where
   }
 
   by_moves : (version number session : ℕ) (command : SlotCommand) → command ≡ Move (Step (record {}))
-      → Moves (take version m.before.entries) session command (journal_at m.before number) m.reply
+      → ChangesJournal (take version m.before.entries) session command (journal_at m.before number) m.reply
       (journal_at m.after number) → Steps m number
   by_moves version number session command c (inl h) =
       stepped number _ h.does (subst (λ c. IsMoveOf c (journal_at m.before number) h.does) c h.is) h.added

@@ -6,8 +6,8 @@ use Rattle.refusal_rules.proofs.RuleLemmas.{all_passed, first_or_none}
 use Rattle.rbac_policy.specs.declared.commands.Entry.{Entry}
 use Rattle.reactor_core.specs.declared.entry.Move.TheVariants.{Load, Offer, Discard, Step, Unload}
 use Rattle.reactor_core.specs.declared.entry.SlotEntry.{SlotEntry}
-use Rattle.reactor_core.specs.declared.entry.Word.TheVariants as word
-use Rattle.reactor_core.specs.declared.refusal.Refusal.{Refusal as ReactorRefusal}
+use Rattle.reactor_core.specs.declared.entry.SlotWord.TheVariants as word
+use Rattle.reactor_core.specs.declared.refusal.ReactorRefusal.{ReactorRefusal}
 use Rattle.reactor_core.specs.Meaning.{instant, is_loaded}
 use Rattle.reactor_core.specs.Answers.{HasRoom, LoadAnswer, OfferAnswer, AddsLoad, load_of, load_rules, offer_rules}
 use Rattle.reactor_core.specs.Instants.{KeepsRelations}
@@ -20,7 +20,7 @@ use Rattle.access_core.specs.Answering.{IsRefused}
 use Rattle.access_core.specs.Refusals.{of_reactor}
 use Rattle.access_core.specs.Needs.{IsAccepted}
 use Rattle.access_core.specs.SlotStep.{SlotStep, slot_rules, Does, Loads, Offers, Steps, stamp_of, tells_added}
-use Rattle.history_events.specs.Changing.{Moves}
+use Rattle.history_events.specs.Changing.{ChangesJournal}
 
 -- a refusal accepts nothing
 pub not_accepted : {A : Type 0} (reply : Reply) (refusal : Refusal) → reply ≡ Refused refusal → IsAccepted reply → A
@@ -29,19 +29,19 @@ not_accepted reply refusal is accepted = absurd (subst IsAccepted is accepted)
 module _ (entries : List Entry) (slot session : ℕ) (before : List SlotEntry) (reply : Reply)
     (after : List SlotEntry) where
   refused : (command : SlotCommand) (refusal : Refusal) → IsRefused refusal before reply after
-      → Moves entries session command before reply after
+      → ChangesJournal entries session command before reply after
   refused command refusal h = inr (record { no_more = not_accepted reply refusal h.replied; stays = h.stays })
 
   loads : (main text : List ℕ) → (is_loaded before ≡ true → ⊥)
       → Loads (stamp_of entries session) main text before reply after
-      → Moves entries session (Move (Load (load_of main text))) before reply after
+      → ChangesJournal entries session (Move (Load (load_of main text))) before reply after
   loads main text none h = by_answer h.answer h.given h.replied where
     by_answer : (answer : Result (List SlotEntry) (ReactorRefusal × List SlotEntry))
         → LoadAnswer before (stamp_of entries session) main text answer
         → MatchResult answer
         (λ journal. (after ≡ journal) × (reply ≡ tells_added word.Load (length entries) after))
         (λ refused. IsRefused (of_reactor refused.0) before reply after)
-        → Moves entries session (Move (Load (load_of main text))) before reply after
+        → ChangesJournal entries session (Move (Load (load_of main text))) before reply after
     by_answer (Ok journal) given replied =
         let passed = all_passed (load_rules before main text) (λ refusal. Ok journal ≡ Err (refusal, before))
         ((longer : List SlotEntry) × (Ok journal ≡ Ok longer)
@@ -61,14 +61,14 @@ module _ (entries : List Entry) (slot session : ℕ) (before : List SlotEntry) (
     by_answer (Err refusal) given replied = refused (Move (Load (load_of main text))) _ replied
 
   offers : (signal : List ℕ) → Offers (stamp_of entries session) signal before reply after
-      → Moves entries session (Move (Offer signal)) before reply after
+      → ChangesJournal entries session (Move (Offer signal)) before reply after
   offers signal h = by_answer h.answer h.given h.replied where
     by_answer : (answer : Result (Unit {0}) ReactorRefusal)
         → OfferAnswer before (stamp_of entries session) signal answer after
         → MatchResult answer
         (λ _. reply ≡ tells_added word.Offer (length entries) after)
         (λ refusal. IsRefused (of_reactor refusal) before reply after)
-        → Moves entries session (Move (Offer signal)) before reply after
+        → ChangesJournal entries session (Move (Offer signal)) before reply after
     by_answer (Ok done) given replied =
         let passed = all_passed (offer_rules before given.running signal) _ _
         (λ refusal e. let no = e.0 in cc) given.given in
@@ -93,7 +93,7 @@ module _ (entries : List Entry) (slot session : ℕ) (before : List SlotEntry) (
     by_answer (Err refusal) given replied = refused (Move (Offer signal)) _ replied
 
   steps : KeepsRelations before → HasRoom before → Steps (stamp_of entries session) before reply after
-      → Moves entries session (Move (Step (record {}))) before reply after
+      → ChangesJournal entries session (Move (Step (record {}))) before reply after
   steps lawful room h = inl (record {
     accepted = subst IsAccepted (sym h.replied) tt;
     does = Step (instant h.adds.outcome.running.pending h.outputs);
@@ -106,7 +106,7 @@ module _ (entries : List Entry) (slot session : ℕ) (before : List SlotEntry) (
   -- a command that each rule lets pass does this
   does : (command : SlotCommand) → AllPass (slot_rules entries slot session command before)
       → Does entries slot session command before reply after
-      → Moves entries session command before reply after
+      → ChangesJournal entries session command before reply after
   does (Move (Load l)) all h = loads l.main l.text all.1.1.0 h
   does (Move (Offer signal)) all h = offers signal h
   does (Move Discard) all h = inl (record {
@@ -131,7 +131,7 @@ module _ (entries : List Entry) (slot session : ℕ) (before : List SlotEntry) (
 
   -- the slot step adds what the command asks for, or nothing
   pub moves : (command : SlotCommand) → SlotStep entries slot session command before reply after
-      → Moves entries session command before reply after
+      → ChangesJournal entries session command before reply after
   moves command h =
       ⊎_elim
       (λ first. refused command first.0 first.2)

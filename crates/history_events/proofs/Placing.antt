@@ -9,7 +9,7 @@ use Rattle.refusal_rules.proofs.RuleLemmas.{answered, first_or_none}
 use Rattle.rbac_policy.specs.declared.commands.AdminCommand.{AdminCommand}
 use Rattle.rbac_policy.specs.declared.commands.Entry.{Entry}
 use Rattle.rbac_policy.proofs.OfSlots.Slots.{get_set_same, get_set_other}
-use Rattle.rbac_admin.specs.declared.refusal.Refusal.{Refusal as PolicyRefusal}
+use Rattle.rbac_admin.specs.declared.refusal.PolicyRefusal.{PolicyRefusal}
 use Rattle.reactor_core.specs.declared.entry.SlotEntry.{SlotEntry}
 use Rattle.access_core.specs.declared.command.SlotCommand.{SlotCommand}
 use Rattle.access_core.specs.declared.refusal.Refusal.{Refusal}
@@ -22,7 +22,7 @@ use Rattle.access_core.specs.SlotStep.{no_session}
 use Rattle.access_core.specs.Desk.{DeskState, desk_at, AdminStep, DeskStep, InSlot, Appends, list_full, no_slot}
 use Rattle.access_core.specs.Desk.{empty_slot}
 use Rattle.history_events.specs.Runs.{WorldState, opening_world, journal_in, journal_at, desk_of, Judged, version_rules}
-use Rattle.history_events.specs.Changing.{Moves}
+use Rattle.history_events.specs.Changing.{ChangesJournal}
 use Rattle.history_events.proofs.Moving.{not_accepted, moves}
 
 -- the journal of the slot of this number
@@ -40,7 +40,7 @@ opening_journal slot = ap journal_in (slice_get-map empty_slot (range_with_len 0
 -- a command in the slot of this number changes that slot's journal alone
 pub record MovesAt (entries : List Entry) (number session : ℕ) (command : SlotCommand) (before : List SlotState)
     (reply : Reply) (after : List SlotState) : Type 0 where
-  pub here : Moves entries session command (journal_of before number) reply (journal_of after number)
+  pub here : ChangesJournal entries session command (journal_of before number) reply (journal_of after number)
   pub others : (other : ℕ) → (other ≡ number → ⊥) → journal_of after other ≡ journal_of before other
 
 module _ (number session : ℕ) (command : SlotCommand) (reply : Reply) where
@@ -64,8 +64,9 @@ module _ (number session : ℕ) (command : SlotCommand) (reply : Reply) where
       ap (λ slots. journal_of slots number) slots ∙ ap journal_in
       (get_set_same before.slots number new (slice_get_within before.slots number h.slot h.there)) in
       record {
-        here = subst (λ j. Moves before.entries session command j reply (journal_of after.slots number)) (sym was)
-            (subst (λ j. Moves before.entries session command h.slot.journal reply j) (sym is)
+        here = subst (λ j. ChangesJournal before.entries session command j reply (journal_of after.slots number))
+            (sym was)
+            (subst (λ j. ChangesJournal before.entries session command h.slot.journal reply j) (sym is)
             (moves before.entries number session h.slot.journal reply h.journal command h.step));
         others = λ other apart. ap (λ slots. journal_of slots other) slots
             ∙ ap journal_in (get_set_other before.slots number other new apart);

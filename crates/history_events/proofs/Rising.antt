@@ -10,7 +10,7 @@ use Rattle.access_core.specs.Answering.{IsRefused}
 use Rattle.access_core.specs.Desk.{desk_at}
 use Rattle.history_events.specs.declared.event.Event.{Event}
 use Rattle.history_events.specs.declared.event.Event.TheVariants.{Admin, OnSlot}
-use Rattle.history_events.specs.Changing.{Moves}
+use Rattle.history_events.specs.Changing.{ChangesJournal}
 use Rattle.history_events.specs.Rising.{Rises}
 use Rattle.history_events.specs.Runs.{WorldState, Moment, EventStep, Comes, journal_in, journal_at, last_version}
 use Rattle.history_events.specs.Runs.{newest_known, desk_of, version_rules, Judged}
@@ -34,7 +34,7 @@ EachRises past world = (slot : ℕ) → Rises 0 (length world.entries) (journal_
 
 module _ (m : Moment) (were : EachRises [] m.before) where
   here : (version slot session : ℕ) (command : SlotCommand)
-      → Moves (take version m.before.entries) session command (journal_at m.before slot) m.reply
+      → ChangesJournal (take version m.before.entries) session command (journal_at m.before slot) m.reply
       (journal_at m.after slot)
       → version ≤ length m.before.entries → last_version 0 (journal_at m.before slot) ≤ version
       → length (take version m.before.entries) ≡ version

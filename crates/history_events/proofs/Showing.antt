@@ -15,7 +15,7 @@ use Rattle.reactor_core.specs.declared.entry.Load.{Load as LoadEntry}
 use Rattle.reactor_core.specs.declared.entry.PastInstant.{PastInstant}
 use Rattle.reactor_core.specs.declared.entry.Stamp.{Stamp}
 use Rattle.reactor_core.specs.declared.entry.SlotEntry.{SlotEntry}
-use Rattle.reactor_core.specs.declared.entry.Word.TheVariants as word
+use Rattle.reactor_core.specs.declared.entry.SlotWord.TheVariants as word
 use Rattle.reactor_core.specs.Meaning.{entry, instant, is_loaded, last_load, load_after, instants_of, instants_after}
 use Rattle.reactor_core.specs.Meaning.{offers_of, mask_of, ModuleOf, Running, RunsAfter, Leaves, loaded, offered}
 use Rattle.reactor_core.specs.Meaning.{discarded, stepped, word_of}

@@ -6,7 +6,7 @@ use Rattle.reactor_core.specs.declared.entry.SlotEntry.{SlotEntry}
 use Rattle.access_core.specs.declared.command.SlotCommand.{SlotCommand}
 use Rattle.history_events.specs.declared.event.Event.{Event}
 use Rattle.history_events.specs.declared.event.Event.TheVariants.{Admin, OnSlot}
-use Rattle.history_events.specs.Changing.{Moves, AddsMove, OnlyAsks}
+use Rattle.history_events.specs.Changing.{ChangesJournal, AddsMove, OnlyAsks}
 use Rattle.history_events.specs.Entering.{Accepts, IsOn}
 use Rattle.history_events.specs.Runs.{WorldState, Moment, EventStep, Comes, journal_in, journal_at, desk_of}
 use Rattle.history_events.proofs.Following.{reached}
@@ -35,7 +35,7 @@ module _ (P : List Moment → (slot : ℕ) → List SlotEntry → Type 0)
         (idle past m slot (journal_at m.before slot) none (were slot))
 
     here : (seat version slot session : ℕ) (command : SlotCommand) → m.event ≡ OnSlot seat version slot session command
-        → Moves (take version m.before.entries) session command (journal_at m.before slot) m.reply
+        → ChangesJournal (take version m.before.entries) session command (journal_at m.before slot) m.reply
         (journal_at m.after slot)
         → P (past ++ m ∷ []) slot (journal_at m.after slot)
     here seat version slot session command is (inl a) = grows past m seat version slot session command is a (were slot)

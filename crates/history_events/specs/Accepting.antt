@@ -4,7 +4,7 @@ use Rattle.est_kernel.specs.Interfaces.{offerable}
 use Rattle.est_kernel.specs.Term.{Term}
 use Rattle.est_kernel.specs.declared.interface.Declaration.{Declaration}
 use Rattle.est_relations.specs.Offers.{place_of, IsSignalName, IsOutputName, IsPendingName, IsFirstExcluded}
-use Rattle.rbac_admin.specs.declared.refusal.Refusal.TheVariants as policy
+use Rattle.rbac_admin.specs.declared.refusal.PolicyRefusal.TheVariants as policy
 use Rattle.reactor_core.specs.declared.entry.PastInstant.{PastInstant}
 use Rattle.reactor_core.specs.declared.entry.SlotEntry.{SlotEntry}
 use Rattle.reactor_core.specs.Answers.{IsInstant}

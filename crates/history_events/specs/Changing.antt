@@ -79,7 +79,7 @@ pub record AddsNone (command : SlotCommand) (before : List SlotEntry) (reply : R
   pub stays : after ≡ before
 
 -- what a command on a slot does to its journal
-abbrev pub Moves : (entries : List Entry) → (session : ℕ) → SlotCommand → (before : List SlotEntry) → Reply
+abbrev pub ChangesJournal : (entries : List Entry) → (session : ℕ) → SlotCommand → (before : List SlotEntry) → Reply
     → (after : List SlotEntry) → Type 0
-Moves entries session command before reply after = AddsMove entries session command before reply after
+ChangesJournal entries session command before reply after = AddsMove entries session command before reply after
     ⊎ AddsNone command before reply after

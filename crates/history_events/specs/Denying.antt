@@ -8,7 +8,7 @@ use Rattle.rbac_policy.specs.declared.objects.Operation.TheVariants.{Audit as To
 use Rattle.rbac_policy.specs.declared.objects.Object.TheVariants.{Policy, Slot, Signal}
 use Rattle.rbac_admin.specs.PolicyStep.{policy_rules, entry_of}
 use Rattle.reactor_core.specs.declared.entry.SlotEntry.{SlotEntry}
-use Rattle.reactor_core.specs.declared.refusal.Refusal.{Refusal as ReactorRefusal}
+use Rattle.reactor_core.specs.declared.refusal.ReactorRefusal.{ReactorRefusal}
 use Rattle.est_relations.specs.Offers.{offer_rules as pending_rules}
 use Rattle.reactor_core.specs.Answers.{gives_module}
 use Rattle.reactor_core.specs.Converting.{all_converted}

@@ -3,11 +3,11 @@ use Rattle.std.specs.Prelude.{◌≡◌, ◌↔◌, ℕ, ◌-◌, Bool, List, []
 use Rattle.est_kernel.specs.Term.{Term}
 use Rattle.est_kernel.specs.declared.interface.Declaration.{Declaration}
 use Rattle.reactor_core.specs.declared.entry.PastInstant.{PastInstant}
-use Rattle.reactor_core.specs.declared.entry.Word.TheVariants as word
+use Rattle.reactor_core.specs.declared.entry.SlotWord.TheVariants as word
 use Rattle.reactor_core.specs.Meaning.{instant, Running, RunsAfter}
 use Rattle.reactor_core.specs.Reacting.{ReactsWith}
 use Rattle.access_core.specs.declared.reply.Reply.TheVariants.{Added, Look as Shown}
-use Rattle.access_core.specs.Shown.{Sees, shown_of}
+use Rattle.access_core.specs.Shown.{Observes, shown_of}
 use Rattle.history_events.specs.Entering.{Accepts, IsStep, IsLoad, AddsInstantAt, StandsIn, WasOffered}
 use Rattle.history_events.specs.Runs.{Moment, journal_at}
 use Rattle.history_events.specs.Since.{Since}
@@ -47,5 +47,5 @@ pub record ShowsReaction (past : List Moment) (m : Moment) (version slot session
   pub next : Term
   pub reacts : ReactsWith running.interface term instant.inputs instant.outputs next
   pub sees : ℕ → Bool
-  pub observes : Sees (take version m.before.entries) session slot running.interface sees
+  pub observes : Observes (take version m.before.entries) session slot running.interface sees
   pub shows : m.reply ≡ Shown n (shown_of running.interface sees instant) version

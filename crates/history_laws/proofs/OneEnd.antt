@@ -10,7 +10,7 @@ use Rattle.access_core.specs.Needs.{IsAccepted}
 use Rattle.history_events.specs.OneRun.{OneEnd}
 use Rattle.history_events.specs.Runs.{Moment, wants_memory}
 use Rattle.history_merge.specs.ToldCalls.{ToldCall, Publishes, Commands}
-use Rattle.history_laws.specs.CallsInTurn.{IsCallOf, AreOfWorld, CallsEndSo}
+use Rattle.history_laws.specs.CallsInTurn.{IsCallOf, AreOfWorld, CallsEndInJournals}
 
 -- an accepted reply is no want of memory
 ample : (reply : Reply) → IsAccepted reply → wants_memory reply ≡ false
@@ -36,7 +36,7 @@ all_ample (e ∷ events) (m ∷ run) calls zero reply there =
 all_ample (e ∷ events) (m ∷ run) calls (suc place) reply there = all_ample events run calls.1 place reply there
 
 -- so replies and world are those of the run
-pub one_world : OneEnd → CallsEndSo
+pub one_world : OneEnd → CallsEndInJournals
 one_world ends policy journals seats one replies world end =
     let ran = one.ran in
     let same = ends _ _ replies _ world (record {

@@ -73,8 +73,8 @@ pub record AreOfOneRun (policy : List Entry) (journals : List (List SlotEntry))
 
 -- if the calls of such a run are made one after another from the opening on, their replies are those of the run, and
 -- they leave this policy list and these journals
-abbrev pub CallsEndSo : Type 0
-CallsEndSo =
+abbrev pub CallsEndInJournals : Type 0
+CallsEndInJournals =
     (policy : List Entry) (journals : List (List SlotEntry)) (seats : List (List Kept))
     (one : AreOfOneRun policy journals seats)
     (replies : List Reply) (world : WorldState) → EndsIn (events_of one.run) replies world

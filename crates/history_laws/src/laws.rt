@@ -10,7 +10,7 @@ ghost use Rattle.history_events.specs.declared.event.TheConstants.{SEATS};
 ghost use Rattle.history_receipts.specs.declared.receipt.Kept.{Kept};
 ghost use Rattle.history_merge.specs.Order.{part_at};
 ghost use Rattle.history_merge.specs.OneList.{AreOfOneList};
-ghost use Rattle.history_laws.specs.CallsInTurn.{AreOfOneRun, CallsEndSo};
+ghost use Rattle.history_laws.specs.CallsInTurn.{AreOfOneRun, CallsEndInJournals};
 
 use history_events::laws::one_run;
 
@@ -30,7 +30,7 @@ pub fn journals_are_of_one_run()
 /// leave nothing else, want of memory aside: so what `run_events` answers of them has this policy
 /// list and these journals.
 pub fn calls_end_in_these_journals()
-    ensures { CallsEndSo }
+    ensures { CallsEndInJournals }
 {
     one_run();
 }

@@ -1,7 +1,7 @@
 //! Receipts: each tells which entry a call added.
 use est_text::identifier::Identifier;
 use rbac_policy::commands::Entry;
-use reactor_core::entry::Word;
+use reactor_core::entry::SlotWord;
 
 /// The receipt of a slot command that added an entry. Of a load, the main module's name and the
 /// text are left out.
@@ -18,7 +18,7 @@ pub struct SlotReceipt {
     /// The number of the command among the server's slot commands that added an entry.
     pub number: u64,
     /// The word of the command.
-    pub word: Word,
+    pub word: SlotWord,
     /// The signal that it offered.
     pub signal: Option<Identifier>,
 }

@@ -21,14 +21,14 @@ use lab_lines::asked_test::AskedTest;
 use lab_lines::comparing::are_same;
 use reactor_core::loaded::Module;
 use reactor_core::reading::read_module;
-use reactor_core::refusal::{ModuleRefusal, Refusal};
+use reactor_core::refusal::{ModuleRefusal, ReactorRefusal};
 use std::alloc::{AllocError, Global};
 
 /// A fault of the grammar where a text begins.
-pub(crate) fn at_start() -> Refusal
+pub(crate) fn at_start() -> ReactorRefusal
     ensures { result ≡ at_start }
 {
-    Refusal::Module(ModuleRefusal::Syntax(Place { line: 1, column: 1 }))
+    ReactorRefusal::Module(ModuleRefusal::Syntax(Place { line: 1, column: 1 }))
 }
 
 /// Whether a test may have this token.
@@ -52,13 +52,13 @@ fn first_other(located: &[Located]) -> Option<usize>
 }
 
 /// Fails at the first token that no test may have.
-fn check_tokens(alloc: Global, text: &str) -> Result<(), Refusal>
+fn check_tokens(alloc: Global, text: &str) -> Result<(), ReactorRefusal>
     ensures { MatchResult result (λ _. HasTestTokens text.now) (HasNoTestTokens text.now) }
 {
     let tokens = lex(alloc, text)?;
     match first_other(tokens.as_slice()) {
         None => Ok(()),
-        Some(at) => Err(Refusal::Module(ModuleRefusal::Syntax(tokens.place(at)))),
+        Some(at) => Err(ReactorRefusal::Module(ModuleRefusal::Syntax(tokens.place(at)))),
     }
 }
 
@@ -109,12 +109,12 @@ fn asking_text(alloc: Global, interface: &Interface, test: &str) -> Result<Strin
 }
 
 /// The refusal of a test, of that of the module that asks it, where it begins in the second line.
-fn of_test(refusal: Refusal) -> Refusal
+fn of_test(refusal: ReactorRefusal) -> ReactorRefusal
     ensures { result ≡ refusal_of_test refusal }
 {
     match refusal {
-        Refusal::Module(ModuleRefusal::Syntax(place)) => {
-            Refusal::Module(ModuleRefusal::Syntax(Place {
+        ReactorRefusal::Module(ModuleRefusal::Syntax(place)) => {
+            ReactorRefusal::Module(ModuleRefusal::Syntax(Place {
                 line: place.line.saturating_sub(1),
                 column: place.column,
             }))
@@ -124,7 +124,7 @@ fn of_test(refusal: Refusal) -> Refusal
 }
 
 /// The module M of a text that asks a test.
-fn read_asking(alloc: Global, text: &str) -> Result<Module, Refusal>
+fn read_asking(alloc: Global, text: &str) -> Result<Module, ReactorRefusal>
     ensures { MatchResult result (λ m. Gives (codes "M") text.now (given_by m))
         (IsAskingFault text.now) }
 {
@@ -139,7 +139,11 @@ fn read_asking(alloc: Global, text: &str) -> Result<Module, Refusal>
 /// # Errors
 ///
 /// Where it spells none; or where memory is refused.
-pub fn read_test(alloc: Global, interface: &Interface, text: &str) -> Result<AskedTest, Refusal>
+pub fn read_test(
+    alloc: Global,
+    interface: &Interface,
+    text: &str,
+) -> Result<AskedTest, ReactorRefusal>
     ensures read { IfOk result (λ a. IsTestText interface.now text.now (test_of a)) }
     ensures fault { IfErr result (IsTestFault interface.now text.now) }
 {

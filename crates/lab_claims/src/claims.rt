@@ -11,7 +11,7 @@ use crate::asking::{at_start, read_test};
 use est_kernel::interface::Interface;
 use est_text::place::Place;
 use lab_lines::asked_test::AskedTest;
-use reactor_core::refusal::{ModuleRefusal, Refusal};
+use reactor_core::refusal::{ModuleRefusal, ReactorRefusal};
 use std::alloc::{AllocError, Global};
 
 /// How many bytes stand before the test of `always T`.
@@ -36,15 +36,15 @@ fn moved(place: Place, before: u64) -> Place
 }
 
 /// The refusal of a claim, of that of its test.
-fn of_claim(refusal: Refusal, before: u64) -> Refusal
+fn of_claim(refusal: ReactorRefusal, before: u64) -> ReactorRefusal
     ensures { result ≡ refusal_of_claim refusal before }
 {
     match refusal {
-        Refusal::Module(ModuleRefusal::Lexical(place)) => {
-            Refusal::Module(ModuleRefusal::Lexical(moved(place, before)))
+        ReactorRefusal::Module(ModuleRefusal::Lexical(place)) => {
+            ReactorRefusal::Module(ModuleRefusal::Lexical(moved(place, before)))
         }
-        Refusal::Module(ModuleRefusal::Syntax(place)) => {
-            Refusal::Module(ModuleRefusal::Syntax(moved(place, before)))
+        ReactorRefusal::Module(ModuleRefusal::Syntax(place)) => {
+            ReactorRefusal::Module(ModuleRefusal::Syntax(moved(place, before)))
         }
         other => other,
     }
@@ -66,7 +66,7 @@ fn read_part(
     interface: &Interface,
     text: &str,
     before: u64,
-) -> Result<AskedTest, Refusal>
+) -> Result<AskedTest, ReactorRefusal>
     ensures read { IfOk result (λ a. IsTestText interface.now text.now (test_of a)) }
     ensures fault { IfErr result (IsPartFault interface.now text.now before) }
 {
@@ -89,7 +89,11 @@ fn after<'a>(claim: &'a str, word: &str) -> Option<&'a str>
 /// # Errors
 ///
 /// Where the text is no claim; or where memory is refused.
-pub fn read_claim(alloc: Global, interface: &Interface, claim: &str) -> Result<AskedTest, Refusal>
+pub fn read_claim(
+    alloc: Global,
+    interface: &Interface,
+    claim: &str,
+) -> Result<AskedTest, ReactorRefusal>
     ensures read { IfOk result (λ a. IsClaimText interface.now claim.now (test_of a)) }
     ensures fault { IfErr result (IsClaimFault interface.now claim.now) }
 {
@@ -112,7 +116,7 @@ pub struct BadClaim {
     /// Its number, from 1.
     pub number: usize,
     /// Why.
-    pub why: Refusal,
+    pub why: ReactorRefusal,
 }
 
 /// The tests of claims, or the first claim that can't be read.

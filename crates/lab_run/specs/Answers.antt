@@ -11,7 +11,7 @@ use Rattle.est_relations.specs.declared.refusal.PendingRefusal.{PendingRefusal}
 use Rattle.reactor_core.specs.Loading.{Gives, IsLoadFault}
 use Rattle.reactor_core.specs.Standing.{given_by}
 use Rattle.reactor_core.specs.declared.loaded.Module.{Module}
-use Rattle.reactor_core.specs.declared.refusal.Refusal.{Refusal as LoadRefusal}
+use Rattle.reactor_core.specs.declared.refusal.ReactorRefusal.{ReactorRefusal}
 use Rattle.reactor_core.specs.declared.refusal.ModuleRefusal.TheVariants as of_module
 use Rattle.access_core.specs.Refusals.{of_reactor}
 use Rattle.access_core.specs.declared.refusal.Refusal.{Refusal}
@@ -50,7 +50,7 @@ pub record IsLoadedTold (m : Module) (d : Data) : Type 0 where
 
 -- the text and the name of its main module give no module, for this reason: it is the server's
 pub record IsNotLoaded (main text : List ℕ) (given : Refusal) : Type 0 where
-  pub fault : LoadRefusal
+  pub fault : ReactorRefusal
   pub told : given ≡ of_reactor fault
   pub right : IsLoadFault main text fault
 

@@ -6,7 +6,7 @@ use est_explore::claim::Claim;
 use est_kernel::kernel::Kernel;
 use est_relations::relations::Relations;
 use lab_claims::claims::{read_claim, read_claims};
-use reactor_core::refusal::{ModuleRefusal, Refusal};
+use reactor_core::refusal::{ModuleRefusal, ReactorRefusal};
 use std::alloc::Global;
 use std::process::Abort;
 
@@ -32,8 +32,8 @@ const ANSWERS: [(&str, &str); 13] = [
 ];
 
 /// How a refusal is told.
-fn refusal_told(rt: &impl Abort, alloc: Global, refusal: &Refusal) -> String {
-    let Refusal::Module(refusal) = refusal else {
+fn refusal_told(rt: &impl Abort, alloc: Global, refusal: &ReactorRefusal) -> String {
+    let ReactorRefusal::Module(refusal) = refusal else {
         return String::from_str(alloc, " no room").expect(rt, "room");
     };
     let code = refusal.label().0;

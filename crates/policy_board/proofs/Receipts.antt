@@ -5,34 +5,34 @@ use Rattle.refusal_rules.specs.Rules.{accept, MayRefuse, ◌▸◌, Answers}
 use Rattle.refusal_rules.proofs.RuleLemmas.{all_passed}
 use Rattle.rbac_policy.specs.declared.commands.AdminCommand.{AdminCommand}
 use Rattle.rbac_policy.specs.declared.commands.Entry.{Entry}
-use Rattle.rbac_admin.specs.declared.refusal.Refusal.{Refusal as PolicyRefusal}
+use Rattle.rbac_admin.specs.declared.refusal.PolicyRefusal.{PolicyRefusal}
 use Rattle.rbac_admin.specs.PolicyLists.{Begins}
 use Rattle.rbac_admin.specs.Room.{list_full}
 use Rattle.policy_board.specs.SeatState.{SeatState}
 use Rattle.policy_board.specs.PolicyCommands.{BoardStep, IsPublished, IsRefused, SeatAfter, admin_receipt, seat_after}
 use Rattle.policy_board.specs.Inner.Keeping.{KeepsAnswer}
 use Rattle.history_receipts.specs.declared.receipt.Kept.{Kept}
-use Rattle.policy_board.specs.declared.refusal.Refusal.{Refusal}
-use Rattle.policy_board.specs.declared.refusal.Refusal.TheVariants.{Policy, JournalFull, Memory}
-use Rattle.policy_board.specs.declared.seat.Receipt.{Receipt}
+use Rattle.policy_board.specs.declared.refusal.BoardRefusal.{BoardRefusal}
+use Rattle.policy_board.specs.declared.refusal.BoardRefusal.TheVariants.{Policy, JournalFull, Memory}
+use Rattle.policy_board.specs.declared.seat.Acceptance.{Acceptance}
 use Rattle.policy_board.proofs.Beginnings.{begins_push, begins_length}
 
 module _ {B : Type 0} where
   -- what a receipt of this step tells of the list
-  pub record Tells (before : List Entry) (receipt : Receipt B) (after : List Entry) : Type 0 where
+  pub record Tells (before : List Entry) (receipt : Acceptance B) (after : List Entry) : Type 0 where
     pub list_is : receipt.list ≡ after
     pub later : Begins before after
 
-  published_tells : (before : List Entry) (receipt : Receipt B) (after : List Entry) (e : Entry)
+  published_tells : (before : List Entry) (receipt : Acceptance B) (after : List Entry) (e : Entry)
       → IsPublished e before (Ok receipt) after → Tells before receipt after
   published_tells before receipt after e p =
       let same : receipt ≡ p.receipt = (let is = p.answered in cc) in
       record {
-        list_is = ap (λ (r : Receipt B). r.list) same ∙ p.list_is;
+        list_is = ap (λ (r : Acceptance B). r.list) same ∙ p.list_is;
         later = subst (Begins before) (sym p.appended) (begins_push before e);
       }
 
-  replied_tells : (before : List Entry) (receipt : Receipt B) (after : List Entry)
+  replied_tells : (before : List Entry) (receipt : Acceptance B) (after : List Entry)
       (decided : Result Entry PolicyRefusal)
       → MatchResult decided
       (λ e. Answers (list_full JournalFull before e ▸ MayRefuse Memory ▸ accept)
@@ -41,14 +41,14 @@ module _ {B : Type 0} where
       → Tells before receipt after
   replied_tells before receipt after (Ok e) h =
       let all = all_passed (list_full JournalFull before e ▸ MayRefuse Memory ▸ accept)
-      (λ (r : Refusal). IsRefused r before (Ok receipt) after) (IsPublished e before (Ok receipt) after)
+      (λ (r : BoardRefusal). IsRefused r before (Ok receipt) after) (IsPublished e before (Ok receipt) after)
       (λ r refused. let is = refused.answered in absurd cc) h in
       published_tells before receipt after e all.1
   replied_tells before receipt after (Err r) h = let is = h.answered in absurd cc
 
   -- the receipt of an accepted command has the list after it, which begins with the list before it
   pub receipt_tells : (before : List Entry) (session : Option ℕ) (command : AdminCommand)
-      (answer : Result (Receipt B) Refusal) (after : List Entry) (receipt : Receipt B)
+      (answer : Result (Acceptance B) BoardRefusal) (after : List Entry) (receipt : Acceptance B)
       → BoardStep before session command answer after → answer ≡ Ok receipt → Tells before receipt after
   receipt_tells before session command answer after receipt step is =
       let step' : BoardStep before session command (Ok receipt) after =
@@ -58,7 +58,7 @@ module _ {B : Type 0} where
 -- a seat that knows a list, keeps an answer's receipt, and then knows the longer list that the answer leaves, is as
 -- the command leaves it
 pub seat_answered : {B : Type 0} (seat known kept new : SeatState) (l m : List Entry)
-    (answer : Result (Receipt B) Refusal) → Begins l m → known ≡ seat_after seat l
+    (answer : Result (Acceptance B) BoardRefusal) → Begins l m → known ≡ seat_after seat l
     → KeepsAnswer known answer m kept → new ≡ seat_after kept m → SeatAfter seat answer m new
 seat_answered seat known kept new l m answer b first keeps last =
     let le : length l ≤ length m = begins_length b in

@@ -8,12 +8,12 @@ use Rattle.rbac_admin.specs.AdminSteps.{ListRefusals, StepsOnList}
 use Rattle.history_receipts.specs.declared.receipt.Kept.{Kept}
 use Rattle.history_receipts.specs.declared.receipt.Kept.TheVariants.{Admin}
 use Rattle.policy_board.specs.SeatState.{SeatState}
-use Rattle.policy_board.specs.declared.refusal.Refusal.{Refusal}
-use Rattle.policy_board.specs.declared.refusal.Refusal.TheVariants.{Policy, JournalFull, Memory}
-use Rattle.policy_board.specs.declared.seat.Receipt.{Receipt}
+use Rattle.policy_board.specs.declared.refusal.BoardRefusal.{BoardRefusal}
+use Rattle.policy_board.specs.declared.refusal.BoardRefusal.TheVariants.{Policy, JournalFull, Memory}
+use Rattle.policy_board.specs.declared.seat.Acceptance.{Acceptance}
 
 -- how the board tells why a policy command adds no entry
-abbrev pub list_refusals : ListRefusals Refusal
+abbrev pub list_refusals : ListRefusals BoardRefusal
 list_refusals = record { told = Policy; full = JournalFull; memory = Memory }
 
 -- the session that the entry makes after these entries, where it is a login
@@ -22,16 +22,16 @@ session_made before entry = if is_login entry then Some (logins before + 1) else
 
 module _ {B : Type 0} where
   -- the answer is this refusal, and the list stays
-  pub record IsRefused (refusal : Refusal) (before : List Entry) (answer : Result (Receipt B) Refusal)
+  pub record IsRefused (refusal : BoardRefusal) (before : List Entry) (answer : Result (Acceptance B) BoardRefusal)
       (after : List Entry) : Type 0 where
     pub answered : answer ≡ Err refusal
     pub stays : after ≡ before
 
   -- the entry, and no other, is put at the end of the list. The answer is its `Receipt`: the entry, the list that ends
   -- with it, and the session that it makes
-  pub record IsPublished (entry : Entry) (before : List Entry) (answer : Result (Receipt B) Refusal)
+  pub record IsPublished (entry : Entry) (before : List Entry) (answer : Result (Acceptance B) BoardRefusal)
       (after : List Entry) : Type 0 where
-    pub receipt : Receipt B
+    pub receipt : Acceptance B
     pub answered : answer ≡ Ok receipt
     pub entry_is : receipt.entry ≡ entry
     pub list_is : receipt.list ≡ after
@@ -40,7 +40,7 @@ module _ {B : Type 0} where
 
   -- what the policy step answers on the list: its refusal, which leaves the list; or its entry, which is published,
   -- unless the list is full or memory is refused, which leave the list too
-  abbrev pub BoardStep : (before : List Entry) → Option ℕ → AdminCommand → (answer : Result (Receipt B) Refusal)
+  abbrev pub BoardStep : (before : List Entry) → Option ℕ → AdminCommand → (answer : Result (Acceptance B) BoardRefusal)
       → (after : List Entry) → Type 0
   BoardStep before session command answer after =
       StepsOnList list_refusals before session command (λ refusal. IsRefused refusal before answer after)
@@ -53,13 +53,13 @@ seat_after old list = record old { known = list; seen = max old.seen (length lis
 module _ {B : Type 0} where
   -- what the seat keeps of a policy command with this answer, which leaves this list: of an accepted one a `Kept` of
   -- its entry, and of the version of the policy with it
-  abbrev pub admin_receipt : (answer : Result (Receipt B) Refusal) → (after : List Entry) → List Kept
+  abbrev pub admin_receipt : (answer : Result (Acceptance B) BoardRefusal) → (after : List Entry) → List Kept
   admin_receipt (Ok receipt) after = Admin (length after) receipt.entry ∷ []
   admin_receipt (Err refusal) after = []
 
   -- the seat knows the whole list as the policy command leaves it, whatever the answer. The receipt of an accepted
   -- one stands at the end of its receipts; a refused one leaves them. Its own reader has no part in it
-  pub record SeatAfter (old : SeatState) (answer : Result (Receipt B) Refusal) (after : List Entry)
+  pub record SeatAfter (old : SeatState) (answer : Result (Acceptance B) BoardRefusal) (after : List Entry)
       (new : SeatState) : Type 0 where
     pub known : new.known ≡ after
     pub seen : new.seen ≡ max old.seen (length after)

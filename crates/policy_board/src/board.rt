@@ -12,8 +12,8 @@ ghost use Rattle.history_receipts.specs.declared.mismatch.Mismatch.TheVariants.{
 use crate::board_list::BoardName;
 use crate::locked_policy::LockedPolicy;
 use crate::reader::SlotReader;
-use crate::refusal::Refusal;
-use crate::seat::{Receipt, Seat};
+use crate::refusal::BoardRefusal;
+use crate::seat::{Acceptance, Seat};
 use history_receipts::mismatch::Mismatch;
 use history_receipts::receipt::{Kept, SlotReceipt};
 use rbac_policy::commands::{AdminCommand, SessionId};
@@ -45,7 +45,8 @@ impl<B: BoardName> Board<B> {
 
     /// Answers a policy command, which this session gives, on the list as it is under the admin
     /// lock: `before`. It waits for that lock, and for reads that still have the older policy. The
-    /// seat keeps a receipt (`Kept`) of an accepted one; the answer, a `Receipt`, is another value.
+    /// seat keeps a receipt (`Kept`) of an accepted one; the answer, an `Acceptance`, is another
+    /// value.
     ///
     /// # Errors
     ///
@@ -58,7 +59,7 @@ impl<B: BoardName> Board<B> {
         seat: &mut Seat<B>,
         session: Option<SessionId>,
         command: AdminCommand,
-    ) -> Result<Receipt<B>, Refusal>
+    ) -> Result<Acceptance<B>, BoardRefusal>
         ensures { (before : List Entry) × (after : List Entry)
             × IsPolicyList before × Begins seat.old.known before
             × BoardStep before session command result after
@@ -96,7 +97,7 @@ impl<B: BoardName> Board<B> {
         session: SessionId,
         operation: Operation,
         object: &Object,
-    ) -> Result<bool, Refusal>
+    ) -> Result<bool, BoardRefusal>
         ensures { AnswersFor (λ entries. May entries session operation object.now) seat.old result
             seat.new }
     {

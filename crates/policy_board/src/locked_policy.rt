@@ -14,8 +14,8 @@ ghost use Rattle.history_receipts.specs.declared.mismatch.Mismatch.TheVariants.{
 use crate::board_list::BoardName;
 use crate::publisher::Publisher;
 use crate::reader::SlotReader;
-use crate::refusal::Refusal;
-use crate::seat::{Receipt, Seat};
+use crate::refusal::BoardRefusal;
+use crate::seat::{Acceptance, Seat};
 use history_receipts::mismatch::{Mismatch, POLICY_LIST};
 use history_receipts::receipt::Kept;
 use rbac_admin::decisions::decide;
@@ -55,8 +55,8 @@ fn put_back<T>(place: &mut Option<T>, value: T)
     }
 }
 
-/// Three copies of the entry: one is published, one goes into the `Receipt` that is answered, and
-/// one into the `Kept` that stays with the seat.
+/// Three copies of the entry: one is published, one goes into the `Acceptance` that is answered,
+/// and one into the `Kept` that stays with the seat.
 fn copies(entry: &Entry) -> Result<(Entry, Entry, Entry), AllocError>
     ensures { IfOk result (λ all. (all.0 ≡ entry.now) × (all.1 ≡ entry.now) × (all.2 ≡ entry.now)) }
 {
@@ -97,7 +97,7 @@ impl<B: BoardName> LockedPolicy<B> {
         &self.journal
     }
 
-    /// Publishes the entry and answers its `Receipt`; the seat keeps a receipt of its own, a
+    /// Publishes the entry and answers its `Acceptance`; the seat keeps a receipt of its own, a
     /// `Kept`. Every refusal but Memory was asked before. All memory is taken first, so that
     /// nothing is refused once the entry is published.
     fn append<R: Wait>(
@@ -105,22 +105,22 @@ impl<B: BoardName> LockedPolicy<B> {
         rt: &R,
         seat: &mut Seat<B>,
         entry: Entry,
-    ) -> Result<Receipt<B>, Refusal>
+    ) -> Result<Acceptance<B>, BoardRefusal>
         requires { IsAccepted self.old entry }
-        ensures answer { Answers (MayRefuse Refusal.Memory ▸ accept)
+        ensures answer { Answers (MayRefuse BoardRefusal.Memory ▸ accept)
             (λ refusal. IsRefused refusal self.old result
             self.new) (IsPublished entry self.old result self.new) }
         ensures seat { KeepsAnswer seat.old result self.new seat.new }
     {
         let Ok((published, told, kept)) = copies(&entry) else {
-            return Err(Refusal::Memory);
+            return Err(BoardRefusal::Memory);
         };
         seat.make_room()?;
         let Ok(()) = self.journal.push(entry) else {
-            return Err(Refusal::Memory);
+            return Err(BoardRefusal::Memory);
         };
         let publisher = self.publisher.take().unwrap().publish(rt, published);
-        let receipt = Receipt {
+        let receipt = Acceptance {
             session: session_made(publisher.policy(), &told),
             entry: told,
             list: publisher.front(),
@@ -141,17 +141,17 @@ impl<B: BoardName> LockedPolicy<B> {
         seat: &mut Seat<B>,
         session: Option<SessionId>,
         command: AdminCommand,
-    ) -> Result<Receipt<B>, Refusal>
+    ) -> Result<Acceptance<B>, BoardRefusal>
         ensures step { BoardStep self.old session command result self.new }
         ensures seat { KeepsAnswer seat.old result self.new seat.new }
     {
         let policy = self.publisher.as_ref().unwrap().policy();
         let entry = match decide(policy, session, command) {
             Ok(entry) => entry,
-            Err(refusal) => return Err(Refusal::Policy(refusal)),
+            Err(refusal) => return Err(BoardRefusal::Policy(refusal)),
         };
         if !has_room(self.journal.entries(), &entry.command) {
-            return Err(Refusal::JournalFull);
+            return Err(BoardRefusal::JournalFull);
         }
         self.append(rt, seat, entry)
     }
@@ -164,7 +164,7 @@ impl<B: BoardName> LockedPolicy<B> {
         seat: &mut Seat<B>,
         session: Option<SessionId>,
         command: AdminCommand,
-    ) -> Result<Receipt<B>, Refusal>
+    ) -> Result<Acceptance<B>, BoardRefusal>
         ensures known { Begins seat.old.known self.old }
         ensures list { IsPolicyList self.old }
         ensures step { BoardStep self.old session command result self.new }

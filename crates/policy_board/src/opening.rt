@@ -6,14 +6,14 @@ ghost use Rattle.rbac_policy.specs.declared.objects.TheConstants.{SLOTS};
 ghost use Rattle.history_receipts.specs.declared.receipt_list.TheConstants.{SEATS};
 ghost use Rattle.policy_board.specs.SeatState.{new_seat};
 ghost use Rattle.policy_board.specs.Inner.Publishing.{IsPublishing};
-ghost use Rattle.policy_board.specs.declared.refusal.Refusal.TheVariants.{Memory};
+ghost use Rattle.policy_board.specs.declared.refusal.BoardRefusal.TheVariants.{Memory};
 
 use crate::board::Board;
 use crate::board_list::{BoardName, FreshList, Front};
 use crate::locked_policy::LockedPolicy;
 use crate::publisher::Publisher;
 use crate::reader::SlotReader;
-use crate::refusal::Refusal;
+use crate::refusal::BoardRefusal;
 use crate::seat::Seat;
 use crate::shown::{PolicyWriter, PublishedPolicy};
 use history_receipts::receipt_list::SEATS;
@@ -150,7 +150,7 @@ impl<B: BoardName> Board<B> {
         alloc: Global,
         fresh: FreshList,
         seats: usize,
-    ) -> Result<Opened<B>, Refusal>
+    ) -> Result<Opened<B>, BoardRefusal>
         requires name { fresh.seen.book ≡ B.book }
         requires seats { (1 ≤ seats) × (seats ≤ SEATS) }
         ensures opened { IfOk result (λ o. (o.board.began.value ≡ opening_entries)
@@ -160,7 +160,7 @@ impl<B: BoardName> Board<B> {
     {
         match open_parts(rt, alloc, fresh, seats) {
             Ok(opened) => Ok(opened),
-            Err(_) => Err(Refusal::Memory),
+            Err(_) => Err(BoardRefusal::Memory),
         }
     }
 }

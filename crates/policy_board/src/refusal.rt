@@ -1,9 +1,9 @@
 //! Why a call of the board is refused.
-use rbac_admin::refusal::Refusal as PolicyRefusal;
+use rbac_admin::refusal::PolicyRefusal;
 
 /// Why a call of the board is refused. A refusal leaves the policy and its list as they were.
 #[derive(Clone, Copy, PartialEq, Eq)]
-pub enum Refusal {
+pub enum BoardRefusal {
     /// The policy step refuses the command.
     Policy(PolicyRefusal),
     /// The policy list has as many entries as it may have.

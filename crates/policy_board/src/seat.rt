@@ -8,11 +8,11 @@ ghost use Rattle.policy_board.specs.Inner.Reading.{IsRead, IsNotRead};
 ghost use Rattle.policy_board.specs.PolicyCommands.{seat_after};
 ghost use Rattle.policy_board.specs.Receipts.{HasRoom, seat_keeping};
 ghost use Rattle.policy_board.specs.SeatState.{KeepsReceipts, new_seat};
-ghost use Rattle.policy_board.specs.declared.refusal.Refusal.TheVariants.{Memory};
+ghost use Rattle.policy_board.specs.declared.refusal.BoardRefusal.TheVariants.{Memory};
 
 use crate::board_list::{BoardName, Front};
 use crate::reader::{Reading, SlotReader};
-use crate::refusal::Refusal;
+use crate::refusal::BoardRefusal;
 use history_receipts::receipt::Kept;
 use history_receipts::receipt_list::Receipts;
 use rbac_policy::commands::{Entry, SessionId};
@@ -23,13 +23,13 @@ use std::marker::Model;
 /// What an accepted policy command answers its caller: its entry, the list that ends with it, and
 /// the session that it made, if it is a login. What the seat keeps of the call is a `Kept`.
 #[derive(Drop)]
-pub struct Receipt<B: BoardName> {
+pub struct Acceptance<B: BoardName> {
     pub(crate) entry: Entry,
     pub(crate) list: Front<B>,
     pub(crate) session: Option<SessionId>,
 }
 
-impl<B: BoardName> Receipt<B> {
+impl<B: BoardName> Acceptance<B> {
     /// The entry.
     pub fn entry(&self) -> &Entry
         ensures { result.now ≡ self.now.entry }
@@ -95,7 +95,7 @@ fn read_newer<B: BoardName>(
     reader: SlotReader<B>,
     known: &mut Front<B>,
     seen: &mut u64,
-) -> Result<Reading<B>, (Refusal, SlotReader<B>)>
+) -> Result<Reading<B>, (BoardRefusal, SlotReader<B>)>
     requires { length known.old ≤ max seen.old (length opening_entries) }
     ensures { MatchResult result
         (λ reading. IsRead reader (record { known = known.old; seen = seen.old }) reading
@@ -105,12 +105,12 @@ fn read_newer<B: BoardName>(
 {
     let reading = match reader.enter() {
         Ok(reading) => reading,
-        Err(reader) => return Err((Refusal::Memory, reader)),
+        Err(reader) => return Err((BoardRefusal::Memory, reader)),
     };
     let front = reading.front().again();
     let found = front.version();
     if found < *seen {
-        let refusal = Refusal::Behind { found, seen: *seen };
+        let refusal = BoardRefusal::Behind { found, seen: *seen };
         return Err((refusal, reading.leave()));
     }
     known.compare(&front);
@@ -159,14 +159,14 @@ impl<B: BoardName> Seat<B> {
     /// # Errors
     ///
     /// Memory, where memory was refused. The seat is then as it was.
-    pub fn make_room(&mut self) -> Result<(), Refusal>
+    pub fn make_room(&mut self) -> Result<(), BoardRefusal>
         ensures { MatchResult result
             (λ _. HasRoom self.new × (self.new ≡ record self.old { room = self.new.room }))
             (λ refusal. (refusal ≡ Memory) × (self.new ≡ self.old)) }
     {
         match self.kept.reserve(1) {
             Ok(()) => Ok(()),
-            Err(_) => Err(Refusal::Memory),
+            Err(_) => Err(BoardRefusal::Memory),
         }
     }
 
@@ -218,7 +218,7 @@ impl<B: BoardName> Seat<B> {
 
     /// Learns of the list of an answer: from now on it is answered for no shorter one.
     /// The program never does so; tests do.
-    pub fn learn(&mut self, receipt: Receipt<B>)
+    pub fn learn(&mut self, receipt: Acceptance<B>)
         ensures before { Begins self.old.known self.new.known }
         ensures told { Begins receipt.list self.new.known }
         ensures one { (self.new.known ≡ self.old.known) ⊎ (self.new.known ≡ receipt.list) }
@@ -226,7 +226,7 @@ impl<B: BoardName> Seat<B> {
         ensures read { self.new.read ≡ self.old.read }
         ensures kept { KeepsReceipts self.old self.new }
     {
-        let Receipt { list, .. } = receipt;
+        let Acceptance { list, .. } = receipt;
         self.seen = self.seen.max(list.version());
         if self.known.begins(&list) {
             self.known = list;
@@ -244,7 +244,7 @@ impl<B: BoardName> Seat<B> {
         session: SessionId,
         operation: Operation,
         object: &Object,
-    ) -> Result<bool, Refusal>
+    ) -> Result<bool, BoardRefusal>
         ensures { AnswersFor (λ entries. May entries session operation object.now) self.old result
             self.new }
     {
@@ -267,7 +267,7 @@ impl<B: BoardName> Seat<B> {
     /// # Errors
     ///
     /// As those of `Board::check_access`.
-    pub fn lives(&mut self, session: SessionId) -> Result<bool, Refusal>
+    pub fn lives(&mut self, session: SessionId) -> Result<bool, BoardRefusal>
         ensures { AnswersFor (λ entries. IsLive entries session) self.old result self.new }
     {
         let reader = self.reader.take().unwrap();

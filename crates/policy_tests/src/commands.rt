@@ -1,6 +1,6 @@
 //! Policy commands, refusals and questions as text, so that a story of a policy is a table.
 use rbac_admin::decisions::decide;
-use rbac_admin::refusal::{Refusal, table_text};
+use rbac_admin::refusal::{PolicyRefusal, table_text};
 use rbac_policy::commands::{AdminCommand, Entry, SessionId};
 use rbac_policy::names::{LISTED_ROLES, Name, RoleNames};
 use rbac_policy::objects::{Object, Operation};
@@ -140,47 +140,47 @@ pub fn command(rt: &impl Abort, alloc: Global, text: &str) -> AdminCommand {
 }
 
 /// Whether what the refusal names is what these words say.
-fn has_fields(rt: &impl Abort, refusal: &Refusal, words: &[&str]) -> bool {
+fn has_fields(rt: &impl Abort, refusal: &PolicyRefusal, words: &[&str]) -> bool {
     match (refusal, words) {
         (
-            Refusal::NotAuthorized { role: named }
-            | Refusal::AlreadyActive { role: named }
-            | Refusal::NotActive { role: named }
-            | Refusal::UnknownUser { user: named }
-            | Refusal::UnknownRole { role: named }
-            | Refusal::UserExists { user: named }
-            | Refusal::RoleExists { role: named }
-            | Refusal::DsdExists { set: named }
-            | Refusal::NoDsd { set: named }
-            | Refusal::RoleInDsd { set: named },
+            PolicyRefusal::NotAuthorized { role: named }
+            | PolicyRefusal::AlreadyActive { role: named }
+            | PolicyRefusal::NotActive { role: named }
+            | PolicyRefusal::UnknownUser { user: named }
+            | PolicyRefusal::UnknownRole { role: named }
+            | PolicyRefusal::UserExists { user: named }
+            | PolicyRefusal::RoleExists { role: named }
+            | PolicyRefusal::DsdExists { set: named }
+            | PolicyRefusal::NoDsd { set: named }
+            | PolicyRefusal::RoleInDsd { set: named },
             [wanted],
         ) => { named.as_str() == *wanted }
         (
-            Refusal::DsdViolated {
+            PolicyRefusal::DsdViolated {
                 set,
                 session: violator,
             },
             [wanted, digits],
         ) => { set.as_str() == *wanted && violator.number() == number(rt, digits) }
         (
-            Refusal::Permission {
+            PolicyRefusal::Permission {
                 operation: op,
                 object: on,
             },
             [wanted, wanted_on],
         ) => { *op == operation(rt, wanted) && *on == object(rt, wanted_on) }
-        (Refusal::Full { table }, [wanted]) => table_text(table) == *wanted,
+        (PolicyRefusal::Full { table }, [wanted]) => table_text(table) == *wanted,
         (
-            Refusal::NoSession
-            | Refusal::SessionsExhausted
-            | Refusal::Cycle
-            | Refusal::AlreadyAssigned
-            | Refusal::NotAssigned
-            | Refusal::AlreadyGranted
-            | Refusal::NotGranted
-            | Refusal::EdgeExists
-            | Refusal::NoEdge
-            | Refusal::DsdShape,
+            PolicyRefusal::NoSession
+            | PolicyRefusal::SessionsExhausted
+            | PolicyRefusal::Cycle
+            | PolicyRefusal::AlreadyAssigned
+            | PolicyRefusal::NotAssigned
+            | PolicyRefusal::AlreadyGranted
+            | PolicyRefusal::NotGranted
+            | PolicyRefusal::EdgeExists
+            | PolicyRefusal::NoEdge
+            | PolicyRefusal::DsdShape,
             [],
         ) => true,
         _ => false,
@@ -188,7 +188,7 @@ fn has_fields(rt: &impl Abort, refusal: &Refusal, words: &[&str]) -> bool {
 }
 
 /// Whether the answer is the refusal of this text, or none where there is no text.
-fn is_answer(rt: &impl Abort, alloc: Global, answer: Option<Refusal>, text: &str) -> bool {
+fn is_answer(rt: &impl Abort, alloc: Global, answer: Option<PolicyRefusal>, text: &str) -> bool {
     let Some(refusal) = answer else {
         return text.is_empty();
     };
@@ -206,7 +206,7 @@ pub fn give(
     policy: &mut Policy,
     session: Option<SessionId>,
     command: &AdminCommand,
-) -> Option<Refusal> {
+) -> Option<PolicyRefusal> {
     let given = command.clone().expect(rt, "room");
     let giver = if command.is_login() { None } else { session };
     let version = policy.version();

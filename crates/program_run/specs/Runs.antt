@@ -44,11 +44,11 @@ CannotWrite why.WriteFault before after = after ≡ before
 CannotWrite other before after = has_failed before after ≡ true
 
 -- what the end of a connection means for the program, with what it has written by then: a fault, or what follows it
-abbrev pub EndsSo : (report : Bool) → EndReason → DeskState → Result ⊤ Fault → (written after : Option (List ℕ))
+abbrev pub EndsScript : (report : Bool) → EndReason → DeskState → Result ⊤ Fault → (written after : Option (List ℕ))
     → Type 0
-EndsSo report why.Closed desk answer written after = Finishes report desk answer written after
-EndsSo report why.TooLong desk answer written after = Finishes report desk answer written after
-EndsSo report other desk answer written after = IsOutcome other answer × (after ≡ written)
+EndsScript report why.Closed desk answer written after = Finishes report desk answer written after
+EndsScript report why.TooLong desk answer written after = Finishes report desk answer written after
+EndsScript report other desk answer written after = IsOutcome other answer × (after ≡ written)
 
 -- what a connection that was served means for the program
 pub record Ends (refused report : Bool) (ahead : Option (List ℕ)) (answer : Result ⊤ Fault)
@@ -56,7 +56,7 @@ pub record Ends (refused report : Bool) (ahead : Option (List ℕ)) (answer : Re
   pub why : EndReason
   pub answers : Option (List ℕ)
   pub one : ServesOne refused ahead why written answers
-  pub ends : EndsSo report why one.desk answer answers after
+  pub ends : EndsScript report why one.desk answer answers after
 
 -- standard input and output are served as one connection, or memory for that was refused
 abbrev pub RunsScript : (refused report : Bool) → (ahead : Option (List ℕ)) → Result ⊤ Fault

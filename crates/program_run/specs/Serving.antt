@@ -62,8 +62,8 @@ pub record TellsMismatch (seats : List SeatState) (answer : Result ⊤ Fault)
   pub silent : Keeps written after
 
 -- what follows the last of all connections
-abbrev pub ClosesSo : (seats : List SeatState) → Result ⊤ Fault → (written after : Option (List ℕ)) → Type 0
-ClosesSo seats answer written after = ReportsHistories seats answer written after
+abbrev pub ClosesServer : (seats : List SeatState) → Result ⊤ Fault → (written after : Option (List ℕ)) → Type 0
+ClosesServer seats answer written after = ReportsHistories seats answer written after
     ⊎ TellsMismatch seats answer written after
 
 -- all connections that are asked for are served to their ends, and the server is closed
@@ -71,7 +71,7 @@ pub record ServesAndCloses (turn : Turn) (workers : ℕ) (connections : Option �
     (written after : Option (List ℕ)) : Type 0 where
   pub seats : List SeatState
   pub back : ServesAll turn workers connections seats
-  pub closes : ClosesSo seats answer written after
+  pub closes : ClosesServer seats answer written after
 
 -- a fault of memory or of the socket, and nothing is written
 pub record FailsToServe (answer : Result ⊤ Fault) (written after : Option (List ℕ)) : Type 0 where

@@ -3,7 +3,7 @@ ghost use Rattle.std.specs.Prelude.{◌≡◌, Err, map, string_bytes};
 ghost use Rattle.wire_reader.specs.Meters.{has_failed};
 ghost use Rattle.wire_reader.specs.declared.serving.EndReason.TheVariants.{ReadFault, WriteFault};
 ghost use Rattle.program_run.specs.declared.fault.Fault.TheVariants as fault;
-ghost use Rattle.program_run.specs.Runs.{EndsSo, CannotWrite, RunsScript, Obeys, NamesDevices};
+ghost use Rattle.program_run.specs.Runs.{EndsScript, CannotWrite, RunsScript, Obeys, NamesDevices};
 ghost use Rattle.program_run.specs.Runs.{Runs};
 
 use crate::fault::{Fault, outcome, tell};
@@ -38,7 +38,7 @@ fn finish<O: Write>(
     output: &mut MeteredWriter<O>,
     report: bool,
 ) -> Result<(), Fault>
-    ensures ends { EndsSo report why desk result (O.contents output.old.device)
+    ensures ends { EndsScript report why desk result (O.contents output.old.device)
         (O.contents output.new.device) }
     ensures read { result ≡ Err fault.Read → why ≡ ReadFault }
     ensures write { result ≡ Err fault.Write →

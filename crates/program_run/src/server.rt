@@ -4,7 +4,7 @@ ghost use Rattle.history_receipts.specs.declared.receipt_list.TheConstants.{SEAT
 ghost use Rattle.wire_reader.specs.Meters.{has_failed};
 ghost use Rattle.program_run.specs.declared.fault.Fault.TheVariants as fault;
 ghost use Rattle.client_loop.specs.Workers.{ServesNext};
-ghost use Rattle.program_run.specs.Serving.{ClosesSo, ServesSource, ServesOverSocket};
+ghost use Rattle.program_run.specs.Serving.{ClosesServer, ServesSource, ServesOverSocket};
 
 use crate::fault::Fault;
 use crate::reports::write_report;
@@ -37,7 +37,7 @@ fn close<B: BoardName, R: Wait, O: Write>(
     output: &mut MeteredWriter<O>,
 ) -> Result<(), Fault>
     requires { vec_len seats ≤ SEATS }
-    ensures closes { ClosesSo seats.items result (O.contents output.old.device)
+    ensures closes { ClosesServer seats.items result (O.contents output.old.device)
         (O.contents output.new.device) }
     ensures failed { result ≡ Err fault.Write →
         has_failed output.old.faults output.new.faults ≡ true }

@@ -4,7 +4,7 @@ ghost use Rattle.std.specs.Prelude.{◌≤◌, vec_len};
 use access_core::refusal::Refusal;
 use access_core::reply::Reply;
 use access_core::single::Single;
-use rbac_admin::refusal::Refusal as PolicyRefusal;
+use rbac_admin::refusal::PolicyRefusal;
 use rbac_policy::commands::{AdminCommand, SessionId};
 use rbac_policy::names::{Name, RoleNames};
 use std::alloc::{AllocError, Global};

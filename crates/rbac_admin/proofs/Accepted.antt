@@ -8,7 +8,7 @@ use Rattle.rbac_policy.specs.declared.commands.AdminCommand.{AdminCommand}
 use Rattle.rbac_policy.specs.declared.commands.AdminCommand.TheVariants.{CreateSession, DeleteSession, AddActiveRole}
 use Rattle.rbac_policy.specs.declared.commands.AdminCommand.TheVariants.{DropActiveRole}
 use Rattle.rbac_policy.specs.declared.commands.Entry.{Entry}
-use Rattle.rbac_admin.specs.declared.refusal.Refusal.{Refusal}
+use Rattle.rbac_admin.specs.declared.refusal.PolicyRefusal.{PolicyRefusal}
 use Rattle.rbac_admin.specs.Conditions.{Administers}
 use Rattle.rbac_policy.specs.Entries.{is_administrative}
 use Rattle.rbac_admin.specs.PolicyStep.{PolicyStep, policy_rules, entry_of}
@@ -19,13 +19,13 @@ answered_entry : (entries : List Entry) (session : Option ℕ) (command : AdminC
     → AllPass (policy_rules entries session command) × (e ≡ entry_of session command)
 answered_entry entries session command e h = let all = all_passed rules Refused Accepted (λ refusal is. cc) h in
     (all.0, let is = all.1 in cc) where
-      answer : Result Entry Refusal
+      answer : Result Entry PolicyRefusal
       answer = Ok e
 
-      rules : Rules Refusal
+      rules : Rules PolicyRefusal
       rules = policy_rules entries session command
 
-      Refused : Refusal → Type 0
+      Refused : PolicyRefusal → Type 0
       Refused refusal = answer ≡ Err refusal
 
       Accepted : Type 0
@@ -43,7 +43,7 @@ pub accepted_entry : (entries : List Entry) (session : Option ℕ) (command : Ad
 accepted_entry entries session command e h = (answered_entry entries session command e h).1
 
 -- what is asked of the entry alone is asked as it was of the command
-same_step : (entries : List Entry) (session : Option ℕ) (command : AdminCommand) (answer : Result Entry Refusal)
+same_step : (entries : List Entry) (session : Option ℕ) (command : AdminCommand) (answer : Result Entry PolicyRefusal)
     → PolicyStep entries session command answer → PolicyStep entries (entry_of session command).session
     (entry_of session command).command answer
 same_step entries session (CreateSession user roles) answer h = h
@@ -66,16 +66,16 @@ accepted_administers entries session (DropActiveRole role) e administrative h = 
 accepted_administers entries session command e administrative h = (passed entries session command e h).1.0
 
 -- the answer is a refusal exactly when it is that of the first rule that refuses
-pub refused_first : (entries : List Entry) (session : Option ℕ) (command : AdminCommand) (refusal : Refusal)
+pub refused_first : (entries : List Entry) (session : Option ℕ) (command : AdminCommand) (refusal : PolicyRefusal)
     → (PolicyStep entries session command (Err refusal) ↔ FirstRefuses (policy_rules entries session command) refusal)
 refused_first entries session command refusal = (to, λ first. refused all Refused Accepted refusal first refl) where
-  all : Rules Refusal
+  all : Rules PolicyRefusal
   all = policy_rules entries session command
 
-  answer : Result Entry Refusal
+  answer : Result Entry PolicyRefusal
   answer = Err refusal
 
-  Refused : Refusal → Type 0
+  Refused : PolicyRefusal → Type 0
   Refused given = answer ≡ Err given
 
   Accepted : Type 0

@@ -10,10 +10,10 @@ use Rattle.rbac_policy.specs.declared.commands.Entry.{Entry}
 use Rattle.rbac_policy.specs.Entries.{is_login}
 use Rattle.rbac_policy.specs.Names.{NameText}
 use Rattle.rbac_policy.specs.Facts.{IsActive, IsAuthorized, Lives}
-use Rattle.rbac_admin.specs.declared.refusal.Refusal.{Refusal}
-use Rattle.rbac_admin.specs.declared.refusal.Refusal.TheVariants.{NotAuthorized, AlreadyActive}
+use Rattle.rbac_admin.specs.declared.refusal.PolicyRefusal.{PolicyRefusal}
+use Rattle.rbac_admin.specs.declared.refusal.PolicyRefusal.TheVariants.{NotAuthorized, AlreadyActive}
 use Rattle.rbac_admin.specs.Conditions.{IsGivenBy, IsGiven, HasAuthorized, HasActive}
-use Rattle.rbac_admin.specs.PolicyStep.{session_rules, entry_rules, policy_rules, entry_of, Checks}
+use Rattle.rbac_admin.specs.PolicyStep.{session_rules, given_rules, policy_rules, entry_of, Checks}
 
 -- a test that is not passed
 pub not_so : {b : Bool} {P : Type 0} → (IsTrue b ↔ P) → b ≡ false → P → ⊥
@@ -25,19 +25,19 @@ is_so {b = true} test e = test.0 (search rules)
 is_so {b = false} test e = cc
 
 -- where a test by rules passes, each of them lets pass
-pub checked : (all : Rules Refusal) → Checks all (Ok (record {})) → AllPass all
+pub checked : (all : Rules PolicyRefusal) → Checks all (Ok (record {})) → AllPass all
 checked all h = (all_passed all _ _ (λ refusal is. absurd cc) h).0
 
 -- rules that let pass leave the answer to those after them
-pub skip : (first later : Rules Refusal) (Refused : Refusal → Type 0) (Accepted : Type 0) → AllPass first
+pub skip : (first later : Rules PolicyRefusal) (Refused : PolicyRefusal → Type 0) (Accepted : Type 0) → AllPass first
     → Answers later Refused Accepted
     → Answers (first ▸▸ later) Refused Accepted
 skip first later Refused Accepted all next = append first later Refused Accepted
     (accepted first Refused (Answers later Refused Accepted) all next)
 
 -- what is said of one answer by the rules is said of another
-pub mapped : (all : Rules Refusal) (Refused Other : Refusal → Type 0) (Next Accepted : Type 0)
-    → ((refusal : Refusal) → Refused refusal → Other refusal)
+pub mapped : (all : Rules PolicyRefusal) (Refused Other : PolicyRefusal → Type 0) (Next Accepted : Type 0)
+    → ((refusal : PolicyRefusal) → Refused refusal → Other refusal)
     → (Next → Accepted) → Answers all Refused Next → Answers all Other Accepted
 mapped accept Refused Other Next Accepted refused next h = next h
 mapped (rule ▸ later) Refused Other Next Accepted refused next (inl r) =
@@ -46,15 +46,15 @@ mapped (rule ▸ later) Refused Other Next Accepted refused next (inr p) =
     pass p.passed (mapped later Refused Other Next Accepted refused next p.next)
 
 -- a refusal by the first rules is one by all
-pub stop : (first later : Rules Refusal) (Refused Other : Refusal → Type 0) (Next Accepted : Type 0)
-    → ((refusal : Refusal) → Refused refusal → Other refusal)
+pub stop : (first later : Rules PolicyRefusal) (Refused Other : PolicyRefusal → Type 0) (Next Accepted : Type 0)
+    → ((refusal : PolicyRefusal) → Refused refusal → Other refusal)
     → (Next → ⊥) → Answers first Refused Next → Answers (first ▸▸ later) Other Accepted
 stop first later Refused Other Next Accepted refused none h =
     append first later Other Accepted
     (mapped first Refused Other Next (Answers later Other Accepted) refused (λ n. absurd (none n)) h)
 
 -- a test of one rule
-pub tested : (rule : Rule Refusal) (answer : Result (Unit {0}) Refusal) → Tests rule answer
+pub tested : (rule : Rule PolicyRefusal) (answer : Result (Unit {0}) PolicyRefusal) → Tests rule answer
     → Checks (rule ▸ accept) answer
 tested rule (Ok done) h = pass h refl
 tested rule (Err refusal) h = refuse refusal h refl
@@ -67,8 +67,8 @@ pub record IsGiver (entries : List Entry) (session named : Option ℕ) (command 
 
 pub giver_of : (entries : List Entry) (session named : Option ℕ) (command : AdminCommand)
     → Answers (session_rules entries session command)
-    (λ refusal. (let r : Result (Option ℕ) Refusal = Ok named in r) ≡ Err refusal)
-    (((let r : Result (Option ℕ) Refusal = Ok named in r) ≡ Ok (entry_of session command).session)
+    (λ refusal. (let r : Result (Option ℕ) PolicyRefusal = Ok named in r) ≡ Err refusal)
+    (((let r : Result (Option ℕ) PolicyRefusal = Ok named in r) ≡ Ok (entry_of session command).session)
     × IsGiven entries (entry_of session command))
     → IsGiver entries session named command
 giver_of entries session named command h =
@@ -82,13 +82,13 @@ giver_of entries session named command h =
 
 -- the command is answered by what is asked of its entry
 pub after_giver : (entries : List Entry) (session named : Option ℕ) (command : AdminCommand)
-    (Refused : Refusal → Type 0) (Accepted : Type 0)
-    → IsGiver entries session named command → Answers (entry_rules entries named command) Refused Accepted
+    (Refused : PolicyRefusal → Type 0) (Accepted : Type 0)
+    → IsGiver entries session named command → Answers (given_rules entries named command) Refused Accepted
     → Answers (policy_rules entries session command) Refused Accepted
 after_giver entries session named command Refused Accepted giver h =
-    skip (session_rules entries session command) (entry_rules entries (entry_of session command).session command)
+    skip (session_rules entries session command) (given_rules entries (entry_of session command).session command)
     Refused Accepted giver.passed
-    (subst (λ by. Answers (entry_rules entries by command) Refused Accepted) giver.same h)
+    (subst (λ by. Answers (given_rules entries by command) Refused Accepted) giver.same h)
 
 -- the session of an entry that is no login's lives
 pub given_by : (entries : List Entry) (entry : Entry) (n : ℕ) → IsFalse (is_login entry) → entry.session ≡ Some n
@@ -103,7 +103,8 @@ given_by entries entry n plain session given =
     }
 
 module _ (entries : List Entry) (session : Option ℕ) (n : ℕ) (by : IsGivenBy entries session n) where
-  pub pass_inactive : (role : NameText) {Refused : Refusal → Type 0} {Next : Type 0} → (IsActive entries n role → ⊥)
+  pub pass_inactive : (role : NameText) {Refused : PolicyRefusal → Type 0} {Next : Type 0}
+      → (IsActive entries n role → ⊥)
       → Next
       → Refuses (Says (AlreadyActive role) (HasActive entries session role)) Refused
       ⊎ Passes (Says (AlreadyActive role) (HasActive entries session role)) Next
@@ -111,27 +112,27 @@ module _ (entries : List Entry) (session : Option ℕ) (n : ℕ) (by : IsGivenBy
       pass (λ a. inactive
       (subst (λ k. IsActive entries k role) (same_Some a.number n (sym a.given ∙ by.given)) a.active)) then
 
-  pub refuse_inactive : (role : NameText) {Refused : Refusal → Type 0} {Next : Type 0} (refusal : Refusal)
+  pub refuse_inactive : (role : NameText) {Refused : PolicyRefusal → Type 0} {Next : Type 0} (refusal : PolicyRefusal)
       → (refusal ≡ AlreadyActive role) × IsActive entries n role → Refused refusal
       → Refuses (Says (AlreadyActive role) (HasActive entries session role)) Refused
       ⊎ Passes (Says (AlreadyActive role) (HasActive entries session role)) Next
   refuse_inactive role refusal given answered = refuse refusal
       (given.0, record { number = n; given = by.given; active = given.1 }) answered
 
-  pub tested_inactive : (role : NameText) (answer : Result (Unit {0}) Refusal)
+  pub tested_inactive : (role : NameText) (answer : Result (Unit {0}) PolicyRefusal)
       → Tests (Says (AlreadyActive role) (IsActive entries n role)) answer
       → Checks (Says (AlreadyActive role) (HasActive entries session role) ▸ accept) answer
   tested_inactive role (Ok done) h = pass_inactive role h refl
   tested_inactive role (Err refusal) h = refuse_inactive role refusal h refl
 
-  pub pass_authorized : (role : NameText) {Refused : Refusal → Type 0} {Next : Type 0}
+  pub pass_authorized : (role : NameText) {Refused : PolicyRefusal → Type 0} {Next : Type 0}
       → IsAuthorized entries by.user role → Next
       → Refuses (Unless (HasAuthorized entries session role) (NotAuthorized role)) Refused
       ⊎ Passes (Unless (HasAuthorized entries session role) (NotAuthorized role)) Next
   pass_authorized role authorized then = pass (record { number = n; by = by; authorized = authorized }) then
 
   -- whoever the user of the session is
-  pub refuse_authorized : (role : NameText) {Refused : Refusal → Type 0} {Next : Type 0} (refusal : Refusal)
+  pub refuse_authorized : (role : NameText) {Refused : PolicyRefusal → Type 0} {Next : Type 0} (refusal : PolicyRefusal)
       → ((user : NameText) → Lives entries n user → (refusal ≡ NotAuthorized role)
       × (IsAuthorized entries user role → ⊥)) → Refused refusal
       → Refuses (Unless (HasAuthorized entries session role) (NotAuthorized role)) Refused

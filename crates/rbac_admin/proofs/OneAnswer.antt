@@ -15,7 +15,7 @@ use Rattle.rbac_policy.specs.declared.commands.AdminCommand.TheVariants.{RevokeP
 use Rattle.rbac_policy.specs.declared.commands.AdminCommand.TheVariants.{DeleteInheritance, CreateDsdSet, CreateSession}
 use Rattle.rbac_policy.specs.declared.commands.AdminCommand.TheVariants.{DeleteSession, AddActiveRole, DropActiveRole}
 use Rattle.rbac_policy.specs.declared.commands.Entry.{Entry}
-use Rattle.rbac_admin.specs.declared.refusal.Refusal.{Refusal}
+use Rattle.rbac_admin.specs.declared.refusal.PolicyRefusal.{PolicyRefusal}
 use Rattle.rbac_policy.specs.Separation.{IsFirstViolated, IsFirstSetOf}
 use Rattle.rbac_admin.specs.Conditions.{FirstListed}
 use Rattle.rbac_admin.specs.PolicyStep.{PolicyStep, session_rules, right_rules, name_rules, condition_rules}
@@ -34,7 +34,7 @@ one_listed P names a b x y =
     let at = one_place x.at y.at (λ low. y.first x.at a low x.there x.has) (λ low. x.first y.at b low y.there y.has) in
     same_Some a b (sym x.there ∙ ap (slice_get names) at ∙ y.there)
 
-listed : {refusal : NameText → Refusal} {P : List NameText → NameText → Type 0} {names : List NameText}
+listed : {refusal : NameText → PolicyRefusal} {P : List NameText → NameText → Type 0} {names : List NameText}
     → IsDefinite (Naming refusal (FirstListed P names))
 listed {P = P} {names = names} = naming (one_listed P names)
 
@@ -103,7 +103,7 @@ violations entries session command = naming same where
       let both = one_violated after one.0 other.0 one.1 other.1 x y in
       ap (λ set. (set, one.1)) both.0 ∙ ap (λ session. (other.0, session)) both.1
 
-members : {refusal : NameText → Refusal} (entries : List Entry) (role : NameText)
+members : {refusal : NameText → PolicyRefusal} (entries : List Entry) (role : NameText)
     → IsDefinite (Naming refusal (IsFirstSetOf entries role))
 members entries role = naming (one_set_of entries role)
 
@@ -167,7 +167,7 @@ tables_definite entries (CreateDsdSet set count roles) = (says, record {})
 tables_definite entries (CreateSession user roles) = (says, record {})
 tables_definite entries command = record {}
 
-both_definite : (one other : Rules Refusal) → AllDefinite one → AllDefinite other → AllDefinite (one ▸▸ other)
+both_definite : (one other : Rules PolicyRefusal) → AllDefinite one → AllDefinite other → AllDefinite (one ▸▸ other)
 both_definite accept other first second = second
 both_definite (rule ▸ later) other first second = (first.0, both_definite later other first.1 second)
 
@@ -184,7 +184,7 @@ all_definite entries session command =
     (tables_definite entries command)))))
 
 -- two answers to one command are one
-pub one_answer : (entries : List Entry) (session : Option ℕ) (command : AdminCommand) (a b : Result Entry Refusal)
+pub one_answer : (entries : List Entry) (session : Option ℕ) (command : AdminCommand) (a b : Result Entry PolicyRefusal)
     → PolicyStep entries session command a → PolicyStep entries session command b → a ≡ b
 one_answer entries session command =
     same_answer (policy_rules entries session command) (all_definite entries session command) (entry_of session command)

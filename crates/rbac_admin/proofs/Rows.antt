@@ -10,8 +10,8 @@ use Rattle.rbac_policy.specs.declared.commands.Table.{Table}
 use Rattle.rbac_policy.specs.declared.commands.Table.TheVariants.{Users, Roles, Permissions, Sessions, Sets}
 use Rattle.rbac_policy.specs.declared.objects.Object.{Object}
 use Rattle.rbac_policy.specs.declared.objects.Operation.{Operation}
-use Rattle.rbac_admin.specs.declared.refusal.Refusal.{Refusal}
-use Rattle.rbac_admin.specs.declared.refusal.Refusal.TheVariants as refusal
+use Rattle.rbac_admin.specs.declared.refusal.PolicyRefusal.{PolicyRefusal}
+use Rattle.rbac_admin.specs.declared.refusal.PolicyRefusal.TheVariants as refusal
 use Rattle.rbac_admin.specs.Refusals.{row_of, NamesObjects, table_text}
 
 -- the table of this word
@@ -29,15 +29,15 @@ table_is Permissions = refl
 table_is Sessions = refl
 table_is Sets = refl
 
-abbrev permission_back : Option Operation → Object → Option Refusal
+abbrev permission_back : Option Operation → Object → Option PolicyRefusal
 permission_back operation object = option_map (λ (o : Operation). refusal.Permission o object) operation
 
 -- the refusal of a permission whose operation and object have these texts
-abbrev permission_texts : (operation object : List ℕ) → Option Refusal
+abbrev permission_texts : (operation object : List ℕ) → Option PolicyRefusal
 permission_texts operation object = option_and_then (permission_back (operation_of operation)) (object_of object)
 
 -- the refusal of this number and these fields
-abbrev pub policy_back : ℕ → Fields → Option Refusal
+abbrev pub policy_back : ℕ → Fields → Option PolicyRefusal
 policy_back code fields =
     if code == 4 then Some refusal.NoSession
     else (if code == 6 then Some refusal.SessionsExhausted
@@ -73,11 +73,11 @@ permission_is operation object is =
     ∙ ap (λ (found : Option Operation). permission_back found object) ((operation_of-exact text operation).1 refl)
 
 -- each row reads back as its refusal
-pub policy_is : (given : Refusal) → NamesObjects given
+pub policy_is : (given : PolicyRefusal) → NamesObjects given
     → policy_back (row_of given).code (row_of given).fields ≡ Some given
 policy_is (refusal.Permission operation object) names = permission_is operation object (names operation object refl)
 policy_is (refusal.Full table) names = ap (λ (t : Table). Some (refusal.Full t)) (table_is table)
 policy_is _ names = refl
 
-pub told_apart : (one other : Refusal) → NamesObjects one → NamesObjects other → TellsApart row_of one other
+pub told_apart : (one other : PolicyRefusal) → NamesObjects one → NamesObjects other → TellsApart row_of one other
 told_apart one other names here = read_back row_of policy_back one other (policy_is one names) (policy_is other here)

@@ -3,14 +3,14 @@ use Rattle.std.specs.Prelude.{ℕ, List, Option, Result, MatchResult}
 use Rattle.refusal_rules.specs.Rules.{MayRefuse, accept, ◌▸◌, Answers}
 use Rattle.rbac_policy.specs.declared.commands.AdminCommand.{AdminCommand}
 use Rattle.rbac_policy.specs.declared.commands.Entry.{Entry}
-use Rattle.rbac_admin.specs.declared.refusal.Refusal.{Refusal}
+use Rattle.rbac_admin.specs.declared.refusal.PolicyRefusal.{PolicyRefusal}
 use Rattle.rbac_admin.specs.PolicyStep.{PolicyStep}
 use Rattle.rbac_admin.specs.Room.{list_full}
 
 -- the refusals of such a list: how it tells those of the policy step, and its own, where it is full and where memory is
 -- refused
 pub record ListRefusals (R : Type 0) : Type 0 where
-  pub told : Refusal → R
+  pub told : PolicyRefusal → R
   pub full : R
   pub memory : R
 
@@ -19,7 +19,7 @@ pub record ListRefusals (R : Type 0) : Type 0 where
 -- refusal, and Appended what it is that the entry is appended
 pub record StepsOnList {R : Type 0} (refusals : ListRefusals R) (entries : List Entry) (session : Option ℕ)
     (command : AdminCommand) (Refused : R → Type 0) (Appended : Entry → Type 0) : Type 0 where
-  pub answer : Result Entry Refusal
+  pub answer : Result Entry PolicyRefusal
   pub given : PolicyStep entries session command answer
   pub replied : MatchResult answer
       (λ entry. Answers (list_full refusals.full entries entry ▸ MayRefuse refusals.memory ▸ accept) Refused

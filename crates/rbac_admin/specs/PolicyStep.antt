@@ -17,49 +17,54 @@ use Rattle.rbac_policy.specs.Names.{NameText}
 use Rattle.rbac_policy.specs.Entries.{makes_session}
 use Rattle.rbac_policy.specs.Facts.{IsUser, IsRole, IsSetName, IsAssigned, IsGranted, IsEdge, IsAtOrBelow, IsAuthorized}
 use Rattle.rbac_policy.specs.Fits.{UsersFull, RolesFull, SetsFull, SessionsFull, NumbersExhausted}
-use Rattle.rbac_admin.specs.declared.refusal.Refusal.{Refusal}
-use Rattle.rbac_admin.specs.declared.refusal.Refusal.TheVariants.{NoSession, SessionsExhausted, Permission}
-use Rattle.rbac_admin.specs.declared.refusal.Refusal.TheVariants.{DsdViolated, NotAuthorized, AlreadyActive, NotActive}
-use Rattle.rbac_admin.specs.declared.refusal.Refusal.TheVariants.{Cycle, UnknownUser, UnknownRole, UserExists}
-use Rattle.rbac_admin.specs.declared.refusal.Refusal.TheVariants.{RoleExists, AlreadyAssigned, NotAssigned}
-use Rattle.rbac_admin.specs.declared.refusal.Refusal.TheVariants.{AlreadyGranted, NotGranted, EdgeExists, NoEdge}
-use Rattle.rbac_admin.specs.declared.refusal.Refusal.TheVariants.{DsdExists, NoDsd, DsdShape, RoleInDsd, Full}
+use Rattle.rbac_admin.specs.declared.refusal.PolicyRefusal.{PolicyRefusal}
+use Rattle.rbac_admin.specs.declared.refusal.PolicyRefusal.TheVariants.{NoSession, SessionsExhausted, Permission}
+use Rattle.rbac_admin.specs.declared.refusal.PolicyRefusal.TheVariants.{
+  DsdViolated,
+  NotAuthorized,
+  AlreadyActive,
+  NotActive,
+}
+use Rattle.rbac_admin.specs.declared.refusal.PolicyRefusal.TheVariants.{Cycle, UnknownUser, UnknownRole, UserExists}
+use Rattle.rbac_admin.specs.declared.refusal.PolicyRefusal.TheVariants.{RoleExists, AlreadyAssigned, NotAssigned}
+use Rattle.rbac_admin.specs.declared.refusal.PolicyRefusal.TheVariants.{AlreadyGranted, NotGranted, EdgeExists, NoEdge}
+use Rattle.rbac_admin.specs.declared.refusal.PolicyRefusal.TheVariants.{DsdExists, NoDsd, DsdShape, RoleInDsd, Full}
 use Rattle.rbac_admin.specs.Conditions.{HasSession, Administers, HasAuthorized, HasActive, HasNoRoomFor, IsNoShape}
 use Rattle.rbac_admin.specs.Conditions.{FirstListed}
 use Rattle.rbac_policy.specs.Separation.{IsFirstViolated, IsFirstSetOf}
 
 -- refuses where no session gives the command, or it doesn't live; and hands on the session that does
-abbrev pub no_giver : List Entry → Option ℕ → Rule Refusal
+abbrev pub no_giver : List Entry → Option ℕ → Rule PolicyRefusal
 no_giver entries session = Unless (HasSession entries session) NoSession
 
 -- refuses a session that may not change the policy
-abbrev pub no_right : List Entry → Option ℕ → Rule Refusal
+abbrev pub no_right : List Entry → Option ℕ → Rule PolicyRefusal
 no_right entries session = Unless (Administers entries session) (Permission Administer Policy)
 
 -- refuses where there is no such user
-abbrev pub unknown_user : List Entry → NameText → Rule Refusal
+abbrev pub unknown_user : List Entry → NameText → Rule PolicyRefusal
 unknown_user entries user = Unless (IsUser entries user) (UnknownUser user)
 
 -- refuses where there is no such role
-abbrev pub unknown_role : List Entry → NameText → Rule Refusal
+abbrev pub unknown_role : List Entry → NameText → Rule PolicyRefusal
 unknown_role entries role = Unless (IsRole entries role) (UnknownRole role)
 
 -- names the first listed name that is no role's
-abbrev pub unknown_listed : List Entry → List NameText → Rule Refusal
+abbrev pub unknown_listed : List Entry → List NameText → Rule PolicyRefusal
 unknown_listed entries roles = Naming UnknownRole (FirstListed (λ before role. IsRole entries role → ⊥) roles)
 
 -- names the first listed role for which the user is not authorized
-abbrev pub unauthorized_listed : List Entry → NameText → List NameText → Rule Refusal
+abbrev pub unauthorized_listed : List Entry → NameText → List NameText → Rule PolicyRefusal
 unauthorized_listed entries user roles = Naming NotAuthorized
     (FirstListed (λ before role. IsAuthorized entries user role → ⊥) roles)
 
 -- names the first listed role that stands a second time
-abbrev pub repeated_listed : List NameText → Rule Refusal
+abbrev pub repeated_listed : List NameText → Rule PolicyRefusal
 repeated_listed roles = Naming AlreadyActive (FirstListed Contains roles)
 
 -- names the first set that is violated with the entry appended, and the least session that would hold too many roles of
 -- it
-abbrev pub violation : List Entry → Option ℕ → AdminCommand → Rule Refusal
+abbrev pub violation : List Entry → Option ℕ → AdminCommand → Rule PolicyRefusal
 violation entries session command =
     Naming {Thing = NameText × ℕ} (λ violated. DsdViolated violated.0 violated.1)
     (λ violated. IsFirstViolated (entries ++ record { session = session; command = command } ∷ []) violated.0
@@ -70,12 +75,12 @@ abbrev pub entry_of : Option ℕ → AdminCommand → Entry
 entry_of session command = record { session = if makes_session command then None else session; command = command }
 
 -- a session that lives gives the command, unless it is a login
-abbrev pub session_rules : List Entry → Option ℕ → AdminCommand → Rules Refusal
+abbrev pub session_rules : List Entry → Option ℕ → AdminCommand → Rules PolicyRefusal
 session_rules entries s (CreateSession user roles) = accept
 session_rules entries s _ = no_giver entries s ▸ accept
 
 -- the session may change the policy, unless the command is one of those of sessions
-abbrev pub right_rules : List Entry → Option ℕ → AdminCommand → Rules Refusal
+abbrev pub right_rules : List Entry → Option ℕ → AdminCommand → Rules PolicyRefusal
 right_rules entries s (CreateSession user roles) = accept
 right_rules entries s DeleteSession = accept
 right_rules entries s (AddActiveRole role) = accept
@@ -84,7 +89,7 @@ right_rules entries s _ = no_right entries s ▸ accept
 
 -- what the command names: a user, role or set that it makes is new, and each other one is there; and a login has a
 -- number left
-abbrev pub name_rules : List Entry → AdminCommand → Rules Refusal
+abbrev pub name_rules : List Entry → AdminCommand → Rules PolicyRefusal
 name_rules entries (AddUser user) = Says (UserExists user) (IsUser entries user) ▸ accept
 name_rules entries (DeleteUser user) = unknown_user entries user ▸ accept
 name_rules entries (AddRole role) = Says (RoleExists role) (IsRole entries role) ▸ accept
@@ -107,7 +112,7 @@ name_rules entries (AddActiveRole role) = unknown_role entries role ▸ accept
 name_rules entries (DropActiveRole role) = unknown_role entries role ▸ accept
 
 -- what the command, which this session gives, asks of what it names
-abbrev pub condition_rules : List Entry → Option ℕ → AdminCommand → Rules Refusal
+abbrev pub condition_rules : List Entry → Option ℕ → AdminCommand → Rules PolicyRefusal
 condition_rules entries s (DeleteRole role) = Naming RoleInDsd (IsFirstSetOf entries role) ▸ accept
 condition_rules entries s (AssignUser user role) = Says AlreadyAssigned (IsAssigned entries user role) ▸ accept
 condition_rules entries s (DeassignUser user role) = Unless (IsAssigned entries user role) NotAssigned ▸ accept
@@ -128,7 +133,7 @@ condition_rules entries s (DropActiveRole role) = Unless (HasActive entries s ro
 condition_rules entries s _ = accept
 
 -- refuses where the command would violate a separation set
-abbrev pub separation_rules : List Entry → Option ℕ → AdminCommand → Rules Refusal
+abbrev pub separation_rules : List Entry → Option ℕ → AdminCommand → Rules PolicyRefusal
 separation_rules entries s (AddInheritance senior junior) = violation entries s (AddInheritance senior junior) ▸ accept
 separation_rules entries s (CreateDsdSet set count roles) = violation entries s (CreateDsdSet set count roles) ▸ accept
 separation_rules entries s (CreateSession user roles) = violation entries None (CreateSession user roles) ▸ accept
@@ -136,7 +141,7 @@ separation_rules entries s (AddActiveRole role) = violation entries s (AddActive
 separation_rules entries s _ = accept
 
 -- refuses where the table is full in which the command makes something
-abbrev pub table_rules : List Entry → AdminCommand → Rules Refusal
+abbrev pub table_rules : List Entry → AdminCommand → Rules PolicyRefusal
 table_rules entries (AddUser user) = Says (Full Users) (UsersFull entries) ▸ accept
 table_rules entries (AddRole role) = Says (Full Roles) (RolesFull entries) ▸ accept
 table_rules entries (GrantPermission role operation object) =
@@ -146,22 +151,22 @@ table_rules entries (CreateSession user roles) = Says (Full Sessions) (SessionsF
 table_rules entries _ = accept
 
 -- what is asked, in this order, of the command whose entry names this session
-abbrev pub entry_rules : List Entry → Option ℕ → AdminCommand → Rules Refusal
-entry_rules entries by command =
+abbrev pub given_rules : List Entry → Option ℕ → AdminCommand → Rules PolicyRefusal
+given_rules entries by command =
     right_rules entries by command ▸▸ name_rules entries command ▸▸ condition_rules entries by command
     ▸▸ separation_rules entries by command ▸▸ table_rules entries command
 
 -- the rules of refusal of the command, which this session gives, after these entries (this project's order)
-abbrev pub policy_rules : List Entry → Option ℕ → AdminCommand → Rules Refusal
+abbrev pub policy_rules : List Entry → Option ℕ → AdminCommand → Rules PolicyRefusal
 policy_rules entries s command =
-    session_rules entries s command ▸▸ entry_rules entries (entry_of s command).session command
+    session_rules entries s command ▸▸ given_rules entries (entry_of s command).session command
 
 -- a test of rules: it answers the refusal of the first that refuses, and passes where all let pass
-abbrev pub Checks : Rules Refusal → Result (Unit {0}) Refusal → Type 0
+abbrev pub Checks : Rules PolicyRefusal → Result (Unit {0}) PolicyRefusal → Type 0
 Checks rules answer = Answers rules (λ refusal. answer ≡ Err refusal) (answer ≡ Ok (record {}))
 
 -- the answer to the command, which this session gives, after these entries: by its rules a refusal, or its entry
-abbrev pub PolicyStep : List Entry → Option ℕ → AdminCommand → Result Entry Refusal → Type 0
+abbrev pub PolicyStep : List Entry → Option ℕ → AdminCommand → Result Entry PolicyRefusal → Type 0
 PolicyStep entries session command answer =
     Answers (policy_rules entries session command) (λ refusal. answer ≡ Err refusal)
     (answer ≡ Ok (entry_of session command))

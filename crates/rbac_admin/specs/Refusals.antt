@@ -6,8 +6,8 @@ use Rattle.rbac_policy.specs.declared.commands.Table.{Table}
 use Rattle.rbac_policy.specs.declared.commands.Table.TheVariants.{Users, Roles, Permissions, Sessions, Sets}
 use Rattle.rbac_policy.specs.declared.objects.Object.{Object}
 use Rattle.rbac_policy.specs.declared.objects.Operation.{Operation}
-use Rattle.rbac_admin.specs.declared.refusal.Refusal.{Refusal}
-use Rattle.rbac_admin.specs.declared.refusal.Refusal.TheVariants as refusal
+use Rattle.rbac_admin.specs.declared.refusal.PolicyRefusal.{PolicyRefusal}
+use Rattle.rbac_admin.specs.declared.refusal.PolicyRefusal.TheVariants as refusal
 
 -- the word for a table of the policy
 abbrev pub table_text : Table → List ℕ
@@ -18,7 +18,7 @@ table_text Sessions = codes "sessions"
 table_text Sets = codes "sets"
 
 -- the number, the name and the fields of a refusal
-abbrev pub row_of : Refusal → Row
+abbrev pub row_of : PolicyRefusal → Row
 row_of refusal.NoSession = tells 4 (codes "NoSession") []
 row_of refusal.SessionsExhausted = tells 6 (codes "SessionsExhausted") []
 row_of (refusal.Permission operation object) =
@@ -47,14 +47,14 @@ row_of (refusal.RoleInDsd set) = tells 38 (codes "RoleInDsd") ((codes "set", Tex
 row_of (refusal.Full table) = tells 39 (codes "Full") ((codes "table", Text (table_text table)) ∷ [])
 
 -- the number of a refusal
-abbrev pub code_of : Refusal → ℕ
+abbrev pub code_of : PolicyRefusal → ℕ
 code_of given = (row_of given).code
 
 -- the name of a refusal
-abbrev pub name_of : Refusal → List ℕ
+abbrev pub name_of : PolicyRefusal → List ℕ
 name_of given = (row_of given).name
 
 -- an object that the refusal names is one: its slot is there, and its signal's name is an identifier
-abbrev pub NamesObjects : Refusal → Type 0
+abbrev pub NamesObjects : PolicyRefusal → Type 0
 NamesObjects given =
     (operation : Operation) (object : Object) → given ≡ refusal.Permission operation object → IsObject object

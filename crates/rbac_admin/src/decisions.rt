@@ -8,7 +8,7 @@ ghost use Rattle.rbac_admin.specs.PolicyStep.{Checks, PolicyStep, entry_of, sess
 ghost use Rattle.rbac_admin.specs.PolicyStep.{right_rules, name_rules, condition_rules};
 ghost use Rattle.rbac_admin.specs.PolicyStep.{separation_rules, table_rules};
 
-use crate::refusal::Refusal;
+use crate::refusal::PolicyRefusal;
 use crate::rules::{
     check_assigned, check_assignment_is_new, check_dsd_shape, check_edge_exists, check_edge_is_new,
     check_edge_separation, check_grant_is_new, check_granted, check_in_no_set,
@@ -28,7 +28,7 @@ fn find_giver(
     policy: &Policy,
     session: Option<SessionId>,
     command: &AdminCommand,
-) -> Result<Option<SessionId>, Refusal>
+) -> Result<Option<SessionId>, PolicyRefusal>
     ensures { (entries : List Entry) → StandsFor policy.now entries
         → Answers (session_rules entries session command.now) (λ refusal. result ≡ Err refusal)
         ((result ≡ Ok (entry_of session command.now).session)
@@ -44,7 +44,7 @@ fn find_giver(
 }
 
 /// Refuses an administrative command whose session may not administer the policy.
-fn check_right(policy: &Policy, entry: &Entry) -> Result<(), Refusal>
+fn check_right(policy: &Policy, entry: &Entry) -> Result<(), PolicyRefusal>
     ensures { (entries : List Entry) → StandsFor policy.now entries → IsGiven entries entry.now
         → Checks (right_rules entries entry.now.session entry.now.command) result }
 {
@@ -55,7 +55,7 @@ fn check_right(policy: &Policy, entry: &Entry) -> Result<(), Refusal>
 }
 
 /// Refuses a command that makes what is there already, or that names what is not there.
-fn check_names(policy: &Policy, command: &AdminCommand) -> Result<(), Refusal>
+fn check_names(policy: &Policy, command: &AdminCommand) -> Result<(), PolicyRefusal>
     ensures { (entries : List Entry) → StandsFor policy.now entries
         → Checks (name_rules entries command.now) result }
 {
@@ -93,7 +93,7 @@ fn check_names(policy: &Policy, command: &AdminCommand) -> Result<(), Refusal>
 
 /// Refuses a command whose own conditions don't hold, as an assignment that is there already, or
 /// an edge that closes a circle.
-fn check_conditions(policy: &Policy, entry: &Entry) -> Result<(), Refusal>
+fn check_conditions(policy: &Policy, entry: &Entry) -> Result<(), PolicyRefusal>
     ensures { (entries : List Entry) → StandsFor policy.now entries
         → IsGiven entries entry.now
         → Checks (condition_rules entries entry.now.session entry.now.command) result }
@@ -130,19 +130,19 @@ fn check_conditions(policy: &Policy, entry: &Entry) -> Result<(), Refusal>
             check_roles_differ(roles)
         }
         AdminCommand::AddActiveRole { role } => {
-            let session = entry.session.ok_or(Refusal::NoSession)?;
+            let session = entry.session.ok_or(PolicyRefusal::NoSession)?;
             check_role_authorized(policy, session, role)?;
             check_role_inactive(policy, session, role)
         }
         AdminCommand::DropActiveRole { role } => {
-            let session = entry.session.ok_or(Refusal::NoSession)?;
+            let session = entry.session.ok_or(PolicyRefusal::NoSession)?;
             check_role_active(policy, session, role)
         }
     }
 }
 
 /// Refuses a command after which a session would violate a separation set.
-fn check_separation(policy: &Policy, entry: &Entry) -> Result<(), Refusal>
+fn check_separation(policy: &Policy, entry: &Entry) -> Result<(), PolicyRefusal>
     ensures { (entries : List Entry) → StandsFor policy.now entries
         → IsGiven entries entry.now
         → AllPass (name_rules entries entry.now.command)
@@ -159,7 +159,7 @@ fn check_separation(policy: &Policy, entry: &Entry) -> Result<(), Refusal>
         AdminCommand::CreateSession { user, roles } => check_login_separation(policy, user, roles),
         AdminCommand::AddActiveRole { role } => match entry.session {
             Some(session) => check_role_separation(policy, session, role),
-            None => Err(Refusal::NoSession),
+            None => Err(PolicyRefusal::NoSession),
         },
         AdminCommand::AddUser { .. }
         | AdminCommand::DeleteUser { .. }
@@ -177,7 +177,7 @@ fn check_separation(policy: &Policy, entry: &Entry) -> Result<(), Refusal>
 }
 
 /// Refuses a command for whose new row its table has no room.
-fn check_tables(policy: &Policy, command: &AdminCommand) -> Result<(), Refusal>
+fn check_tables(policy: &Policy, command: &AdminCommand) -> Result<(), PolicyRefusal>
     ensures { (entries : List Entry) → StandsFor policy.now entries
         → Checks (table_rules entries command.now) result }
 {
@@ -236,7 +236,7 @@ pub fn decide(
     policy: &Policy,
     session: Option<SessionId>,
     command: AdminCommand,
-) -> Result<Entry, Refusal>
+) -> Result<Entry, PolicyRefusal>
     ensures { (entries : List Entry) → StandsFor policy.now entries
         → PolicyStep entries session command result }
 {

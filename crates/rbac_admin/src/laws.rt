@@ -11,7 +11,7 @@ ghost use Rattle.rbac_policy.specs.Opening.{opening_entries};
 ghost use Rattle.rbac_policy.specs.StandsFor.{StandsFor};
 ghost use Rattle.rbac_policy.specs.Entries.{is_administrative};
 ghost use Rattle.rbac_policy.specs.declared.sizes.TheConstants.{LAST_VERSION};
-ghost use Rattle.rbac_admin.specs.declared.refusal.Refusal.{Refusal};
+ghost use Rattle.rbac_admin.specs.declared.refusal.PolicyRefusal.{PolicyRefusal};
 ghost use Rattle.rbac_admin.specs.Conditions.{Administers};
 ghost use Rattle.rbac_admin.specs.PolicyStep.{PolicyStep, policy_rules, entry_of};
 ghost use Rattle.rbac_admin.specs.PolicyLists.{IsAccepted, IsPolicyList};
@@ -22,7 +22,7 @@ ghost use Rattle.refusal_rules.specs.Rows.{TellsApart};
 /// The policy step gives one answer at most.
 pub fn one_answer()
     ensures { (entries : List Entry) (session : Option ℕ) (command : AdminCommand)
-        (a b : Result Entry Refusal)
+        (a b : Result Entry PolicyRefusal)
         → PolicyStep entries session command a → PolicyStep entries session command b → a ≡ b }
 {}
 
@@ -50,14 +50,14 @@ pub fn accepted_administers()
 /// one let pass. It is the command's entry exactly when all rules let pass.
 pub fn first_refusal()
     ensures refused { (entries : List Entry) (session : Option ℕ) (command : AdminCommand)
-        (refusal : Refusal)
+        (refusal : PolicyRefusal)
         → (PolicyStep entries session command (Err refusal) ↔ FirstRefuses (policy_rules entries
         session command) refusal) }
     ensures accepted { (entries : List Entry) (session : Option ℕ) (command : AdminCommand)
         → (PolicyStep entries session command (Ok (entry_of session command))
         ↔ AllPass (policy_rules entries session command)) }
     ensures silent { (entries : List Entry) (session : Option ℕ) (command : AdminCommand)
-        (place earlier : ℕ) (refusal : Refusal)
+        (place earlier : ℕ) (refusal : PolicyRefusal)
         → PassBefore (policy_rules entries session command) place → earlier < place
         → RefusesAt (policy_rules entries session command) earlier refusal → ⊥ }
 {}
@@ -96,6 +96,6 @@ pub fn accepted_leaves_room()
 /// Refusals with equal numbers and equal fields are equal, if the objects that they name are
 /// objects.
 pub fn refusals_are_told_apart()
-    ensures { (one other : Refusal) → NamesObjects one → NamesObjects other
+    ensures { (one other : PolicyRefusal) → NamesObjects one → NamesObjects other
         → TellsApart row_of one other }
 {}

@@ -8,7 +8,7 @@ use rbac_policy::objects::{Object, Operation};
 
 /// Why a policy command is refused: the first cause in the order of `decide`.
 #[derive(Clone, Copy, PartialEq, Eq)]
-pub enum Refusal {
+pub enum PolicyRefusal {
     /// No session gives the command, or the session has ended.
     NoSession,
     /// Each session number has been used.
@@ -86,36 +86,36 @@ pub enum Refusal {
     },
 }
 
-impl Refusal {
+impl PolicyRefusal {
     /// Its number and its name.
     pub fn label(&self) -> (u8, &'static str)
         ensures code { result.0 ≡ code_of self.now }
         ensures name { result.1.now ≡ name_of self.now }
     {
         match self {
-            Refusal::NoSession => (4, "NoSession"),
-            Refusal::SessionsExhausted => (6, "SessionsExhausted"),
-            Refusal::Permission { .. } => (10, "Permission"),
-            Refusal::DsdViolated { .. } => (20, "DsdViolated"),
-            Refusal::NotAuthorized { .. } => (21, "NotAuthorized"),
-            Refusal::AlreadyActive { .. } => (22, "AlreadyActive"),
-            Refusal::NotActive { .. } => (23, "NotActive"),
-            Refusal::Cycle => (24, "Cycle"),
-            Refusal::UnknownUser { .. } => (25, "UnknownUser"),
-            Refusal::UnknownRole { .. } => (26, "UnknownRole"),
-            Refusal::UserExists { .. } => (27, "UserExists"),
-            Refusal::RoleExists { .. } => (28, "RoleExists"),
-            Refusal::AlreadyAssigned => (29, "AlreadyAssigned"),
-            Refusal::NotAssigned => (30, "NotAssigned"),
-            Refusal::AlreadyGranted => (31, "AlreadyGranted"),
-            Refusal::NotGranted => (32, "NotGranted"),
-            Refusal::EdgeExists => (33, "EdgeExists"),
-            Refusal::NoEdge => (34, "NoEdge"),
-            Refusal::DsdExists { .. } => (35, "DsdExists"),
-            Refusal::NoDsd { .. } => (36, "NoDsd"),
-            Refusal::DsdShape => (37, "DsdShape"),
-            Refusal::RoleInDsd { .. } => (38, "RoleInDsd"),
-            Refusal::Full { .. } => (39, "Full"),
+            PolicyRefusal::NoSession => (4, "NoSession"),
+            PolicyRefusal::SessionsExhausted => (6, "SessionsExhausted"),
+            PolicyRefusal::Permission { .. } => (10, "Permission"),
+            PolicyRefusal::DsdViolated { .. } => (20, "DsdViolated"),
+            PolicyRefusal::NotAuthorized { .. } => (21, "NotAuthorized"),
+            PolicyRefusal::AlreadyActive { .. } => (22, "AlreadyActive"),
+            PolicyRefusal::NotActive { .. } => (23, "NotActive"),
+            PolicyRefusal::Cycle => (24, "Cycle"),
+            PolicyRefusal::UnknownUser { .. } => (25, "UnknownUser"),
+            PolicyRefusal::UnknownRole { .. } => (26, "UnknownRole"),
+            PolicyRefusal::UserExists { .. } => (27, "UserExists"),
+            PolicyRefusal::RoleExists { .. } => (28, "RoleExists"),
+            PolicyRefusal::AlreadyAssigned => (29, "AlreadyAssigned"),
+            PolicyRefusal::NotAssigned => (30, "NotAssigned"),
+            PolicyRefusal::AlreadyGranted => (31, "AlreadyGranted"),
+            PolicyRefusal::NotGranted => (32, "NotGranted"),
+            PolicyRefusal::EdgeExists => (33, "EdgeExists"),
+            PolicyRefusal::NoEdge => (34, "NoEdge"),
+            PolicyRefusal::DsdExists { .. } => (35, "DsdExists"),
+            PolicyRefusal::NoDsd { .. } => (36, "NoDsd"),
+            PolicyRefusal::DsdShape => (37, "DsdShape"),
+            PolicyRefusal::RoleInDsd { .. } => (38, "RoleInDsd"),
+            PolicyRefusal::Full { .. } => (39, "Full"),
         }
     }
 

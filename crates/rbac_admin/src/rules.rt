@@ -18,7 +18,7 @@ ghost use Rattle.rbac_admin.specs.PolicyStep.{no_giver, unknown_user, unknown_ro
 ghost use Rattle.rbac_admin.specs.PolicyStep.{unknown_listed, unauthorized_listed, repeated_listed};
 ghost use Rattle.rbac_admin.specs.PolicyStep.{violation};
 
-use crate::refusal::Refusal;
+use crate::refusal::PolicyRefusal;
 use rbac_policy::commands::{AdminCommand, SessionId, Table};
 use rbac_policy::names::{Name, RoleNames};
 use rbac_policy::objects::{Object, Operation};
@@ -28,30 +28,30 @@ use rbac_policy::policy::Policy;
 pub fn find_living_session(
     policy: &Policy,
     session: Option<SessionId>,
-) -> Result<SessionId, Refusal>
+) -> Result<SessionId, PolicyRefusal>
     ensures { (entries : List Entry) → StandsFor policy.now entries
         → MatchResult result (IsGivenBy entries session) (no_giver entries session).refuses }
 {
     let Some(number) = session else {
-        return Err(Refusal::NoSession);
+        return Err(PolicyRefusal::NoSession);
     };
     if policy.lives(number) {
         Ok(number)
     } else {
-        Err(Refusal::NoSession)
+        Err(PolicyRefusal::NoSession)
     }
 }
 
 /// Refuses a session that may not change the policy.
-pub fn check_may_administer(policy: &Policy, session: SessionId) -> Result<(), Refusal>
+pub fn check_may_administer(policy: &Policy, session: SessionId) -> Result<(), PolicyRefusal>
     ensures { (entries : List Entry) → StandsFor policy.now entries
         → Tests (Unless (May entries session Operation.Administer Object.Policy)
-        (Refusal.Permission Operation.Administer Object.Policy)) result }
+        (PolicyRefusal.Permission Operation.Administer Object.Policy)) result }
 {
     if policy.may(session, &Operation::Administer, &Object::Policy) {
         Ok(())
     } else {
-        Err(Refusal::Permission {
+        Err(PolicyRefusal::Permission {
             operation: Operation::Administer,
             object: Object::Policy,
         })
@@ -59,14 +59,14 @@ pub fn check_may_administer(policy: &Policy, session: SessionId) -> Result<(), R
 }
 
 /// Refuses if there is no such role.
-pub fn check_role_exists(policy: &Policy, role: &Name) -> Result<(), Refusal>
+pub fn check_role_exists(policy: &Policy, role: &Name) -> Result<(), PolicyRefusal>
     ensures { (entries : List Entry) → StandsFor policy.now entries
         → Tests (unknown_role entries role.now) result }
 {
     if policy.is_role(role) {
         Ok(())
     } else {
-        Err(Refusal::UnknownRole { role: *role })
+        Err(PolicyRefusal::UnknownRole { role: *role })
     }
 }
 
@@ -76,13 +76,14 @@ pub fn check_grant_is_new(
     role: &Name,
     operation: &Operation,
     object: &Object,
-) -> Result<(), Refusal>
+) -> Result<(), PolicyRefusal>
     ensures { (entries : List Entry) → StandsFor policy.now entries
-        → Tests (Says Refusal.AlreadyGranted (IsGranted entries role.now operation.now object.now))
+        → Tests (Says PolicyRefusal.AlreadyGranted
+        (IsGranted entries role.now operation.now object.now))
         result }
 {
     if policy.is_granted(role, operation, object) {
-        Err(Refusal::AlreadyGranted)
+        Err(PolicyRefusal::AlreadyGranted)
     } else {
         Ok(())
     }
@@ -93,16 +94,16 @@ pub fn check_room_for_grant(
     policy: &Policy,
     operation: &Operation,
     object: &Object,
-) -> Result<(), Refusal>
+) -> Result<(), PolicyRefusal>
     ensures { (entries : List Entry) → StandsFor policy.now entries
-        → Tests (Says (Refusal.Full Table.Permissions) (HasNoRoomFor entries operation.now
+        → Tests (Says (PolicyRefusal.Full Table.Permissions) (HasNoRoomFor entries operation.now
         object.now)) result }
 {
     if policy.is_pair_granted(operation, object) {
         return Ok(());
     }
     if policy.are_permissions_full() {
-        return Err(Refusal::Full {
+        return Err(PolicyRefusal::Full {
             table: Table::Permissions,
         });
     }
@@ -110,24 +111,24 @@ pub fn check_room_for_grant(
 }
 
 /// Refuses if there is such a user.
-pub fn check_user_is_new(policy: &Policy, user: &Name) -> Result<(), Refusal>
+pub fn check_user_is_new(policy: &Policy, user: &Name) -> Result<(), PolicyRefusal>
     ensures { (entries : List Entry) → StandsFor policy.now entries
-        → Tests (Says (Refusal.UserExists user.now) (IsUser entries user.now)) result }
+        → Tests (Says (PolicyRefusal.UserExists user.now) (IsUser entries user.now)) result }
 {
     if policy.is_user(user) {
-        Err(Refusal::UserExists { user: *user })
+        Err(PolicyRefusal::UserExists { user: *user })
     } else {
         Ok(())
     }
 }
 
 /// Refuses if there is no room for another user.
-pub fn check_room_for_user(policy: &Policy) -> Result<(), Refusal>
+pub fn check_room_for_user(policy: &Policy) -> Result<(), PolicyRefusal>
     ensures { (entries : List Entry) → StandsFor policy.now entries
-        → Tests (Says (Refusal.Full Table.Users) (UsersFull entries)) result }
+        → Tests (Says (PolicyRefusal.Full Table.Users) (UsersFull entries)) result }
 {
     if policy.are_users_full() {
-        Err(Refusal::Full {
+        Err(PolicyRefusal::Full {
             table: Table::Users,
         })
     } else {
@@ -136,24 +137,24 @@ pub fn check_room_for_user(policy: &Policy) -> Result<(), Refusal>
 }
 
 /// Refuses if there is such a role.
-pub fn check_role_is_new(policy: &Policy, role: &Name) -> Result<(), Refusal>
+pub fn check_role_is_new(policy: &Policy, role: &Name) -> Result<(), PolicyRefusal>
     ensures { (entries : List Entry) → StandsFor policy.now entries
-        → Tests (Says (Refusal.RoleExists role.now) (IsRole entries role.now)) result }
+        → Tests (Says (PolicyRefusal.RoleExists role.now) (IsRole entries role.now)) result }
 {
     if policy.is_role(role) {
-        Err(Refusal::RoleExists { role: *role })
+        Err(PolicyRefusal::RoleExists { role: *role })
     } else {
         Ok(())
     }
 }
 
 /// Refuses if there is no room for another role.
-pub fn check_room_for_role(policy: &Policy) -> Result<(), Refusal>
+pub fn check_room_for_role(policy: &Policy) -> Result<(), PolicyRefusal>
     ensures { (entries : List Entry) → StandsFor policy.now entries
-        → Tests (Says (Refusal.Full Table.Roles) (RolesFull entries)) result }
+        → Tests (Says (PolicyRefusal.Full Table.Roles) (RolesFull entries)) result }
 {
     if policy.are_roles_full() {
-        Err(Refusal::Full {
+        Err(PolicyRefusal::Full {
             table: Table::Roles,
         })
     } else {
@@ -162,26 +163,30 @@ pub fn check_room_for_role(policy: &Policy) -> Result<(), Refusal>
 }
 
 /// Refuses if the role is assigned to the user.
-pub fn check_assignment_is_new(policy: &Policy, user: &Name, role: &Name) -> Result<(), Refusal>
+pub fn check_assignment_is_new(
+    policy: &Policy,
+    user: &Name,
+    role: &Name,
+) -> Result<(), PolicyRefusal>
     ensures { (entries : List Entry) → StandsFor policy.now entries
-        → Tests (Says Refusal.AlreadyAssigned (IsAssigned entries user.now role.now)) result }
+        → Tests (Says PolicyRefusal.AlreadyAssigned (IsAssigned entries user.now role.now)) result }
 {
     if policy.is_assigned(user, role) {
-        Err(Refusal::AlreadyAssigned)
+        Err(PolicyRefusal::AlreadyAssigned)
     } else {
         Ok(())
     }
 }
 
 /// Refuses if the role is not assigned to the user.
-pub fn check_assigned(policy: &Policy, user: &Name, role: &Name) -> Result<(), Refusal>
+pub fn check_assigned(policy: &Policy, user: &Name, role: &Name) -> Result<(), PolicyRefusal>
     ensures { (entries : List Entry) → StandsFor policy.now entries
-        → Tests (Unless (IsAssigned entries user.now role.now) Refusal.NotAssigned) result }
+        → Tests (Unless (IsAssigned entries user.now role.now) PolicyRefusal.NotAssigned) result }
 {
     if policy.is_assigned(user, role) {
         Ok(())
     } else {
-        Err(Refusal::NotAssigned)
+        Err(PolicyRefusal::NotAssigned)
     }
 }
 
@@ -191,49 +196,60 @@ pub fn check_granted(
     role: &Name,
     operation: &Operation,
     object: &Object,
-) -> Result<(), Refusal>
+) -> Result<(), PolicyRefusal>
     ensures { (entries : List Entry) → StandsFor policy.now entries
-        → Tests (Unless (IsGranted entries role.now operation.now object.now) Refusal.NotGranted)
+        → Tests (Unless (IsGranted entries role.now operation.now object.now)
+        PolicyRefusal.NotGranted)
         result }
 {
     if policy.is_granted(role, operation, object) {
         Ok(())
     } else {
-        Err(Refusal::NotGranted)
+        Err(PolicyRefusal::NotGranted)
     }
 }
 
 /// Refuses if the edge itself isn't there.
-pub fn check_edge_exists(policy: &Policy, senior: &Name, junior: &Name) -> Result<(), Refusal>
+pub fn check_edge_exists(policy: &Policy, senior: &Name, junior: &Name) -> Result<(), PolicyRefusal>
     ensures { (entries : List Entry) → StandsFor policy.now entries
-        → Tests (Unless (IsEdge entries senior.now junior.now) Refusal.NoEdge) result }
+        → Tests (Unless (IsEdge entries senior.now junior.now) PolicyRefusal.NoEdge) result }
 {
     if policy.has_edge(senior, junior) {
         Ok(())
     } else {
-        Err(Refusal::NoEdge)
+        Err(PolicyRefusal::NoEdge)
     }
 }
 
 /// Refuses if the role is not active in the session, which lives.
-pub fn check_role_active(policy: &Policy, session: SessionId, role: &Name) -> Result<(), Refusal>
+pub fn check_role_active(
+    policy: &Policy,
+    session: SessionId,
+    role: &Name,
+) -> Result<(), PolicyRefusal>
     ensures { (entries : List Entry) → StandsFor policy.now entries → IsLive entries session
-        → Tests (Unless (IsActive entries session role.now) (Refusal.NotActive role.now)) result }
+        → Tests (Unless (IsActive entries session role.now) (PolicyRefusal.NotActive role.now))
+        result }
 {
     if policy.is_active(session, role) {
         Ok(())
     } else {
-        Err(Refusal::NotActive { role: *role })
+        Err(PolicyRefusal::NotActive { role: *role })
     }
 }
 
 /// Refuses if the role is active in the session, which lives.
-pub fn check_role_inactive(policy: &Policy, session: SessionId, role: &Name) -> Result<(), Refusal>
+pub fn check_role_inactive(
+    policy: &Policy,
+    session: SessionId,
+    role: &Name,
+) -> Result<(), PolicyRefusal>
     ensures { (entries : List Entry) → StandsFor policy.now entries → IsLive entries session
-        → Tests (Says (Refusal.AlreadyActive role.now) (IsActive entries session role.now)) result }
+        → Tests (Says (PolicyRefusal.AlreadyActive role.now) (IsActive entries session role.now))
+        result }
 {
     if policy.is_active(session, role) {
-        Err(Refusal::AlreadyActive { role: *role })
+        Err(PolicyRefusal::AlreadyActive { role: *role })
     } else {
         Ok(())
     }
@@ -244,98 +260,102 @@ pub fn check_role_authorized(
     policy: &Policy,
     session: SessionId,
     role: &Name,
-) -> Result<(), Refusal>
+) -> Result<(), PolicyRefusal>
     ensures { (entries : List Entry) (user : NameText) → StandsFor policy.now entries
         → Lives entries session user
-        → Tests (Unless (IsAuthorized entries user role.now) (Refusal.NotAuthorized role.now))
+        → Tests (Unless (IsAuthorized entries user role.now) (PolicyRefusal.NotAuthorized role.now))
         result }
 {
     match policy.user_of(session) {
         Some(user) if policy.is_authorized(&user, role) => Ok(()),
-        _ => Err(Refusal::NotAuthorized { role: *role }),
+        _ => Err(PolicyRefusal::NotAuthorized { role: *role }),
     }
 }
 
 /// Refuses if there is such a separation set.
-pub fn check_set_is_new(policy: &Policy, set: &Name) -> Result<(), Refusal>
+pub fn check_set_is_new(policy: &Policy, set: &Name) -> Result<(), PolicyRefusal>
     ensures { (entries : List Entry) → StandsFor policy.now entries
-        → Tests (Says (Refusal.DsdExists set.now) (IsSetName entries set.now)) result }
+        → Tests (Says (PolicyRefusal.DsdExists set.now) (IsSetName entries set.now)) result }
 {
     if policy.is_set(set) {
-        Err(Refusal::DsdExists { set: *set })
+        Err(PolicyRefusal::DsdExists { set: *set })
     } else {
         Ok(())
     }
 }
 
 /// Refuses if there is no such separation set.
-pub fn check_set_exists(policy: &Policy, set: &Name) -> Result<(), Refusal>
+pub fn check_set_exists(policy: &Policy, set: &Name) -> Result<(), PolicyRefusal>
     ensures { (entries : List Entry) → StandsFor policy.now entries
-        → Tests (Unless (IsSetName entries set.now) (Refusal.NoDsd set.now)) result }
+        → Tests (Unless (IsSetName entries set.now) (PolicyRefusal.NoDsd set.now)) result }
 {
     if policy.is_set(set) {
         Ok(())
     } else {
-        Err(Refusal::NoDsd { set: *set })
+        Err(PolicyRefusal::NoDsd { set: *set })
     }
 }
 
 /// Refuses if there is no room for another separation set.
-pub fn check_room_for_set(policy: &Policy) -> Result<(), Refusal>
+pub fn check_room_for_set(policy: &Policy) -> Result<(), PolicyRefusal>
     ensures { (entries : List Entry) → StandsFor policy.now entries
-        → Tests (Says (Refusal.Full Table.Sets) (SetsFull entries)) result }
+        → Tests (Says (PolicyRefusal.Full Table.Sets) (SetsFull entries)) result }
 {
     if policy.are_sets_full() {
-        Err(Refusal::Full { table: Table::Sets })
+        Err(PolicyRefusal::Full { table: Table::Sets })
     } else {
         Ok(())
     }
 }
 
 /// Refuses if the senior is the junior, or lies below it.
-pub fn check_no_cycle(policy: &Policy, senior: &Name, junior: &Name) -> Result<(), Refusal>
+pub fn check_no_cycle(policy: &Policy, senior: &Name, junior: &Name) -> Result<(), PolicyRefusal>
     ensures { (entries : List Entry) → StandsFor policy.now entries
-        → Tests (Says Refusal.Cycle (IsAtOrBelow entries senior.now junior.now)) result }
+        → Tests (Says PolicyRefusal.Cycle (IsAtOrBelow entries senior.now junior.now)) result }
 {
     if policy.lies_below(senior, junior) {
-        Err(Refusal::Cycle)
+        Err(PolicyRefusal::Cycle)
     } else {
         Ok(())
     }
 }
 
 /// Refuses if the edge itself is there.
-pub fn check_edge_is_new(policy: &Policy, senior: &Name, junior: &Name) -> Result<(), Refusal>
+pub fn check_edge_is_new(policy: &Policy, senior: &Name, junior: &Name) -> Result<(), PolicyRefusal>
     ensures { (entries : List Entry) → StandsFor policy.now entries
-        → Tests (Says Refusal.EdgeExists (IsEdge entries senior.now junior.now)) result }
+        → Tests (Says PolicyRefusal.EdgeExists (IsEdge entries senior.now junior.now)) result }
 {
     if policy.has_edge(senior, junior) {
-        Err(Refusal::EdgeExists)
+        Err(PolicyRefusal::EdgeExists)
     } else {
         Ok(())
     }
 }
 
 /// Refuses if the role is a member of a separation set, and names the first.
-pub fn check_in_no_set(policy: &Policy, role: &Name) -> Result<(), Refusal>
+pub fn check_in_no_set(policy: &Policy, role: &Name) -> Result<(), PolicyRefusal>
     ensures { (entries : List Entry) → StandsFor policy.now entries
-        → Tests (Naming Refusal.RoleInDsd (IsFirstSetOf entries role.now)) result }
+        → Tests (Naming PolicyRefusal.RoleInDsd (IsFirstSetOf entries role.now)) result }
 {
     match policy.first_set_of(role) {
-        Some(set) => Err(Refusal::RoleInDsd { set }),
+        Some(set) => Err(PolicyRefusal::RoleInDsd { set }),
         None => Ok(()),
     }
 }
 
 /// Refuses if a session violates a separation set once an edge leads from the senior to the junior.
-pub fn check_edge_separation(policy: &Policy, senior: &Name, junior: &Name) -> Result<(), Refusal>
+pub fn check_edge_separation(
+    policy: &Policy,
+    senior: &Name,
+    junior: &Name,
+) -> Result<(), PolicyRefusal>
     ensures { (entries : List Entry) (session : Option ℕ) → StandsFor policy.now entries
         → IsRole entries senior.now → IsRole entries junior.now
         → Tests (violation entries session (AdminCommand.AddInheritance senior.now junior.now))
         result }
 {
     match policy.first_violated_by_edge(senior, junior) {
-        Some(violation) => Err(Refusal::DsdViolated {
+        Some(violation) => Err(PolicyRefusal::DsdViolated {
             set: violation.set,
             session: violation.session,
         }),
@@ -350,14 +370,14 @@ pub fn check_set_separation(
     set: &Name,
     count: u64,
     roles: &RoleNames,
-) -> Result<(), Refusal>
+) -> Result<(), PolicyRefusal>
     ensures { (entries : List Entry) (session : Option ℕ) → StandsFor policy.now entries
         → ((role : NameText) → Contains roles.now role → IsRole entries role)
         → Tests (violation entries session (AdminCommand.CreateDsdSet set.now count roles.now))
         result }
 {
     match policy.first_violated_by_set(set, count, roles) {
-        Some(violation) => Err(Refusal::DsdViolated {
+        Some(violation) => Err(PolicyRefusal::DsdViolated {
             set: violation.set,
             session: violation.session,
         }),
@@ -371,13 +391,13 @@ pub fn check_role_separation(
     policy: &Policy,
     session: SessionId,
     role: &Name,
-) -> Result<(), Refusal>
+) -> Result<(), PolicyRefusal>
     ensures { (entries : List Entry) (user : NameText) → StandsFor policy.now entries
         → Lives entries session user → IsAuthorized entries user role.now
         → Tests (violation entries (Some session) (AdminCommand.AddActiveRole role.now)) result }
 {
     match policy.first_violated_by_role(session, role) {
-        Some(violation) => Err(Refusal::DsdViolated {
+        Some(violation) => Err(PolicyRefusal::DsdViolated {
             set: violation.set,
             session: violation.session,
         }),
@@ -386,39 +406,39 @@ pub fn check_role_separation(
 }
 
 /// Refuses if the number is under two or over that of the roles, or a role is listed twice.
-pub fn check_dsd_shape(count: u64, roles: &RoleNames) -> Result<(), Refusal>
-    ensures { Tests (Says Refusal.DsdShape (IsNoShape count roles.now)) result }
+pub fn check_dsd_shape(count: u64, roles: &RoleNames) -> Result<(), PolicyRefusal>
+    ensures { Tests (Says PolicyRefusal.DsdShape (IsNoShape count roles.now)) result }
 {
     if count < 2 || (roles.len() as u64) < count {
-        return Err(Refusal::DsdShape);
+        return Err(PolicyRefusal::DsdShape);
     }
     match first_repeated(roles) {
-        Some(_) => Err(Refusal::DsdShape),
+        Some(_) => Err(PolicyRefusal::DsdShape),
         None => Ok(()),
     }
 }
 
 /// Refuses if no session number is left.
-pub fn check_number_left(policy: &Policy) -> Result<(), Refusal>
+pub fn check_number_left(policy: &Policy) -> Result<(), PolicyRefusal>
     ensures { (entries : List Entry) → StandsFor policy.now entries
-        → Tests (Says Refusal.SessionsExhausted (NumbersExhausted entries)) result }
+        → Tests (Says PolicyRefusal.SessionsExhausted (NumbersExhausted entries)) result }
 {
     if policy.are_numbers_exhausted() {
-        Err(Refusal::SessionsExhausted)
+        Err(PolicyRefusal::SessionsExhausted)
     } else {
         Ok(())
     }
 }
 
 /// Refuses if there is no such user.
-pub fn check_user_exists(policy: &Policy, user: &Name) -> Result<(), Refusal>
+pub fn check_user_exists(policy: &Policy, user: &Name) -> Result<(), PolicyRefusal>
     ensures { (entries : List Entry) → StandsFor policy.now entries
         → Tests (unknown_user entries user.now) result }
 {
     if policy.is_user(user) {
         Ok(())
     } else {
-        Err(Refusal::UnknownUser { user: *user })
+        Err(PolicyRefusal::UnknownUser { user: *user })
     }
 }
 
@@ -488,12 +508,12 @@ fn first_repeated(roles: &RoleNames) -> Option<Name>
 }
 
 /// Refuses if a listed name is no role's, and names the first.
-pub fn check_roles_exist(policy: &Policy, roles: &RoleNames) -> Result<(), Refusal>
+pub fn check_roles_exist(policy: &Policy, roles: &RoleNames) -> Result<(), PolicyRefusal>
     ensures { (entries : List Entry) → StandsFor policy.now entries
         → Tests (unknown_listed entries roles.now) result }
 {
     match first_unknown(policy, roles) {
-        Some(role) => Err(Refusal::UnknownRole { role }),
+        Some(role) => Err(PolicyRefusal::UnknownRole { role }),
         None => Ok(()),
     }
 }
@@ -504,13 +524,13 @@ pub fn check_login_separation(
     policy: &Policy,
     user: &Name,
     roles: &RoleNames,
-) -> Result<(), Refusal>
+) -> Result<(), PolicyRefusal>
     ensures { (entries : List Entry) → StandsFor policy.now entries → ¬ (NumbersExhausted entries)
         → ((role : NameText) → Contains roles.now role → IsAuthorized entries user.now role)
         → Tests (violation entries None (AdminCommand.CreateSession user.now roles.now)) result }
 {
     match policy.first_violated_by_login(user, roles) {
-        Some(violation) => Err(Refusal::DsdViolated {
+        Some(violation) => Err(PolicyRefusal::DsdViolated {
             set: violation.set,
             session: violation.session,
         }),
@@ -523,33 +543,33 @@ pub fn check_roles_authorized(
     policy: &Policy,
     user: &Name,
     roles: &RoleNames,
-) -> Result<(), Refusal>
+) -> Result<(), PolicyRefusal>
     ensures { (entries : List Entry) → StandsFor policy.now entries
         → Tests (unauthorized_listed entries user.now roles.now) result }
 {
     match first_unauthorized(policy, user, roles) {
-        Some(role) => Err(Refusal::NotAuthorized { role }),
+        Some(role) => Err(PolicyRefusal::NotAuthorized { role }),
         None => Ok(()),
     }
 }
 
 /// Refuses if a listed role stands a second time, and names the first.
-pub fn check_roles_differ(roles: &RoleNames) -> Result<(), Refusal>
+pub fn check_roles_differ(roles: &RoleNames) -> Result<(), PolicyRefusal>
     ensures { Tests (repeated_listed roles.now) result }
 {
     match first_repeated(roles) {
-        Some(role) => Err(Refusal::AlreadyActive { role }),
+        Some(role) => Err(PolicyRefusal::AlreadyActive { role }),
         None => Ok(()),
     }
 }
 
 /// Refuses if there is no room for another session.
-pub fn check_room_for_session(policy: &Policy) -> Result<(), Refusal>
+pub fn check_room_for_session(policy: &Policy) -> Result<(), PolicyRefusal>
     ensures { (entries : List Entry) → StandsFor policy.now entries
-        → Tests (Says (Refusal.Full Table.Sessions) (SessionsFull entries)) result }
+        → Tests (Says (PolicyRefusal.Full Table.Sessions) (SessionsFull entries)) result }
 {
     if policy.are_sessions_full() {
-        Err(Refusal::Full {
+        Err(PolicyRefusal::Full {
             table: Table::Sessions,
         })
     } else {

@@ -13,8 +13,8 @@ use Rattle.reactor_core.specs.declared.entry.Stamp.{Stamp}
 use Rattle.reactor_core.specs.declared.entry.Move.TheVariants.{Offer}
 use Rattle.reactor_core.specs.declared.entry.SlotEntry.{SlotEntry}
 use Rattle.reactor_core.specs.declared.loaded.Module.{Module}
-use Rattle.reactor_core.specs.declared.refusal.Refusal.{Refusal}
-use Rattle.reactor_core.specs.declared.refusal.Refusal.TheVariants.{Module as OfModule, JournalFull, Memory}
+use Rattle.reactor_core.specs.declared.refusal.ReactorRefusal.{ReactorRefusal}
+use Rattle.reactor_core.specs.declared.refusal.ReactorRefusal.TheVariants.{Module as OfModule, JournalFull, Memory}
 use Rattle.reactor_core.specs.Answers.{HasRoom, IsFull, RefusesEntry, entry_rules, offer_rules, load_rules, OfferAnswer}
 use Rattle.reactor_core.specs.Answers.{LoadAnswer}
 use Rattle.reactor_core.specs.Converting.{all_converted}
@@ -29,14 +29,15 @@ full_has_no_room : (journal : List SlotEntry) → IsFull journal → HasRoom jou
 full_has_no_room journal full room = omega arith
 
 -- an entry that isn't added
-pub entry_refused : {Refused : Refusal → Type 0} {Accepted : Type 0} (journal : List SlotEntry) (e : Refusal)
+pub entry_refused : {Refused : ReactorRefusal → Type 0} {Accepted : Type 0} (journal : List SlotEntry)
+    (e : ReactorRefusal)
     → RefusesEntry journal e → Refused e → Answers (entry_rules journal) Refused Accepted
 entry_refused journal JournalFull full told = refuse JournalFull (refl, full_has_no_room journal full) told
 entry_refused journal Memory room told = pass room (refuse Memory refl told)
 entry_refused journal (OfModule refusal) h told = absurd h
 
 -- an entry that is added
-pub entry_passes : {Refused : Refusal → Type 0} {Accepted : Type 0} (journal : List SlotEntry) → HasRoom journal
+pub entry_passes : {Refused : ReactorRefusal → Type 0} {Accepted : Type 0} (journal : List SlotEntry) → HasRoom journal
     → Accepted
     → Answers (entry_rules journal) Refused Accepted
 entry_passes journal room h = pass room (pass (record {}) h)
@@ -44,10 +45,10 @@ entry_passes journal room h = pass room (pass (record {}) h)
 module _ (journal : List SlotEntry) (m : Module) (r : Running) (runs : RunsAfter journal r)
     (is : pending_of r ≡ pending_inputs m r.pending) where
   -- what is answered to an offer, and the journal afterwards
-  abbrev Told : Result (Unit {0}) Refusal → List SlotEntry → Refusal → Type 0
+  abbrev Told : Result (Unit {0}) ReactorRefusal → List SlotEntry → ReactorRefusal → Type 0
   Told answer w refusal = (answer ≡ Err refusal) × (w ≡ journal)
 
-  abbrev Done : Stamp → List ℕ → Result (Unit {0}) Refusal → List SlotEntry → Type 0
+  abbrev Done : Stamp → List ℕ → Result (Unit {0}) ReactorRefusal → List SlotEntry → Type 0
   Done stamp name answer w = (answer ≡ Ok (record {})) × (w ≡ journal ++ entry stamp (Offer name) ∷ [])
 
   -- the same of the pending inputs
@@ -63,7 +64,7 @@ module _ (journal : List SlotEntry) (m : Module) (r : Running) (runs : RunsAfter
   same_rules name Known h = subst (λ (p : PendingInputs). Known (pending_rules p name)) (sym is) h
 
   -- an offer that the pending inputs refuse
-  pub offer_refused : (stamp : Stamp) (name : List ℕ) (e : Refusal) (w : List SlotEntry)
+  pub offer_refused : (stamp : Stamp) (name : List ℕ) (e : ReactorRefusal) (w : List SlotEntry)
       → RefusesName m r.pending name e → w ≡ journal → OfferAnswer journal stamp name (Err e) w
   offer_refused stamp name e w h same = record {
     running = r;
@@ -79,7 +80,7 @@ module _ (journal : List SlotEntry) (m : Module) (r : Running) (runs : RunsAfter
   }
 
   -- an offer that joins the pending inputs, by what its entry is answered
-  pub offer_joins : (stamp : Stamp) (name : List ℕ) (after : ℕ) (answer : Result (Unit {0}) Refusal)
+  pub offer_joins : (stamp : Stamp) (name : List ℕ) (after : ℕ) (answer : Result (Unit {0}) ReactorRefusal)
       (w : List SlotEntry) → JoinsAs m r.pending name after
       → Answers (entry_rules journal) (λ refusal. (answer ≡ Err refusal) × (w ≡ journal))
       ((answer ≡ Ok (record {})) × (w ≡ journal ++ entry stamp (Offer name) ∷ []))
@@ -98,7 +99,7 @@ module _ (journal : List SlotEntry) (m : Module) (r : Running) (runs : RunsAfter
   }
 
   -- an instant may not take the pending inputs
-  pub open_refused : (e : Refusal) → RefusesInstant m r.pending e → OpenAnswer journal (Err (e, journal))
+  pub open_refused : (e : ReactorRefusal) → RefusesInstant m r.pending e → OpenAnswer journal (Err (e, journal))
   open_refused e h =
       refuse e (
         h.number,
@@ -117,18 +118,21 @@ module _ (journal : List SlotEntry) (m : Module) (r : Running) (runs : RunsAfter
   open_passes h = pass (record { running = r; runs = runs; lawful = h }) refl
 
 -- a refused offer leaves the journal
-pub offer_stays : (before : List SlotEntry) (stamp : Stamp) (name : List ℕ) (e : Refusal) (after : List SlotEntry)
+pub offer_stays : (before : List SlotEntry) (stamp : Stamp) (name : List ℕ) (e : ReactorRefusal)
+    (after : List SlotEntry)
     → OfferAnswer before stamp name (Err e) after → after ≡ before
 offer_stays before stamp name e after h =
     answered (offer_rules before h.running name) _ _ (after ≡ before) (λ refusal told. told.1)
     (λ added. let no = added.0 in absurd cc) h.given
 
 -- a refused load gives the journal back
-pub load_stays : (before : List SlotEntry) (stamp : Stamp) (main text : List ℕ) (refused : Refusal × List SlotEntry)
+pub load_stays : (before : List SlotEntry) (stamp : Stamp) (main text : List ℕ)
+    (refused : ReactorRefusal × List SlotEntry)
     → LoadAnswer before stamp main text (Err refused) → refused.1 ≡ before
 load_stays before stamp main text refused h =
     answered (load_rules before main text) _ _ (refused.1 ≡ before)
-    (λ refusal told. let same : refused ≡ (refusal, before) = cc in ap (λ (r : Refusal × List SlotEntry). r.1) same)
+    (λ refusal told. let same : refused ≡ (refusal, before) = cc in ap
+    (λ (r : ReactorRefusal × List SlotEntry). r.1) same)
     (λ added. let no = added.1 in absurd cc) h
 
 -- a commit that is accepted adds the instant

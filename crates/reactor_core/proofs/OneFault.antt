@@ -30,8 +30,8 @@ use Rattle.est_text.specs.declared.lex.LexFault.{LexFault}
 use Rattle.est_text.specs.declared.lex.LexFault.TheVariants as lex
 use Rattle.est_text.specs.declared.token.Located.{Located}
 use Rattle.std.specs.Prelude.{take}
-use Rattle.reactor_core.specs.declared.refusal.Refusal.{Refusal}
-use Rattle.reactor_core.specs.declared.refusal.Refusal.TheVariants.{Module, Memory}
+use Rattle.reactor_core.specs.declared.refusal.ReactorRefusal.{ReactorRefusal}
+use Rattle.reactor_core.specs.declared.refusal.ReactorRefusal.TheVariants.{Module, Memory}
 use Rattle.reactor_core.specs.declared.refusal.ModuleRefusal.TheVariants.{Lexical, Syntax}
 use Rattle.est_text.specs.declared.place.Place.{Place}
 use Rattle.reactor_core.specs.Faults.{refusal_of_lex, refusal_of_parse, refusal_of_link, refusal_of_reduce}
@@ -45,10 +45,10 @@ pub record CutFaultsAreOne : Type 0 where
   pub no_tokens : (text : List ℕ) (tokens : List Located) (at : ℕ) → AreTokens text tokens → IsCutFault text at → ⊥
 
 -- two refusals of a load are one, unless memory was refused for one of them
-abbrev pub AreOne : Refusal → Refusal → Type 0
+abbrev pub AreOne : ReactorRefusal → ReactorRefusal → Type 0
 AreOne a b = (a ≡ b) ⊎ (a ≡ Memory) ⊎ (b ≡ Memory)
 
-other_way : {a b : Refusal} → AreOne a b → AreOne b a
+other_way : {a b : ReactorRefusal} → AreOne a b → AreOne b a
 other_way (inl same) = inl (sym same)
 other_way (inr (inl memory)) = inr (inr memory)
 other_way (inr (inr memory)) = inr (inl memory)
@@ -160,18 +160,18 @@ module _ (cuts : CutsAreOne) (faults : CutFaultsAreOne) (links : LinksAreOne) wh
   -- ---- all stages
 
   -- a text that is cut and has a fault of cutting has it for want of memory
-  behind_cut : (text : List ℕ) (tokens : TokenList) (fault : LexFault) (b : Refusal) → IsCutOf text tokens
+  behind_cut : (text : List ℕ) (tokens : TokenList) (fault : LexFault) (b : ReactorRefusal) → IsCutOf text tokens
       → IsLexFault text fault → AreOne (refusal_of_lex fault) b
   behind_cut text tokens fault b cut h = inr (inl (cut_or_memory text tokens cut fault h))
 
-  behind_spelt : (text : List ℕ) (library : LibraryTree) (tokens : TokenList) (fault : ParseFault) (b : Refusal)
+  behind_spelt : (text : List ℕ) (library : LibraryTree) (tokens : TokenList) (fault : ParseFault) (b : ReactorRefusal)
       → Spells text library → IsCutOf text tokens
       → IsParseFault MOST_OPEN_UNITS tokens fault → AreOne (refusal_of_parse fault) b
   behind_spelt text library tokens fault b spells cut h =
       inr (inl (spelt_or_memory text library spells tokens cut fault h))
 
   -- two faults of a load are one
-  pub one_load_fault : (main text : List ℕ) (a b : Refusal) → IsLoadFault main text a → IsLoadFault main text b
+  pub one_load_fault : (main text : List ℕ) (a b : ReactorRefusal) → IsLoadFault main text a → IsLoadFault main text b
       → AreOne a b
   one_load_fault main text _ _ (in_cutting f h) (in_cutting g k) = two_cuttings text f g h k
   one_load_fault main text _ _ (in_cutting f h) (in_grammar t cut g k) = behind_cut text t f _ cut h
@@ -202,7 +202,7 @@ module _ (cuts : CutsAreOne) (faults : CutFaultsAreOne) (links : LinksAreOne) wh
       (subst (λ (m : FlatModule). IsFaultOf m.body g) (sym (same_flat cuts links main text flat other link link')) k)
 
   -- where a text gives a module, memory alone is refused
-  pub given_or_fault : (main text : List ℕ) (m : GivenModule) (a : Refusal) → Gives main text m
+  pub given_or_fault : (main text : List ℕ) (m : GivenModule) (a : ReactorRefusal) → Gives main text m
       → IsLoadFault main text a → a ≡ Memory
   given_or_fault main text m _ gives (in_cutting f h) = cut_or_memory text gives.links.spells.tokens
       gives.links.spells.cut f h

@@ -9,8 +9,8 @@ use Rattle.reactor_core.specs.declared.entry.Load.{Load as LoadEntry}
 use Rattle.reactor_core.specs.declared.entry.PastInstant.{PastInstant}
 use Rattle.reactor_core.specs.declared.entry.Move.TheVariants.{Load, Offer, Discard, Unload}
 use Rattle.reactor_core.specs.declared.entry.SlotEntry.{SlotEntry}
-use Rattle.reactor_core.specs.declared.refusal.Refusal.{Refusal}
-use Rattle.reactor_core.specs.declared.refusal.Refusal.TheVariants.{Module, JournalFull, Memory}
+use Rattle.reactor_core.specs.declared.refusal.ReactorRefusal.{ReactorRefusal}
+use Rattle.reactor_core.specs.declared.refusal.ReactorRefusal.TheVariants.{Module, JournalFull, Memory}
 use Rattle.reactor_core.specs.declared.refusal.ModuleRefusal.TheVariants.{NoInstant}
 use Rattle.reactor_core.specs.declared.journal.TheConstants.{JOURNAL_ENTRIES}
 use Rattle.reactor_core.specs.declared.reactor.Shown.{Shown}
@@ -28,22 +28,23 @@ abbrev pub IsFull : List SlotEntry → Type 0
 IsFull journal = JOURNAL_ENTRIES ≤ length journal
 
 -- why no further entry is added
-abbrev pub RefusesEntry : List SlotEntry → Refusal → Type 0
+abbrev pub RefusesEntry : List SlotEntry → ReactorRefusal → Type 0
 RefusesEntry journal JournalFull = IsFull journal
 RefusesEntry journal Memory = HasRoom journal
 RefusesEntry journal (Module refusal) = ⊥
 
 -- the rules for an entry, in the order in which they are asked: the journal has room, and memory may be refused
-abbrev pub entry_rules : List SlotEntry → Rules Refusal
+abbrev pub entry_rules : List SlotEntry → Rules ReactorRefusal
 entry_rules journal = Unless (HasRoom journal) JournalFull ▸ MayRefuse Memory ▸ accept
 
 -- the rules for an offer: those of the pending inputs, by its name and the relations, and then those for its entry
-abbrev pub offer_rules : List SlotEntry → Running → (name : List ℕ) → Rules Refusal
+abbrev pub offer_rules : List SlotEntry → Running → (name : List ℕ) → Rules ReactorRefusal
 offer_rules journal r name = all_converted refusal_of_pending (pending_rules (pending_of r) name) ▸▸ entry_rules journal
 
 -- the answer to an offer of the name, and the journal afterwards: by the rules a refusal, and the journal as it was, or
 -- the entry is added
-pub record OfferAnswer (before : List SlotEntry) (stamp : Stamp) (name : List ℕ) (answer : Result (Unit {0}) Refusal)
+pub record OfferAnswer (before : List SlotEntry) (stamp : Stamp) (name : List ℕ)
+    (answer : Result (Unit {0}) ReactorRefusal)
     (after : List SlotEntry) : Type 0 where
   pub running : Running
   pub runs : RunsAfter before running
@@ -53,7 +54,8 @@ pub record OfferAnswer (before : List SlotEntry) (stamp : Stamp) (name : List �
 
 -- the answer to a discard, and the journal afterwards: by the rules for an entry a refusal, and the journal as it was,
 -- or the entry is added
-abbrev pub DiscardAnswer : (before : List SlotEntry) → Stamp → Result (Unit {0}) Refusal → (after : List SlotEntry)
+abbrev pub DiscardAnswer : (before : List SlotEntry) → Stamp → Result (Unit {0}) ReactorRefusal
+    → (after : List SlotEntry)
     → Type 0
 DiscardAnswer before stamp answer after =
     Answers (entry_rules before)
@@ -62,7 +64,7 @@ DiscardAnswer before stamp answer after =
 
 -- the answer to an unload: by the rules for an entry a refusal, and the reactor as it was, or the journal with the
 -- entry
-abbrev pub UnloadAnswer : (before : List SlotEntry) → Stamp → Result (List SlotEntry) (Refusal × List SlotEntry)
+abbrev pub UnloadAnswer : (before : List SlotEntry) → Stamp → Result (List SlotEntry) (ReactorRefusal × List SlotEntry)
     → Type 0
 UnloadAnswer before stamp answer =
     Answers (entry_rules before)
@@ -70,11 +72,11 @@ UnloadAnswer before stamp answer =
     (answer ≡ Ok (before ++ entry stamp Unload ∷ []))
 
 -- the text has a fault, or it gives the module of this name, which is handed on
-abbrev pub gives_module : (main text : List ℕ) → Rule Refusal
+abbrev pub gives_module : (main text : List ℕ) → Rule ReactorRefusal
 gives_module main text = record { refuses = IsLoadFault main text; passes = (m : GivenModule) × Gives main text m }
 
 -- the rules for a load of the text's module of this name: that of the text, and then those for the entry
-abbrev pub load_rules : List SlotEntry → (main text : List ℕ) → Rules Refusal
+abbrev pub load_rules : List SlotEntry → (main text : List ℕ) → Rules ReactorRefusal
 load_rules journal main text = gives_module main text ▸ entry_rules journal
 
 -- what a load entry keeps of a text: the text, and the name of its main module
@@ -91,7 +93,7 @@ pub record AddsLoad (before : List SlotEntry) (stamp : Stamp) (main text : List 
 -- the answer to a load of the text's module of this name: by the rules a refusal, and the journal as it was, or the
 -- reactor, with the journal afterwards
 abbrev pub LoadAnswer : (before : List SlotEntry) → Stamp → (main text : List ℕ)
-    → Result (List SlotEntry) (Refusal × List SlotEntry) → Type 0
+    → Result (List SlotEntry) (ReactorRefusal × List SlotEntry) → Type 0
 LoadAnswer before stamp main text answer =
     Answers (load_rules before main text)
     (λ refusal. answer ≡ Err (refusal, before))
@@ -117,7 +119,7 @@ pub record ShowsInstant (journal : List SlotEntry) (n mask : ℕ) (s : Shown) : 
   pub masked : s ≡ within_mask instant mask
 
 -- the answer to a look at the n-th instant since the load: NoInstant exactly when there is none
-abbrev pub ShownAnswer : (journal : List SlotEntry) → (n mask : ℕ) → Result Shown Refusal → Type 0
+abbrev pub ShownAnswer : (journal : List SlotEntry) → (n mask : ℕ) → Result Shown ReactorRefusal → Type 0
 ShownAnswer journal n mask answer =
     MatchResult answer
     (ShowsInstant journal n mask)

@@ -22,8 +22,8 @@ use Rattle.reactor_core.specs.declared.refusal.ModuleRefusal.TheVariants.{Pendin
 use Rattle.reactor_core.specs.declared.refusal.ModuleRefusal.TheVariants.{UnknownModule, RecursiveRun, UnknownName}
 use Rattle.reactor_core.specs.declared.refusal.ModuleRefusal.TheVariants.{DuplicateName, EmitInput, BadRename}
 use Rattle.reactor_core.specs.declared.refusal.ModuleRefusal.TheVariants.{InstantLoop, TooLarge, Semantics}
-use Rattle.reactor_core.specs.declared.refusal.Refusal.{Refusal}
-use Rattle.reactor_core.specs.declared.refusal.Refusal.TheVariants.{Module, Memory}
+use Rattle.reactor_core.specs.declared.refusal.ReactorRefusal.{ReactorRefusal}
+use Rattle.reactor_core.specs.declared.refusal.ReactorRefusal.TheVariants.{Module, Memory}
 
 -- the limit of the same name
 abbrev pub limit_of_kernel : KernelLimit → Limit
@@ -39,18 +39,18 @@ limit_of_link limit.Relations = Relations
 limit_of_link limit.Statements = Statements
 
 -- the refusal that a fault of cutting is
-abbrev pub refusal_of_lex : LexFault → Refusal
+abbrev pub refusal_of_lex : LexFault → ReactorRefusal
 refusal_of_lex (lex.Lexical place) = Module (Lexical place)
 refusal_of_lex lex.Memory = Memory
 
 -- the refusal that a fault of the grammar is: a unit that is too deep passes the limit of nesting
-abbrev pub refusal_of_parse : ParseFault → Refusal
+abbrev pub refusal_of_parse : ParseFault → ReactorRefusal
 refusal_of_parse (parse.Syntax place) = Module (Syntax place)
 refusal_of_parse (parse.TooLarge place) = Module (TooLarge Nesting)
 refusal_of_parse parse.Memory = Memory
 
 -- the refusal of the same name as a fault of linking
-abbrev pub refusal_of_link : LinkFault → Refusal
+abbrev pub refusal_of_link : LinkFault → ReactorRefusal
 refusal_of_link (link.DuplicateName name) = Module (DuplicateName name)
 refusal_of_link link.MisnamedMain = Module MisnamedMain
 refusal_of_link (link.UnknownModule name) = Module (UnknownModule name)
@@ -63,15 +63,15 @@ refusal_of_link (link.TooLarge limit) = Module (TooLarge (limit_of_link limit))
 refusal_of_link link.Memory = Memory
 
 -- the refusal of the same name as a fault of reduction
-abbrev pub refusal_of_reduce : ReduceFault → Refusal
+abbrev pub refusal_of_reduce : ReduceFault → ReactorRefusal
 refusal_of_reduce (reduce.TooLarge limit) = Module (TooLarge (limit_of_kernel limit))
 refusal_of_reduce reduce.InstantLoop = Module InstantLoop
 refusal_of_reduce reduce.Memory = Memory
 
 -- the refusal that one of the pending inputs is
-abbrev pub refusal_of_pending : PendingRefusal → Refusal
+abbrev pub refusal_of_pending : PendingRefusal → ReactorRefusal
 refusal_of_pending refusal = Module (Pending refusal)
 
 -- the refusal of an instant whose pending inputs lack one that a relation implies
-abbrev pub implied : (relation : ℕ) → (missing : List ℕ) → Refusal
+abbrev pub implied : (relation : ℕ) → (missing : List ℕ) → ReactorRefusal
 implied relation missing = Module (Pending (Implied relation missing))

@@ -10,7 +10,7 @@ use Rattle.est_relations.specs.Offers.{IsFirstImplied}
 use Rattle.reactor_core.specs.declared.entry.Stamp.{Stamp}
 use Rattle.reactor_core.specs.declared.entry.Move.TheVariants.{Step}
 use Rattle.reactor_core.specs.declared.entry.SlotEntry.{SlotEntry}
-use Rattle.reactor_core.specs.declared.refusal.Refusal.{Refusal}
+use Rattle.reactor_core.specs.declared.refusal.ReactorRefusal.{ReactorRefusal}
 use Rattle.reactor_core.specs.Faults.{implied}
 use Rattle.reactor_core.specs.Reacting.{ReactsWith, IsStuck}
 use Rattle.reactor_core.specs.Meaning.{entry, instant, Running, RunsAfter, Leaves, pending_of}
@@ -73,7 +73,7 @@ not_ready implied journal = record {
 
 -- the answer to opening an instant: Implied where the pending inputs lack an implied one, and the reactor as it was; or
 -- the reactor's instant
-abbrev pub OpenAnswer : (before : List SlotEntry) → Result (List SlotEntry) (Refusal × List SlotEntry) → Type 0
+abbrev pub OpenAnswer : (before : List SlotEntry) → Result (List SlotEntry) (ReactorRefusal × List SlotEntry) → Type 0
 OpenAnswer before answer =
     Answers (not_ready implied before ▸ accept) (λ refusal. answer ≡ Err (refusal, before)) (answer ≡ Ok before)
 
@@ -87,7 +87,7 @@ SettleAnswer before answer =
 
 -- the answer to committing: by the rules for an entry a refusal, and the reactor as it was, or the reactor with the
 -- instant
-abbrev pub CommitAnswer : SettledInstant → Stamp → Result (List SlotEntry) (Refusal × List SlotEntry) → Type 0
+abbrev pub CommitAnswer : SettledInstant → Stamp → Result (List SlotEntry) (ReactorRefusal × List SlotEntry) → Type 0
 CommitAnswer settled stamp answer =
     Answers (entry_rules settled.journal)
     (λ refusal. answer ≡ Err (refusal, settled.journal))

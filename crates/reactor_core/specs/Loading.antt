@@ -23,7 +23,7 @@ use Rattle.est_text.specs.Pieces.{AreTokens}
 use Rattle.est_text.specs.TokenLists.{TokenList}
 use Rattle.est_text.specs.declared.lex.LexFault.{LexFault}
 use Rattle.reactor_core.specs.Faults.{refusal_of_lex, refusal_of_parse, refusal_of_link, refusal_of_reduce}
-use Rattle.reactor_core.specs.declared.refusal.Refusal.{Refusal}
+use Rattle.reactor_core.specs.declared.refusal.ReactorRefusal.{ReactorRefusal}
 
 -- these are the text and the tokens that it is cut into
 pub record IsCutOf (text : List ℕ) (tokens : TokenList) : Type 0 where
@@ -67,7 +67,7 @@ pub record Gives (main text : List ℕ) (m : GivenModule) : Type 0 where
 
 -- why a text gives no module of this name: the first stage that has a fault has this one. Each stage asks what those
 -- before it make of the text, so no two of them have one; want of memory is that of any stage.
-pub data IsLoadFault (main text : List ℕ) : Refusal → Type 0 where
+pub data IsLoadFault (main text : List ℕ) : ReactorRefusal → Type 0 where
   in_cutting : (fault : LexFault) → IsLexFault text fault → IsLoadFault main text (refusal_of_lex fault)
   in_grammar : (tokens : TokenList) → IsCutOf text tokens
       → (fault : ParseFault) → IsParseFault MOST_OPEN_UNITS tokens fault

@@ -9,8 +9,8 @@ use Rattle.reactor_core.specs.declared.entry.Load.{Load as LoadEntry}
 use Rattle.reactor_core.specs.declared.entry.Move.{Move}
 use Rattle.reactor_core.specs.declared.entry.Move.TheVariants.{Load, Offer, Discard, Step, Unload}
 use Rattle.reactor_core.specs.declared.entry.SlotEntry.{SlotEntry}
-use Rattle.reactor_core.specs.declared.entry.Word.{Word}
-use Rattle.reactor_core.specs.declared.entry.Word.TheVariants as word
+use Rattle.reactor_core.specs.declared.entry.SlotWord.{SlotWord}
+use Rattle.reactor_core.specs.declared.entry.SlotWord.TheVariants as word
 use Rattle.est_relations.specs.Offers.{PendingInputs, place_of, with_place}
 use Rattle.est_relations.specs.declared.relations.Relation.{Relation}
 use Rattle.reactor_core.specs.Loading.{GivenModule, Gives}
@@ -40,7 +40,7 @@ asked (Step i) = Step (record {})
 asked Unload = Unload
 
 -- the word that asks for a move
-abbrev pub word_of : {I : Type 0} → Move I → Word
+abbrev pub word_of : {I : Type 0} → Move I → SlotWord
 word_of (Load l) = word.Load
 word_of (Offer name) = word.Offer
 word_of Discard = word.Discard
@@ -48,7 +48,7 @@ word_of (Step i) = word.Step
 word_of Unload = word.Unload
 
 -- a word, as it stands in a line
-abbrev pub word_text : Word → List ℕ
+abbrev pub word_text : SlotWord → List ℕ
 word_text word.Load = codes "load"
 word_text word.Offer = codes "offer"
 word_text word.Discard = codes "discard"
@@ -56,7 +56,7 @@ word_text word.Step = codes "step"
 word_text word.Unload = codes "unload"
 
 -- the word is that of a step
-abbrev pub is_step : Word → Bool
+abbrev pub is_step : SlotWord → Bool
 is_step word.Load = false
 is_step word.Offer = false
 is_step word.Discard = false

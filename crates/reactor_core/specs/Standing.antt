@@ -12,7 +12,7 @@ use Rattle.reactor_core.specs.declared.entry.Load.{Load as LoadEntry}
 use Rattle.reactor_core.specs.declared.entry.SlotEntry.{SlotEntry}
 use Rattle.reactor_core.specs.declared.loaded.Module.{Module}
 use Rattle.reactor_core.specs.declared.reactor.parts.Parts.{Parts}
-use Rattle.reactor_core.specs.declared.refusal.Refusal.{Refusal}
+use Rattle.reactor_core.specs.declared.refusal.ReactorRefusal.{ReactorRefusal}
 use Rattle.reactor_core.specs.Faults.{refusal_of_pending, implied}
 use Rattle.reactor_core.specs.Loading.{GivenModule}
 use Rattle.reactor_core.specs.Meaning.{last_load, instants_of, offers_of, mask_of, ModuleOf, Leaves}
@@ -65,13 +65,13 @@ pub record JoinsAs (m : Module) (pending : ℕ) (name : List ℕ) (after : ℕ) 
   pub kept : AreKept m after
 
 -- why the input of this name may not join the pending inputs of a module
-pub record RefusesName (m : Module) (pending : ℕ) (name : List ℕ) (refusal : Refusal) : Type 0 where
+pub record RefusesName (m : Module) (pending : ℕ) (name : List ℕ) (refusal : ReactorRefusal) : Type 0 where
   pub given : PendingRefusal
   pub told : refusal ≡ refusal_of_pending given
   pub answer : PendingAnswer (pending_inputs m pending) name (Err given) (pending_inputs m pending)
 
 -- why an instant may not take the pending inputs of a module
-pub record RefusesInstant (m : Module) (pending : ℕ) (refusal : Refusal) : Type 0 where
+pub record RefusesInstant (m : Module) (pending : ℕ) (refusal : ReactorRefusal) : Type 0 where
   pub number : ℕ
   pub missing : List ℕ
   pub told : refusal ≡ implied number missing

@@ -43,7 +43,7 @@ impl Load {
 
 /// The word by which a line asks for a move, and by which its reply names it.
 #[derive(Clone, Copy, PartialEq, Eq)]
-pub enum Word {
+pub enum SlotWord {
     Load,
     Offer,
     Discard,
@@ -51,17 +51,17 @@ pub enum Word {
     Unload,
 }
 
-impl Word {
+impl SlotWord {
     /// As it stands in a line.
     pub fn text(&self) -> &'static str
         ensures { result.now ≡ word_text self.now }
     {
         match self {
-            Word::Load => "load",
-            Word::Offer => "offer",
-            Word::Discard => "discard",
-            Word::Step => "step",
-            Word::Unload => "unload",
+            SlotWord::Load => "load",
+            SlotWord::Offer => "offer",
+            SlotWord::Discard => "discard",
+            SlotWord::Step => "step",
+            SlotWord::Unload => "unload",
         }
     }
 
@@ -69,7 +69,7 @@ impl Word {
     pub fn is_step(&self) -> bool
         ensures { result ≡ is_step self.now }
     {
-        matches!(self, Word::Step)
+        matches!(self, SlotWord::Step)
     }
 }
 
@@ -92,15 +92,15 @@ pub enum Move<I> {
 
 impl<I> Move<I> {
     /// The word that asks for it.
-    pub fn word(&self) -> Word
+    pub fn word(&self) -> SlotWord
         ensures { result ≡ word_of self.now }
     {
         match self {
-            Move::Load(_) => Word::Load,
-            Move::Offer(_) => Word::Offer,
-            Move::Discard => Word::Discard,
-            Move::Step(_) => Word::Step,
-            Move::Unload => Word::Unload,
+            Move::Load(_) => SlotWord::Load,
+            Move::Offer(_) => SlotWord::Offer,
+            Move::Discard => SlotWord::Discard,
+            Move::Step(_) => SlotWord::Step,
+            Move::Unload => SlotWord::Unload,
         }
     }
 

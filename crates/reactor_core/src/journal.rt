@@ -3,7 +3,7 @@ ghost use Rattle.std.specs.Prelude.{◌≡◌, ◌++◌, ◌∷◌, [], MatchRes
 ghost use Rattle.reactor_core.specs.Answers.{HasRoom, IsFull, RefusesEntry};
 
 use crate::entry::SlotEntry;
-use crate::refusal::Refusal;
+use crate::refusal::ReactorRefusal;
 use std::alloc::Global;
 use std::marker::Model;
 
@@ -68,16 +68,16 @@ impl Journal {
     }
 
     /// Adds an entry at its end, or refuses it as JournalFull or Memory and stays as it is.
-    pub(crate) fn append(&mut self, entry: SlotEntry) -> Result<(), Refusal>
+    pub(crate) fn append(&mut self, entry: SlotEntry) -> Result<(), ReactorRefusal>
         ensures { MatchResult result
             (λ _. HasRoom self.old × (self.new ≡ self.old ++ entry ∷ []))
             (λ e. RefusesEntry self.old e × (self.new ≡ self.old)) }
     {
         if self.entries.len() >= JOURNAL_ENTRIES {
-            return Err(Refusal::JournalFull);
+            return Err(ReactorRefusal::JournalFull);
         }
         if self.entries.reserve(1).is_err() {
-            return Err(Refusal::Memory);
+            return Err(ReactorRefusal::Memory);
         }
         self.entries.push_reserved(entry);
         Ok(())

@@ -7,8 +7,8 @@ ghost use Rattle.reactor_core.specs.declared.entry.Load.{Load as LoadEntry};
 ghost use Rattle.reactor_core.specs.declared.entry.SlotEntry.{SlotEntry};
 ghost use Rattle.reactor_core.specs.declared.entry.Stamp.{Stamp};
 ghost use Rattle.reactor_core.specs.declared.refusal.ModuleRefusal.{ModuleRefusal};
-ghost use Rattle.reactor_core.specs.declared.refusal.Refusal.{Refusal};
-ghost use Rattle.reactor_core.specs.declared.refusal.Refusal.TheVariants.{Memory};
+ghost use Rattle.reactor_core.specs.declared.refusal.ReactorRefusal.{ReactorRefusal};
+ghost use Rattle.reactor_core.specs.declared.refusal.ReactorRefusal.TheVariants.{Memory};
 ghost use Rattle.reactor_core.specs.Loading.{GivenModule, Gives, IsLoadFault};
 ghost use Rattle.reactor_core.specs.Meaning.{ModuleOf, Running, RunsAfter, Leaves};
 ghost use Rattle.reactor_core.specs.Instants.{IsOutcome, HasNoOutcome, AddsInstant, LacksImplied};
@@ -33,10 +33,10 @@ pub fn one_module()
 pub fn one_load()
     ensures given { (main text : List ℕ) (m n : GivenModule)
         → Gives main text m → Gives main text n → m ≡ n }
-    ensures fault { (main text : List ℕ) (a b : Refusal)
+    ensures fault { (main text : List ℕ) (a b : ReactorRefusal)
         → IsLoadFault main text a → IsLoadFault main text b
         → (a ≡ b) ⊎ (a ≡ Memory) ⊎ (b ≡ Memory) }
-    ensures never_both { (main text : List ℕ) (m : GivenModule) (a : Refusal)
+    ensures never_both { (main text : List ℕ) (m : GivenModule) (a : ReactorRefusal)
         → Gives main text m → IsLoadFault main text a → a ≡ Memory }
 {
     one_cut();

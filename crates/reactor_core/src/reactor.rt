@@ -20,7 +20,7 @@ use crate::loaded::Module;
 use crate::reactor::instant::Instant;
 use crate::reactor::parts::{Parts, check_relations, join};
 use crate::reading::read_module;
-use crate::refusal::{ModuleRefusal, Refusal};
+use crate::refusal::{ModuleRefusal, ReactorRefusal};
 use est_kernel::interface::Interface;
 use est_kernel::kernel::Kernel;
 use est_kernel::state::State;
@@ -78,7 +78,7 @@ fn instant_at(instants: &[PastInstant], n: u64) -> Option<PastInstant>
 }
 
 /// The module of a load, which is read from its text, and the engine of the module's kernel.
-fn read_load(alloc: Global, load: &Load) -> Result<(Module, Micro), Refusal>
+fn read_load(alloc: Global, load: &Load) -> Result<(Module, Micro), ReactorRefusal>
     ensures given { IfOk result (λ read. ModuleOf load.now (given_by read.0)) }
     ensures engine { IfOk result (λ read. IsNetOf read.1.net read.0.kernel) }
     ensures fault { IfErr result (IsLoadFault load.now.main load.now.text) }
@@ -160,7 +160,7 @@ impl Reactor {
         journal: Journal,
         stamp: Stamp,
         load: Load,
-    ) -> Result<Reactor, (Refusal, Journal)>
+    ) -> Result<Reactor, (ReactorRefusal, Journal)>
         ensures { LoadAnswer journal stamp load.main load.text result }
     {
         match read_load(alloc, &load) {
@@ -178,7 +178,7 @@ impl Reactor {
         load: Load,
         loaded: Module,
         engine: Micro,
-    ) -> Result<Reactor, (Refusal, Journal)>
+    ) -> Result<Reactor, (ReactorRefusal, Journal)>
         requires given { ModuleOf load (given_by loaded) }
         requires engine { IsNetOf engine.net loaded.kernel }
         ensures { MatchResult result
@@ -206,7 +206,7 @@ impl Reactor {
     }
 
     /// Makes an input pending, where that keeps each exclusion of the module.
-    pub fn offer(&mut self, stamp: Stamp, name: &Identifier) -> Result<(), Refusal>
+    pub fn offer(&mut self, stamp: Stamp, name: &Identifier) -> Result<(), ReactorRefusal>
         ensures { OfferAnswer self.old stamp name.now result self.new }
     {
         let pending = match join(&self.parts.loaded, self.parts.pending, name) {
@@ -228,7 +228,7 @@ impl Reactor {
 
     /// Takes the pending inputs away; the module runs on. A refusal, JournalFull or Memory, leaves
     /// the reactor as it was.
-    pub fn discard(&mut self, stamp: Stamp) -> Result<(), Refusal>
+    pub fn discard(&mut self, stamp: Stamp) -> Result<(), ReactorRefusal>
         ensures answer { DiscardAnswer self.old stamp result self.new }
         ensures loaded { is_loaded self.new ≡ true }
     {
@@ -247,7 +247,7 @@ impl Reactor {
 
     /// Ends the module, with its pending inputs: the journal, after which none runs. A refusal,
     /// JournalFull or Memory, gives the reactor back as it was.
-    pub fn unload(self, stamp: Stamp) -> Result<Journal, (Refusal, Reactor)>
+    pub fn unload(self, stamp: Stamp) -> Result<Journal, (ReactorRefusal, Reactor)>
         ensures answer { UnloadAnswer self stamp result }
         ensures empty { IfOk result (λ journal. is_loaded journal ≡ false) }
     {
@@ -266,7 +266,7 @@ impl Reactor {
     /// Opens the next instant, which takes the pending inputs, where each relation of the module
     /// holds of them. Where one doesn't it is refused as Implied, and the reactor is handed back as
     /// it was. It adds no entry and takes no memory.
-    pub fn open(self) -> Result<Instant, (Refusal, Reactor)>
+    pub fn open(self) -> Result<Instant, (ReactorRefusal, Reactor)>
         ensures { OpenAnswer self result }
     {
         match check_relations(&self.parts.loaded, self.parts.pending) {
@@ -276,7 +276,7 @@ impl Reactor {
     }
 
     /// What was present in the n-th instant since the load, within the mask. It takes no memory.
-    pub fn shown(&self, n: u64, mask: u64) -> Result<Shown, Refusal>
+    pub fn shown(&self, n: u64, mask: u64) -> Result<Shown, ReactorRefusal>
         ensures { ShownAnswer self.now n mask result }
     {
         match instant_at(self.parts.instants.as_slice(), n) {
@@ -284,7 +284,7 @@ impl Reactor {
                 mask,
                 present: (instant.inputs | instant.outputs) & mask,
             }),
-            None => Err(Refusal::Module(ModuleRefusal::NoInstant)),
+            None => Err(ReactorRefusal::Module(ModuleRefusal::NoInstant)),
         }
     }
 }

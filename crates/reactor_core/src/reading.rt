@@ -4,7 +4,7 @@ ghost use Rattle.reactor_core.specs.Loading.{Gives, IsLoadFault};
 ghost use Rattle.reactor_core.specs.Standing.{given_by};
 
 use crate::loaded::Module;
-use crate::refusal::Refusal;
+use crate::refusal::ReactorRefusal;
 use est_link::link::link;
 use est_reduce::reduce::reduce;
 use est_syntax::parse::parse;
@@ -13,7 +13,7 @@ use std::alloc::Global;
 
 /// The main module of a text: it is cut, read by the grammar, linked and reduced. Each stage ends
 /// before the next begins, so a fault of an earlier one is answered before any of a later one.
-pub fn read_module(alloc: Global, main: &str, text: &str) -> Result<Module, Refusal>
+pub fn read_module(alloc: Global, main: &str, text: &str) -> Result<Module, ReactorRefusal>
     ensures given { IfOk result (λ m. Gives main.now text.now (given_by m)) }
     ensures fault { IfErr result (IsLoadFault main.now text.now) }
 {

@@ -143,7 +143,7 @@ impl ModuleRefusal {
 
 /// Why a command on a module was refused.
 #[derive(Clone, Copy, PartialEq, Eq)]
-pub enum Refusal {
+pub enum ReactorRefusal {
     /// The module refuses it.
     Module(ModuleRefusal),
     /// The journal has as many entries as it may have.
@@ -152,94 +152,106 @@ pub enum Refusal {
     Memory,
 }
 
-impl From<AllocError> for Refusal {
+impl From<AllocError> for ReactorRefusal {
     ghost use Rattle.std.specs.Prelude.{◌≡◌};
-    ghost use Rattle.reactor_core.specs.declared.refusal.Refusal.TheVariants.{Memory};
+    ghost use Rattle.reactor_core.specs.declared.refusal.ReactorRefusal.TheVariants.{Memory};
 
     ghost from_gives = { λ _ r. r ≡ Memory };
 
-    fn from(_error: AllocError) -> Refusal {
-        Refusal::Memory
+    fn from(_error: AllocError) -> ReactorRefusal {
+        ReactorRefusal::Memory
     }
 }
 
-impl From<LexFault> for Refusal {
+impl From<LexFault> for ReactorRefusal {
     ghost use Rattle.std.specs.Prelude.{◌≡◌};
     ghost use Rattle.reactor_core.specs.Faults.{refusal_of_lex};
 
     ghost from_gives = { λ fault r. r ≡ refusal_of_lex fault };
 
-    fn from(fault: LexFault) -> Refusal {
+    fn from(fault: LexFault) -> ReactorRefusal {
         match fault {
-            LexFault::Lexical(place) => Refusal::Module(ModuleRefusal::Lexical(place)),
-            LexFault::Memory => Refusal::Memory,
+            LexFault::Lexical(place) => ReactorRefusal::Module(ModuleRefusal::Lexical(place)),
+            LexFault::Memory => ReactorRefusal::Memory,
         }
     }
 }
 
-impl From<ParseFault> for Refusal {
+impl From<ParseFault> for ReactorRefusal {
     ghost use Rattle.std.specs.Prelude.{◌≡◌};
     ghost use Rattle.reactor_core.specs.Faults.{refusal_of_parse};
 
     ghost from_gives = { λ fault r. r ≡ refusal_of_parse fault };
 
-    fn from(fault: ParseFault) -> Refusal {
+    fn from(fault: ParseFault) -> ReactorRefusal {
         match fault {
-            ParseFault::Syntax(place) => Refusal::Module(ModuleRefusal::Syntax(place)),
-            ParseFault::TooLarge(_) => Refusal::Module(ModuleRefusal::TooLarge(Limit::Nesting)),
-            ParseFault::Memory => Refusal::Memory,
+            ParseFault::Syntax(place) => ReactorRefusal::Module(ModuleRefusal::Syntax(place)),
+            ParseFault::TooLarge(_) => ReactorRefusal::Module(ModuleRefusal::TooLarge(
+                Limit::Nesting,
+            )),
+            ParseFault::Memory => ReactorRefusal::Memory,
         }
     }
 }
 
-impl From<LinkFault> for Refusal {
+impl From<LinkFault> for ReactorRefusal {
     ghost use Rattle.std.specs.Prelude.{◌≡◌};
     ghost use Rattle.reactor_core.specs.Faults.{refusal_of_link};
 
     ghost from_gives = { λ fault r. r ≡ refusal_of_link fault };
 
-    fn from(fault: LinkFault) -> Refusal {
+    fn from(fault: LinkFault) -> ReactorRefusal {
         match fault {
-            LinkFault::DuplicateName(name) => Refusal::Module(ModuleRefusal::DuplicateName(name)),
-            LinkFault::MisnamedMain => Refusal::Module(ModuleRefusal::MisnamedMain),
-            LinkFault::UnknownModule(name) => Refusal::Module(ModuleRefusal::UnknownModule(name)),
-            LinkFault::RecursiveRun(name) => Refusal::Module(ModuleRefusal::RecursiveRun(name)),
-            LinkFault::BadRename(name) => Refusal::Module(ModuleRefusal::BadRename(name)),
-            LinkFault::UnknownName(name) => Refusal::Module(ModuleRefusal::UnknownName(name)),
-            LinkFault::EmitInput(name) => Refusal::Module(ModuleRefusal::EmitInput(name)),
-            LinkFault::Semantics(relation) => Refusal::Module(ModuleRefusal::Semantics(relation)),
-            LinkFault::TooLarge(limit) => Refusal::Module(ModuleRefusal::TooLarge(Limit::from(
-                limit,
-            ))),
-            LinkFault::Memory => Refusal::Memory,
+            LinkFault::DuplicateName(name) => ReactorRefusal::Module(ModuleRefusal::DuplicateName(
+                name,
+            )),
+            LinkFault::MisnamedMain => ReactorRefusal::Module(ModuleRefusal::MisnamedMain),
+            LinkFault::UnknownModule(name) => ReactorRefusal::Module(ModuleRefusal::UnknownModule(
+                name,
+            )),
+            LinkFault::RecursiveRun(name) => ReactorRefusal::Module(ModuleRefusal::RecursiveRun(
+                name,
+            )),
+            LinkFault::BadRename(name) => ReactorRefusal::Module(ModuleRefusal::BadRename(name)),
+            LinkFault::UnknownName(name) => ReactorRefusal::Module(ModuleRefusal::UnknownName(
+                name,
+            )),
+            LinkFault::EmitInput(name) => ReactorRefusal::Module(ModuleRefusal::EmitInput(name)),
+            LinkFault::Semantics(relation) => ReactorRefusal::Module(ModuleRefusal::Semantics(
+                relation,
+            )),
+            LinkFault::TooLarge(limit) => ReactorRefusal::Module(ModuleRefusal::TooLarge(
+                Limit::from(limit),
+            )),
+            LinkFault::Memory => ReactorRefusal::Memory,
         }
     }
 }
 
-impl From<ReduceFault> for Refusal {
+impl From<ReduceFault> for ReactorRefusal {
     ghost use Rattle.std.specs.Prelude.{◌≡◌};
     ghost use Rattle.reactor_core.specs.Faults.{refusal_of_reduce};
 
     ghost from_gives = { λ fault r. r ≡ refusal_of_reduce fault };
 
-    fn from(fault: ReduceFault) -> Refusal {
+    fn from(fault: ReduceFault) -> ReactorRefusal {
         match fault {
-            ReduceFault::TooLarge(limit) => Refusal::Module(ModuleRefusal::TooLarge(Limit::from(
-                limit,
-            ))),
-            ReduceFault::InstantLoop => Refusal::Module(ModuleRefusal::InstantLoop),
-            ReduceFault::Memory => Refusal::Memory,
+            ReduceFault::TooLarge(limit) => ReactorRefusal::Module(ModuleRefusal::TooLarge(
+                Limit::from(limit),
+            )),
+            ReduceFault::InstantLoop => ReactorRefusal::Module(ModuleRefusal::InstantLoop),
+            ReduceFault::Memory => ReactorRefusal::Memory,
         }
     }
 }
 
-impl From<PendingRefusal> for Refusal {
+impl From<PendingRefusal> for ReactorRefusal {
     ghost use Rattle.std.specs.Prelude.{◌≡◌};
     ghost use Rattle.reactor_core.specs.Faults.{refusal_of_pending};
 
     ghost from_gives = { λ refusal r. r ≡ refusal_of_pending refusal };
 
-    fn from(refusal: PendingRefusal) -> Refusal {
-        Refusal::Module(ModuleRefusal::Pending(refusal))
+    fn from(refusal: PendingRefusal) -> ReactorRefusal {
+        ReactorRefusal::Module(ModuleRefusal::Pending(refusal))
     }
 }

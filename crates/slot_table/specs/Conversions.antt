@@ -1,8 +1,8 @@
 -- The refusals of the board, as refusals of `access_core` (this project's own form).
 use Rattle.access_core.specs.declared.refusal.Refusal.{Refusal}
 use Rattle.access_core.specs.declared.refusal.Refusal.TheVariants.{Policy, Behind, JournalFull, Memory}
-use Rattle.policy_board.specs.declared.refusal.Refusal.{Refusal as BoardRefusal}
-use Rattle.policy_board.specs.declared.refusal.Refusal.TheVariants as board
+use Rattle.policy_board.specs.declared.refusal.BoardRefusal.{BoardRefusal}
+use Rattle.policy_board.specs.declared.refusal.BoardRefusal.TheVariants as board
 
 -- the refusal of a call of the board
 abbrev pub of_board : BoardRefusal → Refusal

@@ -4,9 +4,9 @@ use Rattle.std.specs.Prelude.{◌≡◌, ◌⊎◌, ℕ, ◌<◌, ◌≤◌, Lis
 use Rattle.rbac_policy.specs.declared.commands.Entry.{Entry}
 use Rattle.rbac_policy.specs.declared.objects.TheConstants.{SLOTS}
 use Rattle.rbac_policy.specs.Facts.{IsLive}
-use Rattle.rbac_admin.specs.declared.refusal.Refusal.TheVariants as policy
+use Rattle.rbac_admin.specs.declared.refusal.PolicyRefusal.TheVariants as policy
 use Rattle.rbac_admin.specs.PolicyLists.{Begins, IsPolicyList}
-use Rattle.policy_board.specs.declared.refusal.Refusal.{Refusal as BoardRefusal}
+use Rattle.policy_board.specs.declared.refusal.BoardRefusal.{BoardRefusal}
 use Rattle.policy_board.specs.SeatState.{SeatState}
 use Rattle.policy_board.specs.PolicyCommands.{seat_after}
 use Rattle.policy_board.specs.Reads.{HasRead, IsUnread}

@@ -110,7 +110,7 @@ fn receipts_of<B: BoardName>(alloc: Global, seats: Vec<Seat<B>>) -> [Receipts; S
 
 /// The histories, if the seats keep exactly one receipt for each of their entries. It takes no
 /// memory.
-pub(crate) fn settle<B: BoardName>(
+pub(crate) fn compare_histories<B: BoardName>(
     alloc: Global,
     histories: Histories,
     seats: Vec<Seat<B>>,

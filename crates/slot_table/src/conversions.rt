@@ -3,7 +3,7 @@ ghost use Rattle.std.specs.Prelude.{◌≡◌};
 ghost use Rattle.slot_table.specs.Conversions.{of_board};
 
 use access_core::refusal::Refusal;
-use policy_board::refusal::Refusal as BoardRefusal;
+use policy_board::refusal::BoardRefusal;
 
 /// The refusal of a call of the board.
 pub fn of_board(refusal: BoardRefusal) -> Refusal

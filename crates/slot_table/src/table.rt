@@ -9,7 +9,7 @@ ghost use Rattle.slot_table.specs.Closing.{AllRise, AreLegal, IsJustified, kept_
 ghost use Rattle.slot_table.specs.Inner.Ending.{EndFrom};
 ghost use Rattle.slot_table.specs.SlotCommands.{IsAnswered, IsNoSlot, IsNotAsked, TableCommand};
 
-use crate::closing::{Closing, Histories, settle};
+use crate::closing::{Closing, Histories, compare_histories};
 use crate::conversions::of_board;
 use crate::slot::LockedSlot;
 use access_core::command::SlotCommand;
@@ -22,7 +22,7 @@ use policy_board::board::Board;
 use policy_board::board_list::BoardName;
 use policy_board::reader::SlotReader;
 use policy_board::seat::Seat;
-use rbac_admin::refusal::Refusal as PolicyRefusal;
+use rbac_admin::refusal::PolicyRefusal;
 use rbac_policy::commands::SessionId;
 use rbac_policy::objects::SLOTS;
 use reactor_core::journal::Journal;
@@ -211,6 +211,6 @@ impl<B: BoardName> SlotTable<B> {
         let slots = self.end(&mut closing);
         let policy = closing.journal(rt)?;
         journals_are_of_one_run();
-        settle(alloc, Histories { policy, slots }, seats)
+        compare_histories(alloc, Histories { policy, slots }, seats)
     }
 }

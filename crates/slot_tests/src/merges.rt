@@ -8,7 +8,7 @@ use history_receipts::receipt_list::Receipts;
 use rbac_policy::commands::{AdminCommand, Entry, SessionId};
 use rbac_policy::names::Name;
 use rbac_policy::opening::opening_entries;
-use reactor_core::entry::{Move, Word};
+use reactor_core::entry::{Move, SlotWord};
 use reactor_core::journal::Journal;
 use std::alloc::Global;
 use std::process::Abort;
@@ -61,7 +61,7 @@ fn identifier(rt: &impl Abort, text: &str) -> Identifier {
 fn on_slot(
     slot: u64,
     (place, version, number): (u64, u64, u64),
-    word: Word,
+    word: SlotWord,
     signal: Option<Identifier>,
 ) -> Kept {
     Kept::Slot(SlotReceipt {
@@ -89,10 +89,10 @@ fn kept(rt: &impl Abort, row: Row) -> Kept {
         Row::Offers(signal, place, version, number) => on_slot(
             2,
             (place, version, number),
-            Word::Offer,
+            SlotWord::Offer,
             Some(identifier(rt, signal)),
         ),
-        Row::Steps(number) => on_slot(3, (1, 6, number), Word::Step, None),
+        Row::Steps(number) => on_slot(3, (1, 6, number), SlotWord::Step, None),
     }
 }
 

@@ -3,11 +3,11 @@ use Rattle.std.proofs.Common.{◌≡◌, ◌∙◌, ℕ, List, ◌++◌, codes, 
 use Rattle.std.specs.Prelude.{decimal, Result, Ok, Err, IfOk, if◌then◌else◌}
 use Rattle.std.specs.Fmt.{digits}
 use Rattle.serde_json.proofs.OnLiterals.{serde_json_on_literals}
-use Rattle.reactor_core.specs.declared.entry.Word.{Word}
-use Rattle.reactor_core.specs.declared.entry.Word.TheVariants as word
+use Rattle.reactor_core.specs.declared.entry.SlotWord.{SlotWord}
+use Rattle.reactor_core.specs.declared.entry.SlotWord.TheVariants as word
 use Rattle.reactor_core.specs.Meaning.{word_text, is_step}
-use Rattle.access_core.specs.declared.reply.Change.{Change}
-use Rattle.access_core.specs.declared.reply.Change.TheVariants as change
+use Rattle.access_core.specs.declared.reply.PolicyWord.{PolicyWord}
+use Rattle.access_core.specs.declared.reply.PolicyWord.TheVariants as change
 use Rattle.access_core.specs.declared.reply.Reply.TheVariants.{Added, Changed, Check, Login, Audit}
 use Rattle.access_core.specs.Replies.{word_of}
 use Rattle.wire_lines.specs.Replies.{line_of}
@@ -18,20 +18,20 @@ abbrev pub version_end : ℕ → List ℕ
 version_end version = codes ",\"version\":" ++ (decimal version ++ codes "}\n")
 
 -- how the line of a step begins, and that of another word
-pub step_begins : (asked : Word) (instants : ℕ) → is_step asked ≡ true
+pub step_begins : (asked : SlotWord) (instants : ℕ) → is_step asked ≡ true
     → (codes "{\"instant\":" ++ decimal instants) ++ codes ",\"ok\":\"" ≡ added_begin asked instants
 step_begins asked instants steps =
     ap (λ (b : Bool). if b then (codes "{\"instant\":" ++ decimal instants) ++ codes ",\"ok\":\""
     else codes "{\"ok\":\"") (sym steps)
 
-pub plain_begins : (asked : Word) (instants : ℕ) → is_step asked ≡ false
+pub plain_begins : (asked : SlotWord) (instants : ℕ) → is_step asked ≡ false
     → codes "{\"ok\":\"" ≡ added_begin asked instants
 plain_begins asked instants plain =
     ap (λ (b : Bool). if b then (codes "{\"instant\":" ++ decimal instants) ++ codes ",\"ok\":\""
     else codes "{\"ok\":\"") (sym plain)
 
 -- the line of a command that added an entry
-pub added_text : (asked : Word) (instants place version : ℕ)
+pub added_text : (asked : SlotWord) (instants place version : ℕ)
     → added_begin asked instants ++ (word_text asked ++ (codes "\",\"place\":" ++
     (decimal place ++ version_end version)))
     ≡ line_of (Added (record { word = asked; place = place; version = version; instants = instants }))
@@ -55,7 +55,7 @@ pub audit_text : (entries instants version : ℕ)
 unfolding serde_json_on_literals digits
 audit_text entries instants version = simp append_assoc
 
-changed_text : (c : Change) (version : ℕ) → codes "{\"ok\":\"" ++ (word_of c ++ (codes "\"" ++ version_end version))
+changed_text : (c : PolicyWord) (version : ℕ) → codes "{\"ok\":\"" ++ (word_of c ++ (codes "\"" ++ version_end version))
     ≡ line_of (Changed c version)
 unfolding serde_json_on_literals digits
 changed_text change.AddUser version = simp append_assoc
@@ -74,7 +74,7 @@ changed_text change.DeleteSession version = simp append_assoc
 changed_text change.AddActiveRole version = simp append_assoc
 changed_text change.DropActiveRole version = simp append_assoc
 
-pub changed_word : (c : Change) (told : List ℕ) (version : ℕ) → told ≡ word_of c
+pub changed_word : (c : PolicyWord) (told : List ℕ) (version : ℕ) → told ≡ word_of c
     → codes "{\"ok\":\"" ++ (told ++ (codes "\"" ++ version_end version)) ≡ line_of (Changed c version)
 changed_word c told version same =
     ap (λ (w : List ℕ). codes "{\"ok\":\"" ++ (w ++ (codes "\"" ++ version_end version))) same ∙ changed_text c version

@@ -6,7 +6,7 @@ use Rattle.serde_json.specs.Data.{Data, boolean, string, array, object, item, no
 use Rattle.serde_json.specs.View.{items_of}
 use Rattle.serde_json.specs.Written.{compact_text}
 use Rattle.refusal_rules.specs.Rows.{Row, Field, Fields, Number, Text, Texts}
-use Rattle.reactor_core.specs.declared.entry.Word.{Word}
+use Rattle.reactor_core.specs.declared.entry.SlotWord.{SlotWord}
 use Rattle.reactor_core.specs.Meaning.{word_text, is_step}
 use Rattle.access_core.specs.declared.refusal.Refusal.{Refusal}
 use Rattle.access_core.specs.declared.reply.Reply.{Reply}
@@ -59,7 +59,7 @@ abbrev pub signals_json : List ShownSignal → Data
 signals_json signals = array (items_of (map shown_json signals))
 
 -- the member of a step's reply that says the number of its instant, and those after it; of another word those alone
-abbrev pub with_instant : Word → ℕ → Members → Members
+abbrev pub with_instant : SlotWord → ℕ → Members → Members
 with_instant asked instant others = if is_step asked then number_member (codes "instant") instant others else others
 
 -- the members of a reply, in the order of their keys (this project's own form)

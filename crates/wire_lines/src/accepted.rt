@@ -6,10 +6,10 @@ ghost use Rattle.access_core.specs.declared.reply.Reply.TheVariants.{Changed, Ch
 ghost use Rattle.wire_lines.specs.Replies.{line_of};
 ghost use Rattle.wire_lines.specs.Inner.Pieces.{added_begin};
 
-use access_core::reply::{Added, Change};
+use access_core::reply::{Added, PolicyWord};
 use itoa::Buffer;
 use rbac_policy::commands::SessionId;
-use reactor_core::entry::Word;
+use reactor_core::entry::SlotWord;
 use std::alloc::{AllocError, Global};
 
 /// The room, in bytes, with which a line begins: these lines are shorter.
@@ -62,7 +62,7 @@ fn begin_plain(alloc: Global) -> Result<Vec<u8>, AllocError>
 }
 
 /// The beginning of the line of a command that added an entry, up to its word.
-fn begin_line(alloc: Global, word: Word, instants: u64) -> Result<Vec<u8>, AllocError>
+fn begin_line(alloc: Global, word: SlotWord, instants: u64) -> Result<Vec<u8>, AllocError>
     ensures { IfOk result (λ line. line.items ≡ added_begin word instants) }
 {
     if word.is_step() {
@@ -130,7 +130,7 @@ fn word_line(alloc: Global, word: &str, version: u64) -> Result<Vec<u8>, AllocEr
 /// The line of a change of the policy.
 pub(crate) fn changed_line(
     alloc: Global,
-    change: &Change,
+    change: &PolicyWord,
     version: u64,
 ) -> Result<Vec<u8>, AllocError>
     ensures { IfOk result (λ line. line.items ≡ line_of (Changed change.now version)) }

@@ -1,8 +1,8 @@
 //! The commands: which members have to follow each command's word, and which request they make.
 //!
 //! Commands with the same keys share a reader. The words are tried in turn by `request_of`,
-//! `policy`, `plain`, `user_or_role` and `relation`: each knows some words, and passes any other on
-//! to the next.
+//! `read_policy`, `read_plain`, `read_user_or_role` and `read_role_relation`: each knows some words,
+//! and passes any other on to the next.
 ghost use Rattle.std.specs.Prelude.{◌≡◌, codes, option_map, IfOk};
 ghost use Rattle.json.specs.Lex.{tokens};
 ghost use Rattle.wire_lines.specs.Inner.Members.{name_of, parsed_after, number_after};
@@ -29,7 +29,7 @@ use reactor_core::text::Text;
 use std::alloc::{AllocError, Global};
 
 /// The name under this key, where it is the last member.
-fn last_name(reader: &mut Reader<'_>, key: &str) -> Option<Name>
+fn read_last_name(reader: &mut Reader<'_>, key: &str) -> Option<Name>
     ensures { result ≡ last (parsed_after name_of key.now reader.old) }
 {
     let name = take_name(reader, key)?;
@@ -38,7 +38,7 @@ fn last_name(reader: &mut Reader<'_>, key: &str) -> Option<Name>
 }
 
 /// The slot, where it is the last member.
-fn last_slot(reader: &mut Reader<'_>) -> Option<u64>
+fn read_last_slot(reader: &mut Reader<'_>) -> Option<u64>
     ensures { result ≡ last (number_after (codes "slot") reader.old) }
 {
     let slot = take_number(reader, "slot")?;
@@ -48,34 +48,34 @@ fn last_slot(reader: &mut Reader<'_>) -> Option<u64>
 
 /// The names under these two keys, the second of which is the last.
 #[tactic(auto, unfolding(crate::specs::Inner::Members::two_values))]
-fn two_names(reader: &mut Reader<'_>, first: &str, second: &str) -> Option<(Name, Name)>
+fn read_two_names(reader: &mut Reader<'_>, first: &str, second: &str) -> Option<(Name, Name)>
     ensures { result ≡ two_values first.now second.now reader.old }
 {
     let one = take_name(reader, first)?;
-    let other = last_name(reader, second)?;
+    let other = read_last_name(reader, second)?;
     Some((one, other))
 }
 
 /// The permission of a role: the object, the operation and the role.
 #[tactic(auto, unfolding(crate::specs::Inner::Members::permission_values))]
-fn permission(reader: &mut Reader<'_>) -> Option<(Object, Operation, Name)>
+fn read_permission(reader: &mut Reader<'_>) -> Option<(Object, Operation, Name)>
     ensures { result ≡ permission_values reader.old }
 {
     let object = take_object(reader)?;
     let operation = take_operation(reader)?;
-    let role = last_name(reader, "role")?;
+    let role = read_last_name(reader, "role")?;
     Some((object, operation, role))
 }
 
 /// A login: the roles and the user.
 #[tactic(auto, unfolding(crate::specs::Inner::Commands::request_of))]
-fn login(alloc: Global, reader: &mut Reader<'_>) -> Result<Option<Request>, AllocError>
+fn read_login(alloc: Global, reader: &mut Reader<'_>) -> Result<Option<Request>, AllocError>
     ensures { IfOk result (λ request. request ≡ request_of roles_user reader.old) }
 {
     let Some(roles) = take_roles(alloc, reader)? else {
         return Ok(None);
     };
-    let Some(user) = last_name(reader, "user") else {
+    let Some(user) = read_last_name(reader, "user") else {
         return Ok(None);
     };
     let command = AdminCommand::CreateSession { user, roles };
@@ -84,7 +84,7 @@ fn login(alloc: Global, reader: &mut Reader<'_>) -> Result<Option<Request>, Allo
 
 /// A separation set: its count, its name and its roles. No session may hold that many of them.
 #[tactic(auto, unfolding(crate::specs::Inner::Commands::request_of))]
-fn separation(alloc: Global, reader: &mut Reader<'_>) -> Result<Option<Request>, AllocError>
+fn read_separation(alloc: Global, reader: &mut Reader<'_>) -> Result<Option<Request>, AllocError>
     ensures { IfOk result (λ request. request ≡ request_of count_name_roles reader.old) }
 {
     let Some(count) = take_number(reader, "count") else {
@@ -105,7 +105,7 @@ fn separation(alloc: Global, reader: &mut Reader<'_>) -> Result<Option<Request>,
 
 /// A load: the main module, the slot and the text.
 #[tactic(auto, unfolding(crate::specs::Inner::Commands::request_of))]
-fn load(alloc: Global, reader: &mut Reader<'_>) -> Result<Option<Request>, AllocError>
+fn read_load(alloc: Global, reader: &mut Reader<'_>) -> Result<Option<Request>, AllocError>
     ensures { IfOk result (λ request. request ≡ request_of main_slot_text reader.old) }
 {
     let Some(main) = take_identifier(reader, "main") else {
@@ -127,38 +127,38 @@ fn load(alloc: Global, reader: &mut Reader<'_>) -> Result<Option<Request>, Alloc
 
 /// This command, on the slot that the only other key names.
 #[tactic(auto, unfolding(crate::specs::Inner::Commands::request_of))]
-fn on_slot(reader: &mut Reader<'_>, command: SlotCommand) -> Option<Request>
+fn read_slot_alone(reader: &mut Reader<'_>, command: SlotCommand) -> Option<Request>
     ensures { result ≡ request_of (slot_alone command) reader.old }
 {
-    let slot = last_slot(reader)?;
+    let slot = read_last_slot(reader)?;
     Some(Request::Slot { slot, command })
 }
 
 /// An offer: the signal and the slot.
 #[tactic(auto, unfolding(crate::specs::Inner::Commands::request_of))]
-fn offer(reader: &mut Reader<'_>) -> Option<Request>
+fn read_offer(reader: &mut Reader<'_>) -> Option<Request>
     ensures { result ≡ request_of signal_slot reader.old }
 {
     let signal = take_identifier(reader, "signal")?;
-    let slot = last_slot(reader)?;
+    let slot = read_last_slot(reader)?;
     let command = SlotCommand::Move(Move::Offer(signal));
     Some(Request::Slot { slot, command })
 }
 
 /// A look: the instant and the slot.
 #[tactic(auto, unfolding(crate::specs::Inner::Commands::request_of))]
-fn look(reader: &mut Reader<'_>) -> Option<Request>
+fn read_look(reader: &mut Reader<'_>) -> Option<Request>
     ensures { result ≡ request_of instant_slot reader.old }
 {
     let instant = take_number(reader, "instant")?;
-    let slot = last_slot(reader)?;
+    let slot = read_last_slot(reader)?;
     let command = SlotCommand::Look { instant };
     Some(Request::Slot { slot, command })
 }
 
 /// A check: the object and the operation.
 #[tactic(auto, unfolding(crate::specs::Inner::Commands::request_of))]
-fn check(reader: &mut Reader<'_>) -> Option<Request>
+fn read_check(reader: &mut Reader<'_>) -> Option<Request>
     ensures { result ≡ request_of object_operation reader.old }
 {
     let object = take_object(reader)?;
@@ -170,28 +170,28 @@ fn check(reader: &mut Reader<'_>) -> Option<Request>
 /// Tries the words on assignments, grants and edges: the relations of the policy, which are not
 /// those of a module. Any other word is no command.
 #[tactic(auto, unfolding(crate::specs::Inner::Commands::request_of, crate::specs::Inner::Commands::relation_rows))]
-fn relation(reader: &mut Reader<'_>, word: &str) -> Option<AdminCommand>
+fn read_role_relation(reader: &mut Reader<'_>, word: &str) -> Option<AdminCommand>
     ensures { option_map Policy result ≡ request_in relation_rows word.now reader.old }
 {
     match word {
         "assign" => {
-            let (role, user) = two_names(reader, "role", "user")?;
+            let (role, user) = read_two_names(reader, "role", "user")?;
             Some(AdminCommand::AssignUser { user, role })
         }
         "deassign" => {
-            let (role, user) = two_names(reader, "role", "user")?;
+            let (role, user) = read_two_names(reader, "role", "user")?;
             Some(AdminCommand::DeassignUser { user, role })
         }
         "inherit" => {
-            let (junior, senior) = two_names(reader, "junior", "senior")?;
+            let (junior, senior) = read_two_names(reader, "junior", "senior")?;
             Some(AdminCommand::AddInheritance { senior, junior })
         }
         "disinherit" => {
-            let (junior, senior) = two_names(reader, "junior", "senior")?;
+            let (junior, senior) = read_two_names(reader, "junior", "senior")?;
             Some(AdminCommand::DeleteInheritance { senior, junior })
         }
         "grant" => {
-            let (object, operation, role) = permission(reader)?;
+            let (object, operation, role) = read_permission(reader)?;
             Some(AdminCommand::GrantPermission {
                 role,
                 operation,
@@ -199,7 +199,7 @@ fn relation(reader: &mut Reader<'_>, word: &str) -> Option<AdminCommand>
             })
         }
         "revoke" => {
-            let (object, operation, role) = permission(reader)?;
+            let (object, operation, role) = read_permission(reader)?;
             Some(AdminCommand::RevokePermission {
                 role,
                 operation,
@@ -212,33 +212,33 @@ fn relation(reader: &mut Reader<'_>, word: &str) -> Option<AdminCommand>
 
 /// Tries the words that add or delete a user or a role, then those of `relation`.
 #[tactic(auto, unfolding(crate::specs::Inner::Commands::request_of, crate::specs::Inner::Commands::user_or_role_rows))]
-fn user_or_role(reader: &mut Reader<'_>, word: &str) -> Option<AdminCommand>
+fn read_user_or_role(reader: &mut Reader<'_>, word: &str) -> Option<AdminCommand>
     ensures { option_map Policy result ≡ request_in user_or_role_rows word.now reader.old }
 {
     match word {
         "adduser" => {
-            let user = last_name(reader, "user")?;
+            let user = read_last_name(reader, "user")?;
             Some(AdminCommand::AddUser { user })
         }
         "deluser" => {
-            let user = last_name(reader, "user")?;
+            let user = read_last_name(reader, "user")?;
             Some(AdminCommand::DeleteUser { user })
         }
         "addrole" => {
-            let role = last_name(reader, "role")?;
+            let role = read_last_name(reader, "role")?;
             Some(AdminCommand::AddRole { role })
         }
         "delrole" => {
-            let role = last_name(reader, "role")?;
+            let role = read_last_name(reader, "role")?;
             Some(AdminCommand::DeleteRole { role })
         }
-        _ => relation(reader, word),
+        _ => read_role_relation(reader, word),
     }
 }
 
 /// Tries `logout`, `activate`, `drop` and `undsd`; then the words of `user_or_role`.
 #[tactic(auto, unfolding(crate::specs::Inner::Commands::request_of, crate::specs::Inner::Commands::plain_rows))]
-fn plain(reader: &mut Reader<'_>, word: &str) -> Option<AdminCommand>
+fn read_plain(reader: &mut Reader<'_>, word: &str) -> Option<AdminCommand>
     ensures { option_map Policy result ≡ request_in plain_rows word.now reader.old }
 {
     match word {
@@ -247,30 +247,34 @@ fn plain(reader: &mut Reader<'_>, word: &str) -> Option<AdminCommand>
             Some(AdminCommand::DeleteSession)
         }
         "activate" => {
-            let role = last_name(reader, "role")?;
+            let role = read_last_name(reader, "role")?;
             Some(AdminCommand::AddActiveRole { role })
         }
         "drop" => {
-            let role = last_name(reader, "role")?;
+            let role = read_last_name(reader, "role")?;
             Some(AdminCommand::DropActiveRole { role })
         }
         "undsd" => {
-            let set = last_name(reader, "name")?;
+            let set = read_last_name(reader, "name")?;
             Some(AdminCommand::DeleteDsdSet { set })
         }
-        _ => user_or_role(reader, word),
+        _ => read_user_or_role(reader, word),
     }
 }
 
 /// Tries the words of policy commands that list roles, then those of `plain`.
 #[tactic(auto, unfolding(crate::specs::Inner::Commands::policy_rows))]
-fn policy(alloc: Global, reader: &mut Reader<'_>, word: &str) -> Result<Option<Request>, AllocError>
+fn read_policy(
+    alloc: Global,
+    reader: &mut Reader<'_>,
+    word: &str,
+) -> Result<Option<Request>, AllocError>
     ensures { IfOk result (λ request. request ≡ request_in policy_rows word.now reader.old) }
 {
     match word {
-        "login" => login(alloc, reader),
-        "dsd" => separation(alloc, reader),
-        _ => Ok(plain(reader, word).map(Request::Policy)),
+        "login" => read_login(alloc, reader),
+        "dsd" => read_separation(alloc, reader),
+        _ => Ok(read_plain(reader, word).map(Request::Policy)),
     }
 }
 
@@ -284,15 +288,15 @@ fn request_of(
     ensures { IfOk result (λ request. request ≡ request_in rows word.now reader.old) }
 {
     match word {
-        "step" => Ok(on_slot(reader, SlotCommand::Move(Move::Step(())))),
-        "look" => Ok(look(reader)),
-        "offer" => Ok(offer(reader)),
-        "check" => Ok(check(reader)),
-        "load" => load(alloc, reader),
-        "discard" => Ok(on_slot(reader, SlotCommand::Move(Move::Discard))),
-        "unload" => Ok(on_slot(reader, SlotCommand::Move(Move::Unload))),
-        "audit" => Ok(on_slot(reader, SlotCommand::Audit)),
-        _ => policy(alloc, reader, word),
+        "step" => Ok(read_slot_alone(reader, SlotCommand::Move(Move::Step(())))),
+        "look" => Ok(read_look(reader)),
+        "offer" => Ok(read_offer(reader)),
+        "check" => Ok(read_check(reader)),
+        "load" => read_load(alloc, reader),
+        "discard" => Ok(read_slot_alone(reader, SlotCommand::Move(Move::Discard))),
+        "unload" => Ok(read_slot_alone(reader, SlotCommand::Move(Move::Unload))),
+        "audit" => Ok(read_slot_alone(reader, SlotCommand::Audit)),
+        _ => read_policy(alloc, reader, word),
     }
 }
 

@@ -9,14 +9,14 @@ ghost use Rattle.reactor_core.specs.Refusals.{row_of as module_row};
 ghost use Rattle.wire_lines.specs.Requests.{text_member, number_member};
 ghost use Rattle.wire_lines.specs.Replies.{refusal_members, refused_with, row_members, line_of};
 ghost use Rattle.wire_lines.specs.Inner.ReplyTokens.{member_tokens};
-ghost use Rattle.reactor_core.specs.declared.entry.Word.{Word};
-ghost use Rattle.reactor_core.specs.declared.entry.Word.TheVariants as word;
+ghost use Rattle.reactor_core.specs.declared.entry.SlotWord.{SlotWord};
+ghost use Rattle.reactor_core.specs.declared.entry.SlotWord.TheVariants as word;
 ghost use Rattle.reactor_core.specs.Meaning.{word_text, is_step};
 ghost use Rattle.access_core.specs.declared.reply.Reply.TheVariants.{Refused, Login, Changed};
 ghost use Rattle.access_core.specs.declared.reply.Reply.TheVariants.{Added, Audit, Check, Look};
-ghost use Rattle.access_core.specs.declared.reply.Change.TheVariants as change;
+ghost use Rattle.access_core.specs.declared.reply.PolicyWord.TheVariants as change;
 ghost use Rattle.access_core.specs.declared.refusal.Refusal.TheVariants as refusal;
-ghost use Rattle.rbac_admin.specs.declared.refusal.Refusal.TheVariants as policy;
+ghost use Rattle.rbac_admin.specs.declared.refusal.PolicyRefusal.TheVariants as policy;
 ghost use Rattle.reactor_core.specs.declared.refusal.ModuleRefusal.TheVariants as of_module;
 ghost use Rattle.est_text.specs.declared.place.Place.{Place};
 
@@ -27,7 +27,7 @@ use access_core::reply::{Reply, ShownSignal};
 use est_relations::refusal::PendingRefusal;
 use est_text::identifier::Identifier;
 use est_text::place::Place;
-use rbac_admin::refusal::{Refusal as PolicyRefusal, table_text};
+use rbac_admin::refusal::{PolicyRefusal, table_text};
 use reactor_core::refusal::{ModuleRefusal, limit_text};
 use std::alloc::{AllocError, Global};
 use std::borrow::CowSlice;
@@ -282,7 +282,7 @@ pub fn reply_lines_are_these()
         })) ≡ codes "{\"instant\":" ++ (decimal instants ++
         (codes ",\"ok\":\"step\",\"place\":" ++ (decimal place
         ++ (codes ",\"version\":" ++ (decimal version ++ codes "}\n"))))) }
-    ensures added { (asked : Word) (instants place version : ℕ) → is_step asked ≡ false
+    ensures added { (asked : SlotWord) (instants place version : ℕ) → is_step asked ≡ false
         → line_of (Added (record {
           word = asked;
           place = place;

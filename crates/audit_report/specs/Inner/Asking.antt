@@ -12,9 +12,9 @@ use Rattle.reactor_core.specs.declared.entry.SlotEntry.{SlotEntry}
 use Rattle.reactor_core.specs.Instants.{IsOutcome}
 use Rattle.reactor_core.specs.Left.{IsKernelOf, IsLeftOf}
 use Rattle.reactor_core.specs.Meaning.{is_loaded, instant_of}
-use Rattle.audit_report.specs.declared.asked_again.Opinion.{Opinion}
-use Rattle.audit_report.specs.declared.asked_again.Opinion.TheVariants.{NotAsked, Other, SameOutputs, Same}
-use Rattle.audit_report.specs.declared.asked_again.TheConstants.{ASKED_LOCALS}
+use Rattle.audit_report.specs.declared.second_engine.SecondAnswer.{SecondAnswer}
+use Rattle.audit_report.specs.declared.second_engine.SecondAnswer.TheVariants.{NotAsked, Other, SameOutputs, Same}
+use Rattle.audit_report.specs.declared.second_engine.TheConstants.{ASKED_LOCALS}
 
 -- local signals of the running module nest more than `ASKED_LOCALS` deep
 pub record IsPassedOver (journal : List SlotEntry) : Type 0 where
@@ -35,17 +35,17 @@ abbrev pub GivesOtherwise : List SlotEntry → (outputs : ℕ) → Type 0
 GivesOtherwise journal outputs = (next : Term) → IsOutcome journal outputs next → ⊥
 
 -- what the opinion of a step says that keeps these outputs
-abbrev pub ThinksOfStep : List SlotEntry → (outputs : ℕ) → Opinion → Type 0
-ThinksOfStep journal outputs NotAsked = IsPassedOver journal
-ThinksOfStep journal outputs Other = GivesOtherwise journal outputs
-ThinksOfStep journal outputs SameOutputs = (next : Term) × IsOutcome journal outputs next
-ThinksOfStep journal outputs (Same next) = Predicts journal outputs next
+abbrev pub IsSecondStepAnswer : List SlotEntry → (outputs : ℕ) → SecondAnswer → Type 0
+IsSecondStepAnswer journal outputs NotAsked = IsPassedOver journal
+IsSecondStepAnswer journal outputs Other = GivesOtherwise journal outputs
+IsSecondStepAnswer journal outputs SameOutputs = (next : Term) × IsOutcome journal outputs next
+IsSecondStepAnswer journal outputs (Same next) = Predicts journal outputs next
 
 -- what the opinion of a move says: of each but a step nothing is asked, nor where nothing runs
-abbrev pub Thinks : List SlotEntry → PastMove → Opinion → Type 0
-Thinks journal done opinion =
+abbrev pub IsSecondAnswer : List SlotEntry → PastMove → SecondAnswer → Type 0
+IsSecondAnswer journal done opinion =
     MatchOption (instant_of done) (opinion ≡ NotAsked)
-    (λ i. ((is_loaded journal ≡ false) × (opinion ≡ NotAsked)) ⊎ ThinksOfStep journal i.outputs opinion)
+    (λ i. ((is_loaded journal ≡ false) × (opinion ≡ NotAsked)) ⊎ IsSecondStepAnswer journal i.outputs opinion)
 
 -- the term of this state of the running module's kernel is left, if one runs and its pauses are numbered in text order
 pub record StandsFor (journal : List SlotEntry) (next : State) : Type 0 where
@@ -66,14 +66,14 @@ pub record LeavesOther (journal : List SlotEntry) (next : State) : Type 0 where
   pub other : ¬ (state_term kernel.root next ≡ state_term kernel.root state)
 
 -- after these entries it is as the opinion has it
-abbrev pub Holds : List SlotEntry → Opinion → Type 0
+abbrev pub Holds : List SlotEntry → SecondAnswer → Type 0
 Holds journal NotAsked = Unit {0}
 Holds journal Other = ⊥
 Holds journal SameOutputs = Unit {0}
 Holds journal (Same next) = LeavesSame journal next
 
 -- after these entries it is not as the opinion has it
-abbrev pub Fails : List SlotEntry → Opinion → Type 0
+abbrev pub Fails : List SlotEntry → SecondAnswer → Type 0
 Fails journal NotAsked = ⊥
 Fails journal Other = Unit {0}
 Fails journal SameOutputs = ⊥

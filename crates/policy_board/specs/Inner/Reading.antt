@@ -2,8 +2,8 @@
 use Rattle.std.specs.Prelude.{◌≡◌, ◌⊎◌, ◌<◌, ◌≤◌, ℕ, List, length}
 use Rattle.rbac_policy.specs.declared.commands.Entry.{Entry}
 use Rattle.rbac_admin.specs.PolicyLists.{Begins, IsPolicyList}
-use Rattle.policy_board.specs.declared.refusal.Refusal.{Refusal}
-use Rattle.policy_board.specs.declared.refusal.Refusal.TheVariants.{Behind, Memory}
+use Rattle.policy_board.specs.declared.refusal.BoardRefusal.{BoardRefusal}
+use Rattle.policy_board.specs.declared.refusal.BoardRefusal.TheVariants.{Behind, Memory}
 
 -- what is known, and the seen number
 pub record Notes : Type 0 where
@@ -21,7 +21,7 @@ pub record IsRead (read : List Entry) (old : Notes) (list : List Entry) (new : N
   pub seen : new.seen ≡ length list
 
 -- the list that was read is shorter than the seen number, and the refusal tells both lengths
-pub record IsStale (read : List Entry) (old : Notes) (refusal : Refusal) (list : List Entry) : Type 0 where
+pub record IsStale (read : List Entry) (old : Notes) (refusal : BoardRefusal) (list : List Entry) : Type 0 where
   pub is_list : IsPolicyList list
   pub further : Begins read list
   pub stale : length list < old.seen
@@ -29,7 +29,7 @@ pub record IsStale (read : List Entry) (old : Notes) (refusal : Refusal) (list :
 
 -- a refused read, after which the reader has this list, leaves what is known: what was read is too old (Behind), or
 -- nothing could be read
-pub record IsNotRead (read : List Entry) (old : Notes) (refusal : Refusal) (list : List Entry)
+pub record IsNotRead (read : List Entry) (old : Notes) (refusal : BoardRefusal) (list : List Entry)
     (new : Notes) : Type 0 where
   pub known : new.known ≡ old.known
   pub seen : new.seen ≡ old.seen

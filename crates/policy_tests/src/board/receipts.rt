@@ -6,7 +6,7 @@ use policy_board::board::Board;
 use policy_board::board_list::{BoardName, FreshList};
 use policy_board::seat::Seat;
 use rbac_policy::commands::AdminCommand;
-use reactor_core::entry::Word;
+use reactor_core::entry::SlotWord;
 use std::alloc::Global;
 use std::marker::Brand;
 use std::process::Abort;
@@ -37,7 +37,7 @@ fn counted<B: BoardName>(seat: &Seat<B>, place: usize) -> Option<u64> {
                 version: 5,
                 session: 1,
                 number,
-                word: Word::Step,
+                word: SlotWord::Step,
                 signal: None,
             },
         ) => Some(*number),
@@ -57,7 +57,7 @@ fn count<B: BoardName, R: Wait + Abort>(rt: &R, board: &Board<B>, seat: &mut Sea
                 version: 5,
                 session: 1,
                 number: 0,
-                word: Word::Step,
+                word: SlotWord::Step,
                 signal: None,
             },
         ),

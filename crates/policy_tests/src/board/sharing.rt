@@ -2,10 +2,10 @@
 use crate::board::playing::{Example, Sharing, play, play_in_threads};
 use policy_board::board::Board;
 use policy_board::board_list::{BoardName, FreshList};
-use policy_board::refusal::Refusal;
-use policy_board::seat::{Receipt, Seat};
+use policy_board::refusal::BoardRefusal;
+use policy_board::seat::{Acceptance, Seat};
 use policy_board::sharing::boards_are_shared;
-use rbac_admin::refusal::Refusal as PolicyRefusal;
+use rbac_admin::refusal::PolicyRefusal;
 use rbac_policy::commands::{AdminCommand, SessionId};
 use rbac_policy::names::{Name, RoleNames};
 use rbac_policy::objects::{Object, Operation};
@@ -50,7 +50,7 @@ pub(crate) fn first() -> SessionId {
 pub(crate) fn may_audit<B: BoardName>(
     board: &Board<B>,
     seat: &mut Seat<B>,
-) -> Result<bool, Refusal> {
+) -> Result<bool, BoardRefusal> {
     board.check_access(seat, first(), Operation::Audit, &Object::Policy)
 }
 
@@ -75,7 +75,7 @@ pub(crate) fn give<B: BoardName, R: Wait + Abort>(
     board: &Board<B>,
     seat: &mut Seat<B>,
     command: AdminCommand,
-) -> Receipt<B> {
+) -> Acceptance<B> {
     board
         .admin(rt, seat, Some(first()), command)
         .ok()
@@ -88,7 +88,7 @@ pub(crate) fn refusal<B: BoardName, R: Wait>(
     board: &Board<B>,
     seat: &mut Seat<B>,
     command: AdminCommand,
-) -> Option<Refusal> {
+) -> Option<BoardRefusal> {
     board.admin(rt, seat, Some(first()), command).err()
 }
 
@@ -113,7 +113,7 @@ pub(crate) fn grant_once<B: BoardName, R: Wait + Abort>(
     alloc: Global,
     board: &Board<B>,
     seat: &mut Seat<B>,
-) -> Receipt<B> {
+) -> Acceptance<B> {
     enter(rt, alloc, board, seat);
     give(rt, board, seat, grant())
 }
@@ -124,7 +124,7 @@ fn grant_at<B: BoardName, R: Wait + Abort>(
     alloc: Global,
     board: &Board<B>,
     mut seat: Seat<B>,
-) -> Receipt<B> {
+) -> Acceptance<B> {
     grant_once(rt, alloc, board, &mut seat)
 }
 
@@ -220,14 +220,19 @@ pub(crate) fn refuse<B: BoardName, R: Wait + Abort>(
 ) {
     assert!(rt; seat.seen() == 0);
     let early = refusal(rt, board, seat, grant());
-    assert!(rt; matches!(early, Some(Refusal::Policy(PolicyRefusal::NoSession))));
+    assert!(rt; matches!(early, Some(BoardRefusal::Policy(PolicyRefusal::NoSession))));
     assert!(rt; seat.seen() == 4);
     grant_once(rt, alloc, board, seat);
     let twice = refusal(rt, board, seat, grant());
-    assert!(rt; matches!(twice, Some(Refusal::Policy(PolicyRefusal::AlreadyGranted))));
+    assert!(rt;
+        matches!(
+            twice,
+            Some(BoardRefusal::Policy(PolicyRefusal::AlreadyGranted))
+        )
+    );
     seat.note_version(7);
     let behind = may_audit(board, seat);
-    assert!(rt; matches!(behind, Err(Refusal::Behind { found: 6, seen: 7 })));
+    assert!(rt; matches!(behind, Err(BoardRefusal::Behind { found: 6, seen: 7 })));
     assert!(rt; seat.seen() == 7);
     assert!(rt; matches!(may_audit(board, other), Ok(true)));
 }

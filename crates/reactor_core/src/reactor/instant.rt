@@ -9,7 +9,7 @@ ghost use Rattle.reactor_core.specs.Instants.{SettleAnswer, CommitAnswer};
 use crate::entry::Stamp;
 use crate::reactor::Reactor;
 use crate::reactor::parts::{Parts, react};
-use crate::refusal::Refusal;
+use crate::refusal::ReactorRefusal;
 use est_kernel::state::{Outcome, Stuck};
 use std::marker::Model;
 
@@ -95,7 +95,7 @@ impl Instant {
 impl Settled {
     /// Adds the instant, and an entry that keeps its inputs and outputs. Afterwards nothing is
     /// pending. A refusal, JournalFull or Memory, hands the reactor back as it was before `open`.
-    pub fn commit(self, stamp: Stamp) -> Result<Reactor, (Refusal, Reactor)>
+    pub fn commit(self, stamp: Stamp) -> Result<Reactor, (ReactorRefusal, Reactor)>
         ensures { CommitAnswer self stamp result }
     {
         let Settled { parts, outcome } = self;

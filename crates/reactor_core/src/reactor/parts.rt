@@ -14,7 +14,7 @@ ghost use Rattle.reactor_core.specs.Answers.{HasRoom, RefusesEntry};
 use crate::entry::{Move, PastInstant, SlotEntry, Stamp};
 use crate::journal::Journal;
 use crate::loaded::Module;
-use crate::refusal::Refusal;
+use crate::refusal::ReactorRefusal;
 use est_kernel::state::{Inputs, Outcome, State, Stuck};
 use est_micro::micro::Micro;
 use est_relations::pending::Pending;
@@ -36,7 +36,7 @@ pub struct Parts {
 }
 
 /// The pending inputs of a module with the one of this name, where it may join them.
-pub fn join(loaded: &Module, pending: u64, name: &Identifier) -> Result<u64, Refusal>
+pub fn join(loaded: &Module, pending: u64, name: &Identifier) -> Result<u64, ReactorRefusal>
     requires { AreKept loaded.now pending }
     ensures { MatchResult result
         (JoinsAs loaded.now pending name.now)
@@ -48,7 +48,7 @@ pub fn join(loaded: &Module, pending: u64, name: &Identifier) -> Result<u64, Ref
 }
 
 /// Whether an instant may take the pending inputs of a module.
-pub fn check_relations(loaded: &Module, pending: u64) -> Result<(), Refusal>
+pub fn check_relations(loaded: &Module, pending: u64) -> Result<(), ReactorRefusal>
     requires { AreKept loaded.now pending }
     ensures { MatchResult result
         (λ _. AreLawful loaded.now.relations (bits pending))
@@ -85,7 +85,7 @@ fn append_step(
     instants: &mut Vec<PastInstant>,
     stamp: Stamp,
     instant: PastInstant,
-) -> Result<(), Refusal>
+) -> Result<(), ReactorRefusal>
     ensures { MatchResult result
         (λ _. HasRoom journal.old
         × (journal.new ≡ journal.old ++ entry stamp (Move.Step instant) ∷ [])
@@ -95,10 +95,10 @@ fn append_step(
 {
     // Asked first, so that JournalFull goes before Memory.
     if journal.is_full() {
-        return Err(Refusal::JournalFull);
+        return Err(ReactorRefusal::JournalFull);
     }
     if instants.reserve(1).is_err() {
-        return Err(Refusal::Memory);
+        return Err(ReactorRefusal::Memory);
     }
     let entry = SlotEntry {
         stamp,
@@ -112,7 +112,7 @@ fn append_step(
 impl Parts {
     /// Adds the instant of this outcome, with its entry. A refusal, JournalFull or Memory, leaves
     /// the journal and the running module as they were.
-    pub fn advance(&mut self, stamp: Stamp, outcome: Outcome) -> Result<(), Refusal>
+    pub fn advance(&mut self, stamp: Stamp, outcome: Outcome) -> Result<(), ReactorRefusal>
         requires running { AreRunning self.old }
         requires next { HaveOutcome self.old outcome }
         ensures running { AreRunning self.new }

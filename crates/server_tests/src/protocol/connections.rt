@@ -3,7 +3,7 @@ use access_core::refusal::Refusal;
 use access_core::reply::Reply;
 use access_core::single::Single;
 use client_loop::serving::{End, serve};
-use rbac_admin::refusal::Refusal as PolicyRefusal;
+use rbac_admin::refusal::PolicyRefusal;
 use rbac_policy::commands::{AdminCommand, SessionId};
 use rbac_policy::objects::{Object, Operation};
 use std::alloc::Global;

@@ -5,11 +5,11 @@ use access_core::reply::{Added, Reply};
 use est_text::identifier::Identifier;
 use policy_board::board::Board;
 use policy_board::board_list::BoardName;
-use policy_board::seat::{Receipt, Seat};
+use policy_board::seat::{Acceptance, Seat};
 use rbac_policy::commands::{AdminCommand, SessionId};
 use rbac_policy::names::{Name, RoleNames};
 use rbac_policy::objects::{Object, Operation, SlotNumber};
-use reactor_core::entry::{Load, Move, Word};
+use reactor_core::entry::{Load, Move, SlotWord};
 use reactor_core::text::Text;
 use slot_table::table::SlotTable;
 use std::alloc::{AllocError, Global};
@@ -63,7 +63,7 @@ fn give<B: BoardName, R: Wait + Abort>(
     seat: &mut Seat<B>,
     session: Option<SessionId>,
     command: AdminCommand,
-) -> Receipt<B> {
+) -> Acceptance<B> {
     board
         .admin(rt, seat, session, command)
         .ok()
@@ -76,7 +76,7 @@ pub(crate) fn order<B: BoardName, R: Wait + Abort>(
     board: &Board<B>,
     seat: &mut Seat<B>,
     command: AdminCommand,
-) -> Receipt<B> {
+) -> Acceptance<B> {
     give(rt, board, seat, Some(root()), command)
 }
 
@@ -123,7 +123,7 @@ pub(crate) fn begin<B: BoardName, R: Wait + Abort>(
         matches!(
             reply,
             Reply::Added(Added {
-                word: Word::Load,
+                word: SlotWord::Load,
                 place: 1,
                 ..
             })

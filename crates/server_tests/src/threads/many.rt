@@ -14,7 +14,7 @@ use policy_board::seat::Seat;
 use policy_board::sharing::boards_are_shared;
 use rbac_policy::names::Name;
 use rbac_policy::objects::{Object, Operation, SLOTS, SlotNumber};
-use reactor_core::entry::{Move, Word};
+use reactor_core::entry::{Move, SlotWord};
 use server_threads::workers::{Turn, Work, run_each};
 use slot_table::closing::Histories;
 use slot_table::table::SlotTable;
@@ -108,7 +108,7 @@ fn step<B: BoardName, R: Wait>(
     worker.asked(matches!(
         reply,
         Reply::Added(Added {
-            word: Word::Step,
+            word: SlotWord::Step,
             ..
         })
     ));

@@ -7,18 +7,18 @@ use crate::threads::server::{Server, open};
 use access_core::command::SlotCommand;
 use access_core::refusal::Refusal;
 use access_core::reply::{Added, Reply};
-use audit_report::audit::check;
+use audit_report::audit::audit_journals;
 use est_text::identifier::Identifier;
 use policy_board::board::Board;
 use policy_board::board_list::{BoardName, FreshList};
 use policy_board::reader::SlotReader;
-use policy_board::seat::{Receipt, Seat};
+use policy_board::seat::{Acceptance, Seat};
 use policy_board::sharing::boards_are_shared;
-use rbac_admin::refusal::Refusal as PolicyRefusal;
+use rbac_admin::refusal::PolicyRefusal;
 use rbac_policy::commands::{AdminCommand, SessionId};
 use rbac_policy::names::Name;
 use rbac_policy::objects::{Object, Operation, SlotNumber};
-use reactor_core::entry::{Move, SlotEntry, Word};
+use reactor_core::entry::{Move, SlotEntry, SlotWord};
 use slot_table::closing::Histories;
 use slot_table::table::SlotTable;
 use std::alloc::Global;
@@ -129,7 +129,7 @@ fn step_on<B: BoardName, R: Wait + Abort>(
             matches!(
                 reply,
                 Reply::Added(Added {
-                    word: Word::Step,
+                    word: SlotWord::Step,
                     ..
                 })
             )
@@ -145,7 +145,7 @@ fn change<B: BoardName, R: Wait + Abort>(
     board: &Board<B>,
     mut seat: Seat<B>,
     command: AdminCommand,
-) -> (Seat<B>, Receipt<B>) {
+) -> (Seat<B>, Acceptance<B>) {
     let receipt = order(rt, board, &mut seat, command);
     (seat, receipt)
 }
@@ -205,7 +205,7 @@ fn play_round<
     assert!(rt; may_offer(rt, board, &mut asker));
     let reply = offer(rt, board, table.lent(), &mut asker);
     let added = match reply {
-        Reply::Added(added) => added.word == Word::Offer && added.version == told,
+        Reply::Added(added) => added.word == SlotWord::Offer && added.version == told,
         _ => false,
     };
     assert!(rt; added);
@@ -298,7 +298,7 @@ fn serve<B: BoardName + Send + Sync, R: Threads + Wait + Abort + Sync>(
         .close(rt, alloc, board, seats)
         .ok()
         .expect(rt, "histories");
-    assert!(rt; check(alloc, &histories.policy, &histories.slots).is_ok());
+    assert!(rt; audit_journals(alloc, &histories.policy, &histories.slots).is_ok());
     assert!(rt; offers_of_ann(histories.slots[0].entries()) >= rounds as usize);
     histories
 }

@@ -12,7 +12,7 @@ use policy_board::reader::SlotReader;
 use policy_board::seat::Seat;
 use policy_board::sharing::boards_are_shared;
 use rbac_policy::names::Name;
-use reactor_core::entry::{Move, Word};
+use reactor_core::entry::{Move, SlotWord};
 use slot_table::table::SlotTable;
 use std::alloc::Global;
 use std::marker::Brand;
@@ -56,7 +56,7 @@ fn step_often<B: BoardName, R: Wait + Abort>(
         ) {
             Reply::Added(
                 Added {
-                    word: Word::Step,
+                    word: SlotWord::Step,
                     place,
                     version,
                     ..

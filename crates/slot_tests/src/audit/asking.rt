@@ -2,7 +2,7 @@
 use crate::audit::journals::{
     journals_of_one, load_of, policy_entries, policy_of, slot_entries, stamped, stepped,
 };
-use audit_report::audit::check_with;
+use audit_report::audit::audit_journals_with;
 use est_kernel::kernel::Kernel;
 use est_kernel::state::{Inputs, Outcome, State, Stuck};
 use est_rounds::engine::Engine;
@@ -35,7 +35,7 @@ fn asked_of(rt: &impl Abort, alloc: Global, entries: Vec<SlotEntry>) -> usize {
         plain: Rounds::new(),
         asked: 0,
     };
-    assert!(rt; check_with(alloc, &policy, &slots, &mut engine) == Ok(()));
+    assert!(rt; audit_journals_with(alloc, &policy, &slots, &mut engine) == Ok(()));
     engine.asked
 }
 

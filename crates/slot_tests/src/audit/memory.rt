@@ -4,7 +4,7 @@
 //! allocation refused in turn.
 use crate::audit::findings::OPENING_REPORT;
 use crate::audit::journals::{journals_of_one, policy_entries, policy_of, slot_entries};
-use audit_report::audit::check;
+use audit_report::audit::audit_journals;
 use audit_report::finding::Finding;
 use audit_report::reports::report;
 use rbac_policy::journal::PolicyJournal;
@@ -20,10 +20,10 @@ fn go_on(rt: &impl Abort, is_refused: bool, words: &str) {
 
 /// Nothing is found in the journals.
 fn check_them(rt: &impl Abort, alloc: Global, policy: &PolicyJournal, slots: &[Journal; 16]) {
-    let first = check(alloc, policy, slots);
+    let first = audit_journals(alloc, policy, slots);
     let is_refused = first == Err(Finding::Memory);
     let found = if is_refused {
-        check(alloc, policy, slots)
+        audit_journals(alloc, policy, slots)
     } else {
         first
     };

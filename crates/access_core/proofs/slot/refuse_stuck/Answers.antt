@@ -3,7 +3,7 @@ use mathlib.Core.Path.{fun_ext}
 use Rattle.est_kernel.specs.Bits.{bits}
 use Rattle.est_kernel.specs.declared.interface.Declaration.{Declaration}
 use Rattle.access_core.specs.declared.refusal.Refusal.TheVariants.{Stuck}
-use Rattle.access_core.specs.Shown.{Sees, name_at, places_of, names_of}
+use Rattle.access_core.specs.Shown.{Observes, name_at, places_of, names_of}
 use Rattle.access_core.proofs.slot.refuse_stuck.Goals as goal
 
 pub returns-in-Ok : goal.returns-in-Ok
@@ -17,10 +17,10 @@ returns-in-Ok c = λ entries stands.
       runs = interface.1;
       sees = bits c.find_observed-seen.result;
       observes =
-          subst (λ (ds : List Declaration). Sees entries c.args.session c.args.slot ds
+          subst (λ (ds : List Declaration). Observes entries c.args.session c.args.slot ds
           (bits c.find_observed-seen.result)) same (c.find_observed-seen.ensures entries stands);
       named = ap Stuck (c.in-Ok.ensures
           ∙ ap (λ p. map (name_at c.interface-interface.result.now)
-          (filter p (places_of c.interface-interface.result.now))) (fun_ext c.keep_seen-undecided.ensures)
+          (filter p (places_of c.interface-interface.result.now))) (fun_ext c.keep_observed-undecided.ensures)
           ∙ ap (λ (ds : List Declaration). names_of ds (bits c.find_observed-seen.result) c.args.stuck.undecided) same);
     })

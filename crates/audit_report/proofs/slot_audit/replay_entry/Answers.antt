@@ -2,7 +2,7 @@ use Rattle.std.proofs.Common.{◌∙◌, List, ap, rules, subst, sym}
 use Rattle.reactor_core.specs.declared.entry.SlotEntry.{SlotEntry}
 use Rattle.access_core.specs.declared.command.SlotCommand.TheVariants.{Move}
 use Rattle.audit_report.specs.Inner.Faults.{IsFaultOf, KeepsInstant}
-use Rattle.audit_report.proofs.AskedAgain.{opinion_holds}
+use Rattle.audit_report.proofs.SecondEngine.{opinion_holds}
 use Rattle.audit_report.proofs.Replayed.{judges, fault_is, adds, otherwise}
 use Rattle.audit_report.proofs.slot_audit.replay_entry.Goals as goal
 use Rattle.audit_report.proofs.slot_audit.replay_entry.Goals.{else-holds-via-then-holds+else-keeps_instant}

@@ -3,7 +3,7 @@ use Rattle.std.proofs.lemmas.Result.{err_from_is_err_and}
 use Rattle.est_text.specs.declared.place.Place.{Place}
 use Rattle.reactor_core.specs.Loading.{IsCutOf}
 use Rattle.reactor_core.specs.declared.refusal.ModuleRefusal.TheVariants.{Syntax}
-use Rattle.reactor_core.specs.declared.refusal.Refusal.TheVariants.{Module}
+use Rattle.reactor_core.specs.declared.refusal.ReactorRefusal.TheVariants.{Module}
 use Rattle.lab_claims.specs.Claims.{first_other}
 use Rattle.lab_claims.specs.Refused.{no_tokens, other_token}
 use Rattle.lab_claims.proofs.asking.check_tokens.Goals as goal

@@ -4,7 +4,7 @@ use Rattle.reactor_core.specs.declared.entry.Stamp.{Stamp}
 use Rattle.reactor_core.specs.declared.entry.Load.{Load as LoadEntry}
 use Rattle.reactor_core.specs.declared.entry.Move.TheVariants.{Load}
 use Rattle.reactor_core.specs.declared.entry.SlotEntry.{SlotEntry}
-use Rattle.reactor_core.specs.declared.refusal.Refusal.{Refusal}
+use Rattle.reactor_core.specs.declared.refusal.ReactorRefusal.{ReactorRefusal}
 use Rattle.reactor_core.specs.Loading.{GivenModule, Gives}
 use Rattle.reactor_core.specs.Meaning.{entry}
 use Rattle.reactor_core.specs.Answers.{HasRoom, RefusesEntry, LoadAnswer}
@@ -14,7 +14,7 @@ use Rattle.reactor_core.proofs.AnswerLemmas.{entry_refused, entry_passes}
 use Rattle.reactor_core.proofs.reactor.Reactor.load.Goals as goal
 
 begun : (before : List SlotEntry) (stamp : Stamp) (l : LoadEntry) (m : GivenModule)
-    (answer : Result (List SlotEntry) (Refusal × List SlotEntry))
+    (answer : Result (List SlotEntry) (ReactorRefusal × List SlotEntry))
     → Gives l.main l.text m
     → MatchResult answer
     (λ r. HasRoom before × (r ≡ before ++ entry stamp (Load l) ∷ []))
@@ -31,7 +31,8 @@ begun before stamp l m (Ok r) gives h =
       },
     ))
 begun before stamp l m (Err e) gives h =
-    let answer : List SlotEntry → Result (List SlotEntry) (Refusal × List SlotEntry) = λ journal. Err (e.0, journal) in
+    let answer : List SlotEntry → Result (List SlotEntry) (ReactorRefusal × List SlotEntry) = λ journal. Err
+    (e.0, journal) in
     pass (m, gives) (entry_refused before e.0 h.0 (ap answer h.1))
 
 pub returns-in-Ok : goal.returns-in-Ok

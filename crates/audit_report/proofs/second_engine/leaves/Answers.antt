@@ -5,7 +5,7 @@ use Rattle.est_left.specs.Orders.{are_in_order}
 use Rattle.est_meaning.specs.States.{state_term}
 use Rattle.reactor_core.specs.declared.entry.SlotEntry.{SlotEntry}
 use Rattle.reactor_core.specs.Left.{IsLeftOf}
-use Rattle.audit_report.proofs.asked_again.leaves.Goals as goal
+use Rattle.audit_report.proofs.second_engine.leaves.Goals as goal
 
 pub returns-then-not-is_in_order-clause-same : goal.returns-then-not-is_in_order-clause-same
 returns-then-not-is_in_order-clause-same c = λ told.

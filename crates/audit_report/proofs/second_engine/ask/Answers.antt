@@ -1,5 +1,5 @@
-use Rattle.audit_report.proofs.AskedAgain.{inputs_fit, outcome_of, no_outcome_of}
-use Rattle.audit_report.proofs.asked_again.ask.Goals as goal
+use Rattle.audit_report.proofs.SecondEngine.{inputs_fit, outcome_of, no_outcome_of}
+use Rattle.audit_report.proofs.second_engine.ask.Goals as goal
 
 pub react-requires-clause-inputs : goal.react-requires-clause-inputs
 react-requires-clause-inputs g c =

@@ -1,7 +1,7 @@
 use Rattle.std.proofs.Common.{◌≡◌, ◌≤◌, length, take}
 use Rattle.rbac_policy.specs.Change.{policy_of}
 use Rattle.access_core.specs.Journals.{last_version, AreLegal}
-use Rattle.audit_report.proofs.slot_audit.check_slot.Given as goal
+use Rattle.audit_report.proofs.slot_audit.audit_slot.Given as goal
 
 -- the entries so far are legal, and the slot has them; the policy is that of the last one's version
 abbrev pub invariant-loop-at : goal.invariant-loop-at

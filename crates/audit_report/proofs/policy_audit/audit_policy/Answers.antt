@@ -7,7 +7,7 @@ use Rattle.rbac_policy.specs.Change.{absorbed, policy_of}
 use Rattle.rbac_policy.specs.StandsFor.{StandsFor}
 use Rattle.rbac_policy.proofs.Growing.{policy_of_more}
 use Rattle.audit_report.proofs.Fronts.{list_whole, right_stands, opens_front, opens_within, right_later, wrong_later}
-use Rattle.audit_report.proofs.policy_audit.check_policy.Goals as goal
+use Rattle.audit_report.proofs.policy_audit.audit_policy.Goals as goal
 
 pub loop-at-init : goal.loop-at-init
 loop-at-init c = record {

@@ -39,10 +39,10 @@ use Rattle.access_core.specs.SlotStep.{SlotStep, slot_rules, Does, stamp_of}
 use Rattle.access_core.specs.declared.command.SlotCommand.TheVariants.{Move}
 use Rattle.access_core.proofs.Legality.{steps_where}
 use Rattle.access_core.proofs.OneNaming.{same_mask}
-use Rattle.audit_report.specs.Inner.Asking.{Predicts, LeavesOther, Thinks, ThinksOfStep, Fails}
+use Rattle.audit_report.specs.Inner.Asking.{Predicts, LeavesOther, IsSecondAnswer, IsSecondStepAnswer, Fails}
 use Rattle.audit_report.specs.Inner.Faults.{last_instant, KeepsInstant}
-use Rattle.audit_report.specs.declared.asked_again.Opinion.{Opinion}
-use Rattle.audit_report.specs.declared.asked_again.Opinion.TheVariants.{NotAsked, Other, SameOutputs, Same}
+use Rattle.audit_report.specs.declared.second_engine.SecondAnswer.{SecondAnswer}
+use Rattle.audit_report.specs.declared.second_engine.SecondAnswer.TheVariants.{NotAsked, Other, SameOutputs, Same}
 use Rattle.audit_report.proofs.Replayed.{last_pushed}
 
 module _ (modules : OneModule) (journal : List SlotEntry) (k : Kernel) (x : State) (left : IsLeftOf journal k x)
@@ -113,21 +113,23 @@ pub none_at_all : OneModule → (journal : List SlotEntry) (undecided b : ℕ) �
 none_at_all modules journal undecided b none next other = not_both modules journal b next undecided other none
 
 -- nothing is asked where no module runs
-pub nothing_runs : (journal : List SlotEntry) (a : PastMove) → is_loaded journal ≡ false → Thinks journal a NotAsked
+pub nothing_runs : (journal : List SlotEntry) (a : PastMove) → is_loaded journal ≡ false
+    → IsSecondAnswer journal a NotAsked
 nothing_runs journal a none = by_instant (instant_of a) where
   by_instant : (i : Option PastInstant)
       → MatchOption i (NotAsked ≡ NotAsked)
-      (λ i. ((is_loaded journal ≡ false) × (NotAsked ≡ NotAsked)) ⊎ ThinksOfStep journal i.outputs NotAsked)
+      (λ i. ((is_loaded journal ≡ false) × (NotAsked ≡ NotAsked)) ⊎ IsSecondStepAnswer journal i.outputs NotAsked)
   by_instant None = refl
   by_instant (Some i) = inl (none, refl)
 
 -- what is thought of a step is thought of the move that keeps its instant
-pub thinks_of : (journal : List SlotEntry) (a : PastMove) (o : Opinion) (i : PastInstant) → Some i ≡ instant_of a
-    → ((is_loaded journal ≡ false) × (o ≡ NotAsked)) ⊎ ThinksOfStep journal i.outputs o → Thinks journal a o
+pub thinks_of : (journal : List SlotEntry) (a : PastMove) (o : SecondAnswer) (i : PastInstant) → Some i ≡ instant_of a
+    → ((is_loaded journal ≡ false) × (o ≡ NotAsked)) ⊎ IsSecondStepAnswer journal i.outputs o
+    → IsSecondAnswer journal a o
 thinks_of journal a o i is h =
     subst
     (λ (kept : Option PastInstant). MatchOption kept (o ≡ NotAsked)
-    (λ i. ((is_loaded journal ≡ false) × (o ≡ NotAsked)) ⊎ ThinksOfStep journal i.outputs o)) is h
+    (λ i. ((is_loaded journal ≡ false) × (o ≡ NotAsked)) ⊎ IsSecondStepAnswer journal i.outputs o)) is h
 
 -- an accepted step keeps this instant: it has an outcome with its outputs, whose term is left
 record KeepsOutcome (before : List SlotEntry) (i : PastInstant) (after : List SlotEntry) : Type 0 where
@@ -175,23 +177,25 @@ module _ (modules : OneModule) (judged : List Entry) (slot session : ℕ) (befor
       one_state told.kernel.root other.kernel.root next begins told.ordered other.ordered in
       other.other (sym c ∙ (a ∙ sym b))
 
-  step_holds : (i : PastInstant) (o : Opinion) → KeepsOutcome before i after → ThinksOfStep before i.outputs o
+  step_holds : (i : PastInstant) (o : SecondAnswer) → KeepsOutcome before i after
+      → IsSecondStepAnswer before i.outputs o
       → Fails after o → ⊥
   step_holds i NotAsked kept thinks fails = fails
   step_holds i Other kept thinks fails = thinks kept.next kept.outcome
   step_holds i SameOutputs kept thinks fails = fails
   step_holds i (Same next) kept thinks fails = left_as_told i next kept thinks fails
 
-  unasked : (o : Opinion) → o ≡ NotAsked → Fails after o → ⊥
-  unasked o none fails = subst (λ (p : Opinion). Fails after p) none fails
+  unasked : (o : SecondAnswer) → o ≡ NotAsked → Fails after o → ⊥
+  unasked o none fails = subst (λ (p : SecondAnswer). Fails after p) none fails
 
   -- where an entry is kept, it is as the second engine has it
-  pub opinion_holds : (a : PastMove) (o : Opinion) → SlotStep judged slot session (Move (asked a)) before reply after
-      → Thinks before a o → KeepsInstant after a → Fails after o → ⊥
+  pub opinion_holds : (a : PastMove) (o : SecondAnswer)
+      → SlotStep judged slot session (Move (asked a)) before reply after
+      → IsSecondAnswer before a o → KeepsInstant after a → Fails after o → ⊥
   opinion_holds a o h thinks keeps fails = by_instant (instant_of a) refl thinks keeps where
     by_instant : (i : Option PastInstant) → instant_of a ≡ i
         → MatchOption i (o ≡ NotAsked)
-        (λ i. ((is_loaded before ≡ false) × (o ≡ NotAsked)) ⊎ ThinksOfStep before i.outputs o)
+        (λ i. ((is_loaded before ≡ false) × (o ≡ NotAsked)) ⊎ IsSecondStepAnswer before i.outputs o)
         → MatchOption i (Unit {0}) (λ i. last_instant after ≡ Some i) → ⊥
     by_instant None is thinks keeps = unasked o thinks fails
     by_instant (Some i) is thinks keeps =

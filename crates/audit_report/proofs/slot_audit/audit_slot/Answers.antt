@@ -11,7 +11,7 @@ use Rattle.access_core.specs.Journals.{HasRightVersion, Adds}
 use Rattle.audit_report.proofs.Fronts.{front_stands}
 use Rattle.access_core.proofs.Legality.{take_next, next_version, legal_more}
 use Rattle.audit_report.proofs.Walking.{fault_first}
-use Rattle.audit_report.proofs.slot_audit.check_slot.Goals as goal
+use Rattle.audit_report.proofs.slot_audit.audit_slot.Goals as goal
 
 pub returns-in-Err-clause-err : goal.returns-in-Err-clause-err
 returns-in-Err-clause-err g c =

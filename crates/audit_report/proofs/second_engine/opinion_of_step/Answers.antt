@@ -2,8 +2,8 @@ use Rattle.std.proofs.Common.{◌≡◌, ℕ, true, subst, arith}
 use Rattle.est_left.specs.Orders.{are_in_order}
 use Rattle.est_meaning.specs.States.{state_term}
 use Rattle.reactor_core.specs.Instants.{IsOutcome}
-use Rattle.audit_report.proofs.AskedAgain.{other_outputs, none_at_all}
-use Rattle.audit_report.proofs.asked_again.opinion_of_step.Goals as goal
+use Rattle.audit_report.proofs.SecondEngine.{other_outputs, none_at_all}
+use Rattle.audit_report.proofs.second_engine.opinion_of_step.Goals as goal
 
 pub returns-then-nests_locals : goal.returns-then-nests_locals
 returns-then-nests_locals g c = record {

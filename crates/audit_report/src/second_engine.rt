@@ -8,7 +8,7 @@ ghost use Rattle.est_kernel.specs.declared.kernel.Kernel.{Kernel as KernelValue}
 ghost use Rattle.est_meaning.specs.States.{state_term};
 ghost use Rattle.reactor_core.specs.Instants.{HasNoOutcome, IsOutcome};
 ghost use Rattle.reactor_core.specs.Left.{IsLeftOf};
-ghost use Rattle.audit_report.specs.Inner.Asking.{ThinksOfStep, Thinks, LeavesSame};
+ghost use Rattle.audit_report.specs.Inner.Asking.{IsSecondStepAnswer, IsSecondAnswer, LeavesSame};
 ghost use Rattle.audit_report.specs.Inner.Asking.{LeavesOther, Holds, Fails};
 
 use access_core::slot::Slot;
@@ -28,7 +28,7 @@ const ASKED_LOCALS: u16 = 6;
 
 /// What the second engine says of a move before it is replayed.
 #[derive(Clone, Copy)]
-pub(crate) enum Opinion {
+pub(crate) enum SecondAnswer {
     /// It is not asked.
     NotAsked,
     /// It has no reaction, or one with other outputs than the entry keeps.
@@ -66,27 +66,27 @@ fn ask<E: Engine>(
 /// What this engine says of a step of what runs that keeps these outputs. It is not asked where
 /// local signals nest too deep. Where pauses are not numbered in text order, as in no module that
 /// is loaded, its next state says nothing.
-fn opinion_of_step<E: Engine>(engine: &mut E, reactor: &Reactor, outputs: u64) -> Opinion
+fn opinion_of_step<E: Engine>(engine: &mut E, reactor: &Reactor, outputs: u64) -> SecondAnswer
     requires { (e : E) (kernel : KernelValue) → E.is_for e kernel }
-    ensures { ThinksOfStep reactor.now outputs result }
+    ensures { IsSecondStepAnswer reactor.now outputs result }
 {
     one_module();
     let (kernel, state) = reactor.state();
     if nests_locals(kernel.root(), ASKED_LOCALS) {
-        return Opinion::NotAsked;
+        return SecondAnswer::NotAsked;
     }
     match ask(engine, reactor, kernel, state) {
         Ok(outcome) => {
             if outcome.outputs != outputs {
-                return Opinion::Other;
+                return SecondAnswer::Other;
             }
             if is_in_order(kernel.root()) {
-                Opinion::Same(outcome.next)
+                SecondAnswer::Same(outcome.next)
             } else {
-                Opinion::SameOutputs
+                SecondAnswer::SameOutputs
             }
         }
-        Err(_) => Opinion::Other,
+        Err(_) => SecondAnswer::Other,
     }
 }
 
@@ -95,16 +95,16 @@ pub(crate) fn opinion_of<E: Engine>(
     engine: &mut E,
     slot: &Slot,
     done: &Move<PastInstant>,
-) -> Opinion
+) -> SecondAnswer
     requires { (e : E) (kernel : KernelValue) → E.is_for e kernel }
-    ensures { Thinks slot.now.journal done.now result }
+    ensures { IsSecondAnswer slot.now.journal done.now result }
 {
     let Some(reactor) = slot.reactor() else {
-        return Opinion::NotAsked;
+        return SecondAnswer::NotAsked;
     };
     match done.instant() {
         Some(stored) => opinion_of_step(engine, reactor, stored.outputs),
-        None => Opinion::NotAsked,
+        None => SecondAnswer::NotAsked,
     }
 }
 
@@ -120,16 +120,16 @@ fn leaves(slot: &Slot, next: &State) -> bool
     !is_in_order(kernel.root()) || is_same_state(kernel.root(), next, state)
 }
 
-impl Opinion {
+impl SecondAnswer {
     /// Whether the slot is, after the move, as the opinion has it.
     pub(crate) fn holds_after(&self, slot: &Slot) -> bool
         ensures same { result ≡ true → Holds slot.now.journal self.now }
         ensures other { result ≡ false → Fails slot.now.journal self.now }
     {
         match self {
-            Opinion::NotAsked | Opinion::SameOutputs => true,
-            Opinion::Other => false,
-            Opinion::Same(next) => leaves(slot, next),
+            SecondAnswer::NotAsked | SecondAnswer::SameOutputs => true,
+            SecondAnswer::Other => false,
+            SecondAnswer::Same(next) => leaves(slot, next),
         }
     }
 }

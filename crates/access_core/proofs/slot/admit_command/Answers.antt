@@ -1,5 +1,5 @@
 use Rattle.std.proofs.Common.{◌≡◌, refl, true}
-use Rattle.access_core.proofs.slot.check_access.Goals as goal
+use Rattle.access_core.proofs.slot.admit_command.Goals as goal
 
 pub returns : goal.returns
 returns c = λ entries stands.

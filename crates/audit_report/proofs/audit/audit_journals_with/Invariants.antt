@@ -1,5 +1,5 @@
 use Rattle.audit_report.specs.Findings.{AreSlotsLegal}
-use Rattle.audit_report.proofs.audit.check_with.Given as goal
+use Rattle.audit_report.proofs.audit.audit_journals_with.Given as goal
 
 -- the journals so far are legal
 abbrev pub invariant-loop-number : goal.invariant-loop-number
