@@ -13,7 +13,10 @@ use std::process::Abort;
 
 /// Lines that are sent to one lab, and what it answers.
 const LINES: [(&str, &str); 6] = [
-    ("{\"cmd\":\"kernel\"}", "{\"code\":62,\"fault\":\"Empty\"}\n"),
+    (
+        "{\"cmd\":\"kernel\"}",
+        "{\"code\":62,\"fault\":\"Empty\"}\n",
+    ),
     (
         "{\"cmd\":\"load\",\"main\":\"M\",\"text\":\"module M: input A; nothing end module\"}",
         "{\"inputs\":[\"A\"],\"ok\":\"load\",\"outputs\":[]}\n",

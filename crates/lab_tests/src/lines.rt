@@ -148,7 +148,7 @@ fn words_of_answers(rt: HostRuntime) {
     expect_text(&rt, alloc, &given, "{\"verdict\":\"toomany\"}");
 }
 
-/// Names of an input, an inputoutput, an output and nothing; and what offers such a name, as a mask.
+/// Names of an input, an inputoutput, an output and nothing, and the mask of what may be offered.
 const OFFERS: [(&str, Option<u64>); 4] = [("A", Some(1)), ("L", Some(2)), ("O", None), ("X", None)];
 
 /// An input and an inputoutput may be offered, and what is not named is not offered.
