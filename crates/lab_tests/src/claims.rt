@@ -3,13 +3,13 @@
 ghost use Rattle.std.specs.Prelude.{◌≡◌};
 ghost use Rattle.est_micro.specs.Engine.{IsNetOf};
 
+use crate::lines::expect_member;
 use crate::modules::{A, B, O, both, is_absent, late, paradox};
 use est_cover::all_lawful::AllLawful;
 use est_cover::asked::Asked;
 use est_explore::claim::Claim;
 use est_explore::judge::{explore, judge};
 use est_explore::one_module::{Answer, OneModule};
-use est_explore::same::{Comparison, compare, explore_both};
 use est_explore::two_modules::{EnginePair, TwoModules};
 use est_explore::verdict::Verdict;
 use est_kernel::kernel::Kernel;
@@ -19,6 +19,8 @@ use est_relations::relations::{Members, Relation, Relations};
 use est_rounds::part_engine::PartEngine;
 use est_rounds::rounds::Rounds;
 use lab_lines::comparing::are_same;
+use lab_mistakes::telling::compare_modules;
+use serde_json::Value;
 use state_search::search::Limits;
 use std::alloc::Global;
 use std::marker::PhantomData;
@@ -217,9 +219,8 @@ fn limits(rt: HostRuntime) {
     expect_answer(&rt, alloc, &kernel, &free, 0, &claim, 2, " too many");
 }
 
-/// What is answered of two kernels of one interface: after how many instants they differ, or 0
-/// where they do the same.
-fn instants_alike(rt: &impl Abort, alloc: Global, first: &Kernel, second: &Kernel) -> usize
+/// What is told of two kernels of one interface.
+fn comparison_told(rt: &impl Abort, alloc: Global, first: &Kernel, second: &Kernel) -> Value
     requires { second.now.interface ≡ first.now.interface }
 {
     let free = Relations::new(alloc);
@@ -247,12 +248,7 @@ fn instants_alike(rt: &impl Abort, alloc: Global, first: &Kernel, second: &Kerne
         states: 9,
         steps: 99,
     };
-    let found = explore_both(alloc, &subject, &mut engines, limits).expect(rt, "room");
-    match compare(alloc, &subject, &found).expect(rt, "room") {
-        Comparison::Same => 0,
-        Comparison::Differ { word } => word.len(),
-        Comparison::TooMany => 99,
-    }
+    compare_modules(alloc, &subject, &mut engines, limits).expect(rt, "room")
 }
 
 /// A module does the same as itself, and not as one that is Stuck where it reacts.
@@ -260,8 +256,12 @@ fn instants_alike(rt: &impl Abort, alloc: Global, first: &Kernel, second: &Kerne
 fn twins(rt: HostRuntime) {
     let alloc = rt.alloc();
     let kernel = paradox(&rt, alloc);
-    assert_eq!(rt; instants_alike(&rt, alloc, &kernel, &kernel), 0);
+    let told = comparison_told(&rt, alloc, &kernel, &kernel);
+    expect_member(&rt, alloc, &told, "verdict", "\"same\"");
     let other = late(&rt, alloc);
     assert!(rt; are_same(other.interface(), kernel.interface()));
-    assert_eq!(rt; instants_alike(&rt, alloc, &kernel, &other), 2);
+    let told = comparison_told(&rt, alloc, &kernel, &other);
+    let wanted = "[{\"first\":{\"outputs\":[]},\"inputs\":[],\"second\":{\"outputs\":[]}},\
+        {\"first\":{\"undecided\":[\"O\"]},\"inputs\":[\"A\"],\"second\":{\"outputs\":[]}}]";
+    expect_member(&rt, alloc, &told, "word", wanted);
 }

@@ -7,6 +7,8 @@ mod claims;
 #[cfg(test)]
 mod instants;
 #[cfg(test)]
+mod labs;
+#[cfg(test)]
 mod lines;
 #[cfg(test)]
 mod modules;

@@ -4,14 +4,17 @@ use crate::claims::engine_of;
 use crate::modules::{both, late};
 use est_cover::all_lawful::AllLawful;
 use est_explore::one_module::OneModule;
+use est_explore::verdict::Verdict;
+use est_kernel::interface::Interface;
 use est_kernel::kernel::Kernel;
+use est_kernel::state::State;
 use est_micro::micro::Micro;
 use est_relations::relations::Relations;
 use est_rounds::rounds::Rounds;
-use lab_lines::reading::request_of;
 use lab_lines::request::Request;
-use lab_lines::statements::kernel_told;
 use lab_lines::table_json::find_table;
+use lab_mistakes::telling::{kernel_told, request_of, signals_of_names, state_json, verdict_json};
+use reactor_core::reading::read_module;
 use serde_json::Value;
 use state_search::search::Limits;
 use std::alloc::Global;
@@ -73,6 +76,12 @@ fn expect_text(rt: &impl Abort, alloc: Global, value: &Value, wanted: &str) {
     assert_eq!(rt; text.as_str(), wanted);
 }
 
+/// Fails where a member of a value is missing, or has another text.
+pub fn expect_member(rt: &impl Abort, alloc: Global, value: &Value, key: &str, wanted: &str) {
+    let member = value.get(key).expect(rt, "a member");
+    expect_text(rt, alloc, member, wanted);
+}
+
 /// The table of a kernel in which A and B may be offered.
 fn table_of(rt: &impl Abort, alloc: Global, kernel: &Kernel) -> Value {
     let free = Relations::new(alloc);
@@ -99,12 +108,11 @@ fn table_of(rt: &impl Abort, alloc: Global, kernel: &Kernel) -> Value {
 fn rows_of_a_table(rt: HostRuntime) {
     let alloc = rt.alloc();
     let table = table_of(&rt, alloc, &late(&rt, alloc));
-    let rows = table.get("rows").expect(&rt, "rows");
     let wanted = "[{\"asked\":[],\"from\":0,\"inputs\":[],\"next\":1,\"outputs\":[]},\
         {\"asked\":[],\"from\":1,\"inputs\":[],\"next\":2,\"outputs\":[]},\
         {\"asked\":[],\"from\":2,\"inputs\":[],\"next\":3,\"outputs\":[\"O\"]},\
         {\"asked\":[],\"from\":3,\"inputs\":[],\"next\":3,\"outputs\":[]}]";
-    expect_text(&rt, alloc, rows, wanted);
+    expect_member(&rt, alloc, &table, "rows", wanted);
 }
 
 /// The states of a table are the start, the pauses and the end.
@@ -124,8 +132,36 @@ fn states_of_a_table(rt: HostRuntime) {
         steps: 99,
     };
     let table = find_table(alloc, &subject, &mut Rounds::new(), limits).expect(&rt, "room");
-    let states = table.get("states").expect(&rt, "states");
-    expect_text(&rt, alloc, states, "[\"start\",[0],[1],\"end\"]");
+    expect_member(&rt, alloc, &table, "states", "[\"start\",[0],[1],\"end\"]");
+}
+
+/// A module stands at its start or at its end; and a search that gave up says so.
+#[test]
+fn words_of_answers(rt: HostRuntime) {
+    let alloc = rt.alloc();
+    let start = state_json(alloc, &State::Fresh).expect(&rt, "room");
+    expect_text(&rt, alloc, &start, "\"start\"");
+    let end = state_json(alloc, &State::Done).expect(&rt, "room");
+    expect_text(&rt, alloc, &end, "\"end\"");
+    let interface = Interface::new(alloc);
+    let given = verdict_json(alloc, &interface, &Verdict::TooMany).expect(&rt, "room");
+    expect_text(&rt, alloc, &given, "{\"verdict\":\"toomany\"}");
+}
+
+/// Names of an input, an inputoutput, an output and nothing, and the mask of what may be offered.
+const OFFERS: [(&str, Option<u64>); 4] = [("A", Some(1)), ("L", Some(2)), ("O", None), ("X", None)];
+
+/// An input and an inputoutput may be offered, and what is not named is not offered.
+#[test]
+fn offered_signals(rt: HostRuntime) {
+    let alloc = rt.alloc();
+    let text = "module M: input A; inputoutput L; output O; nothing end module";
+    let module = read_module(alloc, "M", text).ok().expect(&rt, "a module");
+    for (name, wanted) in OFFERS {
+        let names = [name];
+        let signals = signals_of_names(module.kernel.interface(), names.as_slice()).ok();
+        assert!(rt; signals == wanted);
+    }
 }
 
 /// The statements of a kernel, each with the numbers of its parts.

@@ -1,11 +1,14 @@
 //! Claims as texts, and what is answered to them.
 
 use crate::claims::{ALL, answer_told};
+use crate::lines::expect_member;
 use crate::modules::both;
 use est_explore::claim::Claim;
 use est_kernel::kernel::Kernel;
 use est_relations::relations::Relations;
-use lab_claims::claims::{read_claim, read_claims};
+use lab_mistakes::claims::{explore_among, read_claim, read_claims};
+use lab_run::lab::limits;
+use reactor_core::reading::read_module;
 use reactor_core::refusal::{ModuleRefusal, ReactorRefusal};
 use std::alloc::Global;
 use std::process::Abort;
@@ -82,4 +85,18 @@ fn the_first_bad_claim(rt: HostRuntime) {
     assert_eq!(rt; bad.number, 2);
     let told = refusal_told(&rt, alloc, &bad.why);
     assert_eq!(rt; told.as_str(), " 71 at 1:8");
+}
+
+/// Each of several claims has its own verdict.
+#[test]
+fn verdicts_on_claims(rt: HostRuntime) {
+    let alloc = rt.alloc();
+    let text = "module M: input A; output O; present A then emit O end end module";
+    let module = read_module(alloc, "M", text).ok().expect(&rt, "a module");
+    let claims = ["never O", "never O and not A"];
+    let told = explore_among(alloc, &module, claims.as_slice(), ALL, limits(9));
+    let told = told.expect(&rt, "room");
+    let wanted = "[{\"verdict\":\"fails\",\"word\":[{\"inputs\":[\"A\"],\"outputs\":[\"O\"]}]},\
+        {\"verdict\":\"holds\"}]";
+    expect_member(&rt, alloc, &told, "verdicts", wanted);
 }

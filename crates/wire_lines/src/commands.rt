@@ -1,8 +1,8 @@
 //! The commands: which members have to follow each command's word, and which request they make.
 //!
 //! Commands with the same keys share a reader. The words are tried in turn by `request_of`,
-//! `read_policy`, `read_plain`, `read_user_or_role` and `read_role_relation`: each knows some words,
-//! and passes any other on to the next.
+//! `read_policy`, `read_plain`, `read_user_or_role` and `read_role_relation`: each knows some
+//! words, and passes any other on to the next.
 ghost use Rattle.std.specs.Prelude.{◌≡◌, codes, option_map, IfOk};
 ghost use Rattle.json.specs.Lex.{tokens};
 ghost use Rattle.wire_lines.specs.Inner.Members.{name_of, parsed_after, number_after};

@@ -1,0 +1,66 @@
+//! Claims as texts, and the verdicts on them.
+ghost use Rattle.std.specs.Prelude.{IfErr, IfOk, map};
+ghost use Rattle.serde_json.specs.View.{view};
+ghost use Rattle.lab_lines.specs.Tests.{test_of};
+ghost use Rattle.lab_claims.specs.Claims.{AreClaimTexts, IsClaimText};
+ghost use Rattle.lab_claims.specs.Refused.{IsClaimFault, IsFirstBad};
+ghost use Rattle.lab_run.specs.Answers.{TellsAmong};
+
+use est_kernel::interface::Interface;
+use lab_claims::claims;
+use lab_claims::claims::BadClaim;
+use lab_lines::asked_test::AskedTest;
+use lab_run::lab;
+use reactor_core::loaded::Module;
+use reactor_core::refusal::Refusal;
+use serde_json::Value;
+use state_search::search::Limits;
+use std::alloc::{AllocError, Global};
+
+/// The test that has to hold in each instant by a claim.
+///
+/// # Errors
+///
+/// Where the text is no claim; or where memory is refused.
+pub fn read_claim(alloc: Global, interface: &Interface, claim: &str) -> Result<AskedTest, Refusal>
+    ensures read { IfOk result (λ a. IsClaimText interface.now claim.now (test_of a)) }
+    ensures fault { IfErr result (IsClaimFault interface.now claim.now) }
+{
+    claims::read_claim(alloc, interface, claim)
+}
+
+/// The tests of claims, or the first claim that can't be read.
+///
+/// # Errors
+///
+/// `AllocError` where memory is refused for the tests.
+pub fn read_claims(
+    alloc: Global,
+    interface: &Interface,
+    claims: &[&str],
+) -> Result<Result<Vec<AskedTest>, BadClaim>, AllocError>
+    ensures read { IfOk result (λ read. IfOk read (λ tests. AreClaimTexts interface.now
+        (map (λ t. t.now) claims.now) (map test_of tests.items))) }
+    ensures fault { IfOk result (λ read. IfErr read
+        (IsFirstBad interface.now (map (λ t. t.now) claims.now))) }
+{
+    claims::read_claims(alloc, interface, claims)
+}
+
+/// Judges claims of a module that is offered these inputs alone.
+///
+/// # Errors
+///
+/// `AllocError` where memory is refused.
+pub fn explore_among(
+    alloc: Global,
+    loaded: &Module,
+    claims: &[&str],
+    among: u64,
+    limits: Limits,
+) -> Result<Value, AllocError>
+    ensures { IfOk result (λ v. TellsAmong loaded.now (map (λ t. t.now) claims.now) among
+        limits.states limits.steps (view v)) }
+{
+    lab::explore_among(alloc, loaded, claims, among, limits)
+}
