@@ -12,7 +12,7 @@ use lab_claims::claims::BadClaim;
 use lab_lines::asked_test::AskedTest;
 use lab_run::lab;
 use reactor_core::loaded::Module;
-use reactor_core::refusal::Refusal;
+use reactor_core::refusal::ReactorRefusal;
 use serde_json::Value;
 use state_search::search::Limits;
 use std::alloc::{AllocError, Global};
@@ -22,7 +22,11 @@ use std::alloc::{AllocError, Global};
 /// # Errors
 ///
 /// Where the text is no claim; or where memory is refused.
-pub fn read_claim(alloc: Global, interface: &Interface, claim: &str) -> Result<AskedTest, Refusal>
+pub fn read_claim(
+    alloc: Global,
+    interface: &Interface,
+    claim: &str,
+) -> Result<AskedTest, ReactorRefusal>
     ensures read { IfOk result (λ a. IsClaimText interface.now claim.now (test_of a)) }
     ensures fault { IfErr result (IsClaimFault interface.now claim.now) }
 {
