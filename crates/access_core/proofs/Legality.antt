@@ -17,7 +17,14 @@ use Rattle.reactor_core.specs.declared.entry.SlotEntry.{SlotEntry}
 use Rattle.reactor_core.specs.declared.entry.SlotWord.TheVariants as word
 use Rattle.reactor_core.specs.declared.refusal.ReactorRefusal.{ReactorRefusal}
 use Rattle.reactor_core.specs.Meaning.{PastMove, AskedMove, asked, entry, word_of, instant_of}
-use Rattle.reactor_core.specs.Answers.{LoadAnswer, OfferAnswer, AddsLoad, load_of, load_rules, offer_rules}
+use Rattle.reactor_core.specs.Answers.{
+  LoadAnswer,
+  ReactorOfferAnswer,
+  AddsLoad,
+  load_of,
+  load_rules,
+  reactor_offer_rules,
+}
 use Rattle.access_core.specs.declared.command.SlotCommand.{SlotCommand}
 use Rattle.access_core.specs.declared.command.SlotCommand.TheVariants.{Move, Look, Audit}
 use Rattle.access_core.specs.declared.refusal.Refusal.{Refusal}
@@ -143,13 +150,14 @@ module _ (stamp : Stamp) (before : List SlotEntry) (reply : Reply) (after : List
       }))
   loaded main text (Err refusal) given replied = left (Move (Load (load_of main text))) _ replied
 
-  offered : (signal : List ℕ) (answer : Result (Unit {0}) ReactorRefusal) → OfferAnswer before stamp signal answer after
+  offered : (signal : List ℕ) (answer : Result (Unit {0}) ReactorRefusal)
+      → ReactorOfferAnswer before stamp signal answer after
       → MatchResult answer
       (λ _. reply ≡ tells_added word.Offer stamp.version after)
       (λ refusal. IsRefused (of_reactor refusal) before reply after)
       → ChangesJournal stamp (Move (Offer signal)) before reply after
   offered signal (Ok done) given replied =
-      let passed = all_passed (offer_rules before given.running signal) _ _
+      let passed = all_passed (reactor_offer_rules before given.running signal) _ _
       (λ refusal e. let no = e.0 in cc) given.given in
       inr (inr (record {
         accepted = subst IsAccepted (sym replied) tt;

@@ -17,7 +17,7 @@ use Rattle.reactor_core.specs.declared.entry.SlotWord.{SlotWord}
 use Rattle.reactor_core.specs.declared.entry.SlotWord.TheVariants as word
 use Rattle.reactor_core.specs.declared.refusal.ReactorRefusal.{ReactorRefusal}
 use Rattle.reactor_core.specs.declared.refusal.ReactorRefusal.TheVariants as reactor
-use Rattle.reactor_core.specs.Answers.{LoadAnswer, load_of, load_rules, offer_rules}
+use Rattle.reactor_core.specs.Answers.{LoadAnswer, load_of, load_rules, reactor_offer_rules}
 use Rattle.reactor_core.specs.Loading.{GivenModule, Gives, IsLoadFault}
 use Rattle.reactor_core.specs.Meaning.{entry, instant, Running, pending_of}
 use Rattle.reactor_core.proofs.OneMeaning.{OneModule, same_running, same_outcome, not_both, ready_or_lacking}
@@ -111,21 +111,22 @@ OfferDone stamp signal before reply after =
 
 offer_by_rules : (stamp : Stamp) (signal : List ℕ) (before : List SlotEntry) (reply : Reply) (after : List SlotEntry)
     → (h : Offers stamp signal before reply after)
-    → Answers (offer_rules before h.given.running signal) (λ refusal. IsRefused (of_reactor refusal) before reply after)
+    → Answers (reactor_offer_rules before h.given.running signal)
+    (λ refusal. IsRefused (of_reactor refusal) before reply after)
     (OfferDone stamp signal before reply after)
 offer_by_rules stamp signal before reply after h = by_answer h.answer h.given.running h.given.given h.replied where
   by_answer : (answer : Result (Unit {0}) ReactorRefusal) (r : Running)
-      → Answers (offer_rules before r signal) (λ refusal. (answer ≡ Err refusal) × (after ≡ before))
+      → Answers (reactor_offer_rules before r signal) (λ refusal. (answer ≡ Err refusal) × (after ≡ before))
       ((answer ≡ Ok (record {})) × (after ≡ before ++ entry stamp (Offer signal) ∷ []))
       → MatchResult answer (λ _. reply ≡ tells_added word.Offer stamp.version after)
       (λ refusal. IsRefused (of_reactor refusal) before reply after)
-      → Answers (offer_rules before r signal) (λ refusal. IsRefused (of_reactor refusal) before reply after)
+      → Answers (reactor_offer_rules before r signal) (λ refusal. IsRefused (of_reactor refusal) before reply after)
       (OfferDone stamp signal before reply after)
   by_answer (Ok done) r given replied =
-      mapped (offer_rules before r signal) _ _ _ _ (λ refusal e. no_err done refusal e.0)
+      mapped (reactor_offer_rules before r signal) _ _ _ _ (λ refusal e. no_err done refusal e.0)
       (λ did. (did.1, replied)) given
   by_answer (Err refused) r given replied =
-      mapped (offer_rules before r signal) _ _ _ _
+      mapped (reactor_offer_rules before r signal) _ _ _ _
       (λ refusal e. subst (λ (x : ReactorRefusal). IsRefused (of_reactor x) before reply after)
       (same_err refused refusal e.0) replied)
       (λ did. no_ok refused (record {}) did.0) given
@@ -144,7 +145,7 @@ module _ (modules : OneModule) (one_load : OneLoad) (entries : List Entry) (slot
     (settled_unless, (settled_apart, record {})),
   )
 
-  offer_settled : (r : Running) (signal : List ℕ) → AllSettled IsReactorWant (offer_rules before r signal)
+  offer_settled : (r : Running) (signal : List ℕ) → AllSettled IsReactorWant (reactor_offer_rules before r signal)
   offer_settled r signal = (
     settled_converted unless,
     (
@@ -251,11 +252,11 @@ module _ (modules : OneModule) (one_load : OneLoad) (entries : List Entry) (slot
     offers stamp signal x y =
         let run : x.given.running ≡ y.given.running =
         same_running modules before x.given.running y.given.running x.given.runs y.given.runs in
-        both_answers (offer_rules before x.given.running signal)
+        both_answers (reactor_offer_rules before x.given.running signal)
         (offer_settled x.given.running signal) _ _ _ _ here there both_refused
         (λ did done. told word.Offer stamp.version (did.0 ∙ sym done.0) did.1 done.1)
         (offer_by_rules stamp signal before r a x)
-        (subst (λ (q : Running). Answers (offer_rules before q signal)
+        (subst (λ (q : Running). Answers (reactor_offer_rules before q signal)
         (λ refusal. IsRefused (of_reactor refusal) before s b)
         (OfferDone stamp signal before s b))
         (sym run) (offer_by_rules stamp signal before s b y))

@@ -22,7 +22,7 @@ use Rattle.reactor_core.specs.declared.entry.SlotWord.TheVariants as word
 use Rattle.reactor_core.specs.declared.refusal.ReactorRefusal.{ReactorRefusal}
 use Rattle.reactor_core.specs.declared.refusal.ModuleRefusal.TheVariants.{Pending, NoInstant}
 use Rattle.reactor_core.specs.Meaning.{entry, is_loaded, instants_of, word_of, Running, RunsAfter}
-use Rattle.reactor_core.specs.Answers.{LoadAnswer, OfferAnswer, HasRoom, IsInstant, HasNoInstant}
+use Rattle.reactor_core.specs.Answers.{LoadAnswer, ReactorOfferAnswer, HasRoom, IsInstant, HasNoInstant}
 use Rattle.reactor_core.specs.Instants.{IsOutcome, HasNoOutcome, AddsInstant, not_ready}
 use Rattle.access_core.specs.declared.command.SlotCommand.{SlotCommand}
 use Rattle.access_core.specs.declared.command.SlotCommand.TheVariants.{Move, Look, Audit}
@@ -88,7 +88,7 @@ pub record Loads (stamp : Stamp) (main text : List ℕ) (before : List SlotEntry
 pub record Offers (stamp : Stamp) (signal : List ℕ) (before : List SlotEntry) (reply : Reply)
     (after : List SlotEntry) : Type 0 where
   pub answer : Result (Unit {0}) ReactorRefusal
-  pub given : OfferAnswer before stamp signal answer after
+  pub given : ReactorOfferAnswer before stamp signal answer after
   pub replied : MatchResult answer
       (λ _. reply ≡ tells_added word.Offer stamp.version after)
       (λ refusal. IsRefused (of_reactor refusal) before reply after)

@@ -58,16 +58,16 @@ login_makes_session (DropActiveRole role) session is = absurd cc
 
 module _ {B : Type 0} where
   -- what a receipt of a published entry tells
-  record Tells (receipt : Acceptance B) (entry : Entry) (before : List Entry) : Type 0 where
-    pub entry_is : receipt.entry ≡ entry
-    pub version : length receipt.list ≡ length before + 1
-    pub session : receipt.session ≡ session_made before entry
+  record Tells (acceptance : Acceptance B) (entry : Entry) (before : List Entry) : Type 0 where
+    pub entry_is : acceptance.entry ≡ entry
+    pub version : length acceptance.list ≡ length before + 1
+    pub session : acceptance.session ≡ session_made before entry
 
-  published_tells : (receipt : Acceptance B) (entry : Entry) (before after : List Entry)
-      → IsPublished entry before (Ok receipt) after → Tells receipt entry before
-  published_tells receipt entry before after p =
-      let same : receipt ≡ p.receipt = (let is = p.answered in cc) in
-      let list : receipt.list ≡ before ++ entry ∷ [] = ap (λ (r : Acceptance B). r.list) same
+  published_tells : (acceptance : Acceptance B) (entry : Entry) (before after : List Entry)
+      → IsPublished entry before (Ok acceptance) after → Tells acceptance entry before
+  published_tells acceptance entry before after p =
+      let same : acceptance ≡ p.acceptance = (let is = p.answered in cc) in
+      let list : acceptance.list ≡ before ++ entry ∷ [] = ap (λ (r : Acceptance B). r.list) same
           ∙ (p.list_is ∙ p.appended) in
       record {
         entry_is = ap (λ (r : Acceptance B). r.entry) same ∙ p.entry_is;
@@ -76,52 +76,52 @@ module _ {B : Type 0} where
       }
 
   -- the reply to a receipt whose command makes this change
-  pub reply_changed : (receipt : Acceptance B) (entry : Entry) (before after : List Entry) (change : Change)
-      → IsPublished entry before (Ok receipt) after
-      → change_of receipt.entry.command ≡ Some change → Changed change (length receipt.list)
+  pub reply_changed : (acceptance : Acceptance B) (entry : Entry) (before after : List Entry) (change : PolicyWord)
+      → IsPublished entry before (Ok acceptance) after
+      → change_of acceptance.entry.command ≡ Some change → Changed change (length acceptance.list)
       ≡ accepted_reply before entry.command
-  reply_changed receipt entry before after change p is =
-      let t = published_tells receipt entry before after p in
+  reply_changed acceptance entry before after change p is =
+      let t = published_tells acceptance entry before after p in
       let made : change_of entry.command ≡ Some change = subst
       (λ (e : Entry). change_of e.command ≡ Some change) t.entry_is is in
       ap (λ n. Changed change n) t.version ∙ sym (ap (λ c. reply_of_change c before) made)
 
   -- a receipt of a login has the session that it made
-  pub session_of_login : (receipt : Acceptance B) (entry : Entry) (before after : List Entry)
-      → IsPublished entry before (Ok receipt) after
-      → change_of receipt.entry.command ≡ None → receipt.session ≡ Some (logins before + 1)
-  session_of_login receipt entry before after p is =
-      let t = published_tells receipt entry before after p in
+  pub session_of_login : (acceptance : Acceptance B) (entry : Entry) (before after : List Entry)
+      → IsPublished entry before (Ok acceptance) after
+      → change_of acceptance.entry.command ≡ None → acceptance.session ≡ Some (logins before + 1)
+  session_of_login acceptance entry before after p is =
+      let t = published_tells acceptance entry before after p in
       let made : change_of entry.command ≡ None = subst (λ (e : Entry). change_of e.command ≡ None) t.entry_is is in
       t.session ∙ ap (λ b. if b then Some (logins before + 1) else None)
       (login_makes_session entry.command entry.session made)
 
   -- the reply to a receipt of a login
-  pub reply_login : (receipt : Acceptance B) (entry : Entry) (before after : List Entry) (session : ℕ)
-      → IsPublished entry before (Ok receipt) after
-      → change_of receipt.entry.command ≡ None → receipt.session ≡ Some session
-      → Login session (length receipt.list) ≡ accepted_reply before entry.command
-  reply_login receipt entry before after session p is made =
-      let t = published_tells receipt entry before after p in
+  pub reply_login : (acceptance : Acceptance B) (entry : Entry) (before after : List Entry) (session : ℕ)
+      → IsPublished entry before (Ok acceptance) after
+      → change_of acceptance.entry.command ≡ None → acceptance.session ≡ Some session
+      → Login session (length acceptance.list) ≡ accepted_reply before entry.command
+  reply_login acceptance entry before after session p is made =
+      let t = published_tells acceptance entry before after p in
       let none : change_of entry.command ≡ None = subst (λ (e : Entry). change_of e.command ≡ None) t.entry_is is in
       let number : session ≡ logins before + 1 =
-      (let a = sym made ∙ session_of_login receipt entry before after p is in cc) in
-      ap (λ n. Login n (length receipt.list)) number
+      (let a = sym made ∙ session_of_login acceptance entry before after p is in cc) in
+      ap (λ n. Login n (length acceptance.list)) number
       ∙ (ap (λ n. Login (logins before + 1) n) t.version ∙ sym (ap (λ c. reply_of_change c before) none))
 
   -- an accepted command published an entry
-  published_by : (old new : List Entry) (receipt : Acceptance B) (decided : Result Entry PolicyRefusal)
+  published_by : (old new : List Entry) (acceptance : Acceptance B) (decided : Result Entry PolicyRefusal)
       → MatchResult decided
       (λ entry. Answers (room.list_full board.JournalFull old entry ▸ MayRefuse board.Memory ▸ accept)
-      (λ refusal. board_step.IsRefused refusal old (Ok receipt) new) (IsPublished entry old (Ok receipt) new))
-      (λ refusal. board_step.IsRefused (board.Policy refusal) old (Ok receipt) new)
-      → (entry : Entry) × IsPublished entry old (Ok receipt) new
-  published_by old new receipt (Ok e) h =
+      (λ refusal. board_step.IsRefused refusal old (Ok acceptance) new) (IsPublished entry old (Ok acceptance) new))
+      (λ refusal. board_step.IsRefused (board.Policy refusal) old (Ok acceptance) new)
+      → (entry : Entry) × IsPublished entry old (Ok acceptance) new
+  published_by old new acceptance (Ok e) h =
       let all = all_passed (room.list_full board.JournalFull old e ▸ MayRefuse board.Memory ▸ accept)
-      (λ (r : BoardRefusal). board_step.IsRefused r old (Ok receipt) new) (IsPublished e old (Ok receipt) new)
+      (λ (r : BoardRefusal). board_step.IsRefused r old (Ok acceptance) new) (IsPublished e old (Ok acceptance) new)
       (λ r refused. let is = refused.answered in absurd cc) h in
       (e, all.1)
-  published_by old new receipt (Err r) h = let is = h.answered in absurd cc
+  published_by old new acceptance (Err r) h = let is = h.answered in absurd cc
 
   -- a refused command left the list
   stayed_by : (old new : List Entry) (answer : Result (Acceptance B) BoardRefusal) (refusal : BoardRefusal)
@@ -144,9 +144,9 @@ module _ {B : Type 0} where
       (session : Option ℕ) (command : AdminCommand)
       → board_step.BoardStep old session command answer new → board_step.SeatAfter seat answer new after
       → KeepsAdded old new seat after
-  keeps_added old new (Ok receipt) seat after session command step keeps =
-      let p = published_by old new receipt step.answer step.replied in
-      let entry : receipt.entry ≡ p.0 = (published_tells receipt p.0 old new p.1).entry_is in
+  keeps_added old new (Ok acceptance) seat after session command step keeps =
+      let p = published_by old new acceptance step.answer step.replied in
+      let entry : acceptance.entry ≡ p.0 = (published_tells acceptance p.0 old new p.1).entry_is in
       inr (p.0, p.1.appended, keeps.kept ∙ ap (λ (e : Entry). seat.kept ++ Admin (length new) e ∷ []) entry)
   keeps_added old new (Err refusal) seat after session command step keeps =
       inl (stayed_by old new (Err refusal) refusal step.answer refl step.replied, keeps.kept ∙ append-nil seat.kept)
@@ -156,8 +156,9 @@ module _ {B : Type 0} where
       (answer : Result (Acceptance B) BoardRefusal)
       → board_step.BoardStep old session command answer new
       → IfOk answer
-      (λ receipt. (entry : Entry) × (o : List Entry) × (n : List Entry) × IsPublished entry o (Ok receipt) n)
-  published session command old new (Ok receipt) step = let p = published_by old new receipt step.answer step.replied in
+      (λ acceptance. (entry : Entry) × (o : List Entry) × (n : List Entry) × IsPublished entry o (Ok acceptance) n)
+  published session command old new (Ok acceptance) step = let p = published_by old new acceptance step.answer
+      step.replied in
       (p.0, old, new, p.1)
   published session command old new (Err refusal) step = tt
 

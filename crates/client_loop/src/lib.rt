@@ -11,10 +11,10 @@
 #![tactic(auto)]
 
 pub(crate) mod answer;
-pub(crate) mod client;
 pub mod connections;
 pub mod desk;
 pub mod gate;
+pub(crate) mod line_answerer;
 pub mod login;
 pub mod serving;
 pub mod shared_desk;

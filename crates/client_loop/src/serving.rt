@@ -6,9 +6,9 @@ ghost use Rattle.client_loop.specs.LineSteps.{with_login};
 ghost use Rattle.client_loop.specs.Logins.{session_of, LogsOutHeld};
 ghost use Rattle.client_loop.specs.Serving.{too_long_text, ServesLines, ServesDesk};
 
-use crate::client::LineAnswerer;
 use crate::desk::Desk;
 use crate::gate::{Gate, OpenGate};
+use crate::line_answerer::LineAnswerer;
 use crate::login::Login;
 use std::io::{Read, Write};
 use wire_lines::reading::RequestReader;

@@ -40,17 +40,17 @@ impl<'a, B: BoardName, R> Model for SharedDesk<'a, B, R> {
 }
 
 /// The reply to an accepted policy command.
-fn reply_to<B: BoardName>(receipt: &Acceptance<B>) -> Reply
+fn reply_to<B: BoardName>(acceptance: &Acceptance<B>) -> Reply
     requires { (entry : Entry) × (old : List Entry) × (new : List Entry)
-        × IsPublished entry old (Ok receipt.now) new }
-    ensures { (entry : Entry) (old new : List Entry) → IsPublished entry old (Ok receipt.now) new
+        × IsPublished entry old (Ok acceptance.now) new }
+    ensures { (entry : Entry) (old new : List Entry) → IsPublished entry old (Ok acceptance.now) new
         → result ≡ accepted_reply old entry.command }
 {
-    let version = receipt.version();
-    match change_of(&receipt.entry().command) {
+    let version = acceptance.version();
+    match change_of(&acceptance.entry().command) {
         Some(change) => Reply::Changed { change, version },
         None => Reply::Login {
-            session: receipt.session().unwrap(),
+            session: acceptance.session().unwrap(),
             version,
         },
     }
@@ -58,14 +58,14 @@ fn reply_to<B: BoardName>(receipt: &Acceptance<B>) -> Reply
 
 /// The board's answer to a policy command, as a reply.
 fn reply_of<B: BoardName>(answer: Result<Acceptance<B>, BoardRefusal>) -> Reply
-    requires { IfOk answer (λ receipt. (entry : Entry) × (old : List Entry) × (new : List Entry)
-        × IsPublished entry old (Ok receipt) new) }
+    requires { IfOk answer (λ acceptance. (entry : Entry) × (old : List Entry) × (new : List Entry)
+        × IsPublished entry old (Ok acceptance) new) }
     ensures accepted { (entry : Entry) (old new : List Entry) → IsPublished entry old answer new
         → result ≡ accepted_reply old entry.command }
     ensures refused { IfErr answer (λ refusal. result ≡ Refused (of_board refusal)) }
 {
     match answer {
-        Ok(receipt) => reply_to(&receipt),
+        Ok(acceptance) => reply_to(&acceptance),
         Err(refusal) => Reply::Refused(of_board(refusal)),
     }
 }

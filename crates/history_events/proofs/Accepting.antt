@@ -15,7 +15,7 @@ use Rattle.reactor_core.specs.declared.entry.SlotEntry.{SlotEntry}
 use Rattle.reactor_core.specs.declared.entry.SlotWord.TheVariants as word
 use Rattle.reactor_core.specs.declared.refusal.ReactorRefusal.{ReactorRefusal}
 use Rattle.reactor_core.specs.Meaning.{last_load, Running, RunsAfter}
-use Rattle.reactor_core.specs.Answers.{OfferAnswer}
+use Rattle.reactor_core.specs.Answers.{ReactorOfferAnswer}
 use Rattle.reactor_core.specs.Instants.{KeepsRelations}
 use Rattle.reactor_core.proofs.OneMeaning.{OneModule, same_running, is_loaded_where, not_both, ready_or_lacking}
 use Rattle.access_core.specs.declared.command.SlotCommand.{SlotCommand}
@@ -86,7 +86,7 @@ module _ (modules : OneModule) (entries : List Entry) (slot session : ℕ) (befo
       → IsAccepted reply
   offer_taken name can h = by_answer h.answer h.given h.replied where
     by_answer : (answer : Result (Unit {0}) ReactorRefusal)
-        → OfferAnswer before (stamp_of entries session) name answer after
+        → ReactorOfferAnswer before (stamp_of entries session) name answer after
         → MatchResult answer (λ _. reply ≡ tells_added word.Offer (length entries) after)
         (λ refusal. IsRefused (of_reactor refusal) before reply after)
         → IsAccepted reply

@@ -12,8 +12,15 @@ use Rattle.reactor_core.specs.Meaning.{PastMove}
 use Rattle.reactor_core.specs.declared.entry.SlotEntry.{SlotEntry}
 use Rattle.reactor_core.specs.declared.entry.SlotWord.TheVariants as word
 use Rattle.reactor_core.specs.declared.refusal.ReactorRefusal.{ReactorRefusal}
-use Rattle.reactor_core.specs.Answers.{LoadAnswer, OfferAnswer, AddsLoad, load_rules, slot_entry_rules, gives_module}
-use Rattle.est_relations.specs.Offers.{offer_rules as pending_rules}
+use Rattle.reactor_core.specs.Answers.{
+  LoadAnswer,
+  ReactorOfferAnswer,
+  AddsLoad,
+  load_rules,
+  slot_entry_rules,
+  gives_module,
+}
+use Rattle.est_relations.specs.Offers.{offer_rules}
 use Rattle.reactor_core.specs.Converting.{all_converted}
 use Rattle.reactor_core.specs.Faults.{refusal_of_pending}
 use Rattle.reactor_core.specs.Meaning.{Running, pending_of}
@@ -79,7 +86,7 @@ on goes_on (inr p) = inr (record { passed = p.passed; next = goes_on p.passed p.
 
 -- the rules for an offer of this name to what runs
 abbrev asked_of : Running → (name : List ℕ) → Rules ReactorRefusal
-asked_of running name = all_converted refusal_of_pending (pending_rules (pending_of running) name)
+asked_of running name = all_converted refusal_of_pending (offer_rules (pending_of running) name)
 
 same_ok : {A B : Type 0} (x y : A) → (let r : Result A B = Ok x in r) ≡ Ok y → x ≡ y
 same_ok x y e = cc
@@ -134,7 +141,7 @@ module _ (entries : List Entry) (slot session : ℕ) (before : List SlotEntry) (
       → Named (bad_offer before signal ▸ journal_full before ▸ accept) reply
   offers signal h = by_answer h.answer h.given h.replied where
     by_answer : (answer : Result (Unit {0}) ReactorRefusal)
-        → OfferAnswer before (stamp_of entries session) signal answer after
+        → ReactorOfferAnswer before (stamp_of entries session) signal answer after
         → MatchResult answer (λ _. reply ≡ tells_added word.Offer (length entries) after)
         (λ refusal. IsRefused (of_reactor refusal) before reply after)
         → Named (bad_offer before signal ▸ journal_full before ▸ accept) reply

@@ -9,7 +9,15 @@ use Rattle.reactor_core.specs.declared.entry.SlotEntry.{SlotEntry}
 use Rattle.reactor_core.specs.declared.entry.SlotWord.TheVariants as word
 use Rattle.reactor_core.specs.declared.refusal.ReactorRefusal.{ReactorRefusal}
 use Rattle.reactor_core.specs.Meaning.{instant, is_loaded}
-use Rattle.reactor_core.specs.Answers.{HasRoom, LoadAnswer, OfferAnswer, AddsLoad, load_of, load_rules, offer_rules}
+use Rattle.reactor_core.specs.Answers.{
+  HasRoom,
+  LoadAnswer,
+  ReactorOfferAnswer,
+  AddsLoad,
+  load_of,
+  load_rules,
+  reactor_offer_rules,
+}
 use Rattle.reactor_core.specs.Instants.{KeepsRelations}
 use Rattle.access_core.specs.declared.command.SlotCommand.{SlotCommand}
 use Rattle.access_core.specs.declared.command.SlotCommand.TheVariants.{Move, Look, Audit}
@@ -64,13 +72,13 @@ module _ (entries : List Entry) (slot session : ℕ) (before : List SlotEntry) (
       → ChangesJournal entries session (Move (Offer signal)) before reply after
   offers signal h = by_answer h.answer h.given h.replied where
     by_answer : (answer : Result (Unit {0}) ReactorRefusal)
-        → OfferAnswer before (stamp_of entries session) signal answer after
+        → ReactorOfferAnswer before (stamp_of entries session) signal answer after
         → MatchResult answer
         (λ _. reply ≡ tells_added word.Offer (length entries) after)
         (λ refusal. IsRefused (of_reactor refusal) before reply after)
         → ChangesJournal entries session (Move (Offer signal)) before reply after
     by_answer (Ok done) given replied =
-        let passed = all_passed (offer_rules before given.running signal) _ _
+        let passed = all_passed (reactor_offer_rules before given.running signal) _ _
         (λ refusal e. let no = e.0 in cc) given.given in
         inl (record {
           accepted = subst IsAccepted (sym replied) tt;

@@ -9,7 +9,7 @@ use Rattle.rbac_policy.specs.declared.objects.Object.TheVariants.{Policy, Slot, 
 use Rattle.rbac_admin.specs.PolicyStep.{policy_rules, entry_of}
 use Rattle.reactor_core.specs.declared.entry.SlotEntry.{SlotEntry}
 use Rattle.reactor_core.specs.declared.refusal.ReactorRefusal.{ReactorRefusal}
-use Rattle.est_relations.specs.Offers.{offer_rules as pending_rules}
+use Rattle.est_relations.specs.Offers.{offer_rules}
 use Rattle.reactor_core.specs.Answers.{gives_module}
 use Rattle.reactor_core.specs.Converting.{all_converted}
 use Rattle.reactor_core.specs.Faults.{refusal_of_pending}
@@ -48,10 +48,10 @@ abbrev pub bad_offer : List SlotEntry → (name : List ℕ) → Rule Refusal
 bad_offer journal name = record {
   refuses = λ refusal.
       (r : Running) × RunsAfter journal r × (given : ReactorRefusal) × (refusal ≡ of_reactor given)
-      × FirstRefuses (all_converted refusal_of_pending (pending_rules (pending_of r) name)) given;
+      × FirstRefuses (all_converted refusal_of_pending (offer_rules (pending_of r) name)) given;
   passes =
       (r : Running) × RunsAfter journal r
-      × AllPass (all_converted refusal_of_pending (pending_rules (pending_of r) name));
+      × AllPass (all_converted refusal_of_pending (offer_rules (pending_of r) name));
 }
 
 -- the rules of what a command asks of its slot, for a session that lives; memory apart

@@ -19,41 +19,41 @@ use Rattle.policy_board.proofs.Beginnings.{begins_push, begins_length}
 
 module _ {B : Type 0} where
   -- what a receipt of this step tells of the list
-  pub record Tells (before : List Entry) (receipt : Acceptance B) (after : List Entry) : Type 0 where
-    pub list_is : receipt.list ≡ after
+  pub record Tells (before : List Entry) (acceptance : Acceptance B) (after : List Entry) : Type 0 where
+    pub list_is : acceptance.list ≡ after
     pub later : Begins before after
 
-  published_tells : (before : List Entry) (receipt : Acceptance B) (after : List Entry) (e : Entry)
-      → IsPublished e before (Ok receipt) after → Tells before receipt after
-  published_tells before receipt after e p =
-      let same : receipt ≡ p.receipt = (let is = p.answered in cc) in
+  published_tells : (before : List Entry) (acceptance : Acceptance B) (after : List Entry) (e : Entry)
+      → IsPublished e before (Ok acceptance) after → Tells before acceptance after
+  published_tells before acceptance after e p =
+      let same : acceptance ≡ p.acceptance = (let is = p.answered in cc) in
       record {
         list_is = ap (λ (r : Acceptance B). r.list) same ∙ p.list_is;
         later = subst (Begins before) (sym p.appended) (begins_push before e);
       }
 
-  replied_tells : (before : List Entry) (receipt : Acceptance B) (after : List Entry)
+  replied_tells : (before : List Entry) (acceptance : Acceptance B) (after : List Entry)
       (decided : Result Entry PolicyRefusal)
       → MatchResult decided
       (λ e. Answers (list_full JournalFull before e ▸ MayRefuse Memory ▸ accept)
-      (λ r. IsRefused r before (Ok receipt) after) (IsPublished e before (Ok receipt) after))
-      (λ r. IsRefused (Policy r) before (Ok receipt) after)
-      → Tells before receipt after
-  replied_tells before receipt after (Ok e) h =
+      (λ r. IsRefused r before (Ok acceptance) after) (IsPublished e before (Ok acceptance) after))
+      (λ r. IsRefused (Policy r) before (Ok acceptance) after)
+      → Tells before acceptance after
+  replied_tells before acceptance after (Ok e) h =
       let all = all_passed (list_full JournalFull before e ▸ MayRefuse Memory ▸ accept)
-      (λ (r : BoardRefusal). IsRefused r before (Ok receipt) after) (IsPublished e before (Ok receipt) after)
+      (λ (r : BoardRefusal). IsRefused r before (Ok acceptance) after) (IsPublished e before (Ok acceptance) after)
       (λ r refused. let is = refused.answered in absurd cc) h in
-      published_tells before receipt after e all.1
-  replied_tells before receipt after (Err r) h = let is = h.answered in absurd cc
+      published_tells before acceptance after e all.1
+  replied_tells before acceptance after (Err r) h = let is = h.answered in absurd cc
 
   -- the receipt of an accepted command has the list after it, which begins with the list before it
   pub receipt_tells : (before : List Entry) (session : Option ℕ) (command : AdminCommand)
-      (answer : Result (Acceptance B) BoardRefusal) (after : List Entry) (receipt : Acceptance B)
-      → BoardStep before session command answer after → answer ≡ Ok receipt → Tells before receipt after
-  receipt_tells before session command answer after receipt step is =
-      let step' : BoardStep before session command (Ok receipt) after =
+      (answer : Result (Acceptance B) BoardRefusal) (after : List Entry) (acceptance : Acceptance B)
+      → BoardStep before session command answer after → answer ≡ Ok acceptance → Tells before acceptance after
+  receipt_tells before session command answer after acceptance step is =
+      let step' : BoardStep before session command (Ok acceptance) after =
       subst (λ a. BoardStep before session command a after) is step in
-      replied_tells before receipt after step'.answer step'.replied
+      replied_tells before acceptance after step'.answer step'.replied
 
 -- a seat that knows a list, keeps an answer's receipt, and then knows the longer list that the answer leaves, is as
 -- the command leaves it

@@ -31,11 +31,11 @@ module _ {B : Type 0} where
   -- with it, and the session that it makes
   pub record IsPublished (entry : Entry) (before : List Entry) (answer : Result (Acceptance B) BoardRefusal)
       (after : List Entry) : Type 0 where
-    pub receipt : Acceptance B
-    pub answered : answer ≡ Ok receipt
-    pub entry_is : receipt.entry ≡ entry
-    pub list_is : receipt.list ≡ after
-    pub session_is : receipt.session ≡ session_made before entry
+    pub acceptance : Acceptance B
+    pub answered : answer ≡ Ok acceptance
+    pub entry_is : acceptance.entry ≡ entry
+    pub list_is : acceptance.list ≡ after
+    pub session_is : acceptance.session ≡ session_made before entry
     pub appended : after ≡ before ++ entry ∷ []
 
   -- what the policy step answers on the list: its refusal, which leaves the list; or its entry, which is published,
@@ -54,7 +54,7 @@ module _ {B : Type 0} where
   -- what the seat keeps of a policy command with this answer, which leaves this list: of an accepted one a `Kept` of
   -- its entry, and of the version of the policy with it
   abbrev pub admin_receipt : (answer : Result (Acceptance B) BoardRefusal) → (after : List Entry) → List Kept
-  admin_receipt (Ok receipt) after = Admin (length after) receipt.entry ∷ []
+  admin_receipt (Ok acceptance) after = Admin (length after) acceptance.entry ∷ []
   admin_receipt (Err refusal) after = []
 
   -- the seat knows the whole list as the policy command leaves it, whatever the answer. The receipt of an accepted

@@ -66,7 +66,7 @@ impl<B: BoardName> Board<B> {
             × SeatAfter seat.old result after seat.new }
     {
         let mut policy = self.policy.lock(rt);
-        let answer = policy.admin(rt, seat, session, command);
+        let answer = policy.command_locked(rt, seat, session, command);
         MutexGuard::unlock(policy);
         answer
     }

@@ -120,22 +120,22 @@ impl<B: BoardName> LockedPolicy<B> {
             return Err(BoardRefusal::Memory);
         };
         let publisher = self.publisher.take().unwrap().publish(rt, published);
-        let receipt = Acceptance {
+        let acceptance = Acceptance {
             session: session_made(publisher.policy(), &told),
             entry: told,
             list: publisher.front(),
         };
         put_back(&mut self.publisher, publisher);
         seat.keep(Kept::Admin {
-            version: receipt.version(),
+            version: acceptance.version(),
             entry: kept,
         });
-        Ok(receipt)
+        Ok(acceptance)
     }
 
     /// The answer to a policy command: its entry is decided on the policy that is published, and
     /// appended where there is room.
-    fn answer<R: Wait>(
+    fn decide_and_append<R: Wait>(
         &mut self,
         rt: &R,
         seat: &mut Seat<B>,
@@ -158,7 +158,7 @@ impl<B: BoardName> LockedPolicy<B> {
 
     /// Answers a policy command. An accepted one adds its entry at the end, and publishes it. The
     /// seat then knows the list, and keeps a receipt (`Kept`) of an accepted one.
-    pub fn admin<R: Wait>(
+    pub fn command_locked<R: Wait>(
         &mut self,
         rt: &R,
         seat: &mut Seat<B>,
@@ -173,9 +173,9 @@ impl<B: BoardName> LockedPolicy<B> {
         let publisher = self.publisher.as_ref().unwrap();
         publisher.wait_whole(rt, seat.known());
         seat.note_known(&publisher.front());
-        let answer = self.answer(rt, seat, session, command);
-        if let Ok(receipt) = &answer {
-            seat.note_known(receipt.list());
+        let answer = self.decide_and_append(rt, seat, session, command);
+        if let Ok(acceptance) = &answer {
+            seat.note_known(acceptance.list());
         }
         answer
     }

@@ -218,15 +218,15 @@ impl<B: BoardName> Seat<B> {
 
     /// Learns of the list of an answer: from now on it is answered for no shorter one.
     /// The program never does so; tests do.
-    pub fn learn(&mut self, receipt: Acceptance<B>)
+    pub fn learn(&mut self, acceptance: Acceptance<B>)
         ensures before { Begins self.old.known self.new.known }
-        ensures told { Begins receipt.list self.new.known }
-        ensures one { (self.new.known ≡ self.old.known) ⊎ (self.new.known ≡ receipt.list) }
-        ensures seen { self.new.seen ≡ max self.old.seen (length receipt.list) }
+        ensures told { Begins acceptance.list self.new.known }
+        ensures one { (self.new.known ≡ self.old.known) ⊎ (self.new.known ≡ acceptance.list) }
+        ensures seen { self.new.seen ≡ max self.old.seen (length acceptance.list) }
         ensures read { self.new.read ≡ self.old.read }
         ensures kept { KeepsReceipts self.old self.new }
     {
-        let Acceptance { list, .. } = receipt;
+        let Acceptance { list, .. } = acceptance;
         self.seen = self.seen.max(list.version());
         if self.known.begins(&list) {
             self.known = list;

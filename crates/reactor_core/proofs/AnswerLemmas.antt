@@ -4,7 +4,7 @@ use Rattle.std.specs.Prelude.{Result, Ok, Err}
 use Rattle.est_kernel.specs.Bits.{bits}
 use Rattle.est_kernel.specs.Term.{Term}
 use Rattle.est_relations.specs.Keeping.{AreLawful}
-use Rattle.est_relations.specs.Offers.{PendingInputs, Adds, IsFirstImplied, offer_rules as pending_rules}
+use Rattle.est_relations.specs.Offers.{PendingInputs, Adds, IsFirstImplied, offer_rules}
 use Rattle.est_relations.specs.declared.refusal.PendingRefusal.{PendingRefusal}
 use Rattle.est_relations.proofs.OffersKeep.{no_fault}
 use Rattle.refusal_rules.specs.Rules.{Rules, ◌▸▸◌, Answers}
@@ -15,13 +15,21 @@ use Rattle.reactor_core.specs.declared.entry.SlotEntry.{SlotEntry}
 use Rattle.reactor_core.specs.declared.loaded.Module.{Module}
 use Rattle.reactor_core.specs.declared.refusal.ReactorRefusal.{ReactorRefusal}
 use Rattle.reactor_core.specs.declared.refusal.ReactorRefusal.TheVariants.{Module as OfModule, JournalFull, Memory}
-use Rattle.reactor_core.specs.Answers.{HasRoom, IsFull, RefusesEntry, entry_rules, offer_rules, load_rules, OfferAnswer}
+use Rattle.reactor_core.specs.Answers.{
+  HasRoom,
+  IsFull,
+  RefusesEntry,
+  entry_rules,
+  reactor_offer_rules,
+  load_rules,
+  ReactorOfferAnswer,
+}
 use Rattle.reactor_core.specs.Answers.{LoadAnswer}
 use Rattle.reactor_core.specs.Converting.{all_converted}
 use Rattle.reactor_core.specs.Faults.{refusal_of_pending}
 use Rattle.reactor_core.specs.Instants.{SettledInstant, AddsInstant, CommitAnswer, OpenAnswer}
 use Rattle.reactor_core.specs.Meaning.{Running, RunsAfter, pending_of, entry}
-use Rattle.reactor_core.specs.Standing.{pending_inputs, JoinsAs, RefusesName, RefusesInstant}
+use Rattle.reactor_core.specs.Standing.{pending_inputs, JoinsAs, RefusesJoining, RefusesInstant}
 use Rattle.reactor_core.proofs.Converting.{convert}
 use Rattle.reactor_core.proofs.Joining.{no_ok, same_err}
 
@@ -60,19 +68,19 @@ module _ (journal : List SlotEntry) (m : Module) (r : Running) (runs : RunsAfter
 
   -- the rules of an offer to them
   same_rules : (name : List ℕ) (Known : Rules PendingRefusal → Type 0)
-      → Known (pending_rules (pending_inputs m r.pending) name) → Known (pending_rules (pending_of r) name)
-  same_rules name Known h = subst (λ (p : PendingInputs). Known (pending_rules p name)) (sym is) h
+      → Known (offer_rules (pending_inputs m r.pending) name) → Known (offer_rules (pending_of r) name)
+  same_rules name Known h = subst (λ (p : PendingInputs). Known (offer_rules p name)) (sym is) h
 
   -- an offer that the pending inputs refuse
   pub offer_refused : (stamp : Stamp) (name : List ℕ) (e : ReactorRefusal) (w : List SlotEntry)
-      → RefusesName m r.pending name e → w ≡ journal → OfferAnswer journal stamp name (Err e) w
+      → RefusesJoining m r.pending name e → w ≡ journal → ReactorOfferAnswer journal stamp name (Err e) w
   offer_refused stamp name e w h same = record {
     running = r;
     runs = runs;
     given = same_rules name
         (λ rules. Answers (all_converted refusal_of_pending rules ▸▸ entry_rules journal) (Told (Err e) w)
         (Done stamp name (Err e) w))
-        (convert refusal_of_pending (pending_rules (pending_inputs m r.pending) name) (entry_rules journal)
+        (convert refusal_of_pending (offer_rules (pending_inputs m r.pending) name) (entry_rules journal)
         (Refused (Err h.given) (pending_inputs m r.pending)) (Accepted name (Err h.given) (pending_inputs m r.pending))
         (Told (Err e) w) (Done stamp name (Err e) w)
         (λ refusal told. (ap Err (h.told ∙ ap refusal_of_pending (same_err h.given refusal told.0)), same))
@@ -84,14 +92,14 @@ module _ (journal : List SlotEntry) (m : Module) (r : Running) (runs : RunsAfter
       (w : List SlotEntry) → JoinsAs m r.pending name after
       → Answers (entry_rules journal) (λ refusal. (answer ≡ Err refusal) × (w ≡ journal))
       ((answer ≡ Ok (record {})) × (w ≡ journal ++ entry stamp (Offer name) ∷ []))
-      → OfferAnswer journal stamp name answer w
+      → ReactorOfferAnswer journal stamp name answer w
   offer_joins stamp name after answer w h goes = record {
     running = r;
     runs = runs;
     given = same_rules name
         (λ rules. Answers (all_converted refusal_of_pending rules ▸▸ entry_rules journal) (Told answer w)
         (Done stamp name answer w))
-        (convert refusal_of_pending (pending_rules (pending_inputs m r.pending) name) (entry_rules journal)
+        (convert refusal_of_pending (offer_rules (pending_inputs m r.pending) name) (entry_rules journal)
         (Refused (Ok (record {})) (pending_inputs m after)) (Accepted name (Ok (record {})) (pending_inputs m after))
         (Told answer w) (Done stamp name answer w)
         (λ refusal told. absurd (no_fault (record {}) refusal told.0))
@@ -120,9 +128,9 @@ module _ (journal : List SlotEntry) (m : Module) (r : Running) (runs : RunsAfter
 -- a refused offer leaves the journal
 pub offer_stays : (before : List SlotEntry) (stamp : Stamp) (name : List ℕ) (e : ReactorRefusal)
     (after : List SlotEntry)
-    → OfferAnswer before stamp name (Err e) after → after ≡ before
+    → ReactorOfferAnswer before stamp name (Err e) after → after ≡ before
 offer_stays before stamp name e after h =
-    answered (offer_rules before h.running name) _ _ (after ≡ before) (λ refusal told. told.1)
+    answered (reactor_offer_rules before h.running name) _ _ (after ≡ before) (λ refusal told. told.1)
     (λ added. let no = added.0 in absurd cc) h.given
 
 -- a refused load gives the journal back

@@ -3,14 +3,14 @@ use Rattle.std.proofs.Common.{◌≡◌, ◌∙◌, ℕ, List, inl, inr, refl, a
 use Rattle.std.specs.Prelude.{Result, Ok, Err}
 use Rattle.est_kernel.specs.Bits.{bits}
 use Rattle.est_relations.specs.Keeping.{AreLawful}
-use Rattle.est_relations.specs.Offers.{PendingInputs, KeepsExclusions, Adds, OfferAnswer as PendingAnswer, ReadyAnswer}
-use Rattle.est_relations.specs.Offers.{offer_rules as pending_rules}
+use Rattle.est_relations.specs.Offers.{PendingInputs, KeepsExclusions, Adds, OfferAnswer, ReadyAnswer}
+use Rattle.est_relations.specs.Offers.{offer_rules}
 use Rattle.est_relations.specs.declared.refusal.PendingRefusal.{PendingRefusal}
 use Rattle.est_relations.proofs.OffersKeep.{no_fault}
 use Rattle.refusal_rules.proofs.RuleLemmas.{all_passed, answered}
 use Rattle.reactor_core.specs.declared.loaded.Module.{Module}
 use Rattle.reactor_core.specs.Faults.{refusal_of_pending}
-use Rattle.reactor_core.specs.Standing.{pending_inputs, JoinsAs, RefusesName, RefusesInstant}
+use Rattle.reactor_core.specs.Standing.{pending_inputs, JoinsAs, RefusesJoining, RefusesInstant}
 
 pub no_ok : {A E : Type 0} (x : A) (e : E) → Err e ≡ Ok x → ⊥
 no_ok x e h = cc
@@ -20,33 +20,33 @@ same_err a b h = cc
 
 -- an accepted offer adds its signal
 pub adds_where : (p : PendingInputs) (name : List ℕ) (after : PendingInputs)
-    → PendingAnswer p name (Ok (record {})) after → Adds p name after
+    → OfferAnswer p name (Ok (record {})) after → Adds p name after
 adds_where p name after h =
-    (all_passed (pending_rules p name) (λ refusal. (Ok (record {}) ≡ Err refusal) × (after ≡ p))
+    (all_passed (offer_rules p name) (λ refusal. (Ok (record {}) ≡ Err refusal) × (after ≡ p))
     ((Ok (record {}) ≡ Ok (record {})) × Adds p name after)
     (λ refusal told. no_fault (record {}) refusal told.0) h).1.1
 
 -- a refused one leaves what is pending
 stays_where : (p : PendingInputs) (name : List ℕ) (e : PendingRefusal) (after : PendingInputs)
-    → PendingAnswer p name (Err e) after → after ≡ p
+    → OfferAnswer p name (Err e) after → after ≡ p
 stays_where p name e after h =
-    answered (pending_rules p name) (λ refusal. (Err e ≡ Err refusal) × (after ≡ p))
+    answered (offer_rules p name) (λ refusal. (Err e ≡ Err refusal) × (after ≡ p))
     ((Err e ≡ Ok (record {})) × Adds p name after) (after ≡ p)
     (λ refusal told. told.1) (λ accepted. absurd (no_ok (record {}) e accepted.0)) h
 
 -- the pending inputs with the signal of an accepted offer
 pub joins : (m : Module) (pending : ℕ) (name : List ℕ) (before after : PendingInputs) (mask : ℕ)
     → before ≡ pending_inputs m pending → mask ≡ after.mask
-    → KeepsExclusions after.interface after.relations after.mask → PendingAnswer before name (Ok (record {})) after
+    → KeepsExclusions after.interface after.relations after.mask → OfferAnswer before name (Ok (record {})) after
     → JoinsAs m pending name mask
 joins m pending name before after mask is read kept h =
-    let answer : PendingAnswer (pending_inputs m pending) name (Ok (record {})) after =
-    subst (λ (p : PendingInputs). PendingAnswer p name (Ok (record {})) after) is h in
+    let answer : OfferAnswer (pending_inputs m pending) name (Ok (record {})) after =
+    subst (λ (p : PendingInputs). OfferAnswer p name (Ok (record {})) after) is h in
     let adds = adds_where (pending_inputs m pending) name after answer in
     let its : mask ≡ _ = read ∙ ap (λ (p : PendingInputs). p.mask) adds.added in
     let same : after ≡ pending_inputs m mask = adds.added ∙ ap (λ (n : ℕ). pending_inputs m n) (sym its) in
     record {
-      answer = subst (λ (p : PendingInputs). PendingAnswer (pending_inputs m pending) name (Ok (record {})) p) same
+      answer = subst (λ (p : PendingInputs). OfferAnswer (pending_inputs m pending) name (Ok (record {})) p) same
           answer;
       kept = subst (λ (p : PendingInputs). KeepsExclusions p.interface p.relations p.mask) same kept;
     }
@@ -54,15 +54,15 @@ joins m pending name before after mask is read kept h =
 -- why the name of a refused offer may not join them
 pub refuses : (m : Module) (pending : ℕ) (name : List ℕ) (before after : PendingInputs) (e : PendingRefusal)
     → before ≡ pending_inputs m pending
-    → PendingAnswer before name (Err e) after → RefusesName m pending name (refusal_of_pending e)
+    → OfferAnswer before name (Err e) after → RefusesJoining m pending name (refusal_of_pending e)
 refuses m pending name before after e is h =
     let same : after ≡ pending_inputs m pending = stays_where before name e after h ∙ is in
-    let answer : PendingAnswer (pending_inputs m pending) name (Err e) after =
-    subst (λ (p : PendingInputs). PendingAnswer p name (Err e) after) is h in
+    let answer : OfferAnswer (pending_inputs m pending) name (Err e) after =
+    subst (λ (p : PendingInputs). OfferAnswer p name (Err e) after) is h in
     record {
       given = e;
       told = refl;
-      answer = subst (λ (p : PendingInputs). PendingAnswer (pending_inputs m pending) name (Err e) p) same answer;
+      answer = subst (λ (p : PendingInputs). OfferAnswer (pending_inputs m pending) name (Err e) p) same answer;
     }
 
 -- an instant may take pending inputs that are ready

@@ -2,7 +2,7 @@
 -- form).
 use Rattle.std.specs.Prelude.{◌≡◌, ◌⊎◌, ℕ, ◌-◌, ◌<◌, ◌≤◌, List, [], ◌∷◌, ◌++◌, length, Some, Result, Ok, Err}
 use Rattle.std.specs.Prelude.{MatchResult, slice_get, bit_or, bit_and}
-use Rattle.est_relations.specs.Offers.{offer_rules as pending_rules}
+use Rattle.est_relations.specs.Offers.{offer_rules}
 use Rattle.refusal_rules.specs.Rules.{Rule, Rules, Unless, MayRefuse, accept, ◌▸◌, ◌▸▸◌, Answers}
 use Rattle.reactor_core.specs.declared.entry.Stamp.{Stamp}
 use Rattle.reactor_core.specs.declared.entry.Load.{Load as LoadEntry}
@@ -38,17 +38,18 @@ abbrev pub entry_rules : List SlotEntry → Rules ReactorRefusal
 entry_rules journal = Unless (HasRoom journal) JournalFull ▸ MayRefuse Memory ▸ accept
 
 -- the rules for an offer: those of the pending inputs, by its name and the relations, and then those for its entry
-abbrev pub offer_rules : List SlotEntry → Running → (name : List ℕ) → Rules ReactorRefusal
-offer_rules journal r name = all_converted refusal_of_pending (pending_rules (pending_of r) name) ▸▸ entry_rules journal
+abbrev pub reactor_offer_rules : List SlotEntry → Running → (name : List ℕ) → Rules ReactorRefusal
+reactor_offer_rules journal r name = all_converted refusal_of_pending (offer_rules (pending_of r) name) ▸▸
+    entry_rules journal
 
 -- the answer to an offer of the name, and the journal afterwards: by the rules a refusal, and the journal as it was, or
 -- the entry is added
-pub record OfferAnswer (before : List SlotEntry) (stamp : Stamp) (name : List ℕ)
+pub record ReactorOfferAnswer (before : List SlotEntry) (stamp : Stamp) (name : List ℕ)
     (answer : Result (Unit {0}) ReactorRefusal)
     (after : List SlotEntry) : Type 0 where
   pub running : Running
   pub runs : RunsAfter before running
-  pub given : Answers (offer_rules before running name)
+  pub given : Answers (reactor_offer_rules before running name)
       (λ refusal. (answer ≡ Err refusal) × (after ≡ before))
       ((answer ≡ Ok (record {})) × (after ≡ before ++ entry stamp (Offer name) ∷ []))
 

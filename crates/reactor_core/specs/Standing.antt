@@ -4,7 +4,7 @@ use Rattle.est_kernel.specs.View.{term_of}
 use Rattle.est_kernel.specs.declared.state.Outcome.{Outcome}
 use Rattle.est_kernel.specs.declared.state.State.{State}
 use Rattle.est_meaning.specs.States.{IsState, state_term}
-use Rattle.est_relations.specs.Offers.{PendingInputs, KeepsExclusions, IsFirstImplied, OfferAnswer as PendingAnswer}
+use Rattle.est_relations.specs.Offers.{PendingInputs, KeepsExclusions, IsFirstImplied, OfferAnswer}
 use Rattle.est_relations.specs.declared.refusal.PendingRefusal.{PendingRefusal}
 use Rattle.reactor_core.specs.declared.entry.PastInstant.{PastInstant}
 use Rattle.est_micro.specs.Engine.{IsNetOf}
@@ -61,14 +61,14 @@ HaveOutcome p o = IsNext p.loaded p.state p.pending o.outputs o.next
 
 -- the pending inputs of a module with the input of this name are these
 pub record JoinsAs (m : Module) (pending : ℕ) (name : List ℕ) (after : ℕ) : Type 0 where
-  pub answer : PendingAnswer (pending_inputs m pending) name (Ok (record {})) (pending_inputs m after)
+  pub answer : OfferAnswer (pending_inputs m pending) name (Ok (record {})) (pending_inputs m after)
   pub kept : AreKept m after
 
 -- why the input of this name may not join the pending inputs of a module
-pub record RefusesName (m : Module) (pending : ℕ) (name : List ℕ) (refusal : ReactorRefusal) : Type 0 where
+pub record RefusesJoining (m : Module) (pending : ℕ) (name : List ℕ) (refusal : ReactorRefusal) : Type 0 where
   pub given : PendingRefusal
   pub told : refusal ≡ refusal_of_pending given
-  pub answer : PendingAnswer (pending_inputs m pending) name (Err given) (pending_inputs m pending)
+  pub answer : OfferAnswer (pending_inputs m pending) name (Err given) (pending_inputs m pending)
 
 -- why an instant may not take the pending inputs of a module
 pub record RefusesInstant (m : Module) (pending : ℕ) (refusal : ReactorRefusal) : Type 0 where

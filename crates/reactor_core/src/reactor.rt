@@ -11,7 +11,8 @@ ghost use Rattle.reactor_core.specs.Loading.{IsLoadFault};
 ghost use Rattle.reactor_core.specs.Standing.{given_by};
 ghost use Rattle.reactor_core.specs.Instants.{OpenAnswer};
 ghost use Rattle.reactor_core.specs.Left.{IsKernelOf, IsLeftOf};
-ghost use Rattle.reactor_core.specs.Answers.{LoadAnswer, OfferAnswer, DiscardAnswer, UnloadAnswer};
+ghost use Rattle.reactor_core.specs.Answers.{LoadAnswer, ReactorOfferAnswer, DiscardAnswer};
+ghost use Rattle.reactor_core.specs.Answers.{UnloadAnswer};
 ghost use Rattle.reactor_core.specs.Answers.{ShownAnswer, HasRoom, RefusesEntry};
 
 use crate::entry::{Load, Move, PastInstant, SlotEntry, Stamp};
@@ -207,7 +208,7 @@ impl Reactor {
 
     /// Makes an input pending, where that keeps each exclusion of the module.
     pub fn offer(&mut self, stamp: Stamp, name: &Identifier) -> Result<(), ReactorRefusal>
-        ensures { OfferAnswer self.old stamp name.now result self.new }
+        ensures { ReactorOfferAnswer self.old stamp name.now result self.new }
     {
         let pending = match join(&self.parts.loaded, self.parts.pending, name) {
             Ok(pending) => pending,

@@ -122,7 +122,7 @@ impl<B: BoardName, const NUMBER: u8> LockedSlot<B, NUMBER> {
 
     /// Answers a command on the policy as the slot's own reader reads it. The seat keeps a receipt
     /// of a reply that tells of an entry.
-    pub fn command<R: Wait>(
+    pub fn command_locked<R: Wait>(
         &mut self,
         rt: &R,
         board: &Board<B>,

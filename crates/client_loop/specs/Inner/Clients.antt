@@ -1,5 +1,5 @@
 -- What answers the lines of a connection, beside the desk that it is lent, for private clauses.
-use Rattle.client_loop.specs.declared.client.LineAnswerer.{LineAnswerer}
+use Rattle.client_loop.specs.declared.line_answerer.LineAnswerer.{LineAnswerer}
 use Rattle.client_loop.specs.LineSteps.{DeskAndLogin, with_login}
 use Rattle.client_loop.specs.Logins.{session_of}
 

@@ -7,7 +7,7 @@ ghost use Rattle.est_relations.specs.Keeping.{AreLawful};
 ghost use Rattle.est_rounds.specs.Contract.{AreInputs, HasNoReaction};
 ghost use Rattle.reactor_core.specs.Meaning.{entry};
 ghost use Rattle.reactor_core.specs.Standing.{AreRunning, HaveOutcome, IsNext, AreKept, JoinsAs};
-ghost use Rattle.reactor_core.specs.Standing.{RefusesName, RefusesInstant};
+ghost use Rattle.reactor_core.specs.Standing.{RefusesJoining, RefusesInstant};
 ghost use Rattle.reactor_core.specs.Instants.{AddsInstant};
 ghost use Rattle.reactor_core.specs.Answers.{HasRoom, RefusesEntry};
 
@@ -40,7 +40,7 @@ pub fn join(loaded: &Module, pending: u64, name: &Identifier) -> Result<u64, Rea
     requires { AreKept loaded.now pending }
     ensures { MatchResult result
         (JoinsAs loaded.now pending name.now)
-        (RefusesName loaded.now pending name.now) }
+        (RefusesJoining loaded.now pending name.now) }
 {
     let mut pending = Pending::resume(loaded.kernel.interface(), &loaded.relations, pending);
     pending.offer(name)?;

@@ -8,7 +8,7 @@ use Rattle.rbac_admin.specs.PolicyLists.{IsAccepted}
 use Rattle.rbac_admin.specs.PolicyStep.{PolicyStep}
 use Rattle.rbac_admin.specs.Room.{HasRoomFor}
 use Rattle.rbac_admin.proofs.Accepted.{accepted_again}
-use Rattle.policy_board.proofs.locked_policy.LockedPolicy.answer.Goals as goal
+use Rattle.policy_board.proofs.locked_policy.LockedPolicy.decide_and_append.Goals as goal
 
 pub append-requires : goal.append-requires
 append-requires g c =
