@@ -11,7 +11,7 @@ use Rattle.reactor_core.specs.declared.entry.SlotEntry.{SlotEntry}
 use Rattle.reactor_core.specs.declared.refusal.ReactorRefusal.{ReactorRefusal}
 use Rattle.reactor_core.specs.declared.refusal.ReactorRefusal.TheVariants as reactor
 use Rattle.reactor_core.specs.Meaning.{entry, word_of, instants_of, instants_after}
-use Rattle.reactor_core.specs.Answers.{slot_entry_rules as reactor_rules, UnloadAnswer}
+use Rattle.reactor_core.specs.Answers.{entry_rules as reactor_rules, UnloadAnswer}
 use Rattle.reactor_core.proofs.Steps.{after_snoc}
 use Rattle.access_core.specs.declared.refusal.Refusal.{Refusal}
 use Rattle.access_core.specs.declared.refusal.Refusal.TheVariants.{JournalFull, Memory}

@@ -17,7 +17,7 @@ use Rattle.reactor_core.specs.Answers.{
   ReactorOfferAnswer,
   AddsLoad,
   load_rules,
-  slot_entry_rules,
+  entry_rules,
   gives_module,
 }
 use Rattle.est_relations.specs.Offers.{offer_rules}
@@ -36,7 +36,7 @@ use Rattle.access_core.specs.Refusals.{of_reactor}
 use Rattle.access_core.specs.Desk.{desk_at, AdminStep, DeskStep, InSlot, Appends, list_full, change_of}
 use Rattle.access_core.specs.Needs.{IsAccepted}
 use Rattle.access_core.specs.SlotStep.{SlotStep, Loads, Offers, AddsEntry, Audits, stamp_of, journal_full, tells_added}
-use Rattle.access_core.specs.SlotStep.{slot_entry_rules as slot_entry_rules}
+use Rattle.access_core.specs.SlotStep.{slot_entry_rules}
 use Rattle.access_core.proofs.OneSlotStep.{mapped, same_err, no_ok, no_err}
 use Rattle.history_events.specs.declared.event.Event.{Event}
 use Rattle.history_events.specs.declared.event.Event.TheVariants.{Admin, OnSlot}
@@ -101,7 +101,7 @@ module _ (entries : List Entry) (slot session : ℕ) (before : List SlotEntry) (
 
   -- the rules for an entry, where no memory is refused
   has_room : (refusal : ReactorRefusal) → reply ≡ Refused (of_reactor refusal)
-      → Answers (slot_entry_rules before) (λ given. refusal ≡ given) (⊥)
+      → Answers (entry_rules before) (λ given. refusal ≡ given) (⊥)
       → Named (journal_full before ▸ accept) reply
   has_room refusal replied =
       ⊎_elim
@@ -130,7 +130,7 @@ module _ (entries : List Entry) (slot session : ℕ) (before : List SlotEntry) (
         (λ r. refuse (of_reactor r.refusal) (r.refusal, refl, r.given)
         (replied.replied ∙ ap (λ x. Refused (of_reactor x)) (first refusal (r.refusal, before) r.answered)))
         (λ p. pass p.passed (has_room refusal.0 replied.replied
-        (mapped (slot_entry_rules before) _ (λ given. refusal.0 ≡ given) _ ⊥ (λ x e. first refusal (x, before) e)
+        (mapped (entry_rules before) _ (λ given. refusal.0 ≡ given) _ ⊥ (λ x e. first refusal (x, before) e)
         (λ e. no_ok refusal e.0 e.1) p.next)))
         given where
           first : (x y : ReactorRefusal × List SlotEntry)
@@ -146,9 +146,9 @@ module _ (entries : List Entry) (slot session : ℕ) (before : List SlotEntry) (
         (λ refusal. IsRefused (of_reactor refusal) before reply after)
         → Named (bad_offer before signal ▸ journal_full before ▸ accept) reply
     by_answer (Ok done) given replied =
-        let names = split (asked_of given.running signal) (slot_entry_rules before) _ _ given.given in
+        let names = split (asked_of given.running signal) (entry_rules before) _ _ given.given in
         let passed = all_passed (asked_of given.running signal) _ _ (λ refusal e. no_err done refusal e.0) names in
-        let room = all_passed (slot_entry_rules before) _ _ (λ refusal e. no_err done refusal e.0) passed.1 in
+        let room = all_passed (entry_rules before) _ _ (λ refusal e. no_err done refusal e.0) passed.1 in
         pass (given.running, given.runs, passed.0) (pass room.0.0 (subst IsAccepted (sym replied) tt))
     by_answer (Err refusal) given replied =
         let rules = asked_of given.running signal in
@@ -156,9 +156,9 @@ module _ (entries : List Entry) (slot session : ℕ) (before : List SlotEntry) (
         (λ first. refuse (of_reactor first.0) (given.running, given.runs, first.0, refl, first.1)
         (replied.replied ∙ ap (λ x. Refused (of_reactor x)) (same_err refusal first.0 first.2.0)))
         (λ none. pass (given.running, given.runs, none.0) (has_room refusal replied.replied
-        (mapped (slot_entry_rules before) _ (λ given. refusal ≡ given) _ ⊥ (λ x e. same_err refusal x e.0)
+        (mapped (entry_rules before) _ (λ given. refusal ≡ given) _ ⊥ (λ x e. same_err refusal x e.0)
         (λ e. no_ok refusal (record {}) e.0) none.1)))
-        (first_or_none rules _ _ (split rules (slot_entry_rules before) _ _ given.given))
+        (first_or_none rules _ _ (split rules (entry_rules before) _ _ given.given))
 
   -- an entry that has room is added, where no memory is refused
   adds_named : {move : PastMove} → Answers (slot_entry_rules before) (λ refusal. IsRefused refusal before reply after)
