@@ -13,5 +13,5 @@ returns c =
     let members = members_in (back_json c.args.stands.now) in
     c.end.ensures members
     (two_pieces _ _ _ (value_tokens (codes "next") (state_json c.args.stands.now))
-    (value_tokens (codes "ok") (string (codes "back"))) c.in_ok-state.ensures c.in_ok-text.ensures
+    (value_tokens (codes "ok") (string (codes "back"))) c.in_ok-write_state.ensures c.in_ok-text.ensures
     ∙ ap (λ (begun : List Token). begun ++ member_tokens members) c.in_ok-line.ensures)

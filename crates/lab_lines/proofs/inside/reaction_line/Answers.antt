@@ -21,7 +21,7 @@ returns c =
     (value_tokens (codes "ok") (string (codes "instant")))
     (value_tokens (codes "outputs") (names_json c.args.interface.now c.args.outcome.now.outputs))
     (value_tokens (codes "went") (statements_json c.args.seen.now.went_on.items))
-    (rw c.as_slice.ensures.value at c.in_ok-statements.ensures)
-    (rw c.as_slice-2.ensures.value at c.in_ok-locals.ensures) c.in_ok-state.ensures c.in_ok-text.ensures
-    c.in_ok-names.ensures (rw c.as_slice-3.ensures.value at c.in_ok-statements-2.ensures)
+    (rw c.as_slice.ensures.value at c.in_ok-write_statements.ensures)
+    (rw c.as_slice-2.ensures.value at c.in_ok-write_locals.ensures) c.in_ok-write_state.ensures c.in_ok-text.ensures
+    c.in_ok-write_names.ensures (rw c.as_slice-3.ensures.value at c.in_ok-write_statements-2.ensures)
     ∙ ap (λ (begun : List Token). begun ++ member_tokens members) c.in_ok-line.ensures)

@@ -22,7 +22,8 @@ returns c =
     (value_tokens (codes "ties") (ties_json c.args.interface.now c.args.stuck_ties.now))
     (value_tokens (codes "undecided") (names_json c.args.interface.now c.args.stuck.now.undecided))
     (value_tokens (codes "went") (statements_json c.args.seen.now.went_on.items))
-    (rw c.as_slice.ensures.value at c.in_ok-statements.ensures) c.in_ok-label.ensures
-    (rw c.as_slice-2.ensures.value at c.in_ok-locals.ensures) c.in_ok-ties.ensures c.in_ok-names.ensures
-    (rw c.as_slice-3.ensures.value at c.in_ok-statements-2.ensures)
+    (rw c.as_slice.ensures.value at c.in_ok-write_statements.ensures) c.in_ok-write_stuck_label.ensures
+    (rw c.as_slice-2.ensures.value at c.in_ok-write_locals.ensures) c.in_ok-write_ties.ensures
+    c.in_ok-write_names.ensures
+    (rw c.as_slice-3.ensures.value at c.in_ok-write_statements-2.ensures)
     ∙ ap (λ (begun : List Token). begun ++ member_tokens members) c.in_ok-line.ensures)

@@ -7,4 +7,4 @@ use Rattle.lab_lines.proofs.inside.write_local.Goals as goal
 pub returns : goal.returns
 returns c =
     object_is local_json c.args.local (members_in (local_json c.args.local)) _ _ _ _ c.end_object.result refl
-    c.in_ok-begin_object.ensures c.in_ok-members.ensures c.end_object.ensures
+    c.in_ok-begin_object.ensures c.in_ok-write_local_members.ensures c.end_object.ensures

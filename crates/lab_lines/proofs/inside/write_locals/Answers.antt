@@ -6,4 +6,4 @@ use Rattle.lab_lines.proofs.inside.write_locals.Goals as goal
 pub returns : goal.returns
 returns c =
     list_is local_json c.args.seen.now (codes "locals") _ _ _ _ _ c.end_array.result c.in_ok-key.ensures
-    c.in_ok-begin_array.ensures c.in_ok-each_local.ensures c.end_array.ensures
+    c.in_ok-begin_array.ensures c.in_ok-write_each_local.ensures c.end_array.ensures

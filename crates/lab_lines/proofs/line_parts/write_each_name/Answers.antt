@@ -3,7 +3,7 @@ use Rattle.lab_lines.proofs.LineLemmas.{no_name_left}
 use Rattle.lab_lines.proofs.line_parts.write_each_name.Goals as goal
 
 pub loop-place-preserved : goal.loop-place-preserved
-loop-place-preserved c = c.in_ok-name_if.ensures ∙ c.loop-place.invariant
+loop-place-preserved c = c.in_ok-write_name_if.ensures ∙ c.loop-place.invariant
 
 pub returns : goal.returns
 returns c =

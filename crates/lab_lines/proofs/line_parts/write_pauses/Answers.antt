@@ -11,6 +11,6 @@ returns c =
     let same : c.as_slice.result.now ≡ numbers = c.as_slice.ensures.value ∙ c.in_ok-numbers.ensures in
     list_is number_json numbers c.args.name.now _ _ _ _ _ c.end_array.result c.in_ok-key.ensures
     c.in_ok-begin_array.ensures
-    (c.in_ok-each_number.ensures
+    (c.in_ok-write_each_number.ensures
     ∙ ap (λ (l : List ℕ). c.begin_array.new.self ++ item_tokens number_json l) same)
     c.end_array.ensures

@@ -8,4 +8,4 @@ pub returns : goal.returns
 returns c =
     let value = tie_json c.args.interface.now in
     object_is value c.args.tie (members_in (value c.args.tie)) _ _ _ _ c.end_object.result refl
-    c.in_ok-begin_object.ensures c.in_ok-members.ensures c.end_object.ensures
+    c.in_ok-begin_object.ensures c.in_ok-write_tie_members.ensures c.end_object.ensures

@@ -10,7 +10,7 @@ returns c =
     let t = c.args.tie in
     three_members c.write_signal.result _ _ _ _ (value_tokens (codes "at") (incarnation_json t.at))
     (value_tokens (codes "kind") (string (kind_text t.kind)))
-    (value_tokens (codes "signal") (signal_json c.args.interface.now t.signal)) c.in_ok-incarnation_under.ensures
+    (value_tokens (codes "signal") (signal_json c.args.interface.now t.signal)) c.in_ok-write_incarnation_under.ensures
     (c.in_ok-text.ensures
     ∙ ap (λ (s : List ℕ). c.write_incarnation_under.new.line ++ value_tokens (codes "kind") (string s))
     c.kind_word.ensures)

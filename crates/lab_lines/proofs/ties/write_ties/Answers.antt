@@ -7,4 +7,4 @@ pub returns : goal.returns
 returns c =
     list_is (tie_json c.args.interface.now) c.args.found.now
     (codes "ties") _ _ _ _ _ c.end_array.result c.in_ok-key.ensures
-    c.in_ok-begin_array.ensures c.in_ok-each_tie.ensures c.end_array.ensures
+    c.in_ok-begin_array.ensures c.in_ok-write_each_tie.ensures c.end_array.ensures
