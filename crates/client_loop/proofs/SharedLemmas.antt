@@ -68,7 +68,7 @@ module _ {B : Type 0} where
   published_tells acceptance entry before after p =
       let same : acceptance ≡ p.acceptance = (let is = p.answered in cc) in
       let list : acceptance.list ≡ before ++ entry ∷ [] = ap (λ (r : Acceptance B). r.list) same
-          ∙ (p.list_is ∙ p.appended) in
+      ∙ (p.list_is ∙ p.appended) in
       record {
         entry_is = ap (λ (r : Acceptance B). r.entry) same ∙ p.entry_is;
         version = ap (λ (l : List Entry). length l) list ∙ length-append before (entry ∷ []);
@@ -205,7 +205,7 @@ module _ {B : Type 0} where
     refused_at : IfErr answer (λ refusal. given ≡ Refused (of_board refusal)) → (refusal : BoardRefusal)
         → answer ≡ Err refusal → given ≡ Refused (of_board refusal)
     refused_at h refusal is = subst (λ (a : Result (Acceptance B) BoardRefusal). IfErr a
-    (λ r. given ≡ Refused (of_board r))) is
+        (λ r. given ≡ Refused (of_board r))) is
         h
 
     -- the board's answer to a policy command is a desk's, where the reply is made so of it
