@@ -5,7 +5,7 @@ The lists of docs/generated are those that scripts/reading_list.py, wrong_bodies
 stated_twice.py write, the last of which never gets longer;
 each wrong body says why it is wrong, and each crate what it is; README.md has at most 100 lines; each function of the
 walk in docs/ARCHITECTURE.md stands in its file; each refusal of docs/PROTOCOL.md has the number, name and keys of the crates' tables;
-each function of tests/MISTAKES.md stands in the crate of its wrong body; each script of
+each function of tests/MISTAKES.md stands in the crate of its wrong body, and each crate that a wrong body names in crates.txt; each script of
 examples/scripts has its answers and its row in examples/README.md, and the opening one is the stored run; each test
 that docs/EXAMPLES.md names is written; each link leads to a file and a heading, and each quoted block stands in its
 file; no line of code, definition or proof is too wide; docs/generated/LINES.md tells nearly as many lines as there are;
@@ -114,6 +114,19 @@ def misnamed_mistakes():
     return faults
 
 
+def unnamed_libraries():
+    """A line for each crate of the repository that a wrong body names and crates.txt doesn't: such an edit never reaches the prover."""
+    lines = [line.partition(":") for line in (ROOT / "crates.txt").read_text().splitlines() if line and not line.startswith("#")]
+    named = {head.split()[0]: set(tail.split()) for head, _, tail in lines}
+    faults = []
+    for edit in sorted((ROOT / "crates").glob("*/must-fail/*.edit")):
+        crate = edit.parent.parent.name
+        bodies = "\n".join(re.findall(r"^new: (.*)$", edit.read_text(), re.MULTILINE))
+        used = set(re.findall(r"(?<![\w:])([a-z_0-9]+)::", bodies)) & named.keys()
+        faults += [f"crates.txt: {crate} lacks {library}, which {edit.name} names" for library in sorted(used - named[crate] - {crate})]
+    return faults
+
+
 def nameless_crates():
     """A line for each crate whose root file doesn't say what it is."""
     return [f"{crate}: its root file doesn't begin with what it is" for crate in crate_list.without_sentence()]
@@ -216,7 +229,7 @@ def wide_lines():
 
 def main():
     faults = differing_tables() + missing_sentences() + missing_functions() + faulty_examples()
-    faults += differing_refusals() + misnamed_mistakes() + long_readme() + nameless_crates() + missing_tests() + wide_lines()
+    faults += differing_refusals() + misnamed_mistakes() + unnamed_libraries() + long_readme() + nameless_crates() + missing_tests() + wide_lines()
     faults += faulty_decisions() + proof_lines.stale_rows() + version.stale_places() + words.faults()
     for document in [*ROOT.glob("*.md"), *ROOT.glob("docs/**/*.md"), *ROOT.glob("examples/*.md"), *ROOT.glob("gateway/*.md")]:
         faults += broken_links(document) + broken_anchors(document) + stale_quotes(document)
