@@ -57,7 +57,7 @@ login_makes_session (AddActiveRole role) session is = absurd cc
 login_makes_session (DropActiveRole role) session is = absurd cc
 
 module _ {B : Type 0} where
-  -- what a receipt of a published entry tells
+  -- what the acceptance of a published entry tells
   record Tells (acceptance : Acceptance B) (entry : Entry) (before : List Entry) : Type 0 where
     pub entry_is : acceptance.entry ≡ entry
     pub version : length acceptance.list ≡ length before + 1
@@ -75,7 +75,7 @@ module _ {B : Type 0} where
         session = ap (λ (r : Acceptance B). r.session) same ∙ p.session_is;
       }
 
-  -- the reply to a receipt whose command makes this change
+  -- the reply to an acceptance whose command makes this change
   pub reply_changed : (acceptance : Acceptance B) (entry : Entry) (before after : List Entry) (change : PolicyWord)
       → IsPublished entry before (Ok acceptance) after
       → change_of acceptance.entry.command ≡ Some change → Changed change (length acceptance.list)
@@ -86,7 +86,7 @@ module _ {B : Type 0} where
       (λ (e : Entry). change_of e.command ≡ Some change) t.entry_is is in
       ap (λ n. Changed change n) t.version ∙ sym (ap (λ c. reply_of_change c before) made)
 
-  -- a receipt of a login has the session that it made
+  -- the acceptance of a login has the session that it made
   pub session_of_login : (acceptance : Acceptance B) (entry : Entry) (before after : List Entry)
       → IsPublished entry before (Ok acceptance) after
       → change_of acceptance.entry.command ≡ None → acceptance.session ≡ Some (logins before + 1)
@@ -96,7 +96,7 @@ module _ {B : Type 0} where
       t.session ∙ ap (λ b. if b then Some (logins before + 1) else None)
       (login_makes_session entry.command entry.session made)
 
-  -- the reply to a receipt of a login
+  -- the reply to the acceptance of a login
   pub reply_login : (acceptance : Acceptance B) (entry : Entry) (before after : List Entry) (session : ℕ)
       → IsPublished entry before (Ok acceptance) after
       → change_of acceptance.entry.command ≡ None → acceptance.session ≡ Some session

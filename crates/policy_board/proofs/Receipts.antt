@@ -1,4 +1,4 @@
--- What a receipt tells, and the seat of a command that is answered.
+-- What an acceptance tells, and the seat of a command that is answered.
 use Rattle.std.proofs.Common.{◌≡◌, ℕ, ◌≤◌, max, List, ◌++◌, length, sym, ap, ◌∙◌, subst, arith}
 use Rattle.std.specs.Prelude.{Option, Result, Ok, Err, MatchResult}
 use Rattle.refusal_rules.specs.Rules.{accept, MayRefuse, ◌▸◌, Answers}
@@ -18,7 +18,7 @@ use Rattle.policy_board.specs.declared.seat.Acceptance.{Acceptance}
 use Rattle.policy_board.proofs.Beginnings.{begins_push, begins_length}
 
 module _ {B : Type 0} where
-  -- what a receipt of this step tells of the list
+  -- what an acceptance by this step tells of the list
   pub record Tells (before : List Entry) (acceptance : Acceptance B) (after : List Entry) : Type 0 where
     pub list_is : acceptance.list ≡ after
     pub later : Begins before after
@@ -46,7 +46,7 @@ module _ {B : Type 0} where
       published_tells before acceptance after e all.1
   replied_tells before acceptance after (Err r) h = let is = h.answered in absurd cc
 
-  -- the receipt of an accepted command has the list after it, which begins with the list before it
+  -- the acceptance of a command has the list after it, which begins with the list before it
   pub receipt_tells : (before : List Entry) (session : Option ℕ) (command : AdminCommand)
       (answer : Result (Acceptance B) BoardRefusal) (after : List Entry) (acceptance : Acceptance B)
       → BoardStep before session command answer after → answer ≡ Ok acceptance → Tells before acceptance after

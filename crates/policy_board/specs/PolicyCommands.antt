@@ -27,8 +27,8 @@ module _ {B : Type 0} where
     pub answered : answer ≡ Err refusal
     pub stays : after ≡ before
 
-  -- the entry, and no other, is put at the end of the list. The answer is its `Receipt`: the entry, the list that ends
-  -- with it, and the session that it makes
+  -- the entry, and no other, is put at the end of the list. The answer is its `Acceptance`: the entry, the list that
+  -- ends with it, and the session that it makes
   pub record IsPublished (entry : Entry) (before : List Entry) (answer : Result (Acceptance B) BoardRefusal)
       (after : List Entry) : Type 0 where
     pub acceptance : Acceptance B
