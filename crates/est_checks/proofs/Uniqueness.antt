@@ -1,6 +1,6 @@
 -- A library has one first fault, or none.
 use mathlib.Core.Path.{fun_ext}
-use Rattle.std.proofs.Common.{◌≡◌, ℕ, ◌⊎◌, inl, inr, List, [], Bool, true, ◌&&◌, Option, Some}
+use Rattle.std.proofs.Common.{◌≡◌, ℕ, ◌⊎◌, inl, inr, List, [], Bool, ◌&&◌, Option, Some}
 use Rattle.std.proofs.Common.{None, option_map}
 use Rattle.std.proofs.Common.{Contains, refl, ap, sym, ◌∙◌, subst, arith}
 use Rattle.std.proofs.lemmas.Bool.{cases_lt}
@@ -9,7 +9,6 @@ use Rattle.std.specs.List.{find, slice_get}
 use Rattle.std.specs.Str.{bytes_eq}
 use Rattle.refusal_rules.specs.Rules.{Unless, Refuses, Passes}
 use Rattle.est_syntax.specs.Tree.{RenamingTree}
-use Rattle.est_text.specs.Identifiers.{is_identifier}
 use Rattle.est_checks.specs.BadRenamings.{bad_renaming_at}
 use Rattle.est_checks.specs.Counting.{AreCounts}
 use Rattle.est_checks.specs.Duplicates.{first_duplicate}
@@ -187,10 +186,6 @@ one_fact a b next (inr x) (inl y) = absurd (y.given.1 x.passed)
 one_fact a b next (inr x) (inr y) = next x.next y.next
 
 -- ---- all checks
-
--- where no check has a fault, the name of the main module is an identifier
-pub main_identifier : (ps : List Program) (main : List ℕ) → IsFirstFault ps main None → is_identifier main ≡ true
-main_identifier ps main h = (all_pass ps main h).1.0
 
 -- and the main module and each that is run are there
 pub all_there : (ps : List Program) (main : List ℕ) → IsFirstFault ps main None → first_missing ps main ≡ None

@@ -53,23 +53,6 @@ is_fewer x y p h k other =
         | inr d ↦ sym (other n d) ∙ t
       ]
 
-pub narrower_part : (may : ℕ → Bool) (p : ℕ) (b : Bool) (old new : Part) → IsPart may old.unasked old.inputs
-    → bits old.unasked p ≡ true → IsNarrower p b old new → IsPart may new.unasked new.inputs
-narrower_part may p b old new part here n = record {
-  unasked_offered = λ k h. elim (cases_eq k p) [
-    | inl e ↦ rw e (part.unasked_offered p here)
-    | inr d ↦ part.unasked_offered k (sym (n.unasked k d) ∙ h)
-  ];
-  offered = λ k h. elim (cases_eq k p) [
-    | inl e ↦ rw e (part.unasked_offered p here)
-    | inr d ↦ part.offered k (sym (n.inputs k d) ∙ h)
-  ];
-  apart = λ k h. elim (cases_eq k p) [
-    | inl e ↦ absurd (false≢true (sym n.known ∙ rw e at h))
-    | inr d ↦ n.inputs k d ∙ part.apart k (sym (n.unasked k d) ∙ h)
-  ];
-}
-
 -- a set that has the part has the narrower one if it agrees on the signal
 pub has_narrower : (p : ℕ) (b : Bool) (old new : Part) → IsNarrower p b old new → (set : InputSet)
     → HasPart old.unasked old.inputs set → set p ≡ b → HasPart new.unasked new.inputs set

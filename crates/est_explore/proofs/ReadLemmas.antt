@@ -1,17 +1,17 @@
 -- Which signals a test reads.
-use Rattle.std.proofs.Common.{◌≡◌, ◌∙◌, ℕ, ◌<◌, ◌+◌, Bool, true, false, ◌||◌, nat_eq, List, [], ◌∷◌}
+use Rattle.std.proofs.Common.{◌≡◌, ◌∙◌, ℕ, ◌<◌, ◌+◌, Bool, true, ◌||◌, nat_eq, List, [], ◌∷◌}
 use Rattle.std.proofs.Common.{length, get_or, take, sym, refl, ap, subst}
 use Rattle.std.specs.List.{All, fold}
 use Rattle.std.proofs.lemmas.Bool.{eq-eqb, false≢true, or_right, or_left}
 use Rattle.std.proofs.lemmas.List.Elements.{All-head, All-more, All-tail, All-weaker}
 use Rattle.est_kernel.specs.Bits.{bits}
-use Rattle.est_kernel.specs.Term.{Query, Joint, tick, of, negated, joined, outer, inner}
+use Rattle.est_kernel.specs.Term.{Query, of, outer, inner}
 use Rattle.est_kernel.specs.View.{query_of, joint_of}
 use Rattle.est_kernel.specs.declared.statement.Connective.{Connective}
 use Rattle.est_kernel.specs.declared.statement.Operands.{Operands}
 use Rattle.est_kernel.specs.declared.statement.Test.{Test}
 use Rattle.est_kernel.specs.declared.statement.Test.TheViews.{out-Operands}
-use Rattle.est_meaning.specs.Environments.{Env, opposite, joint_status, status_of, verdict}
+use Rattle.est_meaning.specs.Environments.{Env, joint_status, status_of, verdict}
 use Rattle.est_meaning.specs.declared.status.Status.{Status}
 use Rattle.est_meaning.proofs.TestLemmas.{joined_with, operands_status}
 use Rattle.est_explore.specs.Claims.{known, is_yes, IsToldBy}
@@ -19,9 +19,6 @@ use Rattle.est_explore.specs.Inner.Reads.{IsReadBy, IsJointReadBy}
 
 pub tells : (t : Test) (s : ℕ → Bool) → IsReadBy (query_of t) s → IsToldBy t s
 tells t s h = λ f g a. ap is_yes (h f g a)
-
-pub tick_read : (s : ℕ → Bool) → IsReadBy tick s
-tick_read s f g a = refl
 
 pub outer_read : (n : ℕ) (s : ℕ → Bool) → s n ≡ true → IsReadBy (of (outer n)) s
 unfolding known
@@ -33,13 +30,6 @@ inner_read n s f g a = refl
 
 pub single_has : (m n : ℕ) → ((k : ℕ) → bits m k ≡ nat_eq n k) → bits m n ≡ true
 single_has m n h = h n ∙ eq-eqb n n refl
-
-pub negated_read : (q : Query) (s : ℕ → Bool) → IsReadBy q s → IsReadBy (negated q) s
-negated_read q s h f g a = ap opposite (h f g a)
-
-pub joint_read : (c : Connective) (o : Joint) (s : ℕ → Bool) → IsJointReadBy o s
-    → IsReadBy (joined c o.first o.later) s
-joint_read c o s h f g a = h c f g a
 
 -- more signals
 pub read_more : (q : Query) (s t : ℕ → Bool) → ((n : ℕ) → s n ≡ true → t n ≡ true) → IsReadBy q s → IsReadBy q t

@@ -58,11 +58,6 @@ bits_pow k n = elim (cases_eq n k) [
   | inr d ↦ ap (λ x. nat_eq x 1) (bit_at-pow_other k n d) ∙ sym (ne_eqb k n (λ e. d (sym e)))
 ]
 
--- a power of two, as a set
-pub single_bits : (k : ℕ) → bits (2 ^ k) ≡ code k
-unfolding code
-single_bits k = fun_ext (λ n. bits_pow k n)
-
 -- no bit of 0 is set
 pub bits_zero : (n : ℕ) → bits 0 n ≡ false
 unfolding bits

@@ -1,7 +1,7 @@
 -- Sets of pauses, as they are put together.
 use Rattle.std.specs.Prelude.{◌≡◌, ◌≢◌, ◌+◌, ℕ, ltb, Bool, true, false, cond, ◌&&◌, ◌||◌, nat_eq, List}
 use Rattle.std.proofs.Common.{refl, ap, sym, ◌∙◌, arith, subst, inl, inr}
-use Rattle.std.proofs.lemmas.Bool.{eqb-true, lt-ltb}
+use Rattle.std.proofs.lemmas.Bool.{lt-ltb}
 use Rattle.est_kernel.specs.Pauses.{pauses_of}
 use Rattle.est_kernel.specs.declared.kernel.Kernel.{Kernel}
 use Rattle.est_kernel.specs.declared.pause_set.PauseSet.{PauseSet}
@@ -40,10 +40,6 @@ swap false true p q true h = and_true p ∙ h refl
 swap false true true q false h = refl
 swap false true false q false h = refl
 swap false false p q e h = refl
-
-pub kept_pause : (x on : Bool) (n i : ℕ) (f : ℕ → Bool)
-    → (x || ((on && f n) && nat_eq n i)) ≡ (x || (on && (nat_eq n i && f i)))
-kept_pause x on n i f = swap x on (f n) (f i) (nat_eq n i) (λ e. ap f (eqb-true n i e))
 
 pub two_collected : (new mid old first : Bool) (second : ℕ → Bool) (m n : ℕ) → new ≡ (mid || second m)
     → mid ≡ (old || first) → m ≡ n → new ≡ (old || (first || second n))

@@ -1,39 +1,37 @@
 -- A pass over a part of a statement is one over the statement; passes follow one another; what a sweep of the
 -- statement, or what its codes are told, is a pass too.
 use Rattle.std.specs.Prelude.{◌≡◌, ◌≤◌, ◌<◌, ◌+◌, ℕ, Bool, true, false, List}
-use Rattle.std.proofs.Common.{refl, ap, sym, ◌∙◌, arith, inr, subst}
-use Rattle.est_kernel.specs.Codes.{Codes}
+use Rattle.std.proofs.Common.{refl, sym, ◌∙◌, arith, subst}
 use Rattle.est_kernel.specs.CodeViews.{codes_of}
 use Rattle.est_kernel.specs.View.{query_of, term_of}
 use Rattle.est_kernel.specs.declared.statement.LocalSignal.{LocalSignal}
 use Rattle.est_kernel.specs.declared.statement.Statement.{Statement}
 use Rattle.est_kernel.specs.declared.statement.Statement.TheVariants.{Present', Suspend', Seq'}
 use Rattle.est_kernel.specs.declared.statement.Statement.TheVariants.{Loop', Par', Trap', Local' as Binder'}
-use Rattle.est_meaning.proofs.KnowledgeIsMonotone.{and_below, opposite_below, query_below, local_below}
-use Rattle.est_meaning.specs.Environments.{Env, and_status, opposite, status_of, with_local}
+use Rattle.est_meaning.proofs.KnowledgeIsMonotone.{and_below, opposite_below, query_below}
+use Rattle.est_meaning.specs.Environments.{Env, and_status, opposite, status_of}
 use Rattle.est_meaning.specs.Knowledge.{IsBelow, KnowsLess}
 use Rattle.est_meaning.specs.declared.status.Status.{Status}
-use Rattle.est_meaning.specs.declared.status.Status.TheVariants.{Absent}
 use Rattle.est_cells.proofs.Order.{ends_below}
 use Rattle.est_cells.proofs.Sound.{sound, local_sound}
 use Rattle.est_cells.specs.Gates.{ends, emitted_status, gates}
 use Rattle.est_cells.specs.Meaning.{begun, begun_parts, cells_at, status_at}
 use Rattle.est_cells.specs.Tables.{Below, Cells, PartsBelow, Sheet, emits, is_sure, sheet_size}
-use Rattle.est_net.specs.Cells.{Learns, cell_at, learned}
-use Rattle.est_net.specs.Layout.{node_in, parts_in, possible_codes, sheet_in, sure_codes}
+use Rattle.est_net.specs.Cells.{Learns, cell_at}
+use Rattle.est_net.specs.Layout.{node_in, parts_in, sheet_in}
 use Rattle.est_rounds.specs.declared.acts.Judgement.{Judgement}
 use Rattle.est_micro.specs.Hearing.{Heard}
 use Rattle.est_micro.specs.Passes.{Keeps, Passes}
-use Rattle.est_micro.specs.Sweeps.{left, may_told, sure_told, swept}
-use Rattle.est_micro.specs.Views.{Changes, IsLeft, IsSwept}
+use Rattle.est_micro.specs.Sweeps.{left, swept}
+use Rattle.est_micro.specs.Views.{Changes, IsSwept}
 use Rattle.est_micro.specs.declared.cells.Found.{Found}
 use Rattle.est_micro.specs.declared.direction.Direction.{Direction}
 use Rattle.est_micro.proofs.BegunNodes.{nothing_changes, widen}
-use Rattle.est_micro.proofs.Frames.{changes_then, learn_changes, node_same, parts_same, same_node_of, sheet_same}
+use Rattle.est_micro.proofs.Frames.{changes_then, learn_changes, node_same, sheet_same}
 use Rattle.est_micro.proofs.Frames.{size_least}
-use Rattle.est_micro.proofs.Hearing.{begun_local, heard_left, heard_local, heard_right, idle_heard}
+use Rattle.est_micro.proofs.Hearing.{heard_left, heard_right}
 use Rattle.est_micro.proofs.SweepsAreSound.{swept_sound}
-use Rattle.est_micro.proofs.Told.{learned_below, told_below}
+use Rattle.est_micro.proofs.Told.{learned_below}
 
 -- what changes nothing; one after another
 pub keeps_nothing : (main : Bool) (s : Statement) (c t : ℕ) (Meant : Sheet main s → Type 0) (cells : List Status)
@@ -190,23 +188,6 @@ trap_body main a p c t g h l old new z k =
     (omega arith) k.changes (λ r e i j u o. passed main p (c + t + 3) (t + 1) h l old new k r e
     (subst (λ (v : Status). IsBelow v r) (sym z) o.cells.go) j u o.parts)
 
--- a local signal's binder: its body, and its status
-pub local_body : (main : Bool) (s : LocalSignal) (a : _) (p : Statement) (c t : ℕ) (g h : Status) (l : Env)
-    (old new : List Status) → h ≡ cell_at old c
-    → Passes main p (c + t + 4) t h (with_local l s.index (cell_at old (c + t + 3))) old new
-    → Passes main (Binder' s a p) c t g l old new
-local_body main s a p c t g h l old new z k =
-    parts_pass main (Binder' s a p) c t g l old new (c + t + 4) (c + t + 4 + sheet_size main p t) (omega arith)
-    (omega arith) k.changes (λ r e i j u o.
-    let v = status_at r s.index (term_of p) e in
-    let w = cell_at old (c + t + 3) in
-    record {
-      status = subst (λ (x : Status). IsBelow x v) (sym (k.changes.before (c + t + 3) (omega arith))) o.parts.status;
-      body = passed main p (c + t + 4) t h (with_local l s.index w) old new k r (with_local e s.index v)
-          (subst (λ (x : Status). IsBelow x r) (sym z) o.cells.go) (local_below l e s.index w v j o.parts.status)
-          (heard_local s.index v w e l _ (begun_local main p s.index r e) u) o.parts.body;
-    })
-
 pub local_status : (main : Bool) (s : LocalSignal) (a : _) (p : Statement) (c t : ℕ) (g now : Status) (l : Env)
     (old new : List Status) → now ≡ emitted_status main p s.index (sheet_in (cell_at old) main p (c + t + 4) t)
     → Learns (c + t + 3) now old new → Passes main (Binder' s a p) c t g l old new
@@ -227,46 +208,6 @@ local_status main s a p c t g now l old new z k =
 pub record GivenBy (y : Cells) (own : Judgement) : Type 0 where
   pub must : codes_of own.must.codes ≡ y.must
   pub can : codes_of own.can.codes ≡ y.may
-
-pub left_sheet : (main : Bool) (s : Statement) (c t : ℕ) (y : Cells) (old new : List Status) (own : Judgement)
-    (past : ℕ) (r : Found) → GivenBy y own → IsLeft c t own past old new r
-    → sheet_in (cell_at new) main s c t ≡ left (sheet_in (cell_at old) main s c t) y
-left_sheet main s c t y old new own past r given is_left =
-    let f2 = cell_at old in
-    let f3 = cell_at new in
-    let S = sheet_in f2 main s c t in
-    let told = is_left.told in
-    let told_sure : sure_codes f3 (c + 1) (t + 2) ≡ sure_told S.cells.must S.cells.may y.must y.may
-    = told.sure ∙ (ap (λ (z : Codes). sure_told S.cells.must S.cells.may z (codes_of own.can.codes)) given.must
-    ∙ ap (λ (z : Codes). sure_told S.cells.must S.cells.may y.must z) given.can) in
-    let told_may : possible_codes f3 (c + 1) (t + 2) ≡ may_told S.cells.must S.cells.may y.must y.may
-    = told.may ∙ (ap (λ (z : Codes). may_told S.cells.must S.cells.may z (codes_of own.can.codes)) given.must
-    ∙ ap (λ (z : Codes). may_told S.cells.must S.cells.may y.must z) given.can) in
-    same_node_of (f3 c) (f2 c) _ _ _ _ _ _ (told.changes.before c (omega arith)) told_sure told_may
-    (parts_same f3 f2 main s c t (λ i l u. told.changes.after i (omega arith)))
-
-pub codes_pass : (main : Bool) (s : Statement) (c t : ℕ) (g : Status) (l : Env) (old new : List Status)
-    (own : Judgement) (past : ℕ) (r : Found)
-    → GivenBy (gates main s g l (sheet_in (cell_at old) main s c t)).cells own → IsLeft c t own past old new r
-    → Passes main s c t g l old new
-codes_pass main s c t g l old new own past r given is_left =
-    let o = size_least main s t in
-    let S = sheet_in (cell_at old) main s c t in
-    let y = (gates main s g l S).cells in
-    let same = left_sheet main s c t y old new own past r given is_left in
-    record {
-      changes = widen (c + 1) c (c + 1 + (t + 2)) (c + sheet_size main s t) old new (omega arith) (omega arith)
-          is_left.told.changes;
-      sound = λ M m b.
-          let N = begun main s m.reach m.env in
-          let k = subst (λ (z : Sheet main s). Below main s S z) m.is b in
-          subst (λ (z : Sheet main s). Below main s (sheet_in (cell_at new) main s c t) z) (sym m.is)
-          (subst (λ (z : Sheet main s). Below main s z N) (sym same) (record {
-            cells = told_below S.cells y N.cells S.cells.go k.cells.go k.cells
-                (sound main s m.reach g m.env l S m.below m.less k).cells;
-            parts = k.parts;
-          }));
-    }
 
 -- a sweep is a pass
 pub sweep_passes : (way : Direction) (main : Bool) (s : Statement) (c t : ℕ) (g : Status) (l : Env)

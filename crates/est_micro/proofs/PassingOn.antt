@@ -1,37 +1,31 @@
 -- The same of a statement that goes on from its pauses.
 use Rattle.std.specs.Prelude.{◌≡◌, ◌≤◌, ◌<◌, ◌+◌, ℕ, Bool, true, false, cond, List}
-use Rattle.std.proofs.Common.{refl, ap, sym, ◌∙◌, arith, inr, subst}
-use Rattle.est_kernel.specs.View.{query_of, term_of}
-use Rattle.est_kernel.specs.declared.statement.LocalSignal.{LocalSignal}
+use Rattle.std.proofs.Common.{refl, sym, ◌∙◌, arith, subst}
 use Rattle.est_kernel.specs.declared.statement.Statement.{Statement}
-use Rattle.est_kernel.specs.declared.statement.Statement.TheVariants.{Present', Suspend', Seq'}
-use Rattle.est_kernel.specs.declared.statement.Statement.TheVariants.{Loop', Par', Trap', Local' as Binder'}
-use Rattle.est_meaning.proofs.KnowledgeIsMonotone.{and_below, opposite_below, query_below, local_below}
-use Rattle.est_meaning.specs.Environments.{Env, and_status, opposite, status_of, with_local}
+use Rattle.est_kernel.specs.declared.statement.Statement.TheVariants.{Seq'}
+use Rattle.est_kernel.specs.declared.statement.Statement.TheVariants.{Loop', Par'}
+use Rattle.est_meaning.specs.Environments.{Env}
 use Rattle.est_meaning.specs.Knowledge.{IsBelow, KnowsLess}
 use Rattle.est_meaning.specs.States.{is_live, term_at}
 use Rattle.est_meaning.specs.declared.status.Status.{Status}
 use Rattle.est_meaning.specs.declared.status.Status.TheVariants.{Absent}
 use Rattle.est_cells.proofs.Order.{ends_below}
-use Rattle.est_cells.proofs.Sound.{live_sound, live_local_sound}
-use Rattle.est_cells.specs.Gates.{ends, emitted_status, live_gates}
-use Rattle.est_cells.specs.Meaning.{begun, cells_at, resumed, resumed_parts, status_at}
-use Rattle.est_cells.specs.Tables.{Below, Cells, PartsBelow, Sheet, emits, is_sure, sheet_size}
-use Rattle.est_net.specs.Cells.{Learns, cell_at, learned}
+use Rattle.est_cells.specs.Gates.{ends}
+use Rattle.est_cells.specs.Meaning.{begun, cells_at, resumed, resumed_parts}
+use Rattle.est_cells.specs.Tables.{Below, PartsBelow, Sheet, emits, is_sure, sheet_size}
+use Rattle.est_net.specs.Cells.{cell_at}
 use Rattle.est_net.specs.Layout.{node_in, parts_in, sheet_in}
-use Rattle.est_rounds.specs.declared.acts.Judgement.{Judgement}
 use Rattle.est_micro.specs.Hearing.{Heard}
 use Rattle.est_micro.specs.Passes.{Passes, PassesOn}
 use Rattle.est_micro.specs.Sweeps.{live_swept}
-use Rattle.est_micro.specs.Views.{Changes, IsLeft, IsSwept}
+use Rattle.est_micro.specs.Views.{Changes, IsSwept}
 use Rattle.est_micro.specs.declared.cells.Found.{Found}
 use Rattle.est_micro.specs.declared.direction.Direction.{Direction}
 use Rattle.est_micro.proofs.BegunNodes.{widen}
-use Rattle.est_micro.proofs.Frames.{learn_changes, node_same, size_least}
-use Rattle.est_micro.proofs.Hearing.{heard_left, heard_local, heard_right, resumed_local}
-use Rattle.est_micro.proofs.Passing.{GivenBy, after_it, before_it, left_sheet, passed}
+use Rattle.est_micro.proofs.Frames.{node_same}
+use Rattle.est_micro.proofs.Hearing.{heard_left, heard_right}
+use Rattle.est_micro.proofs.Passing.{after_it, before_it, passed}
 use Rattle.est_micro.proofs.SweepsAreSound.{live_swept_sound}
-use Rattle.est_micro.proofs.Told.{learned_below, told_below}
 
 -- what a pass keeps
 pub passed_on : (p : Statement) (bits : ℕ → Bool) (d t : ℕ) (h : Status) (l : Env) (old new : List Status)
@@ -99,33 +93,6 @@ par_on_second bits a p b q c t g l old new z k =
     (omega arith) k.changes (λ r e i j u o. record {
       first = before_it true p (c + t + 3) t _ _ old new _ k.changes (omega arith) o.parts.first;
       second = on_it (is_live q bits) q (resumed q bits r e) (begun true q Absent e)
-          (sheet_in (cell_at old) true q d t) (sheet_in (cell_at new) true q d t) e l z
-          (λ v w. passed_on q bits d t g l old new k r e i j v w) (heard_right _ _ e l u) o.parts.second;
-    })
-
-pub present_on_first : (bits : ℕ → Bool) (y a : _) (p : Statement) (b : _) (q : Statement) (c t : ℕ) (g : Status)
-    (l : Env) (old new : List Status) → is_live p bits ≡ true → PassesOn p bits (c + t + 3) t g l old new
-    → PassesOn (Present' y a p b q) bits c t g l old new
-present_on_first bits y a p b q c t g l old new z k =
-    let d = c + t + 3 in
-    parts_pass_on (Present' y a p b q) bits c t g l old new d (d + sheet_size true p t) (omega arith)
-    (omega arith) k.changes (λ r e i j u o. record {
-      first = on_it (is_live p bits) p (resumed p bits r e) (begun true p Absent e)
-          (sheet_in (cell_at old) true p d t) (sheet_in (cell_at new) true p d t) e l z
-          (λ v w. passed_on p bits d t g l old new k r e i j v w) (heard_left _ _ e l u) o.parts.first;
-      second = after_it true q (d + sheet_size true p t) t _ _ old new _ k.changes (omega arith) o.parts.second;
-    })
-
-pub present_on_second : (bits : ℕ → Bool) (y a : _) (p : Statement) (b : _) (q : Statement) (c t : ℕ) (g : Status)
-    (l : Env) (old new : List Status) → is_live p bits ≡ false
-    → PassesOn q bits (c + t + 3 + sheet_size true p t) t g l old new
-    → PassesOn (Present' y a p b q) bits c t g l old new
-present_on_second bits y a p b q c t g l old new z k =
-    let d = c + t + 3 + sheet_size true p t in
-    parts_pass_on (Present' y a p b q) bits c t g l old new d (d + sheet_size true q t) (omega arith)
-    (omega arith) k.changes (λ r e i j u o. record {
-      first = before_it true p (c + t + 3) t _ _ old new _ k.changes (omega arith) o.parts.first;
-      second = off_it (is_live p bits) q (begun true q Absent e) (resumed q bits r e)
           (sheet_in (cell_at old) true q d t) (sheet_in (cell_at new) true q d t) e l z
           (λ v w. passed_on q bits d t g l old new k r e i j v w) (heard_right _ _ e l u) o.parts.second;
     })
@@ -209,83 +176,6 @@ loop_on_again bits a p c t g h l old new y k =
           (subst (λ (x : Status). IsBelow x later) (sym y) (ends_below _ _ o.parts.first.cells)) j
           (heard_right _ _ e l u) o.parts.second;
     })
-
-pub suspend_on : (bits : ℕ → Bool) (y a : _) (p : Statement) (c t : ℕ) (g h : Status) (l : Env)
-    (old new : List Status) → h ≡ and_status g (opposite (status_of l (query_of y)))
-    → PassesOn p bits (c + t + 3) t h l old new → PassesOn (Suspend' y a p) bits c t g l old new
-suspend_on bits y a p c t g h l old new z k =
-    let d = c + t + 3 in
-    parts_pass_on (Suspend' y a p) bits c t g l old new d (d + sheet_size true p t) (omega arith)
-    (omega arith) k.changes (λ r e i j u o.
-    let v = status_of e (query_of y) in
-    let w = status_of l (query_of y) in
-    passed_on p bits d t h l old new k (and_status r (opposite v)) e
-    (subst (λ (x : Status). IsBelow x (and_status r (opposite v))) (sym z)
-    (and_below g r (opposite w) (opposite v) i (opposite_below w v (query_below l e (query_of y) j)))) j u o.parts)
-
-pub trap_on : (bits : ℕ → Bool) (a : _) (p : Statement) (c t : ℕ) (g : Status) (l : Env) (old new : List Status)
-    → PassesOn p bits (c + t + 3) (t + 1) g l old new → PassesOn (Trap' a p) bits c t g l old new
-trap_on bits a p c t g l old new k =
-    let d = c + t + 3 in
-    parts_pass_on (Trap' a p) bits c t g l old new d (d + sheet_size true p (t + 1)) (omega arith)
-    (omega arith) k.changes (λ r e i j u o. passed_on p bits d (t + 1) g l old new k r e i j u o.parts)
-
-pub local_on : (bits : ℕ → Bool) (s : LocalSignal) (a : _) (p : Statement) (c t : ℕ) (g : Status) (l : Env)
-    (old new : List Status)
-    → PassesOn p bits (c + t + 4) t g (with_local l s.index (cell_at old (c + t + 3))) old new
-    → PassesOn (Binder' s a p) bits c t g l old new
-local_on bits s a p c t g l old new k =
-    let d = c + t + 4 in
-    parts_pass_on (Binder' s a p) bits c t g l old new d (d + sheet_size true p t) (omega arith)
-    (omega arith) k.changes (λ r e i j u o.
-    let v = status_at r s.index (term_at p bits) e in
-    let w = cell_at old (c + t + 3) in
-    record {
-      status = subst (λ (x : Status). IsBelow x v) (sym (k.changes.before (c + t + 3) (omega arith))) o.parts.status;
-      body = passed_on p bits d t g (with_local l s.index w) old new k r (with_local e s.index v) i
-          (local_below l e s.index w v j o.parts.status)
-          (heard_local s.index v w e l _ (resumed_local p bits s.index r e) u) o.parts.body;
-    })
-
-pub local_on_status : (bits : ℕ → Bool) (s : LocalSignal) (a : _) (p : Statement) (c t : ℕ) (g now : Status)
-    (l : Env) (old new : List Status)
-    → now ≡ emitted_status true p s.index (sheet_in (cell_at old) true p (c + t + 4) t)
-    → Learns (c + t + 3) now old new → PassesOn (Binder' s a p) bits c t g l old new
-local_on_status bits s a p c t g now l old new z k =
-    let h = learn_changes (c + t + 3) now old new k in
-    parts_pass_on (Binder' s a p) bits c t g l old new (c + t + 3) (c + t + 3 + 1) (omega arith)
-    (let o = size_least true p t in omega arith) h (λ r e i j u o.
-    let v = status_at r s.index (term_at p bits) e in
-    record {
-      status = subst (λ (x : Status). IsBelow x v) (sym k.here)
-          (learned_below (cell_at old (c + t + 3)) now v o.parts.status
-          (subst (λ (x : Status). IsBelow x v) (sym z)
-          (live_local_sound p bits s.index r e (sheet_in (cell_at old) true p (c + t + 4) t) o.parts.body)));
-      body = after_it true p (c + t + 4) t _ _ old new _ h (omega arith) o.parts.body;
-    })
-
-pub codes_pass_on : (s : Statement) (bits : ℕ → Bool) (c t : ℕ) (g : Status) (l : Env) (old new : List Status)
-    (own : Judgement) (past : ℕ) (r : Found)
-    → GivenBy (live_gates s bits g l (sheet_in (cell_at old) true s c t)).cells own → IsLeft c t own past old new r
-    → PassesOn s bits c t g l old new
-codes_pass_on s bits c t g l old new own past r given is_left =
-    let o = size_least true s t in
-    let S = sheet_in (cell_at old) true s c t in
-    let y = (live_gates s bits g l S).cells in
-    let same = left_sheet true s c t y old new own past r given is_left in
-    record {
-      changes = widen (c + 1) c (c + 1 + (t + 2)) (c + sheet_size true s t) old new (omega arith) (omega arith)
-          is_left.told.changes;
-      sound = λ M m b.
-          let N = resumed s bits m.reach m.env in
-          let k = subst (λ (z : Sheet true s). Below true s S z) m.is b in
-          subst (λ (z : Sheet true s). Below true s (sheet_in (cell_at new) true s c t) z) (sym m.is)
-          (subst (λ (z : Sheet true s). Below true s z N) (sym same) (record {
-            cells = told_below S.cells y N.cells S.cells.go k.cells.go k.cells
-                (live_sound s bits m.reach g m.env l S m.below m.less k).cells;
-            parts = k.parts;
-          }));
-    }
 
 -- a sweep is a pass
 pub sweep_passes_on : (way : Direction) (s : Statement) (bits : ℕ → Bool) (c t : ℕ) (g : Status) (l : Env)

@@ -127,20 +127,6 @@ loop_added p end exit inside old new x y again inside_is body a =
       tells = λ n. subst (λ (z : Bool). Tells n p z (exit n) (λ set. from_pauses new set n)) (is n) (body.tells n);
     }
 
--- a trap
-pub trap_added : (p : Statement) (end exit end' exit' : ℕ → Bool) (old new : List FromPause) (x : ℕ)
-    → end' ≡ end → ((n : ℕ) → exit' n ≡ (end n || exit n)) → IsAdded p end' exit' old new x → (a : _)
-    → IsAdded (Trap' a p) end exit old new x
-trap_added p end exit end' exit' old new x end_is exit_is body a =
-    let e : (n : ℕ) → end' n ≡ end n = λ n. ap (λ (f : ℕ → Bool). f n) end_is in
-    record {
-      begun = λ n. body.begun n ∙ (ap (λ (z : Bool). may_emit n p z (exit' n)) (e n)
-          ∙ ap (λ (z : Bool). may_emit n p (end n) z) (exit_is n));
-      grown = body.grown;
-      tells = λ n. subst (λ (z : Bool). Tells n p (end n) z (λ set. from_pauses new set n)) (exit_is n)
-          (subst (λ (z : Bool). Tells n p z (exit' n) (λ set. from_pauses new set n)) (e n) (body.tells n));
-    }
-
 -- one more is told of
 pub or_assoc : (a b c : Bool) → ((a || b) || c) ≡ (a || (b || c))
 or_assoc true b c = refl

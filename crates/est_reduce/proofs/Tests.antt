@@ -49,10 +49,6 @@ operands_words o =
     ap joint_word_count (operands_seen o) ∙ ap (λ n. word_count (bound_query parts.first.value) + n)
     (listed_words (bound_query parts.second.value) parts.later.items)
 
--- operands have a word between them
-pub some_word : (o : BoundOperands) → 1 ≤ joint_word_count (bound_joint o)
-some_word o = rw (operands_words o) (omega arith)
-
 -- where each test of a list has a property, so has each of its tests
 pub listed_each : (P : Name → Type 0) (t : Query) (ts : List BoundTest)
     → EachSignalOfAll P (queries_of t (map bound_query ts))

@@ -1,6 +1,6 @@
 -- The tree that each unit is.
 use Rattle.std.proofs.Common.{◌≡◌, ℕ, List, Bool, rules}
-use Rattle.est_syntax.specs.Tree.{nothing, pause, halt, emit, sustain, exit, await, present, suspend, abort, weak_abort}
+use Rattle.est_syntax.specs.Tree.{pause, present, suspend, abort, weak_abort}
 use Rattle.est_syntax.specs.Tree.{repeat, repeat_each, every, trap, signal, group}
 use Rattle.est_syntax.specs.Views.{test_view, delay_view, names_view, weak_end_view, unit_view, branches_view}
 use Rattle.est_syntax.specs.Views.{statement_view}
@@ -13,26 +13,8 @@ use Rattle.est_syntax.specs.declared.tree.Branches.{Branches}
 use Rattle.est_syntax.specs.declared.tree.Statement.{Statement}
 use Rattle.est_syntax.specs.declared.tree.Branches.TheFolds.{the_lemmas}
 
-pub nothing_is : unit_view unit.Nothing ≡ nothing
-nothing_is = search (rules, the_lemmas)
-
 pub pause_is : unit_view unit.Pause ≡ pause
 pause_is = search (rules, the_lemmas)
-
-pub halt_is : unit_view unit.Halt ≡ halt
-halt_is = search (rules, the_lemmas)
-
-pub emit_is : (n : List ℕ) → unit_view (unit.Emit n) ≡ emit n
-emit_is n = search (rules, the_lemmas)
-
-pub sustain_is : (n : List ℕ) → unit_view (unit.Sustain n) ≡ sustain n
-sustain_is n = search (rules, the_lemmas)
-
-pub exit_is : (n : List ℕ) → unit_view (unit.Exit n) ≡ exit n
-exit_is n = search (rules, the_lemmas)
-
-pub await_is : (d : Delay) → unit_view (unit.Await d) ≡ await (delay_view d)
-await_is d = search (rules, the_lemmas)
 
 pub present_is : (n : Test) (b : Branches) → unit_view (unit.Present n b) ≡ present (test_view n) (branches_view b)
 present_is n b = search (rules, the_lemmas)

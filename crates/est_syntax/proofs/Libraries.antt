@@ -16,7 +16,7 @@ use Rattle.est_syntax.specs.Machine as m
 use Rattle.est_syntax.specs.Machine.{Want, run, Skips, right, wrong, deep}
 use Rattle.est_syntax.specs.Parsing.{Fails, FailsIn, Round, Reads, IsPart}
 use Rattle.est_syntax.specs.declared.parse.TheConstants.{MOST_OPEN_UNITS}
-use Rattle.est_syntax.specs.Modules.{Stops, IsModule, AreModules, AreAllModules, IsLibrary}
+use Rattle.est_syntax.specs.Modules.{Stops, IsModule, AreModules, AreAllModules}
 use Rattle.est_syntax.proofs.Reading.{modules_push}
 use Rattle.est_syntax.proofs.TestRuns.{either}
 use Rattle.est_syntax.proofs.Runs.{run_library}
@@ -181,14 +181,6 @@ library_left p ps left old mid last new e h k l n = library_more p old mid last 
 none_left : (bs : List Token) → length bs ≡ 0 → bs ≡ []
 none_left [] h = refl
 none_left (b ∷ bs) h = cc
-
-pub library_part : (p : ModuleTree) (ps : List ModuleTree) (left : ℕ) (old mid last new : List Token)
-    → old ≡ Keyword keyword.Module ∷ mid → IsModule p mid last → AreAllModules ps last new → left ≡ length new
-    → left ≡ 0 → IsLibrary (record { first = p; later = ps }) old
-library_part p ps left old mid last new e h k l z = record {
-  spelt = e ∙ h.spelt ∙ ap (g.module_onto p) (k.spelt ∙ ap (g.modules_onto ps) (none_left new (sym l ∙ z)));
-  fits = omega (arith, h.fits, k.fits);
-}
 
 -- ---- where a run stops, no more tokens are left than there were
 

@@ -12,7 +12,7 @@ use Rattle.est_syntax.specs.Grammar as g
 use Rattle.est_syntax.specs.Views.{units_of, sequences_of}
 use Rattle.est_syntax.specs.Machine as m
 use Rattle.est_syntax.specs.Machine.{Want, run, Skips}
-use Rattle.est_syntax.specs.Parsing.{Fails, EndsSo, FailsBefore, renamings_so_far}
+use Rattle.est_syntax.specs.Parsing.{Fails, EndsSo, renamings_so_far}
 use Rattle.est_syntax.specs.declared.parse.TheConstants.{MOST_OPEN_UNITS}
 
 -- what is wanted leads to something else that fails
@@ -85,10 +85,6 @@ one_more_member bs mid left rest ns items n e f h i =
     e ∙ ap (λ (l : List Token). g.later_members_onto ns l) (f ∙ ap (λ (l : List Token). Symbol symbol.Hash ∷ l) h)
     ∙ sym (members_push ns n rest) ∙ ap (λ (k : List (List ℕ)). g.later_members_onto k rest) (sym i)
 
-pub shorter_by : (left mid rest : List Token) (t : Token) → left ≡ t ∷ mid → length rest ≤ length mid
-    → length rest ≤ length left
-shorter_by left mid rest t e h = omega (arith, h, ap (length {A = Token}) e)
-
 -- after an `end` that makes no pair and can end nothing else, nothing goes on
 pub weak_stops : (ends : Bool) (x : List Token) → Skips (Keyword keyword.Abort) x → Skips (Keyword keyword.Weak) x
     → ends ≡ false → (s : List Want) → EndsSo ends s → run MOST_OPEN_UNITS (m.may_end_weak ∷ s) (m.kw_end ∷ x)
@@ -120,16 +116,6 @@ pub relation_tail_is : (s : List Want) (bs : List Token) → Skips (Symbol symbo
 relation_tail_is s [] h = refl
 relation_tail_is s (Symbol symbol.Implies ∷ bs) h = cc
 relation_tail_is s (_ ∷ bs) h = refl
-
-pub no_declarations : (s : List Want) (bs : List Token) → Skips (Keyword keyword.Input) bs
-    → Skips (Keyword keyword.Output) bs → Skips (Keyword keyword.Inputoutput) bs → Skips (Keyword keyword.Relation) bs
-    → run MOST_OPEN_UNITS (m.declarations ∷ s) bs ≡ run MOST_OPEN_UNITS s bs
-no_declarations s [] a b c d = refl
-no_declarations s (Keyword keyword.Input ∷ bs) a b c d = cc
-no_declarations s (Keyword keyword.Output ∷ bs) a b c d = cc
-no_declarations s (Keyword keyword.Inputoutput ∷ bs) a b c d = cc
-no_declarations s (Keyword keyword.Relation ∷ bs) a b c d = cc
-no_declarations s (_ ∷ bs) a b c d = refl
 
 pub one_more_renaming : (bs mid left rest : List Token) (rs items : List RenamingTree) (r : RenamingTree)
     → bs ≡ renamings_so_far rs left → 0 < length rs → left ≡ Symbol symbol.Comma ∷ mid → mid ≡ g.renaming_onto r rest
@@ -165,33 +151,9 @@ one_more_declaration bs left rest ds items d e h i =
     e ∙ ap (λ (l : List Token). g.declarations_onto ds l) h ∙ sym (declarations_push ds d rest)
     ∙ ap (λ (k : List DeclarationTree). g.declarations_onto k rest) (sym i)
 
--- the same for what is left to what is around
-pub before_from : (ends : Bool) (ws vs : List Want) (f : List Want → List Want) (bs after : List Token) (e : Fault)
-    → ((s : List Want) → run MOST_OPEN_UNITS (ws ++ s) bs ≡ run MOST_OPEN_UNITS (vs ++ f s) after) → Fails vs after e
-    → FailsBefore ends ws bs e
-before_from ends ws vs f bs after (Syntax n) h k = (k.0, k.1, λ s r. h s ∙ k.2 (f s))
-before_from ends ws vs f bs after (TooDeep n) h k = (k.0, k.1, λ s r. h s ∙ k.2 (f s))
-before_from ends ws vs f bs after Memory h k = tt
-
-pub before_before : (ends : Bool) (ws vs : List Want) (f : List Want → List Want) (bs after : List Token) (e : Fault)
-    → ((s : List Want) → EndsSo ends s → EndsSo ends (f s))
-    → ((s : List Want) → run MOST_OPEN_UNITS (ws ++ s) bs ≡ run MOST_OPEN_UNITS (vs ++ f s) after)
-    → FailsBefore ends vs after e → FailsBefore ends ws bs e
-before_before ends ws vs f bs after (Syntax n) r h k = (k.0, k.1, λ s q. h s ∙ k.2 (f s) (r s q))
-before_before ends ws vs f bs after (TooDeep n) r h k = (k.0, k.1, λ s q. h s ∙ k.2 (f s) (r s q))
-before_before ends ws vs f bs after Memory r h k = tt
-
 pub ends_leave : (ends : Bool) (s : List Want) → EndsSo ends s → EndsSo ends (m.leave ∷ s)
 ends_leave true s h = h
 ends_leave false s h = h
-
-pub ends_tail : (ends : Bool) (s : List Want) → EndsSo ends s → EndsSo ends (m.sequence_tail ∷ s)
-ends_tail true s h = h
-ends_tail false s h = h
-
-pub ends_side : (ends : Bool) (s : List Want) → EndsSo ends s → EndsSo ends (m.statement_tail ∷ s)
-ends_side true s h = h
-ends_side false s h = h
 
 pub loop_tail_is : (s : List Want) (bs : List Token) → Skips (Keyword keyword.Each) bs
     → run MOST_OPEN_UNITS (m.loop_tail ∷ s) bs ≡ run MOST_OPEN_UNITS

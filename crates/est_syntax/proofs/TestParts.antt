@@ -1,22 +1,21 @@
 -- A part of a test from its parts: what the functions of the parser answer.
-use Rattle.std.proofs.Common.{◌≡◌, ◌∙◌, ℕ, suc, ◌+◌, ◌≤◌, List, [], ◌∷◌, ◌++◌, length, refl, sym, ap, subst, arith}
+use Rattle.std.proofs.Common.{◌≡◌, ◌∙◌, ℕ, suc, ◌+◌, ◌≤◌, List, [], ◌∷◌, ◌++◌, length, refl, sym, ap, arith}
 use Rattle.std.specs.Prelude.{None}
 use Rattle.est_text.specs.declared.token.Token.{Token}
 use Rattle.est_text.specs.declared.token.Token.TheVariants.{Keyword, Identifier, Symbol}
 use Rattle.est_text.specs.declared.keyword.Keyword.TheVariants as keyword
 use Rattle.est_text.specs.declared.token.Symbol.TheVariants as symbol
-use Rattle.est_syntax.specs.declared.fault.Fault.{Fault}
 use Rattle.est_syntax.specs.Tree.{LiteralTree, negated, enclosed, ExpressionTree, ConjunctionTree, LiteralsTree}
 use Rattle.est_syntax.specs.Tree.{ConjunctionsTree, conjunction, expression}
 use Rattle.est_syntax.specs.Grammar as g
 use Rattle.est_syntax.specs.Views.{literals_of, conjunctions_of}
 use Rattle.est_syntax.specs.Machine as m
 use Rattle.est_syntax.specs.Machine.{Want, run, Skips, open_count, deep}
-use Rattle.est_syntax.specs.Parsing.{FailsIn, IsPart, Round}
+use Rattle.est_syntax.specs.Parsing.{IsPart, Round}
 use Rattle.est_syntax.specs.declared.parse.TheConstants.{MOST_OPEN_UNITS}
-use Rattle.est_syntax.proofs.TestRuns.{leave_over, conjunction_is, expression_is, conjunction_over, expression_over}
+use Rattle.est_syntax.proofs.TestRuns.{leave_over}
 use Rattle.est_syntax.proofs.TestRuns.{open_part}
-use Rattle.est_syntax.proofs.Opening.{in_in, deep_part}
+use Rattle.est_syntax.proofs.Opening.{deep_part}
 
 -- ---- the wants around a part
 
@@ -44,11 +43,6 @@ pub enclosed_opens : (room : ℕ) (s : List Want) (bs : List Token) → open_cou
     ≡ run MOST_OPEN_UNITS (enclosed_wants s) bs
 enclosed_opens room s bs r = open_part MOST_OPEN_UNITS (enclosed_wants s) (Symbol symbol.OpenParenthesis) bs
     (omega (arith, r))
-
-pub enclosed_deep : (s : List Want) (bs : List Token) → open_count s + 0 ≡ MOST_OPEN_UNITS
-    → run MOST_OPEN_UNITS (m.literal ∷ s) (Symbol symbol.OpenParenthesis ∷ bs)
-    ≡ deep (Symbol symbol.OpenParenthesis ∷ bs)
-enclosed_deep s bs r = deep_part (enclosed_wants s) (Symbol symbol.OpenParenthesis) bs (omega (arith, r))
 
 pub not_part : (room less : ℕ) (l : LiteralTree) (old mid new : List Token) → room ≡ suc less
     → old ≡ Keyword keyword.Not ∷ mid
@@ -113,11 +107,6 @@ pub record LiteralsSoFar (room : ℕ) (ls : LiteralsTree) (old new : List Token)
       → run MOST_OPEN_UNITS (m.conjunction_tail ∷ s) old ≡ run MOST_OPEN_UNITS (m.conjunction_tail ∷ s) new
   pub shorter : length new ≤ length old
 
-pub no_literals_yet : (room : ℕ) (ls : List LiteralTree) (old : List Token) → ls ≡ []
-    → LiteralsSoFar room (literals_of ls) old old
-no_literals_yet room ls old e = subst (λ (vs : List LiteralTree). LiteralsSoFar room (literals_of vs) old old) (sym e)
-    (record { spelt = refl; fits = omega arith; passes = λ s r. refl; shorter = omega arith })
-
 pub one_more_literal : (room : ℕ) (ls : List LiteralTree) (l : LiteralTree) (old left mid new : List Token)
     → LiteralsSoFar room (literals_of ls) old left → left ≡ Keyword keyword.And ∷ mid
     → IsPart room None (m.literal ∷ []) (g.literal_onto l new) (g.literal_depth l) mid new
@@ -129,37 +118,6 @@ one_more_literal room ls l old left mid new h e p = record {
   passes = λ s r. h.passes s r ∙ ap (run MOST_OPEN_UNITS (m.conjunction_tail ∷ s)) e
       ∙ p.passes (m.conjunction_tail ∷ s) (round_same room m.conjunction_tail s r refl);
   shorter = omega (arith, h.shorter, ap (length {A = Token}) e, p.shorter);
-}
-
-pub more_literals_fail : (room : ℕ) (ls : LiteralsTree) (old left mid : List Token) (x : Fault)
-    → LiteralsSoFar room ls old left → left ≡ Keyword keyword.And ∷ mid → FailsIn room None (m.literal ∷ []) mid x
-    → FailsIn room None (m.conjunction_tail ∷ []) old x
-more_literals_fail room ls old left mid x h e p =
-    in_in room room None None (m.conjunction_tail ∷ []) (m.literal ∷ []) (λ s. m.conjunction_tail ∷ s) old mid x
-    (λ s r. round_same room m.conjunction_tail s r refl)
-    (λ s r. h.passes s r ∙ ap (run MOST_OPEN_UNITS (m.conjunction_tail ∷ s)) e) p
-
-pub literals_over : (room : ℕ) (ls : LiteralsTree) (old left new : List Token) → LiteralsSoFar room ls old left
-    → new ≡ left → Skips (Keyword keyword.And) left
-    → IsPart room None (m.conjunction_tail ∷ []) (g.literals_onto ls new) (g.literals_depth ls) old new
-literals_over room ls old left new h e k = record {
-  spelt = h.spelt ∙ ap (g.literals_onto ls) (sym e);
-  fits = h.fits;
-  passes = λ s r. h.passes s r ∙ conjunction_over MOST_OPEN_UNITS s left k ∙ ap (run MOST_OPEN_UNITS s) (sym e);
-  shorter = omega (arith, h.shorter, ap (length {A = Token}) e);
-}
-
-pub conjunction_part : (room : ℕ) (l : LiteralTree) (ls : LiteralsTree) (old mid new : List Token)
-    → IsPart room None (m.literal ∷ []) (g.literal_onto l mid) (g.literal_depth l) old mid
-    → IsPart room None (m.conjunction_tail ∷ []) (g.literals_onto ls new) (g.literals_depth ls) mid new
-    → IsPart room None (m.conjunction ∷ []) (g.conjunction_onto (conjunction l ls) new)
-    (g.conjunction_depth (conjunction l ls)) old new
-conjunction_part room l ls old mid new h k = record {
-  spelt = h.spelt ∙ ap (g.literal_onto l) k.spelt;
-  fits = omega (arith, h.fits, k.fits);
-  passes = λ s r. conjunction_is MOST_OPEN_UNITS s old
-      ∙ h.passes (m.conjunction_tail ∷ s) (round_same room m.conjunction_tail s r refl) ∙ k.passes s r;
-  shorter = omega (arith, h.shorter, k.shorter);
 }
 
 -- ---- conjunctions with `or` between them
@@ -186,12 +144,6 @@ pub record ConjunctionsSoFar (room : ℕ) (cs : ConjunctionsTree) (old new : Lis
       → run MOST_OPEN_UNITS (m.expression_tail ∷ s) old ≡ run MOST_OPEN_UNITS (m.expression_tail ∷ s) new
   pub shorter : length new ≤ length old
 
-pub no_conjunctions_yet : (room : ℕ) (cs : List ConjunctionTree) (old : List Token) → cs ≡ []
-    → ConjunctionsSoFar room (conjunctions_of cs) old old
-no_conjunctions_yet room cs old e =
-    subst (λ (vs : List ConjunctionTree). ConjunctionsSoFar room (conjunctions_of vs) old old) (sym e)
-    (record { spelt = refl; fits = omega arith; passes = λ s r. refl; shorter = omega arith })
-
 pub one_more_conjunction : (room : ℕ) (cs : List ConjunctionTree) (c : ConjunctionTree) (old left mid new : List Token)
     → ConjunctionsSoFar room (conjunctions_of cs) old left → left ≡ Keyword keyword.Or ∷ mid
     → IsPart room None (m.conjunction ∷ []) (g.conjunction_onto c new) (g.conjunction_depth c) mid new
@@ -203,35 +155,4 @@ one_more_conjunction room cs c old left mid new h e p = record {
   passes = λ s r. h.passes s r ∙ ap (run MOST_OPEN_UNITS (m.expression_tail ∷ s)) e
       ∙ p.passes (m.expression_tail ∷ s) (round_same room m.expression_tail s r refl);
   shorter = omega (arith, h.shorter, ap (length {A = Token}) e, p.shorter);
-}
-
-pub more_conjunctions_fail : (room : ℕ) (cs : ConjunctionsTree) (old left mid : List Token) (x : Fault)
-    → ConjunctionsSoFar room cs old left → left ≡ Keyword keyword.Or ∷ mid
-    → FailsIn room None (m.conjunction ∷ []) mid x → FailsIn room None (m.expression_tail ∷ []) old x
-more_conjunctions_fail room cs old left mid x h e p =
-    in_in room room None None (m.expression_tail ∷ []) (m.conjunction ∷ []) (λ s. m.expression_tail ∷ s) old mid x
-    (λ s r. round_same room m.expression_tail s r refl)
-    (λ s r. h.passes s r ∙ ap (run MOST_OPEN_UNITS (m.expression_tail ∷ s)) e) p
-
-pub conjunctions_over : (room : ℕ) (cs : ConjunctionsTree) (old left new : List Token)
-    → ConjunctionsSoFar room cs old left → new ≡ left → Skips (Keyword keyword.Or) left
-    → IsPart room None (m.expression_tail ∷ []) (g.conjunctions_onto cs new) (g.conjunctions_depth cs) old new
-conjunctions_over room cs old left new h e k = record {
-  spelt = h.spelt ∙ ap (g.conjunctions_onto cs) (sym e);
-  fits = h.fits;
-  passes = λ s r. h.passes s r ∙ expression_over MOST_OPEN_UNITS s left k ∙ ap (run MOST_OPEN_UNITS s) (sym e);
-  shorter = omega (arith, h.shorter, ap (length {A = Token}) e);
-}
-
-pub expression_part : (room : ℕ) (c : ConjunctionTree) (cs : ConjunctionsTree) (old mid new : List Token)
-    → IsPart room None (m.conjunction ∷ []) (g.conjunction_onto c mid) (g.conjunction_depth c) old mid
-    → IsPart room None (m.expression_tail ∷ []) (g.conjunctions_onto cs new) (g.conjunctions_depth cs) mid new
-    → IsPart room None (m.expression ∷ []) (g.expression_onto (expression c cs) new)
-    (g.expression_depth (expression c cs)) old new
-expression_part room c cs old mid new h k = record {
-  spelt = h.spelt ∙ ap (g.conjunction_onto c) k.spelt;
-  fits = omega (arith, h.fits, k.fits);
-  passes = λ s r. expression_is MOST_OPEN_UNITS s old
-      ∙ h.passes (m.expression_tail ∷ s) (round_same room m.expression_tail s r refl) ∙ k.passes s r;
-  shorter = omega (arith, h.shorter, k.shorter);
 }

@@ -244,11 +244,6 @@ passed_over old rows places more i before none = record {
   same = before.same;
 }
 
--- edges from one senior, added in turn
-pub juniors_begin : (old : List ℕ) (senior juniors : ℕ) → HasJuniors old old senior juniors 0
-juniors_begin old senior juniors =
-    record { edges = λ a b. (λ e. inl e, λ h. elim h [ inl e ↦ e | inr x ↦ absurd (omega (arith, x.2)) ]); same = refl }
-
 pub junior_added : (old new : List ℕ) (senior juniors i : ℕ) → HasJuniors old new senior juniors i → Has juniors i
     → senior < length new
     → HasJuniors old (edge_added senior i new) senior juniors (i + 1)
@@ -294,24 +289,6 @@ pub seniors_begin : (edges : List ℕ) → HasSeniors edges (replicate ROLES 0) 
 seniors_begin edges = record {
   from = λ a b. (λ e. absurd (no_edge ROLES a b e), λ h. absurd (omega (arith, h.1)));
   full = length-replicate {A = ℕ} ROLES 0;
-}
-
-pub senior_added : (edges rows next : List ℕ) (senior juniors : ℕ) → IsInTable edges → HasSeniors edges rows senior
-    → slice_index edges senior ≡ juniors
-    → HasJuniors rows next senior juniors ROLES → HasSeniors edges next (senior + 1)
-senior_added edges rows next senior juniors table before row more = record {
-  from = λ a b. (
-    λ e. elim ((more.edges a b).0 e) [
-      | inl x ↦ let y = (before.from a b).0 x in (y.0, omega (arith, y.1))
-      | inr x ↦
-          (subst (λ k. Has (slice_index edges k) b) (sym x.0) (subst (λ n. Has n b) (sym row) x.1), omega (arith, x.0))
-    ],
-    λ h. (more.edges a b).1 (elim (cases_eq a senior) [
-      | inl e ↦ inr (e, subst (λ n. Has n b) row (subst (λ k. Has (slice_index edges k) b) e h.0), table a b h.0)
-      | inr d ↦ inl ((before.from a b).1 (h.0, omega (arith, h.1, d)))
-    ]),
-  );
-  full = more.same ∙ before.full;
 }
 
 pub seniors_end : (edges rows : List ℕ) → length edges ≡ ROLES → HasSeniors edges rows ROLES → rows ≡ edges

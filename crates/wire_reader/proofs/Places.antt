@@ -52,9 +52,6 @@ range_kept xs ys a e low same =
     sym (drop-take a (e - a) ys) ∙ ap (λ n. drop a (take n ys)) sum ∙ ap (drop a) same
     ∙ ap (λ n. drop a (take n xs)) (sym sum) ∙ drop-take a (e - a) xs
 
-pub empty_range : (xs : List ℕ) (a : ℕ) → slice_range xs a a ≡ []
-empty_range xs a = let none : a - a ≡ 0 = omega arith in ap (λ n. take n (drop a xs)) none
-
 -- the front of a part, and what follows it
 pub range_front : (xs : List ℕ) (a e p : ℕ) → a + p ≤ e → take p (slice_range xs a e) ≡ slice_range xs a (a + p)
 range_front xs a e p short =
