@@ -74,14 +74,14 @@ pub one_excluded : (p : PendingInputs) (offered : List ℕ) (number other : ℕ)
     → IsFirstExcluded p offered other text → SamePair number other name text
 one_excluded p offered number other name text x y =
     let place : x.place ≡ y.place = same_Some x.place y.place (sym x.there ∙ y.there) in
-    let b = subst (λ (at : ℕ). IsFirstBroken p.relations p.mask at other y.member) (sym place) y.broken in
+    let b = subst (λ (at : ℕ). IsFirstBroken p.relations p.inputs at other y.member) (sym place) y.broken in
     let index : x.broken.index ≡ b.index = same_Some x.broken.index b.index (sym x.broken.first ∙ b.first) in
     let at : slice_get p.relations x.broken.index ≡ slice_get p.relations b.index = ap (slice_get p.relations) index in
     let relation : Exclusion x.broken.members ≡ Exclusion b.members =
     same_Some (Exclusion x.broken.members) (Exclusion b.members) (sym x.broken.is ∙ at ∙ b.is) in
     let members : x.broken.members ≡ b.members = cc in
     let member : x.member ≡ y.member =
-    same_Some x.member y.member (sym x.broken.pending ∙ ap (find (bits p.mask)) members ∙ b.pending) in (
+    same_Some x.member y.member (sym x.broken.pending ∙ ap (find (bits p.inputs)) members ∙ b.pending) in (
       x.broken.numbered ∙ ap (λ n. n + 1) index ∙ sym b.numbered,
       same_name p.interface x.member y.member name text member x.named y.named,
     )

@@ -85,7 +85,11 @@ pub fn change_of(command: &AdminCommand) -> Option<PolicyWord>
 
 /// Adds the entry to the list and takes it into the policy. If memory is refused, both stay as they
 /// were.
-fn take_in(policy: &mut Policy, entries: &mut PolicyJournal, entry: Entry) -> Result<(), AllocError>
+fn append_and_absorb(
+    policy: &mut Policy,
+    entries: &mut PolicyJournal,
+    entry: Entry,
+) -> Result<(), AllocError>
     ensures { MatchResult result
         (λ _. (entries.new ≡ entries.old ++ entry ∷ []) × (policy.new ≡ absorbed policy.old entry))
         (λ _. (entries.new ≡ entries.old) × (policy.new ≡ policy.old)) }
@@ -227,7 +231,7 @@ impl Single {
             return Reply::Refused(Refusal::JournalFull);
         }
         let change = change_of(&entry.command);
-        match take_in(&mut self.policy, &mut self.entries, entry) {
+        match append_and_absorb(&mut self.policy, &mut self.entries, entry) {
             Ok(()) => answer_accepted(&self.policy, change),
             Err(_) => Reply::Refused(Refusal::Memory),
         }

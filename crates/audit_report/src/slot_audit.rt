@@ -111,7 +111,7 @@ fn replay_entry<E: Engine>(
 }
 
 /// Has the policy, which has taken in the first `from` entries, take in those up to this version.
-fn take_in(policy: &mut Policy, entries: &[Entry], from: usize, version: usize)
+fn absorb_up_to(policy: &mut Policy, entries: &[Entry], from: usize, version: usize)
     requires stands { policy.old ≡ policy_of (take from entries.now) }
     requires low { from ≤ version }
     requires high { version ≤ length entries.now }
@@ -161,7 +161,7 @@ pub(crate) fn audit_slot<E: Engine>(
                 place,
             });
         }
-        take_in(&mut policy, entries, version, next as usize);
+        absorb_up_to(&mut policy, entries, version, next as usize);
         version = next as usize;
         if let Err(fault) = replay_entry(alloc, &policy, &mut slot, entry, engine) {
             return Err(finding_of(fault, number, place));

@@ -3,19 +3,17 @@ ghost use Rattle.std.specs.Prelude.{◌≡◌, Some};
 ghost use Rattle.rbac_policy.specs.declared.commands.AdminCommand.TheVariants.{CreateSession};
 ghost use Rattle.rbac_policy.specs.declared.commands.AdminCommand.TheVariants.{DeleteSession};
 ghost use Rattle.wire_lines.specs.declared.request.Request.TheVariants.{Policy};
-ghost use Rattle.client_loop.specs.Asking.{to_policy, to_slot, to_check};
+ghost use Rattle.client_loop.specs.Asking.{to_policy};
 ghost use Rattle.client_loop.specs.Logins.{session_of};
 ghost use Rattle.client_loop.specs.LineSteps.{Held, Asks, login_after, with_login, LineStep};
 
 use crate::desk::Desk;
 use crate::login::{Login, held_session, log_in};
-use access_core::command::SlotCommand;
 use access_core::refusal::Refusal;
 use access_core::reply::Reply;
 use rbac_admin::refusal::PolicyRefusal;
 use rbac_policy::commands::{AdminCommand, SessionId};
 use rbac_policy::names::{Name, RoleNames};
-use rbac_policy::objects::{Object, Operation};
 use std::alloc::Global;
 use wire_lines::reading::RequestReader;
 use wire_lines::request::Request;
@@ -34,38 +32,6 @@ fn command_policy<D: Desk>(desk: &mut D, held: &Option<SessionId>, command: Admi
 {
     match held {
         Some(session) => desk.admin(Some(*session), command),
-        None => Reply::Refused(Refusal::Policy(PolicyRefusal::NoSession)),
-    }
-}
-
-/// Answers a slot command of the session that the connection holds; NoSession if it holds none.
-fn command_slot<D: Desk>(
-    desk: &mut D,
-    held: &Option<SessionId>,
-    slot: u64,
-    command: SlotCommand,
-) -> Reply
-    ensures { Held D.answers held.now (λ session. to_slot session slot command)
-        desk.old result desk.new }
-{
-    match held {
-        Some(session) => desk.slot(*session, slot, command),
-        None => Reply::Refused(Refusal::Policy(PolicyRefusal::NoSession)),
-    }
-}
-
-/// Whether the session that the connection holds may do the operation on the object.
-fn check_permission<D: Desk>(
-    desk: &mut D,
-    held: &Option<SessionId>,
-    operation: Operation,
-    object: &Object,
-) -> Reply
-    ensures { Held D.answers held.now (λ session. to_check session operation object.now)
-        desk.old result desk.new }
-{
-    match held {
-        Some(session) => desk.check(*session, operation, object),
         None => Reply::Refused(Refusal::Policy(PolicyRefusal::NoSession)),
     }
 }
@@ -131,17 +97,24 @@ fn ask_policy<D: Desk>(desk: &mut D, login: Option<Login>, command: AdminCommand
     }
 }
 
-/// Answers a request on a connection that holds this login.
+/// Answers a request on a connection that holds this login; NoSession if it needs one and the
+/// connection holds none.
 fn ask<D: Desk>(desk: &mut D, login: Option<Login>, request: Request) -> LineAnswer
     ensures asked { Asks D.answers request (session_of login) desk.old result.reply desk.new }
     ensures login { session_of result.login
         ≡ login_after request result.reply (session_of login) }
 {
-    let held = &held_session(&login);
+    let held = held_session(&login);
     let reply = match request {
         Request::Policy(command) => return ask_policy(desk, login, command),
-        Request::Slot { slot, command } => command_slot(desk, held, slot, command),
-        Request::Check { operation, object } => check_permission(desk, held, operation, &object),
+        Request::Slot { slot, command } => match held {
+            Some(session) => desk.slot(session, slot, command),
+            None => Reply::Refused(Refusal::Policy(PolicyRefusal::NoSession)),
+        },
+        Request::Check { operation, object } => match held {
+            Some(session) => desk.check(session, operation, &object),
+            None => Reply::Refused(Refusal::Policy(PolicyRefusal::NoSession)),
+        },
     };
     LineAnswer { reply, login }
 }

@@ -9,7 +9,7 @@ use crate::login::{Login, hold};
 use std::alloc::{AllocError, Global};
 use wire_lines::reading::RequestReader;
 use wire_lines::reply::reply_text;
-use wire_reader::serving::{Answerer, Text};
+use wire_reader::serving::{AnswerText, Answerer};
 
 /// The server's side of one connection: its login, if it holds one, what reads its lines, and the
 /// worker that answers them through a gate.
@@ -27,7 +27,12 @@ impl<'g, D: Desk, G: Gate> Answerer<D> for LineAnswerer<'g, G> {
     ghost fails = { λ before line after.
         TellsNothing D.answers line (seen_of before) (seen_of after) };
 
-    fn answer(&mut self, alloc: Global, desk: &mut D, line: &[u8]) -> Result<Text, AllocError> {
+    fn answer(
+        &mut self,
+        alloc: Global,
+        desk: &mut D,
+        line: &[u8],
+    ) -> Result<AnswerText, AllocError> {
         self.gate.before(self.worker);
         let held = self.login.take();
         let LineAnswer { reply, login } = respond(alloc, &mut self.requests, desk, held, line);

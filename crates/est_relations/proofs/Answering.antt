@@ -140,8 +140,8 @@ no_name i name none s = none_some (sym none ∙ s.there) where
 
 -- an offer is refused by its name
 pub refused_name : (p : PendingInputs) (name : List ℕ) (e : PendingRefusal)
-    → KeepsExclusions p.interface p.relations p.mask
-    → RefusesName p.interface p.mask name e → OfferAnswer p name (Err e) p
+    → KeepsExclusions p.interface p.relations p.inputs
+    → RefusesName p.interface p.inputs name e → OfferAnswer p name (Err e) p
 refused_name p name UnknownSignal k h = refuse UnknownSignal (refl, no_name p.interface name h) (refl, refl)
 refused_name p name NotInput k h =
     pass (record { place = h.place; there = h.there })
@@ -155,13 +155,13 @@ refused_name p name (Implied r s) k h = absurd h
 
 -- an offer is refused by an exclusion
 pub refused_member : (p : PendingInputs) (name : List ℕ) (place number m : ℕ) (d : Declaration)
-    → IsNewInput p.interface p.mask name place → IsFirstBroken p.relations p.mask place number m
+    → IsNewInput p.interface p.inputs name place → IsFirstBroken p.relations p.inputs place number m
     → slice_get p.interface m ≡ Some d
     → OfferAnswer p name (Err (Excluded number d.name)) p
 refused_member p name place number m d new broken there =
     pass (record { place = place; there = new.there })
     (pass (not_output p.interface name place new.there new.input)
-    (pass (not_pending p.interface p.mask name place new.there new.new)
+    (pass (not_pending p.interface p.inputs name place new.there new.new)
     (refuse (Excluded number d.name) (
       (number, d.name),
       refl,
@@ -176,21 +176,22 @@ refused_member p name place number m d new broken there =
 
 -- an offer is accepted
 pub accepted : (p : PendingInputs) (name : List ℕ) (place : ℕ) (after : PendingInputs)
-    → IsNewInput p.interface p.mask name place → list_all (keeps_exclusion (bits (with_place p.mask place))) p.relations
+    → IsNewInput p.interface p.inputs name place → list_all
+    (keeps_exclusion (bits (with_place p.inputs place))) p.relations
     ≡ true
-    → after ≡ record { interface = p.interface; relations = p.relations; mask = with_place p.mask place }
+    → after ≡ record { interface = p.interface; relations = p.relations; inputs = with_place p.inputs place }
     → OfferAnswer p name (Ok (record {})) after
 accepted p name place after new h is =
     pass (record { place = place; there = new.there })
     (pass (not_output p.interface name place new.there new.input)
-    (pass (not_pending p.interface p.mask name place new.there new.new)
-    (pass (λ e f. none_first (keeps_exclusion (bits (with_place p.mask place))) p.relations f.broken.index h
-    (ap (λ n. position (λ r. not (keeps_exclusion (bits (with_place p.mask n)) r)) p.relations)
+    (pass (not_pending p.interface p.inputs name place new.there new.new)
+    (pass (λ e f. none_first (keeps_exclusion (bits (with_place p.inputs place))) p.relations f.broken.index h
+    (ap (λ n. position (λ r. not (keeps_exclusion (bits (with_place p.inputs n)) r)) p.relations)
     (same_place p.interface name place f.place new.there f.there) ∙ f.broken.first))
     (refl, record { place = place; there = new.there; added = is }))))
 
 -- an instant may not take what is pending
-pub not_ready : (p : PendingInputs) (number m : ℕ) (d : Declaration) → IsFirstLacking p.relations p.mask number m
+pub not_ready : (p : PendingInputs) (number m : ℕ) (d : Declaration) → IsFirstLacking p.relations p.inputs number m
     → slice_get p.interface m ≡ Some d
     → ReadyAnswer p (Err (Implied number d.name))
 not_ready p number m d l there =
@@ -205,5 +206,6 @@ not_ready p number m d l there =
     ) refl
 
 -- an instant may take what is pending
-pub all_hold : (p : PendingInputs) → list_all (keeps (bits p.mask)) p.relations ≡ true → ReadyAnswer p (Ok (record {}))
-all_hold p h = pass (λ e f. none_first (keeps (bits p.mask)) p.relations f.lacking.index h f.lacking.first) (refl, h)
+pub all_hold : (p : PendingInputs) → list_all (keeps (bits p.inputs)) p.relations ≡ true
+    → ReadyAnswer p (Ok (record {}))
+all_hold p h = pass (λ e f. none_first (keeps (bits p.inputs)) p.relations f.lacking.index h f.lacking.first) (refl, h)

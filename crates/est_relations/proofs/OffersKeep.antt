@@ -66,25 +66,25 @@ some_pending members mask place kept broken = found (find (bits mask) members) r
       (with_bits mask place) e))
 
 -- where no exclusion can be named, each is kept
-all_kept : (p : PendingInputs) (name : List ℕ) (place : ℕ) → KeepsExclusions p.interface p.relations p.mask
+all_kept : (p : PendingInputs) (name : List ℕ) (place : ℕ) → KeepsExclusions p.interface p.relations p.inputs
     → place_of p.interface name ≡ Some place
     → ((number : ℕ) (signal : List ℕ) → IsFirstExcluded p name number signal → ⊥)
-    → list_all (keeps_exclusion (bits (with_place p.mask place))) p.relations ≡ true
+    → list_all (keeps_exclusion (bits (with_place p.inputs place))) p.relations ≡ true
 all_kept p name place k there none =
-    elim (cases_Bool (list_all (keeps_exclusion (bits (with_place p.mask place))) p.relations)) [
+    elim (cases_Bool (list_all (keeps_exclusion (bits (with_place p.inputs place))) p.relations)) [
       | inl t ↦ t
-      | inr f ↦ let first = first_failing (keeps_exclusion (bits (with_place p.mask place))) p.relations f in
+      | inr f ↦ let first = first_failing (keeps_exclusion (bits (with_place p.inputs place))) p.relations f in
           absurd (breaks first first.failing first.there first.fails)
     ] where
-      breaks : (first : FirstFailing (keeps_exclusion (bits (with_place p.mask place))) p.relations) (r : Relation)
+      breaks : (first : FirstFailing (keeps_exclusion (bits (with_place p.inputs place))) p.relations) (r : Relation)
           → slice_get p.relations first.place ≡ Some r
-          → keeps_exclusion (bits (with_place p.mask place)) r ≡ false → ⊥
+          → keeps_exclusion (bits (with_place p.inputs place)) r ≡ false → ⊥
       breaks first (Implication a b) at e = false≢true (sym e)
       breaks first (Exclusion members) at e =
-          let was : has_one_at_most (bits p.mask) members ≡ true =
-          all_there (keeps_exclusion (bits p.mask)) p.relations first.place (Exclusion members) k.kept at in
-          let one = some_pending members p.mask place was e in
-          let signal = k.inputs one.0 (found_is (bits p.mask) members one.0 one.1).1 in
+          let was : has_one_at_most (bits p.inputs) members ≡ true =
+          all_there (keeps_exclusion (bits p.inputs)) p.relations first.place (Exclusion members) k.kept at in
+          let one = some_pending members p.inputs place was e in
+          let signal = k.inputs one.0 (found_is (bits p.inputs) members one.0 one.1).1 in
           let d = declaration_at p.interface one.0 (input_within p.interface one.0 signal) in
           none (first.place + 1) d.0.name (record {
             place = place;
@@ -94,8 +94,8 @@ all_kept p name place k there none =
               index = first.place;
               numbered = refl;
               first = first_at (keeps_exclusion
-                  (bits (with_place p.mask place))) p.relations first.place first.failing first.within first.before
-                  (ap (keeps_exclusion (bits (with_place p.mask place)))
+                  (bits (with_place p.inputs place))) p.relations first.place first.failing first.within first.before
+                  (ap (keeps_exclusion (bits (with_place p.inputs place)))
                   (get_or_from_slice_get p.relations first.place first.failing first.failing first.there)
                   ∙ first.fails);
               members = members;
@@ -107,8 +107,8 @@ all_kept p name place k there none =
 
 -- an accepted offer keeps each exclusion
 pub offer_keeps : (before after : PendingInputs) (name : List ℕ)
-    → KeepsExclusions before.interface before.relations before.mask
-    → OfferAnswer before name (Ok (record {})) after → KeepsExclusions after.interface after.relations after.mask
+    → KeepsExclusions before.interface before.relations before.inputs
+    → OfferAnswer before name (Ok (record {})) after → KeepsExclusions after.interface after.relations after.inputs
 offer_keeps before after name k answer =
     let all = all_passed (offer_rules before name) (λ refusal. (Ok (record {}) ≡ Err refusal) × (after ≡ before))
     ((Ok (record {}) ≡ Ok (record {})) × Adds before name after)
@@ -117,5 +117,5 @@ offer_keeps before after name k answer =
     let input : offerable before.interface adds.place ≡ true = input_there before.interface adds.place
     (λ o. all.0.1.0 (record { place = adds.place; there = adds.there; output = o })) in
     rw adds.added
-    (kept_with before.interface before.relations before.mask adds.place k input
+    (kept_with before.interface before.relations before.inputs adds.place k input
     (all_kept before name adds.place k adds.there (λ number signal. all.0.1.1.1.0 (number, signal))))

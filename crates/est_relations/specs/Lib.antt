@@ -1,3 +1,4 @@
 pub mod Inner
 pub mod Keeping
 pub mod Offers
+pub mod Refusals

@@ -20,11 +20,11 @@ use Rattle.est_relations.specs.declared.relations.Relation.TheVariants.{Exclusio
 pub record PendingInputs : Type 0 where
   pub interface : List Declaration
   pub relations : List Relation
-  pub mask : ℕ
+  pub inputs : ℕ
 
--- the pending inputs of this mask
-abbrev pub pending_inputs : List Declaration → List Relation → (mask : ℕ) → PendingInputs
-pending_inputs interface relations mask = record { interface = interface; relations = relations; mask = mask }
+-- these inputs are pending
+abbrev pub pending_inputs : List Declaration → List Relation → (inputs : ℕ) → PendingInputs
+pending_inputs interface relations inputs = record { interface = interface; relations = relations; inputs = inputs }
 
 -- the place in the interface of the signal of this name
 abbrev pub place_of : List Declaration → List ℕ → Option ℕ
@@ -78,7 +78,7 @@ pub record IsFirstExcluded (p : PendingInputs) (name : List ℕ) (number : ℕ) 
   pub place : ℕ
   pub there : place_of p.interface name ≡ Some place
   pub member : ℕ
-  pub broken : IsFirstBroken p.relations p.mask place number member
+  pub broken : IsFirstBroken p.relations p.inputs place number member
   pub named : IsNameAt p.interface member signal
 
 -- this relation, counted from 1, is the first that does not hold, and it is an implication of this signal
@@ -94,7 +94,7 @@ pub record IsFirstLacking (relations : List Relation) (mask number implied : ℕ
 -- by the relation of this number, the pending inputs lack the signal of this name
 pub record IsFirstImplied (p : PendingInputs) (number : ℕ) (missing : List ℕ) : Type 0 where
   pub implied : ℕ
-  pub lacking : IsFirstLacking p.relations p.mask number implied
+  pub lacking : IsFirstLacking p.relations p.inputs number implied
   pub named : IsNameAt p.interface implied missing
 
 -- the rules of refusal of an offer, in their order
@@ -102,7 +102,7 @@ abbrev pub offer_rules : PendingInputs → List ℕ → Rules PendingRefusal
 offer_rules p name =
     Unless (IsSignalName p.interface name) UnknownSignal
     ▸ Says NotInput (IsOutputName p.interface name)
-    ▸ Says AlreadyOffered (IsPendingName p.interface p.mask name)
+    ▸ Says AlreadyOffered (IsPendingName p.interface p.inputs name)
     ▸ Naming {Thing = ℕ × List ℕ} (λ e. Excluded e.0 e.1) (λ e. IsFirstExcluded p name e.0 e.1)
     ▸ accept
 
@@ -115,7 +115,7 @@ pub record Adds (before : PendingInputs) (name : List ℕ) (after : PendingInput
   pub place : ℕ
   pub there : place_of before.interface name ≡ Some place
   pub added : after
-      ≡ record { interface = before.interface; relations = before.relations; mask = with_place before.mask place }
+      ≡ record { interface = before.interface; relations = before.relations; inputs = with_place before.inputs place }
 
 -- the answer to an offer of the name, and what is pending afterwards: a refusal changes nothing
 abbrev pub OfferAnswer : PendingInputs → List ℕ → Result (Unit {0}) PendingRefusal → PendingInputs → Type 0
@@ -129,4 +129,4 @@ abbrev pub ReadyAnswer : PendingInputs → Result (Unit {0}) PendingRefusal → 
 ReadyAnswer p answer =
     Answers (ready_rules p)
     (λ refusal. answer ≡ Err refusal)
-    ((answer ≡ Ok (record {})) × AreLawful p.relations (bits p.mask))
+    ((answer ≡ Ok (record {})) × AreLawful p.relations (bits p.inputs))

@@ -15,7 +15,7 @@ pub fn exclusions_are_of_sets()
 /// An accepted offer keeps each exclusion, so any number of offers does.
 pub fn offers_keep_exclusions()
     ensures { (before after : PendingInputs) (name : List ℕ)
-        → KeepsExclusions before.interface before.relations before.mask
+        → KeepsExclusions before.interface before.relations before.inputs
         → OfferAnswer before name (Ok (record {})) after
-        → KeepsExclusions after.interface after.relations after.mask }
+        → KeepsExclusions after.interface after.relations after.inputs }
 {}

@@ -32,46 +32,46 @@ impl<'a> Model for Pending<'a> {
     ghost view = { λ p. record {
       interface = p.interface.now;
       relations = p.relations.now;
-      mask = p.inputs;
+      inputs = p.inputs;
     } };
 
     ghost invariant = { λ p. KeepsExclusions p.interface.now p.relations.now p.inputs };
 }
 
-/// The mask with this signal.
-fn with_signal(mask: u64, signal: InterfaceSignal) -> u64
-    ensures { result ≡ with_place mask signal.index }
+/// These inputs and this signal.
+fn with_signal(inputs: u64, signal: InterfaceSignal) -> u64
+    ensures { result ≡ with_place inputs signal.index }
 {
-    mask | 1 << signal.index
+    inputs | 1 << signal.index
 }
 
-/// The pending inputs with this one, where it may come.
-fn joined(
+/// The pending inputs and this one, where it may join them.
+fn add_input(
     interface: &Interface,
     relations: &Relations,
-    pending: u64,
+    inputs: u64,
     signal: InterfaceSignal,
 ) -> Result<u64, PendingRefusal>
-    requires kept { KeepsExclusions interface.now relations.now pending }
+    requires kept { KeepsExclusions interface.now relations.now inputs }
     requires within { signal.index < length interface.now }
     ensures kept { IfOk result (KeepsExclusions interface.now relations.now) }
     ensures answer { (name : List ℕ) → place_of interface.now name ≡ Some signal.index
         → MatchResult result
-        (AcceptsOffer interface.now relations.now pending name)
-        (RefusesOffer interface.now relations.now pending name) }
+        (AcceptsOffer interface.now relations.now inputs name)
+        (RefusesOffer interface.now relations.now inputs name) }
 {
     if !interface.kind(signal).can_be_offered() {
         return Err(PendingRefusal::NotInput);
     }
-    if mask::has(pending, signal.index) {
+    if mask::has(inputs, signal.index) {
         return Err(PendingRefusal::AlreadyOffered);
     }
-    match first_broken(relations.as_slice(), pending, signal) {
+    match first_broken(relations.as_slice(), inputs, signal) {
         Some(broken) => Err(PendingRefusal::Excluded {
             relation: broken.relation,
             signal: interface.get(broken.signal).name,
         }),
-        None => Ok(with_signal(pending, signal)),
+        None => Ok(with_signal(inputs, signal)),
     }
 }
 
@@ -103,8 +103,8 @@ impl<'a> Pending<'a> {
 
     /// The pending inputs, as a mask over the interface in the order of declaration.
     pub fn inputs(&self) -> u64
-        ensures inputs { result ≡ self.now.mask }
-        ensures kept { KeepsExclusions self.now.interface self.now.relations self.now.mask }
+        ensures inputs { result ≡ self.now.inputs }
+        ensures kept { KeepsExclusions self.now.interface self.now.relations self.now.inputs }
     {
         self.inputs
     }
@@ -127,7 +127,7 @@ impl<'a> Pending<'a> {
         ensures { (name : List ℕ) → place_of self.old.interface name ≡ Some signal.index
             → OfferAnswer self.old name result self.new }
     {
-        match joined(self.interface, self.relations, self.inputs, signal) {
+        match add_input(self.interface, self.relations, self.inputs, signal) {
             Ok(inputs) => {
                 self.inputs = inputs;
                 Ok(())

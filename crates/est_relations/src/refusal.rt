@@ -1,4 +1,7 @@
 //! Why an input is not offered, or an instant is not begun.
+ghost use Rattle.std.specs.Prelude.{◌≡◌};
+ghost use Rattle.est_relations.specs.Refusals.{code_of, name_of};
+
 use est_text::identifier::Identifier;
 
 /// Why an input is not offered, or an instant is not begun. Relations are numbered from 1, in the
@@ -17,4 +20,20 @@ pub enum PendingRefusal {
     /// The first relation that does not hold, which is an implication: its number, and the signal
     /// that is missing.
     Implied { relation: u8, missing: Identifier },
+}
+
+impl PendingRefusal {
+    /// Its number and its name.
+    pub fn label(&self) -> (u8, &'static str)
+        ensures code { result.0 ≡ code_of self.now }
+        ensures name { result.1.now ≡ name_of self.now }
+    {
+        match self {
+            PendingRefusal::Excluded { .. } => (40, "Excluded"),
+            PendingRefusal::Implied { .. } => (41, "Implied"),
+            PendingRefusal::UnknownSignal => (63, "UnknownSignal"),
+            PendingRefusal::NotInput => (64, "NotInput"),
+            PendingRefusal::AlreadyOffered => (65, "AlreadyOffered"),
+        }
+    }
 }

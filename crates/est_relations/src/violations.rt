@@ -23,21 +23,17 @@ pub struct Broken {
 }
 
 /// The pending signal that excludes this one by the relation. This one is not pending.
-fn excluded_by(
-    relation: &Relation,
-    pending: u64,
-    signal: InterfaceSignal,
-) -> Option<InterfaceSignal>
-    requires kept { keeps_exclusion (bits pending) relation.now ≡ true }
-    requires new { bits pending signal.index ≡ false }
+fn excluded_by(relation: &Relation, inputs: u64, signal: InterfaceSignal) -> Option<InterfaceSignal>
+    requires kept { keeps_exclusion (bits inputs) relation.now ≡ true }
+    requires new { bits inputs signal.index ≡ false }
     ensures { MatchOption result
-        (keeps_exclusion (bits (with_place pending signal.index)) relation.now ≡ true)
-        (λ m. Excludes relation.now pending signal.index m.index) }
+        (keeps_exclusion (bits (with_place inputs signal.index)) relation.now ≡ true)
+        (λ m. Excludes relation.now inputs signal.index m.index) }
 {
     match relation {
         Relation::Exclusion(members) => {
             if members.has(signal) {
-                members.first_in(pending)
+                members.first_in(inputs)
             } else {
                 None
             }
@@ -47,16 +43,16 @@ fn excluded_by(
 }
 
 /// The first exclusion that would not hold with this signal. The signal is not pending.
-pub fn first_broken(relations: &[Relation], pending: u64, signal: InterfaceSignal) -> Option<Broken>
+pub fn first_broken(relations: &[Relation], inputs: u64, signal: InterfaceSignal) -> Option<Broken>
     requires few { length relations.now ≤ MOST_RELATIONS }
-    requires kept { list_all (keeps_exclusion (bits pending)) relations.now ≡ true }
-    requires new { bits pending signal.index ≡ false }
+    requires kept { list_all (keeps_exclusion (bits inputs)) relations.now ≡ true }
+    requires new { bits inputs signal.index ≡ false }
     ensures { MatchOption result
-        (list_all (keeps_exclusion (bits (with_place pending signal.index))) relations.now ≡ true)
-        (λ b. IsFirstBroken relations.now pending signal.index b.relation b.signal.index) }
+        (list_all (keeps_exclusion (bits (with_place inputs signal.index))) relations.now ≡ true)
+        (λ b. IsFirstBroken relations.now inputs signal.index b.relation b.signal.index) }
 {
     for (index, relation) in relations.iter().enumerate() {
-        if let Some(member) = excluded_by(relation, pending, signal) {
+        if let Some(member) = excluded_by(relation, inputs, signal) {
             return Some(Broken {
                 relation: index as u8 + 1,
                 signal: member,
@@ -67,16 +63,16 @@ pub fn first_broken(relations: &[Relation], pending: u64, signal: InterfaceSigna
 }
 
 /// The signal that is missing by the relation.
-fn lacking_by(relation: &Relation, pending: u64) -> Option<InterfaceSignal>
-    requires kept { keeps_exclusion (bits pending) relation.now ≡ true }
+fn lacking_by(relation: &Relation, inputs: u64) -> Option<InterfaceSignal>
+    requires kept { keeps_exclusion (bits inputs) relation.now ≡ true }
     ensures { MatchOption result
-        (keeps (bits pending) relation.now ≡ true)
-        (λ m. Lacks relation.now pending m) }
+        (keeps (bits inputs) relation.now ≡ true)
+        (λ m. Lacks relation.now inputs m) }
 {
     match relation {
         Relation::Exclusion(_) => None,
         Relation::Implication(condition, implied) => {
-            if mask::has(pending, condition.index) && !mask::has(pending, implied.index) {
+            if mask::has(inputs, condition.index) && !mask::has(inputs, implied.index) {
                 Some(*implied)
             } else {
                 None
@@ -86,15 +82,15 @@ fn lacking_by(relation: &Relation, pending: u64) -> Option<InterfaceSignal>
 }
 
 /// The first relation that does not hold. Each exclusion holds.
-pub fn first_lacking(relations: &[Relation], pending: u64) -> Option<Broken>
+pub fn first_lacking(relations: &[Relation], inputs: u64) -> Option<Broken>
     requires few { length relations.now ≤ MOST_RELATIONS }
-    requires kept { list_all (keeps_exclusion (bits pending)) relations.now ≡ true }
+    requires kept { list_all (keeps_exclusion (bits inputs)) relations.now ≡ true }
     ensures { MatchOption result
-        (list_all (keeps (bits pending)) relations.now ≡ true)
-        (λ b. IsFirstLacking relations.now pending b.relation b.signal.index) }
+        (list_all (keeps (bits inputs)) relations.now ≡ true)
+        (λ b. IsFirstLacking relations.now inputs b.relation b.signal.index) }
 {
     for (index, relation) in relations.iter().enumerate() {
-        if let Some(missing) = lacking_by(relation, pending) {
+        if let Some(missing) = lacking_by(relation, inputs) {
             return Some(Broken {
                 relation: index as u8 + 1,
                 signal: missing,

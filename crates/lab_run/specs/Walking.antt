@@ -72,7 +72,7 @@ pending_of m inputs = pending_inputs m.kernel.interface m.relations inputs
 pub record MayTake (m : Module) (names : List (List ℕ)) (inputs : ℕ) : Type 0 where
   pub pending : PendingInputs
   pub offered : AreOffered (pending_of m 0) names (Ok pending)
-  pub taken : inputs ≡ pending.mask
+  pub taken : inputs ≡ pending.inputs
 
 -- no instant of the module may take the inputs of these names, for this reason
 pub record MayNotTake (m : Module) (names : List (List ℕ)) (given : Refusal) : Type 0 where

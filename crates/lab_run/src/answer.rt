@@ -15,7 +15,7 @@ use serde_json::error::Category;
 use std::alloc::{AllocError, Global};
 use std::borrow::CowSlice;
 use wire_lines::reply::reply_text;
-use wire_reader::serving::{Answerer, Text};
+use wire_reader::serving::{AnswerText, Answerer};
 
 /// The JSON value of a line, or NotJson or Memory.
 fn value_of(alloc: Global, line: &[u8]) -> Result<Value, Refusal>
@@ -66,7 +66,7 @@ fn value_line(alloc: Global, value: &Value) -> Result<Vec<u8>, AllocError>
 }
 
 /// The line of what is told, with its LF. Want of memory takes none.
-pub fn line_of(alloc: Global, told: LabReply) -> Result<Text, AllocError>
+pub fn line_of(alloc: Global, told: LabReply) -> Result<AnswerText, AllocError>
     ensures { IfOk result (λ text. IsTextOf told (cow_slice_items text)) }
 {
     match told {
@@ -85,7 +85,12 @@ impl Answerer<Lab> for LineAnswerer {
 
     ghost fails = { λ before line after. HasNoText before.1.loaded line after.1.loaded };
 
-    fn answer(&mut self, alloc: Global, lab: &mut Lab, line: &[u8]) -> Result<Text, AllocError> {
+    fn answer(
+        &mut self,
+        alloc: Global,
+        lab: &mut Lab,
+        line: &[u8],
+    ) -> Result<AnswerText, AllocError> {
         let told = answer_line(alloc, lab, line);
         line_of(alloc, told)
     }

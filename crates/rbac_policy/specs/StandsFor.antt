@@ -15,16 +15,16 @@ use Rattle.rbac_policy.specs.Entries.{logins}
 use Rattle.rbac_policy.specs.Facts.{IsUser, IsRole, IsSet, IsAssigned, IsGranted, IsEdge, IsActive, Lives}
 use Rattle.rbac_policy.specs.Tables.{At}
 
--- some slot holds a value with P
-pub record Holds {X : Type 0} (P : X → Type 0) (slots : List (Option X)) : Type 0 where
+-- some row holds a value with P
+pub record Holds {X : Type 0} (P : X → Type 0) (rows : List (Option X)) : Type 0 where
   pub at : ℕ
   pub value : X
-  pub there : At slots at value
+  pub there : At rows at value
   pub fact : P value
 
--- no two slots hold values with one key
+-- no two rows hold values with one key
 abbrev pub IsKeyed : {X A : Type 0} → (X → A) → List (Option X) → Type 0
-IsKeyed {X = X} key slots = (p q : ℕ) (x y : X) → At slots p x → At slots q y → key x ≡ key y → p ≡ q
+IsKeyed {X = X} key rows = (p q : ℕ) (x y : X) → At rows p x → At rows q y → key x ≡ key y → p ≡ q
 
 -- the mask has the place of the role
 pub record InMask (roles : List (Option NameText)) (mask : ℕ) (role : NameText) : Type 0 where

@@ -14,16 +14,16 @@ use Rattle.rbac_policy.specs.Names.{NameText}
 use Rattle.rbac_policy.specs.Objects.{same_operation, same_object}
 use Rattle.rbac_policy.specs.Order.{below}
 
--- the slot holds the value
+-- the row holds the value
 abbrev pub At : {X : Type 0} → List (Option X) → ℕ → X → Type 0
-At slots place x = slice_get slots place ≡ Some (Some x)
+At rows place x = slice_get rows place ≡ Some (Some x)
 
--- the slot has this user
+-- the row has this user
 abbrev pub user_is : NameText → Option User → Bool
 user_is name None = false
 user_is name (Some user) = bytes_eq user.name name
 
--- the slot has this role
+-- the row has this role
 abbrev pub role_is : NameText → Option NameText → Bool
 role_is name None = false
 role_is name (Some role) = bytes_eq role name
@@ -34,12 +34,12 @@ place_of name roles = position (role_is name) roles
 
 -- the value in the place, if there is one
 abbrev pub put_at : {X : Type 0} → X → List (Option X) → Option ℕ → List (Option X)
-put_at x slots None = slots
-put_at x slots (Some place) = slice_set slots place (Some x)
+put_at x rows None = rows
+put_at x rows (Some place) = slice_set rows place (Some x)
 
--- the value in the first free slot
+-- the value in the first free row
 abbrev pub put_free : {X : Type 0} → X → List (Option X) → List (Option X)
-put_free x slots = put_at x slots (position is_none slots)
+put_free x rows = put_at x rows (position is_none rows)
 
 -- the user of this name has the role at this place, too
 abbrev pub user_assigned : NameText → ℕ → Option User → Option User
@@ -63,13 +63,13 @@ abbrev pub user_without : NameText → Option User → Option User
 user_without name None = None
 user_without name (Some user) = if bytes_eq user.name name then None else Some user
 
--- the mask of the first slot with this user
+-- the mask of the first row with this user
 abbrev pub roles_of : NameText → List (Option User) → ℕ
 roles_of name [] = 0
-roles_of name (None ∷ slots) = roles_of name slots
-roles_of name (Some user ∷ slots) = if bytes_eq user.name name then user.roles else roles_of name slots
+roles_of name (None ∷ rows) = roles_of name rows
+roles_of name (Some user ∷ rows) = if bytes_eq user.name name then user.roles else roles_of name rows
 
--- the slot has this pair
+-- the row has this pair
 abbrev pub grant_is : Operation → Object → Option Grant → Bool
 grant_is operation object None = false
 grant_is operation object (Some grant) = same_operation grant.operation operation && same_object grant.object object
@@ -82,7 +82,7 @@ grant_given operation object place (Some grant) =
     then Some (record { operation = grant.operation; object = grant.object; roles = with_place grant.roles place })
     else Some grant
 
--- the pair is granted to the role at this place, in its row or in the first free slot
+-- the pair is granted to the role at this place, in its row or in the first free row
 abbrev pub grants_given : Operation → Object → ℕ → List (Option Grant) → List (Option Grant)
 grants_given operation object place grants =
     if list_any (grant_is operation object) grants
@@ -159,8 +159,8 @@ mask_of roles names = fold (λ mask name. with_found_place mask (place_of name r
 -- the first value that passes
 abbrev pub first_of : {X : Type 0} → (X → Bool) → List (Option X) → Option X
 first_of test [] = None
-first_of test (None ∷ slots) = first_of test slots
-first_of test (Some x ∷ slots) = if test x then Some x else first_of test slots
+first_of test (None ∷ rows) = first_of test rows
+first_of test (Some x ∷ rows) = if test x then Some x else first_of test rows
 
 -- the session of this number
 abbrev pub session_of : ℕ → List (Option Session) → Option Session

@@ -10,7 +10,7 @@ use Rattle.rbac_policy.specs.Order.{below}
 abbrev pub holds_many : List ℕ → DsdSet → Session → Bool
 holds_many juniors set session = nat_le set.count (length (places_of (common (below juniors session.active) set.roles)))
 
--- the session in the slot, if it holds too many roles of the set
+-- the session in the row, if it holds too many roles of the set
 abbrev pub violator : List ℕ → DsdSet → Option Session → Option ℕ
 violator juniors set None = None
 violator juniors set (Some session) = if holds_many juniors set session then Some session.number else None
@@ -23,7 +23,7 @@ lesser key (Some known) (Some found) = if nat_lt (key found) (key known) then So
 
 -- the least session that holds too many roles of the set
 unfoldable pub least_violator : List ℕ → List (Option Session) → DsdSet → Option ℕ
-least_violator juniors sessions set = fold (λ least slot. lesser (λ n. n) least (violator juniors set slot)) None
+least_violator juniors sessions set = fold (λ least row. lesser (λ n. n) least (violator juniors set row)) None
     sessions
 
 -- the set, which this session violates, if one does
@@ -31,7 +31,7 @@ abbrev pub violated_by : DsdSet → Option ℕ → Option Violation
 violated_by set None = None
 violated_by set (Some session) = Some (record { place = set.place; set = set.name; session = session })
 
--- the set in the slot, with the least session that violates it, if one does
+-- the set in the row, with the least session that violates it, if one does
 abbrev pub violation_of : List ℕ → List (Option Session) → Option DsdSet → Option Violation
 violation_of juniors sessions None = None
 violation_of juniors sessions (Some set) = violated_by set (least_violator juniors sessions set)
@@ -43,4 +43,4 @@ place_of_set v = v.place
 -- the first set in order of creation that is violated, with the least session that violates it
 unfoldable pub first_violation : List ℕ → List (Option Session) → List (Option DsdSet) → Option Violation
 first_violation juniors sessions sets =
-    fold (λ first slot. lesser place_of_set first (violation_of juniors sessions slot)) None sets
+    fold (λ first row. lesser place_of_set first (violation_of juniors sessions row)) None sets

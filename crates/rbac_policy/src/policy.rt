@@ -192,7 +192,7 @@ impl Policy {
         }
     }
 
-    fn change(&mut self, entry: &Entry)
+    fn change_tables(&mut self, entry: &Entry)
         ensures { self.new ≡ changed self.old entry.now }
     {
         match &entry.command {
@@ -230,10 +230,10 @@ impl Policy {
     }
 
     #[tactic(auto, unfolding(crate::specs::Change::absorbed))]
-    fn take_in(&mut self, entry: &Entry)
+    fn absorb_into_tables(&mut self, entry: &Entry)
         ensures { self.new ≡ absorbed self.old entry.now }
     {
-        self.change(entry);
+        self.change_tables(entry);
         self.version = self.version.wrapping_add(1);
         end_unauthorized(&mut self.sessions, &self.users, &self.juniors);
     }
@@ -246,7 +246,7 @@ impl Policy {
             → Fits entries entry.now
             → StandsFor self.new (entries ++ entry.now ∷ []) }
     {
-        self.take_in(entry);
+        self.absorb_into_tables(entry);
     }
 
     /// Whether a role that is active in the session, or lies below one, has the grant.

@@ -28,10 +28,10 @@ fn holds_many(set: &DsdSet, session: &Session, juniors: &RoleHierarchy) -> bool
     set.count <= held.len() as u64
 }
 
-fn violator(slot: &Option<Session>, set: &DsdSet, juniors: &RoleHierarchy) -> Option<SessionId>
-    ensures { result ≡ violator juniors.now set.now slot.now }
+fn violator(row: &Option<Session>, set: &DsdSet, juniors: &RoleHierarchy) -> Option<SessionId>
+    ensures { result ≡ violator juniors.now set.now row.now }
 {
-    match slot {
+    match row {
         Some(session) if holds_many(set, session, juniors) => Some(session.number),
         _ => None,
     }
@@ -59,8 +59,8 @@ fn least_violator(
     ensures { result ≡ least_violator juniors.now sessions.now set.now }
 {
     let mut least = None;
-    for slot in sessions {
-        least = lesser(least, violator(slot, set, juniors));
+    for row in sessions {
+        least = lesser(least, violator(row, set, juniors));
     }
     least
 }
@@ -93,14 +93,14 @@ fn violated_by(set: &DsdSet, session: Option<SessionId>) -> Option<Violation>
 }
 
 fn violation_of(
-    slot: &Option<DsdSet>,
+    row: &Option<DsdSet>,
     sessions: &[Option<Session>],
     coming: &Option<Session>,
     juniors: &RoleHierarchy,
 ) -> Option<Violation>
-    ensures { result ≡ violation_of juniors.now (sessions.now ++ coming.now ∷ []) slot.now }
+    ensures { result ≡ violation_of juniors.now (sessions.now ++ coming.now ∷ []) row.now }
 {
-    match slot {
+    match row {
         Some(set) => violated_by(set, least_of_all(set, sessions, coming, juniors)),
         None => None,
     }
@@ -130,8 +130,8 @@ pub(crate) fn first_violation(
     ensures { result ≡ first_violation juniors.now (sessions.now ++ coming.now ∷ []) sets.now }
 {
     let mut first = None;
-    for slot in sets {
-        first = earlier(first, violation_of(slot, sessions, coming, juniors));
+    for row in sets {
+        first = earlier(first, violation_of(row, sessions, coming, juniors));
     }
     first
 }

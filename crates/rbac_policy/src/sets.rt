@@ -8,10 +8,10 @@ use crate::names::Name;
 use crate::rows::DsdSet;
 use crate::sizes::{ROLES, SETS};
 
-fn set_is(slot: &Option<DsdSet>, name: &Name) -> bool
-    ensures { result ≡ set_is name.now slot.now }
+fn set_is(row: &Option<DsdSet>, name: &Name) -> bool
+    ensures { result ≡ set_is name.now row.now }
 {
-    match slot {
+    match row {
         Some(row) => row.name == *name,
         None => false,
     }
@@ -21,14 +21,14 @@ fn set_is(slot: &Option<DsdSet>, name: &Name) -> bool
 pub fn has_set(sets: &[Option<DsdSet>; SETS], name: &Name) -> bool
     ensures { result ≡ list_any (set_is name.now) sets.now }
 {
-    sets.iter().any(|slot| set_is(slot, name))
+    sets.iter().any(|row| set_is(row, name))
 }
 
-fn set_with(slot: &Option<DsdSet>, place: usize) -> Option<DsdSet>
+fn set_with(row: &Option<DsdSet>, place: usize) -> Option<DsdSet>
     requires { place < ROLES }
-    ensures { result ≡ set_with place slot.now }
+    ensures { result ≡ set_with place row.now }
 {
-    match slot {
+    match row {
         Some(row) => {
             if row.roles.has(place) {
                 Some(*row)
@@ -59,8 +59,8 @@ pub fn first_set_with(sets: &[Option<DsdSet>; SETS], place: usize) -> Option<Dsd
     ensures { result ≡ first_set_with place sets.now }
 {
     let mut first = None;
-    for slot in sets {
-        first = earlier(first, set_with(slot, place));
+    for row in sets {
+        first = earlier(first, set_with(row, place));
     }
     first
 }

@@ -21,34 +21,34 @@ use rbac_closure::hierarchy::RoleHierarchy;
 use rbac_closure::sets::RoleSet;
 
 /// The first free place of a table.
-pub fn free<X, const N: usize>(slots: &[Option<X>; N]) -> Option<usize>
-    ensures { result ≡ position is_none slots.now }
+pub fn free<X, const N: usize>(rows: &[Option<X>; N]) -> Option<usize>
+    ensures { result ≡ position is_none rows.now }
 {
-    slots.iter().position(|slot| slot.is_none())
+    rows.iter().position(|row| row.is_none())
 }
 
 /// Puts the value into the first free place of a table, if there is one.
-pub fn put<X: Copy, const N: usize>(slots: &mut [Option<X>; N], value: X)
-    ensures { slots.new ≡ put_free value slots.old }
+pub fn put<X: Copy, const N: usize>(rows: &mut [Option<X>; N], value: X)
+    ensures { rows.new ≡ put_free value rows.old }
 {
-    if let Some(place) = free(slots) {
-        slots[place] = Some(value);
+    if let Some(place) = free(rows) {
+        rows[place] = Some(value);
     }
 }
 
-fn user_is(slot: &Option<User>, name: &Name) -> bool
-    ensures { result ≡ user_is name.now slot.now }
+fn user_is(row: &Option<User>, name: &Name) -> bool
+    ensures { result ≡ user_is name.now row.now }
 {
-    match slot {
+    match row {
         Some(user) => user.name == *name,
         None => false,
     }
 }
 
-fn role_is(slot: &Option<Name>, name: &Name) -> bool
-    ensures { result ≡ role_is name.now slot.now }
+fn role_is(row: &Option<Name>, name: &Name) -> bool
+    ensures { result ≡ role_is name.now row.now }
 {
-    match slot {
+    match row {
         Some(role) => role == name,
         None => false,
     }
@@ -58,7 +58,7 @@ fn role_is(slot: &Option<Name>, name: &Name) -> bool
 pub fn has_user(users: &[Option<User>; USERS], name: &Name) -> bool
     ensures { result ≡ list_any (user_is name.now) users.now }
 {
-    users.iter().any(|slot| user_is(slot, name))
+    users.iter().any(|row| user_is(row, name))
 }
 
 /// The place of the role.
@@ -66,19 +66,19 @@ pub fn place_of(roles: &[Option<Name>; ROLES], name: &Name) -> Option<usize>
     ensures place { result ≡ place_of name.now roles.now }
     ensures below { IfSome result (λ p. p < ROLES) }
 {
-    roles.iter().position(|slot| role_is(slot, name))
+    roles.iter().position(|row| role_is(row, name))
 }
 
-fn user_assigned(slot: &Option<User>, name: &Name, place: usize) -> Option<User>
+fn user_assigned(row: &Option<User>, name: &Name, place: usize) -> Option<User>
     requires { place < ROLES }
-    ensures { result ≡ user_assigned name.now place slot.now }
+    ensures { result ≡ user_assigned name.now place row.now }
 {
-    match slot {
+    match row {
         Some(user) if user.name == *name => Some(User {
             name: user.name,
             roles: user.roles.with(place),
         }),
-        _ => *slot,
+        _ => *row,
     }
 }
 
@@ -92,16 +92,16 @@ pub fn assign_role(users: &mut [Option<User>; USERS], name: &Name, place: usize)
     }
 }
 
-fn user_deassigned(slot: &Option<User>, name: &Name, place: usize) -> Option<User>
+fn user_deassigned(row: &Option<User>, name: &Name, place: usize) -> Option<User>
     requires { place < ROLES }
-    ensures { result ≡ user_deassigned name.now place slot.now }
+    ensures { result ≡ user_deassigned name.now place row.now }
 {
-    match slot {
+    match row {
         Some(user) if user.name == *name => Some(User {
             name: user.name,
             roles: user.roles.without(place),
         }),
-        _ => *slot,
+        _ => *row,
     }
 }
 
@@ -115,11 +115,11 @@ pub fn deassign_role(users: &mut [Option<User>; USERS], name: &Name, place: usiz
     }
 }
 
-fn user_cleared(slot: &Option<User>, place: usize) -> Option<User>
+fn user_cleared(row: &Option<User>, place: usize) -> Option<User>
     requires { place < ROLES }
-    ensures { result ≡ user_cleared place slot.now }
+    ensures { result ≡ user_cleared place row.now }
 {
-    match slot {
+    match row {
         Some(user) => Some(User {
             name: user.name,
             roles: user.roles.without(place),
@@ -138,12 +138,12 @@ pub fn deassign_role_from_all(users: &mut [Option<User>; USERS], place: usize)
     }
 }
 
-fn user_without(slot: &Option<User>, name: &Name) -> Option<User>
-    ensures { result ≡ user_without name.now slot.now }
+fn user_without(row: &Option<User>, name: &Name) -> Option<User>
+    ensures { result ≡ user_without name.now row.now }
 {
-    match slot {
+    match row {
         Some(user) if user.name == *name => None,
-        _ => *slot,
+        _ => *row,
     }
 }
 
@@ -160,8 +160,8 @@ pub fn remove_user(users: &mut [Option<User>; USERS], name: &Name)
 pub fn roles_of(users: &[Option<User>; USERS], name: &Name) -> RoleSet
     ensures { result ≡ roles_of name.now users.now }
 {
-    for slot in users {
-        if let Some(user) = slot {
+    for row in users {
+        if let Some(user) = row {
             if user.name == *name {
                 return user.roles;
             }
@@ -170,10 +170,10 @@ pub fn roles_of(users: &[Option<User>; USERS], name: &Name) -> RoleSet
     RoleSet::empty()
 }
 
-fn grant_is(slot: &Option<Grant>, operation: &Operation, object: &Object) -> bool
-    ensures { result ≡ grant_is operation.now object.now slot.now }
+fn grant_is(row: &Option<Grant>, operation: &Operation, object: &Object) -> bool
+    ensures { result ≡ grant_is operation.now object.now row.now }
 {
-    match slot {
+    match row {
         Some(grant) => grant.operation == *operation && grant.object == *object,
         None => false,
     }
@@ -183,25 +183,25 @@ fn grant_is(slot: &Option<Grant>, operation: &Operation, object: &Object) -> boo
 pub fn has_grant(grants: &[Option<Grant>; GRANTS], operation: &Operation, object: &Object) -> bool
     ensures { result ≡ list_any (grant_is operation.now object.now) grants.now }
 {
-    grants.iter().any(|slot| grant_is(slot, operation, object))
+    grants.iter().any(|row| grant_is(row, operation, object))
 }
 
 fn grant_given(
-    slot: &Option<Grant>,
+    row: &Option<Grant>,
     operation: &Operation,
     object: &Object,
     place: usize,
 ) -> Option<Grant>
     requires { place < ROLES }
-    ensures { result ≡ grant_given operation.now object.now place slot.now }
+    ensures { result ≡ grant_given operation.now object.now place row.now }
 {
-    match slot {
+    match row {
         Some(grant) if grant.operation == *operation && grant.object == *object => Some(Grant {
             operation: grant.operation,
             object: grant.object,
             roles: grant.roles.with(place),
         }),
-        _ => *slot,
+        _ => *row,
     }
 }
 
@@ -257,19 +257,19 @@ fn grant_with(grant: &Grant, roles: RoleSet) -> Option<Grant>
 }
 
 fn grant_revoked(
-    slot: &Option<Grant>,
+    row: &Option<Grant>,
     operation: &Operation,
     object: &Object,
     place: usize,
 ) -> Option<Grant>
     requires { place < ROLES }
-    ensures { result ≡ grant_revoked operation.now object.now place slot.now }
+    ensures { result ≡ grant_revoked operation.now object.now place row.now }
 {
-    match slot {
+    match row {
         Some(grant) if grant.operation == *operation && grant.object == *object => {
             grant_with(grant, grant.roles.without(place))
         }
-        _ => *slot,
+        _ => *row,
     }
 }
 
@@ -288,11 +288,11 @@ pub fn take_grant(
     }
 }
 
-fn grant_cleared(slot: &Option<Grant>, place: usize) -> Option<Grant>
+fn grant_cleared(row: &Option<Grant>, place: usize) -> Option<Grant>
     requires { place < ROLES }
-    ensures { result ≡ grant_cleared place slot.now }
+    ensures { result ≡ grant_cleared place row.now }
 {
-    match slot {
+    match row {
         Some(grant) => grant_with(grant, grant.roles.without(place)),
         None => None,
     }
@@ -316,8 +316,8 @@ pub fn grant_of(
 ) -> Option<Grant>
     ensures { result ≡ grant_of operation.now object.now grants.now }
 {
-    for slot in grants {
-        if let Some(grant) = slot {
+    for row in grants {
+        if let Some(grant) = row {
             if grant.operation == *operation && grant.object == *object {
                 return Some(*grant);
             }
@@ -340,13 +340,13 @@ fn has_only_authorized(
 }
 
 fn session_kept(
-    slot: &Option<Session>,
+    row: &Option<Session>,
     users: &[Option<User>; USERS],
     juniors: &RoleHierarchy,
 ) -> Option<Session>
-    ensures { result ≡ session_kept users.now juniors.now slot.now }
+    ensures { result ≡ session_kept users.now juniors.now row.now }
 {
-    match slot {
+    match row {
         Some(session) if has_only_authorized(session, users, juniors) => Some(*session),
         _ => None,
     }
@@ -365,12 +365,12 @@ pub fn end_unauthorized(
     }
 }
 
-fn session_without(slot: &Option<Session>, number: SessionId) -> Option<Session>
-    ensures { result ≡ session_without number slot.now }
+fn session_without(row: &Option<Session>, number: SessionId) -> Option<Session>
+    ensures { result ≡ session_without number row.now }
 {
-    match slot {
+    match row {
         Some(session) if session.number == number => None,
-        _ => *slot,
+        _ => *row,
     }
 }
 
@@ -383,12 +383,12 @@ pub fn end_session(sessions: &mut [Option<Session>; SESSIONS], number: SessionId
     }
 }
 
-fn session_of_other(slot: &Option<Session>, user: &Name) -> Option<Session>
-    ensures { result ≡ session_of_other user.now slot.now }
+fn session_of_other(row: &Option<Session>, user: &Name) -> Option<Session>
+    ensures { result ≡ session_of_other user.now row.now }
 {
-    match slot {
+    match row {
         Some(session) if session.user == *user => None,
-        _ => *slot,
+        _ => *row,
     }
 }
 
@@ -401,17 +401,17 @@ pub fn end_sessions_of(sessions: &mut [Option<Session>; SESSIONS], user: &Name)
     }
 }
 
-fn session_activated(slot: &Option<Session>, number: SessionId, place: usize) -> Option<Session>
+fn session_activated(row: &Option<Session>, number: SessionId, place: usize) -> Option<Session>
     requires { place < ROLES }
-    ensures { result ≡ session_activated number place slot.now }
+    ensures { result ≡ session_activated number place row.now }
 {
-    match slot {
+    match row {
         Some(session) if session.number == number => Some(Session {
             number: session.number,
             user: session.user,
             active: session.active.with(place),
         }),
-        _ => *slot,
+        _ => *row,
     }
 }
 
@@ -425,17 +425,17 @@ pub fn activate(sessions: &mut [Option<Session>; SESSIONS], number: SessionId, p
     }
 }
 
-fn session_dropped(slot: &Option<Session>, number: SessionId, place: usize) -> Option<Session>
+fn session_dropped(row: &Option<Session>, number: SessionId, place: usize) -> Option<Session>
     requires { place < ROLES }
-    ensures { result ≡ session_dropped number place slot.now }
+    ensures { result ≡ session_dropped number place row.now }
 {
-    match slot {
+    match row {
         Some(session) if session.number == number => Some(Session {
             number: session.number,
             user: session.user,
             active: session.active.without(place),
         }),
-        _ => *slot,
+        _ => *row,
     }
 }
 
@@ -449,12 +449,12 @@ pub fn deactivate(sessions: &mut [Option<Session>; SESSIONS], number: SessionId,
     }
 }
 
-fn set_without(slot: &Option<DsdSet>, name: &Name) -> Option<DsdSet>
-    ensures { result ≡ set_without name.now slot.now }
+fn set_without(row: &Option<DsdSet>, name: &Name) -> Option<DsdSet>
+    ensures { result ≡ set_without name.now row.now }
 {
-    match slot {
+    match row {
         Some(set) if set.name == *name => None,
-        _ => *slot,
+        _ => *row,
     }
 }
 
@@ -471,8 +471,8 @@ pub fn remove_set(sets: &mut [Option<DsdSet>; SETS], name: &Name)
 pub fn session_of(sessions: &[Option<Session>; SESSIONS], number: SessionId) -> Option<Session>
     ensures { result ≡ session_of number sessions.now }
 {
-    for slot in sessions {
-        if let Some(session) = slot {
+    for row in sessions {
+        if let Some(session) = row {
             if session.number == number {
                 return Some(*session);
             }

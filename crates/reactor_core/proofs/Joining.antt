@@ -36,19 +36,19 @@ stays_where p name e after h =
 
 -- the pending inputs with the signal of an accepted offer
 pub joins : (m : Module) (pending : ℕ) (name : List ℕ) (before after : PendingInputs) (mask : ℕ)
-    → before ≡ pending_inputs m pending → mask ≡ after.mask
-    → KeepsExclusions after.interface after.relations after.mask → OfferAnswer before name (Ok (record {})) after
+    → before ≡ pending_inputs m pending → mask ≡ after.inputs
+    → KeepsExclusions after.interface after.relations after.inputs → OfferAnswer before name (Ok (record {})) after
     → JoinsAs m pending name mask
 joins m pending name before after mask is read kept h =
     let answer : OfferAnswer (pending_inputs m pending) name (Ok (record {})) after =
     subst (λ (p : PendingInputs). OfferAnswer p name (Ok (record {})) after) is h in
     let adds = adds_where (pending_inputs m pending) name after answer in
-    let its : mask ≡ _ = read ∙ ap (λ (p : PendingInputs). p.mask) adds.added in
+    let its : mask ≡ _ = read ∙ ap (λ (p : PendingInputs). p.inputs) adds.added in
     let same : after ≡ pending_inputs m mask = adds.added ∙ ap (λ (n : ℕ). pending_inputs m n) (sym its) in
     record {
       answer = subst (λ (p : PendingInputs). OfferAnswer (pending_inputs m pending) name (Ok (record {})) p) same
           answer;
-      kept = subst (λ (p : PendingInputs). KeepsExclusions p.interface p.relations p.mask) same kept;
+      kept = subst (λ (p : PendingInputs). KeepsExclusions p.interface p.relations p.inputs) same kept;
     }
 
 -- why the name of a refused offer may not join them
@@ -66,7 +66,7 @@ refuses m pending name before after e is h =
     }
 
 -- an instant may take pending inputs that are ready
-lawful_where : (p : PendingInputs) → ReadyAnswer p (Ok (record {})) → AreLawful p.relations (bits p.mask)
+lawful_where : (p : PendingInputs) → ReadyAnswer p (Ok (record {})) → AreLawful p.relations (bits p.inputs)
 lawful_where p (inl refused) = absurd (no_fault (record {}) refused.refusal refused.answered)
 lawful_where p (inr passes) = passes.next.1
 

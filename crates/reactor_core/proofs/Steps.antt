@@ -174,7 +174,7 @@ module _ {journal : List SlotEntry} {m : Module} {state : State} {pending : ℕ}
       let e : SlotEntry = entry stamp (Offer name) in
       let before : ℕ = mask_of m.kernel.interface (offers_of journal) in
       let adds = adds_where (pending_inputs m pending) name (pending_inputs m after) h.answer in
-      let mask : after ≡ with_place pending adds.place = ap (λ (p : PendingInputs). p.mask) adds.added in
+      let mask : after ≡ with_place pending adds.place = ap (λ (p : PendingInputs). p.inputs) adds.added in
       record {
         load = i.load;
         last = after_snoc load_after None journal e ∙ i.last;

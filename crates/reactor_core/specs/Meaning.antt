@@ -148,7 +148,7 @@ pub record Running : Type 0 where
 
 -- the inputs of what runs that are offered and not yet taken by a step
 abbrev pub pending_of : Running → PendingInputs
-pending_of r = record { interface = r.interface; relations = r.relations; mask = r.pending }
+pending_of r = record { interface = r.interface; relations = r.relations; inputs = r.pending }
 
 -- this is what runs after these entries: the module of the last load, with what was offered and the instants since
 -- then. There is one such at most

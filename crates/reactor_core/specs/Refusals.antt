@@ -1,8 +1,7 @@
--- The refusals of a module: what each tells (this project's own table).
+-- The refusals of a module: what each tells (this project's own table). Those of its pending inputs have their own.
 use Rattle.std.specs.Prelude.{ℕ, List, [], ◌∷◌, codes}
 use Rattle.refusal_rules.specs.Rows.{Row, tells, Number, Text}
-use Rattle.est_relations.specs.declared.refusal.PendingRefusal.TheVariants.{UnknownSignal, NotInput, AlreadyOffered}
-use Rattle.est_relations.specs.declared.refusal.PendingRefusal.TheVariants.{Excluded, Implied}
+use Rattle.est_relations.specs.Refusals.{row_of as pending_row}
 use Rattle.reactor_core.specs.declared.refusal.Limit.{Limit}
 use Rattle.reactor_core.specs.declared.refusal.Limit.TheVariants.{Nesting, Signals, Relations, Statements, Loops, Traps}
 use Rattle.reactor_core.specs.declared.refusal.Limit.TheVariants.{Locals}
@@ -24,13 +23,7 @@ limit_text Locals = codes "locals"
 
 -- the number, the name and the fields of a refusal
 abbrev pub row_of : ModuleRefusal → Row
-row_of (Pending (Excluded relation signal)) =
-    tells 40 (codes "Excluded") ((codes "relation", Number relation) ∷ (codes "signal", Text signal) ∷ [])
-row_of (Pending (Implied relation missing)) =
-    tells 41 (codes "Implied") ((codes "missing", Text missing) ∷ (codes "relation", Number relation) ∷ [])
-row_of (Pending UnknownSignal) = tells 63 (codes "UnknownSignal") []
-row_of (Pending NotInput) = tells 64 (codes "NotInput") []
-row_of (Pending AlreadyOffered) = tells 65 (codes "AlreadyOffered") []
+row_of (Pending given) = pending_row given
 row_of NoInstant = tells 66 (codes "NoInstant") []
 row_of (Lexical place) =
     tells 70 (codes "Lexical") ((codes "column", Number place.column) ∷ (codes "line", Number place.line) ∷ [])

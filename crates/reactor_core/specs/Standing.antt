@@ -24,7 +24,7 @@ given_by m = record { interface = m.kernel.interface; relations = m.relations; t
 
 -- pending inputs of a module
 abbrev pub pending_inputs : Module → (mask : ℕ) → PendingInputs
-pending_inputs m mask = record { interface = m.kernel.interface; relations = m.relations; mask = mask }
+pending_inputs m inputs = record { interface = m.kernel.interface; relations = m.relations; inputs = inputs }
 
 -- pending inputs of a module are inputs, and they keep each exclusion
 abbrev pub AreKept : Module → (mask : ℕ) → Type 0

@@ -119,11 +119,7 @@ impl ModuleRefusal {
         ensures name { result.1.now ≡ name_of self.now }
     {
         match self {
-            ModuleRefusal::Pending(PendingRefusal::Excluded { .. }) => (40, "Excluded"),
-            ModuleRefusal::Pending(PendingRefusal::Implied { .. }) => (41, "Implied"),
-            ModuleRefusal::Pending(PendingRefusal::UnknownSignal) => (63, "UnknownSignal"),
-            ModuleRefusal::Pending(PendingRefusal::NotInput) => (64, "NotInput"),
-            ModuleRefusal::Pending(PendingRefusal::AlreadyOffered) => (65, "AlreadyOffered"),
+            ModuleRefusal::Pending(refusal) => refusal.label(),
             ModuleRefusal::NoInstant => (66, "NoInstant"),
             ModuleRefusal::Lexical(_) => (70, "Lexical"),
             ModuleRefusal::Syntax(_) => (71, "Syntax"),

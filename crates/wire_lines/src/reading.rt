@@ -2,7 +2,7 @@
 //!
 //! A line is read token by token where its keys stand in order. Of any other line the JSON value is
 //! read as a tree, and written anew with its keys in order; that text is then read in the same way.
-ghost use Rattle.std.specs.Prelude.{◌≡◌, IfOk, IfSome, List, ℕ};
+ghost use Rattle.std.specs.Prelude.{◌≡◌, List, ℕ};
 ghost use Rattle.wire_lines.specs.Requests.{IsReadAs, IsRequest, Fits, members_of};
 ghost use Rattle.wire_lines.specs.Inner.Ordering.{IsOrdered};
 ghost use Rattle.wire_lines.specs.declared.request.Request.{Request};
@@ -13,7 +13,7 @@ use access_core::refusal::Refusal;
 use json::Scratch;
 use serde_json::Value;
 use serde_json::error::Category;
-use std::alloc::{AllocError, Global};
+use std::alloc::Global;
 
 /// The JSON value of a line, written with the keys of each object in order; or NotJson or Memory.
 fn in_order(alloc: Global, line: &[u8]) -> Result<String, Refusal>
@@ -42,20 +42,6 @@ fn request_of_value(alloc: Global, scratch: &mut Scratch, line: &[u8]) -> Result
     }
 }
 
-/// The request of a line whose keys stand in order; none of any other line.
-fn request_of_tokens(
-    alloc: Global,
-    scratch: &mut Scratch,
-    line: &[u8],
-) -> Result<Option<Request>, AllocError>
-    ensures { IfOk result (λ request. IfSome request (IsRequest line.now)) }
-{
-    match std::str::from_utf8(line) {
-        Ok(text) => request_at(alloc, scratch, text),
-        Err(_) => Ok(None),
-    }
-}
-
 /// The reader of a connection's lines. The memory that it took for one line serves the next.
 #[derive(Drop)]
 pub struct RequestReader {
@@ -74,7 +60,10 @@ impl RequestReader {
     pub fn read(&mut self, alloc: Global, line: &[u8]) -> Result<Request, Refusal>
         ensures { IsReadAs line.now result }
     {
-        match request_of_tokens(alloc, &mut self.scratch, line) {
+        let Ok(text) = std::str::from_utf8(line) else {
+            return request_of_value(alloc, &mut self.scratch, line);
+        };
+        match request_at(alloc, &mut self.scratch, text) {
             Ok(Some(request)) => Ok(request),
             Ok(None) => request_of_value(alloc, &mut self.scratch, line),
             Err(_) => Err(Refusal::Memory),

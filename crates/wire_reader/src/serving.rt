@@ -24,7 +24,7 @@ use std::borrow::CowSlice;
 use std::io::{Read, Write};
 
 /// The text of an answer: a constant, which takes no memory, or bytes that were made for it.
-pub type Text = CowSlice<'static, u8, Global>;
+pub type AnswerText = CowSlice<'static, u8, Global>;
 
 /// What answers the lines of a connection; for each it is lent a desk to ask.
 pub trait Answerer<D> {
@@ -40,7 +40,7 @@ pub trait Answerer<D> {
     /// # Errors
     ///
     /// Where memory was refused for the text of the answer.
-    fn answer(&mut self, alloc: Global, desk: &mut D, line: &[u8]) -> Result<Text, AllocError>
+    fn answer(&mut self, alloc: Global, desk: &mut D, line: &[u8]) -> Result<AnswerText, AllocError>
         ensures { MatchResult result
             (λ text. tells (self.old, desk.old) line.now (cow_slice_items text)
             (self.new, desk.new))

@@ -8,9 +8,10 @@ ghost use Rattle.reactor_core.specs.Instants.{SettleAnswer, CommitAnswer};
 
 use crate::entry::Stamp;
 use crate::reactor::Reactor;
-use crate::reactor::parts::{Parts, react};
+use crate::reactor::parts::Parts;
 use crate::refusal::ReactorRefusal;
-use est_kernel::state::{Outcome, Stuck};
+use est_kernel::state::{Inputs, Outcome, Stuck};
+use est_rounds::engine::Engine;
 use std::marker::Model;
 
 /// An instant that was opened: its inputs are those that are pending. A contract sees the journal
@@ -71,12 +72,13 @@ impl Instant {
         let Instant { reactor } = self;
         let Reactor { parts } = reactor;
         let mut parts = parts;
-        match react(
-            &mut parts.engine,
-            &parts.loaded,
-            &parts.state,
-            parts.pending,
-        ) {
+        let inputs = Inputs {
+            signals: parts.pending,
+        };
+        match parts
+            .engine
+            .react(&parts.loaded.kernel, &parts.state, &inputs)
+        {
             Ok(outcome) => Ok(Settled { parts, outcome }),
             Err(stuck) => Err((stuck, Reactor { parts })),
         }

@@ -2,11 +2,9 @@
 ghost use Rattle.std.specs.Prelude.{◌≡◌, ◌++◌, ◌∷◌, [], MatchResult};
 ghost use Rattle.est_kernel.specs.Bits.{bits};
 ghost use Rattle.est_kernel.specs.Term.{Term};
-ghost use Rattle.est_meaning.specs.States.{IsState};
 ghost use Rattle.est_relations.specs.Keeping.{AreLawful};
-ghost use Rattle.est_rounds.specs.Contract.{AreInputs, HasNoReaction};
 ghost use Rattle.reactor_core.specs.Meaning.{entry};
-ghost use Rattle.reactor_core.specs.Standing.{AreRunning, HaveOutcome, IsNext, AreKept, JoinsAs};
+ghost use Rattle.reactor_core.specs.Standing.{AreRunning, HaveOutcome, AreKept, JoinsAs};
 ghost use Rattle.reactor_core.specs.Standing.{RefusesJoining, RefusesInstant};
 ghost use Rattle.reactor_core.specs.Instants.{AddsInstant};
 ghost use Rattle.reactor_core.specs.Answers.{HasRoom, RefusesEntry};
@@ -15,10 +13,9 @@ use crate::entry::{Move, PastInstant, SlotEntry, Stamp};
 use crate::journal::Journal;
 use crate::loaded::Module;
 use crate::refusal::ReactorRefusal;
-use est_kernel::state::{Inputs, Outcome, State, Stuck};
+use est_kernel::state::{Outcome, State};
 use est_micro::micro::Micro;
 use est_relations::pending::Pending;
-use est_rounds::engine::Engine;
 use est_text::identifier::Identifier;
 
 /// What a reactor is made of: a journal, the module of its last load with its engine, and how far
@@ -57,25 +54,6 @@ pub fn check_relations(loaded: &Module, pending: u64) -> Result<(), ReactorRefus
     let pending = Pending::resume(loaded.kernel.interface(), &loaded.relations, pending);
     pending.ready()?;
     Ok(())
-}
-
-/// The reaction of a module in this state to the pending inputs, by this engine.
-pub fn react<E: Engine>(
-    engine: &mut E,
-    loaded: &Module,
-    state: &State,
-    pending: u64,
-) -> Result<Outcome, Stuck>
-    requires state { IsState loaded.now.kernel.root state.now }
-    requires inputs { AreInputs loaded.now.kernel (record { signals = pending }) }
-    requires engine { E.is_for engine.old loaded.now.kernel }
-    ensures engine { E.is_for engine.new loaded.now.kernel }
-    ensures answer { MatchResult result
-        (λ o. IsNext loaded.now state.now pending o.outputs o.next)
-        (HasNoReaction loaded.now.kernel state.now (record { signals = pending })) }
-{
-    let inputs = Inputs { signals: pending };
-    engine.react(&loaded.kernel, state, &inputs)
 }
 
 /// Adds a step's entry and its instant, or refuses it as JournalFull or Memory and leaves both as

@@ -11,7 +11,7 @@ use wire_reader::exchange::write_then_read_line;
 use wire_reader::lines::{LINE_BYTES, Line, LineFault, LineReader};
 use wire_reader::meter::{MeteredMemory, MeteredReader, MeteredWriter, READS};
 use wire_reader::replies::{Replies, WriteFault};
-use wire_reader::serving::{Answerer, EndReason, Text, answer_connection};
+use wire_reader::serving::{AnswerText, Answerer, EndReason, answer_connection};
 
 /// Gives `x` and LF by turns, one byte at a time, without end.
 #[derive(Drop)]
@@ -207,7 +207,12 @@ impl Answerer<()> for Echo {
 
     ghost fails = { λ _ _ _. ⊤ };
 
-    fn answer(&mut self, alloc: Global, _desk: &mut (), line: &[u8]) -> Result<Text, AllocError> {
+    fn answer(
+        &mut self,
+        alloc: Global,
+        _desk: &mut (),
+        line: &[u8],
+    ) -> Result<AnswerText, AllocError> {
         let mut text = Vec::from_slice(alloc, line)?;
         text.extend_from_slice(b".\n")?;
         Ok(CowSlice::Owned(text))

@@ -27,8 +27,8 @@ returns-in-Err-clause-err g c =
     let known : e.stamp.version ≤ length entries = omega (arith, c.if-next-entries.false) in
     let right : HasRightVersion entries (take at journal) e =
     record { rises = omega (arith, c.loop-at.invariant.last, c.if-next-version.false); known = known } in
-    let stands : StandsFor c.take_in.new.policy (take e.stamp.version entries) =
-    subst (λ (p : Policy). StandsFor p (take e.stamp.version entries)) (sym c.take_in.ensures)
+    let stands : StandsFor c.absorb_up_to.new.policy (take e.stamp.version entries) =
+    subst (λ (p : Policy). StandsFor p (take e.stamp.version entries)) (sym c.absorb_up_to.ensures)
     (front_stands entries c.requires.list e.stamp.version) in
     let long : length (take e.stamp.version entries) ≡ e.stamp.version = length-take-le e.stamp.version entries known in
     let why : IsFaultOf (take e.stamp.version entries) number (take at journal) e fault =
@@ -53,8 +53,8 @@ loop-at-preserved g c =
     let known : e.stamp.version ≤ length entries = omega (arith, c.if-next-entries.false) in
     let right : HasRightVersion entries (take at journal) e =
     record { rises = omega (arith, c.loop-at.invariant.last, c.if-next-version.false); known = known } in
-    let stands : StandsFor c.take_in.new.policy (take e.stamp.version entries) =
-    subst (λ (p : Policy). StandsFor p (take e.stamp.version entries)) (sym c.take_in.ensures)
+    let stands : StandsFor c.absorb_up_to.new.policy (take e.stamp.version entries) =
+    subst (λ (p : Policy). StandsFor p (take e.stamp.version entries)) (sym c.absorb_up_to.ensures)
     (front_stands entries c.requires.list e.stamp.version) in
     let long : length (take e.stamp.version entries) ≡ e.stamp.version = length-take-le e.stamp.version entries known in
     let step = c.in_default.ensures.step (take e.stamp.version entries) stands long in
@@ -63,7 +63,7 @@ loop-at-preserved g c =
     (subst (λ (k : ℕ). Adds (take e.stamp.version entries) k c.loop-at.slot.journal e e) c.loop-at.invariant.number
     step.0) in
     record {
-      policy = c.take_in.ensures;
+      policy = c.absorb_up_to.ensures;
       known = known;
       last = sym (next_version journal at e there);
       number = c.in_default.ensures.number ∙ c.loop-at.invariant.number;

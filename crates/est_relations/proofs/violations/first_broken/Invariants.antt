@@ -6,5 +6,5 @@ use Rattle.est_relations.specs.Offers.{with_place}
 use Rattle.est_relations.proofs.violations.first_broken.Given as goal
 
 abbrev pub invariant-loop-index : goal.invariant-loop-index
-invariant-loop-index l = list_all (keeps_exclusion (bits (with_place l.pending l.signal.index)))
+invariant-loop-index l = list_all (keeps_exclusion (bits (with_place l.inputs l.signal.index)))
     (take l.index l.relations) ≡ true

@@ -5,4 +5,4 @@ use Rattle.est_relations.specs.Keeping.{keeps}
 use Rattle.est_relations.proofs.violations.first_lacking.Given as goal
 
 abbrev pub invariant-loop-index : goal.invariant-loop-index
-invariant-loop-index l = list_all (keeps (bits l.pending)) (take l.index l.relations) ≡ true
+invariant-loop-index l = list_all (keeps (bits l.inputs)) (take l.index l.relations) ≡ true

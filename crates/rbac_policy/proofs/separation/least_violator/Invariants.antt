@@ -3,7 +3,7 @@ use Rattle.std.specs.Prelude.{None}
 use Rattle.rbac_policy.specs.Violations.{lesser, violator}
 use Rattle.rbac_policy.proofs.separation.least_violator.Given as goal
 
-abbrev pub invariant-loop-slot : goal.invariant-loop-slot
-invariant-loop-slot l =
-    fold (λ least slot. lesser (λ n. n) least (violator l.juniors l.set slot)) l.least (drop l.slot-index l.sessions)
-    ≡ fold (λ least slot. lesser (λ n. n) least (violator l.juniors l.set slot)) None l.sessions
+abbrev pub invariant-loop-row : goal.invariant-loop-row
+invariant-loop-row l =
+    fold (λ least row. lesser (λ n. n) least (violator l.juniors l.set row)) l.least (drop l.row-index l.sessions)
+    ≡ fold (λ least row. lesser (λ n. n) least (violator l.juniors l.set row)) None l.sessions

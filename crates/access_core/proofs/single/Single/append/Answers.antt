@@ -30,7 +30,7 @@ invariant_of-self c =
     let fits : Fits entries e = step_fits policy entries c.self.invariant.0 e.session e.command e
     (omega (arith, few)) step in
     let after = stands_after policy entries c.args.entry c.self.invariant.0 fits in
-    elim c.match-take_in.branch [
+    elim c.match-append_and_absorb.branch [
       | in-Ok w ↦ (
         rw (w.in-Ok.ensures.0, w.in-Ok.ensures.1) after,
         c.self.invariant.1,
@@ -61,9 +61,10 @@ returns c =
     (omega (arith, few)) step in
     let after = stands_after policy entries c.args.entry c.self.invariant.0 fits in
     let desk : List Entry → DeskState = λ list. record { entries = list; slots = slots } in
-    rw (← c.self.view_is) (pass room (elim c.match-take_in.branch [
+    rw (← c.self.view_is) (pass room (elim c.match-append_and_absorb.branch [
       | in-Ok w ↦
-          let stands : StandsFor c.take_in.new.policy (entries ++ c.args.entry ∷ []) = rw w.in-Ok.ensures.1 after in
+          let stands : StandsFor c.append_and_absorb.new.policy (entries ++ c.args.entry ∷ []) =
+          rw w.in-Ok.ensures.1 after in
           pass (record {}) (record {
             replied = w.result-is ∙ w.answer_accepted.ensures entries c.args.entry stands c.change_of-change.ensures;
             appended = ap desk w.in-Ok.ensures.0;

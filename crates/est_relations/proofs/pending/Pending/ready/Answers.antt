@@ -13,7 +13,7 @@ returns-in-Some c =
     (not_ready (record {
       interface = c.self.inside.interface.now;
       relations = c.self.inside.relations.now;
-      mask = c.self.inside.inputs;
+      inputs = c.self.inside.inputs;
     })
     c.in-Some.lacking.relation c.in-Some.lacking.signal.index c.get.result
     (rw c.as_slice.ensures.all at c.in-Some.ensures) c.get.ensures)
@@ -24,6 +24,6 @@ returns-in-None c =
     (all_hold (record {
       interface = c.self.inside.interface.now;
       relations = c.self.inside.relations.now;
-      mask = c.self.inside.inputs;
+      inputs = c.self.inside.inputs;
     })
     (rw c.as_slice.ensures.all at c.in-None.ensures))

@@ -11,7 +11,7 @@ returns-in_err-ready c =
     let m = c.args.loaded.now in
     let is : c.resume-pending.result ≡ pending_inputs m c.args.pending = c.resume-pending.ensures
     ∙ ap (λ (i : List Declaration). let p : PendingInputs =
-    record { interface = i; relations = m.relations; mask = c.args.pending } in p) c.interface.ensures in
+    record { interface = i; relations = m.relations; inputs = c.args.pending } in p) c.interface.ensures in
     let p = err_from_is_err_and c.from_residual.result c.from_residual.ensures.1 in
     rw (p.1, p.2) (lacks m c.args.pending c.resume-pending.result c.in_err-ready.field-0.0 is c.in_err-ready.ensures)
 
@@ -20,5 +20,5 @@ returns c =
     let m = c.args.loaded.now in
     let is : c.resume-pending.result ≡ pending_inputs m c.args.pending = c.resume-pending.ensures
     ∙ ap (λ (i : List Declaration). let p : PendingInputs =
-    record { interface = i; relations = m.relations; mask = c.args.pending } in p) c.interface.ensures in
+    record { interface = i; relations = m.relations; inputs = c.args.pending } in p) c.interface.ensures in
     takes m c.args.pending c.resume-pending.result is c.in_ok-ready.ensures

@@ -11,7 +11,7 @@ returns-in_err-offer c =
     let m = c.args.loaded.now in
     let is : c.resume-pending.result ≡ pending_inputs m c.args.pending = c.resume-pending.ensures
     ∙ ap (λ (i : List Declaration). let p : PendingInputs =
-    record { interface = i; relations = m.relations; mask = c.args.pending } in p) c.interface.ensures in
+    record { interface = i; relations = m.relations; inputs = c.args.pending } in p) c.interface.ensures in
     let p = err_from_is_err_and c.from_residual.result c.from_residual.ensures.1 in
     rw (p.1, p.2)
     (refuses m c.args.pending c.args.name.now c.resume-pending.result c.offer.new.self
@@ -22,6 +22,6 @@ returns c =
     let m = c.args.loaded.now in
     let is : c.resume-pending.result ≡ pending_inputs m c.args.pending = c.resume-pending.ensures
     ∙ ap (λ (i : List Declaration). let p : PendingInputs =
-    record { interface = i; relations = m.relations; mask = c.args.pending } in p) c.interface.ensures in
+    record { interface = i; relations = m.relations; inputs = c.args.pending } in p) c.interface.ensures in
     joins m c.args.pending c.args.name.now c.resume-pending.result c.offer.new.self c.inputs.result is
     c.inputs.ensures.inputs c.inputs.ensures.kept c.in_ok-offer.ensures

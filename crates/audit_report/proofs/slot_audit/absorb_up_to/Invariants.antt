@@ -1,6 +1,6 @@
 use Rattle.std.proofs.Common.{◌≡◌, take}
 use Rattle.rbac_policy.specs.Change.{policy_of}
-use Rattle.audit_report.proofs.slot_audit.take_in.Given as goal
+use Rattle.audit_report.proofs.slot_audit.absorb_up_to.Given as goal
 
 -- the entries so far are taken in
 abbrev pub invariant-loop-at : goal.invariant-loop-at

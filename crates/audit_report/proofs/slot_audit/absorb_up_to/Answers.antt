@@ -3,7 +3,7 @@ use Rattle.rbac_policy.specs.declared.commands.Entry.{Entry}
 use Rattle.rbac_policy.specs.declared.policy.Policy.{Policy}
 use Rattle.rbac_policy.specs.Change.{absorbed}
 use Rattle.rbac_policy.proofs.Growing.{policy_of_more}
-use Rattle.audit_report.proofs.slot_audit.take_in.Goals as goal
+use Rattle.audit_report.proofs.slot_audit.absorb_up_to.Goals as goal
 
 pub loop-at-preserved : goal.loop-at-preserved
 loop-at-preserved c =
