@@ -24,8 +24,8 @@ use std::sync::Wait;
 use std::thread::Threads;
 
 /// Lends workers a value of type T. By itself the prover doesn't find that threads may share a
-/// board, or a table of sixteen slots. So `Service` and `run_over` are generic over what lends it,
-/// with the bound `Sync`, which is proved once: where `run_workers` calls `run_over`
+/// board, or a table of sixteen slots. So `ConnectionServer` and `run_over` are generic over what
+/// lends it, with the bound `Sync`, which is proved once: where `run_workers` calls `run_over`
 /// (`boards_are_shared` and proofs/Sharing).
 trait Lends<T> {
     /// The value.
@@ -45,7 +45,7 @@ impl<B: BoardName> Lends<SlotTable<B>> for SlotTable<B> {
 }
 
 /// What workers share: the board, the table, and where connections come from.
-struct Service<'a, B: BoardName, L, T, S, G> {
+struct ConnectionServer<'a, B: BoardName, L, T, S, G> {
     alloc: Global,
     board: &'a L,
     table: &'a T,
@@ -55,7 +55,7 @@ struct Service<'a, B: BoardName, L, T, S, G> {
 }
 
 impl<'a, B: BoardName + Send, L: Lends<Board<B>>, T: Lends<SlotTable<B>>, S: Source, G: Gate> Work
-    for Service<'a, B, L, T, S, G> {
+    for ConnectionServer<'a, B, L, T, S, G> {
     type Seat = Seat<B>;
 
     ghost turn = { λ worker number before after. ServesNext S.Reader.remaining S.Writer.contents
@@ -106,7 +106,7 @@ fn run_over<
     G: Gate + Sync,
 >(
     rt: &R,
-    service: &Service<'_, B, L, T, S, G>,
+    server: &ConnectionServer<'_, B, L, T, S, G>,
     seats: Vec<Seat<B>>,
     connections: u64,
 ) -> Result<ReturnedSeats<Seat<B>>, AllocError>
@@ -114,7 +114,7 @@ fn run_over<
         ServesNext S.Reader.remaining S.Writer.contents S.gave S.took worker number before after)
         connections back.all_taken seats.items back.seats.items) }
 {
-    run_each(rt, service.alloc, service, seats, connections)
+    run_each(rt, server.alloc, server, seats, connections)
 }
 
 /// Serves the connections of a source over this board and table, by a thread for each seat. All
@@ -148,7 +148,7 @@ pub fn run_workers<
         connections back.all_taken seats.items back.seats.items)
         (λ refusal. refusal ≡ Memory) }
 {
-    let service = Service {
+    let server = ConnectionServer {
         alloc,
         board,
         table,
@@ -158,15 +158,15 @@ pub fn run_workers<
     };
     boards_are_shared::<B>();
     may_cross::<SlotReader<B>>();
-    let back = run_over(rt, &service, seats, connections);
-    let Service {
+    let back = run_over(rt, &server, seats, connections);
+    let ConnectionServer {
         alloc: _,
         board: _,
         table: _,
         source: _,
         gate: _,
         of: _,
-    } = service;
+    } = server;
     match back {
         Ok(back) => Ok(back),
         Err(_) => Err(Refusal::Memory),

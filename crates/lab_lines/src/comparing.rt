@@ -42,7 +42,7 @@ pub fn are_same(one: &Interface, other: &Interface) -> bool
 }
 
 /// What a comparison is answered, with the numbers of reactions and of pairs of states.
-fn comparison_told(
+fn comparison_json(
     alloc: Global,
     interface: &Interface,
     comparison: &Comparison,
@@ -96,6 +96,6 @@ pub fn compare_modules<E: PartEngine, F: PartEngine>(
     let states = found.nodes.len();
     let both = subject.reactive;
     let interface = both.first.kernel.interface();
-    let told = comparison_told(alloc, interface, &comparison, reactions, states)?;
+    let told = comparison_json(alloc, interface, &comparison, reactions, states)?;
     Ok(told)
 }

@@ -66,7 +66,7 @@ fn verdicts_on<E: PartEngine>(
 }
 
 /// What is found of a module.
-fn exploration_told(
+fn exploration_json(
     alloc: Global,
     reactions: usize,
     states: usize,
@@ -110,6 +110,6 @@ pub fn judge_module<E: PartEngine>(
     let verdicts = verdicts_on(alloc, &watching, &found, tests, limits)?;
     let reactions = found.rows.len();
     let states = found.nodes.len();
-    let told = exploration_told(alloc, reactions, states, stuck, verdicts)?;
+    let told = exploration_json(alloc, reactions, states, stuck, verdicts)?;
     Ok(told)
 }

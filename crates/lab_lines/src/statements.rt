@@ -134,7 +134,7 @@ fn add_statement(
 }
 
 /// The statements of a kernel.
-pub fn kernel_told(alloc: Global, kernel: &Kernel) -> Result<Value, AllocError>
+pub fn kernel_json(alloc: Global, kernel: &Kernel) -> Result<Value, AllocError>
     ensures { IfOk result (λ v. IsKernelTold kernel.now (view v)) }
 {
     let mut statements = Vec::new(alloc);

@@ -121,7 +121,7 @@ fn rows_json(
 }
 
 /// The table, of its rows and states.
-fn table_told(alloc: Global, rows: Value, states: Vec<Value>) -> Result<Value, AllocError>
+fn whole_table_json(alloc: Global, rows: Value, states: Vec<Value>) -> Result<Value, AllocError>
     ensures { IfOk result (λ v. view v ≡ object (member (codes "ok") (string (codes "table"))
         (member (codes "rows") (view rows)
         (member (codes "states") (array (items_of (map view states.items))) no_members)))) }
@@ -130,7 +130,7 @@ fn table_told(alloc: Global, rows: Value, states: Vec<Value>) -> Result<Value, A
 }
 
 /// That there are too many states or reactions.
-fn too_large_told(alloc: Global, reactions: usize, states: usize) -> Result<Value, AllocError>
+fn too_large_json(alloc: Global, reactions: usize, states: usize) -> Result<Value, AllocError>
     ensures { IfOk result (λ v. view v ≡ object (member (codes "code") (number (unsigned 83))
         (member (codes "fault") (string (codes "TooMany"))
         (member (codes "reactions") (number (unsigned reactions))
@@ -159,11 +159,11 @@ pub fn find_table<E: PartEngine>(
     if !is_closed(&found) {
         let reactions = found.rows.len();
         let states = found.nodes.len();
-        let told = too_large_told(alloc, reactions, states)?;
+        let told = too_large_json(alloc, reactions, states)?;
         return Ok(told);
     }
     let states = states_json(alloc, found.nodes.as_slice())?;
     let rows = rows_json(alloc, interface, found.rows.as_slice())?;
-    let told = table_told(alloc, rows, states)?;
+    let told = whole_table_json(alloc, rows, states)?;
     Ok(told)
 }

@@ -80,10 +80,10 @@ pub fn state_json(alloc: Global, state: &State) -> Result<Value, AllocError>
 /// # Errors
 ///
 /// `AllocError` where memory is refused.
-pub fn kernel_told(alloc: Global, kernel: &Kernel) -> Result<Value, AllocError>
+pub fn kernel_json(alloc: Global, kernel: &Kernel) -> Result<Value, AllocError>
     ensures { IfOk result (λ v. IsKernelTold kernel.now (view v)) }
 {
-    statements::kernel_told(alloc, kernel)
+    statements::kernel_json(alloc, kernel)
 }
 
 /// Whether two modules do the same.

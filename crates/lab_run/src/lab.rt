@@ -32,7 +32,7 @@ use lab_lines::found_json::names_json;
 use lab_lines::offers::signals_of_names;
 use lab_lines::refusal::{CLAIM_CODE, INTERFACE_CODE};
 use lab_lines::request::{Request, SearchBounds};
-use lab_lines::statements::kernel_told;
+use lab_lines::statements::kernel_json;
 use lab_lines::table_json::find_table;
 use reactor_core::loaded::Module;
 use reactor_core::reading::read_module;
@@ -60,19 +60,19 @@ pub struct Lab {
 }
 
 /// The engine of a module.
-fn engine_of(alloc: Global, loaded: &Module) -> Result<Micro, AllocError>
-    ensures { IfOk result (λ m. IsNetOf m.net loaded.now.kernel) }
+fn engine_of(alloc: Global, module: &Module) -> Result<Micro, AllocError>
+    ensures { IfOk result (λ m. IsNetOf m.net module.now.kernel) }
 {
-    let net = Net::build(alloc, &loaded.kernel)?;
+    let net = Net::build(alloc, &module.kernel)?;
     Ok(Micro::new(net))
 }
 
 /// A module as a search sees it.
-fn one_module(loaded: &Module) -> OneModule<'_, Micro>
-    ensures { result.kernel.now ≡ loaded.now.kernel }
+fn one_module(module: &Module) -> OneModule<'_, Micro>
+    ensures { result.kernel.now ≡ module.now.kernel }
 {
     OneModule {
-        kernel: &loaded.kernel,
+        kernel: &module.kernel,
         engine: PhantomData,
     }
 }
@@ -90,7 +90,7 @@ pub fn limits(most: u64) -> Limits
 }
 
 /// The line of a refusal, as a value.
-fn refusal_told(alloc: Global, refusal: Refusal) -> Result<Value, AllocError>
+fn refusal_json(alloc: Global, refusal: Refusal) -> Result<Value, AllocError>
     ensures { IfOk result (λ v. IsValue (line_of (reply.Refused refusal)) (view v)) }
 {
     let line = reply_line(alloc, &Reply::Refused(refusal))?;
@@ -101,30 +101,30 @@ fn refusal_told(alloc: Global, refusal: Refusal) -> Result<Value, AllocError>
 }
 
 /// That a claim can't be read.
-fn bad_claim_told(alloc: Global, bad: BadClaim) -> Result<Value, AllocError>
+fn bad_claim_json(alloc: Global, bad: BadClaim) -> Result<Value, AllocError>
     ensures { IfOk result (λ v. IsBadClaimTold bad (view v)) }
 {
     let number = bad.number;
-    let why = refusal_told(alloc, Refusal::from(bad.why))?;
+    let why = refusal_json(alloc, Refusal::from(bad.why))?;
     json!(in alloc; {"claim": number, "code": CLAIM_CODE, "fault": "Claim", "why": why})
 }
 
 /// The verdicts on tests of a module that is offered these inputs alone.
 fn judge_tests(
     alloc: Global,
-    loaded: &Module,
+    module: &Module,
     among: u64,
     tests: &[AskedTest],
     limits: Limits,
 ) -> Result<Value, AllocError>
-    ensures { IfOk result (λ v. IsExploration (module_of loaded.now.kernel loaded.now.relations
+    ensures { IfOk result (λ v. IsExploration (module_of module.now.kernel module.now.relations
         among) (map test_of tests.now) limits.states limits.steps (view v)) }
 {
-    let mut engine = engine_of(alloc, loaded)?;
-    let reactive = one_module(loaded);
+    let mut engine = engine_of(alloc, module)?;
+    let reactive = one_module(module);
     let subject = AllLawful {
         reactive: &reactive,
-        relations: &loaded.relations,
+        relations: &module.relations,
         among,
         watched: 0,
     };
@@ -134,34 +134,34 @@ fn judge_tests(
 /// Judges claims of a module that is offered these inputs alone.
 pub fn explore_among(
     alloc: Global,
-    loaded: &Module,
+    module: &Module,
     claims: &[&str],
     among: u64,
     limits: Limits,
 ) -> Result<Value, AllocError>
-    ensures { IfOk result (λ v. TellsAmong loaded.now (map (λ t. t.now) claims.now) among
+    ensures { IfOk result (λ v. TellsAmong module.now (map (λ t. t.now) claims.now) among
         limits.states limits.steps (view v)) }
 {
-    match read_claims(alloc, loaded.kernel.interface(), claims)? {
-        Ok(tests) => judge_tests(alloc, loaded, among, tests.as_slice(), limits),
-        Err(bad) => bad_claim_told(alloc, bad),
+    match read_claims(alloc, module.kernel.interface(), claims)? {
+        Ok(tests) => judge_tests(alloc, module, among, tests.as_slice(), limits),
+        Err(bad) => bad_claim_json(alloc, bad),
     }
 }
 
 /// Judges claims of a module.
 fn explore_claims(
     alloc: Global,
-    loaded: &Module,
+    module: &Module,
     claims: &[&str],
     scope: &SearchBounds<'_>,
 ) -> Result<LabReply, AllocError>
-    ensures { IfOk result (TellsOfClaims loaded.now (map (λ t. t.now) claims.now) scope.now) }
+    ensures { IfOk result (TellsOfClaims module.now (map (λ t. t.now) claims.now) scope.now) }
 {
-    let among = match signals_of_names(loaded.kernel.interface(), scope.inputs.as_slice()) {
+    let among = match signals_of_names(module.kernel.interface(), scope.inputs.as_slice()) {
         Ok(among) => among,
-        Err(fault) => return Ok(LabReply::Refused(refusal_of(fault))),
+        Err(refused) => return Ok(LabReply::Refused(refusal_of(refused))),
     };
-    let value = explore_among(alloc, loaded, claims, among, limits(scope.most))?;
+    let value = explore_among(alloc, module, claims, among, limits(scope.most))?;
     Ok(LabReply::Json(value))
 }
 
@@ -195,9 +195,9 @@ fn compare_both(
 }
 
 /// That the module of a text has another interface.
-fn other_interface(alloc: Global, loaded: &Module, other: &Module) -> Result<Value, AllocError>
-    requires { other.now.kernel.interface ≢ loaded.now.kernel.interface }
-    ensures { IfOk result (λ v. IsOtherInterface loaded.now other.now (view v)) }
+fn other_interface(alloc: Global, module: &Module, other: &Module) -> Result<Value, AllocError>
+    requires { other.now.kernel.interface ≢ module.now.kernel.interface }
+    ensures { IfOk result (λ v. IsOtherInterface module.now other.now (view v)) }
 {
     json!(in alloc; {"code": INTERFACE_CODE, "fault": "Interface"})
 }
@@ -205,60 +205,60 @@ fn other_interface(alloc: Global, loaded: &Module, other: &Module) -> Result<Val
 /// Compares a module with another, which are offered these inputs alone.
 fn compare_modules_of(
     alloc: Global,
-    loaded: &Module,
+    module: &Module,
     other: &Module,
     among: u64,
     limits: Limits,
 ) -> Result<Value, AllocError>
-    ensures { IfOk result (λ v. TellsOfTwo loaded.now other.now among limits.states limits.steps
+    ensures { IfOk result (λ v. TellsOfTwo module.now other.now among limits.states limits.steps
         (view v)) }
 {
-    if are_same(other.kernel.interface(), loaded.kernel.interface()) {
-        compare_both(alloc, loaded, other, among, limits)
+    if are_same(other.kernel.interface(), module.kernel.interface()) {
+        compare_both(alloc, module, other, among, limits)
     } else {
-        other_interface(alloc, loaded, other)
+        other_interface(alloc, module, other)
     }
 }
 
 /// Compares a module with that of a text.
 fn compare_text(
     alloc: Global,
-    loaded: &Module,
+    module: &Module,
     main: &str,
     text: &str,
     scope: &SearchBounds<'_>,
 ) -> Result<LabReply, AllocError>
-    ensures { IfOk result (TellsOfBoth loaded.now main.now text.now scope.now) }
+    ensures { IfOk result (TellsOfBoth module.now main.now text.now scope.now) }
 {
-    let among = match signals_of_names(loaded.kernel.interface(), scope.inputs.as_slice()) {
+    let among = match signals_of_names(module.kernel.interface(), scope.inputs.as_slice()) {
         Ok(among) => among,
-        Err(fault) => return Ok(LabReply::Refused(refusal_of(fault))),
+        Err(refused) => return Ok(LabReply::Refused(refusal_of(refused))),
     };
     let other = match read_module(alloc, main, text) {
         Ok(other) => other,
         Err(refusal) => return Ok(LabReply::Refused(Refusal::from(refusal))),
     };
-    let value = compare_modules_of(alloc, loaded, &other, among, limits(scope.most))?;
+    let value = compare_modules_of(alloc, module, &other, among, limits(scope.most))?;
     Ok(LabReply::Json(value))
 }
 
 /// The table of a module that is offered these inputs alone.
 fn table_among(
     alloc: Global,
-    loaded: &Module,
+    module: &Module,
     among: u64,
     limits: Limits,
 ) -> Result<Value, AllocError>
     ensures { IfOk result (λ v.
-        IsTableTold (module_of loaded.now.kernel loaded.now.relations among) (view v)
-        ⊎ IsTooLarge (module_of loaded.now.kernel loaded.now.relations among) limits.states
+        IsTableTold (module_of module.now.kernel module.now.relations among) (view v)
+        ⊎ IsTooLarge (module_of module.now.kernel module.now.relations among) limits.states
         limits.steps (view v)) }
 {
-    let mut engine = engine_of(alloc, loaded)?;
-    let reactive = one_module(loaded);
+    let mut engine = engine_of(alloc, module)?;
+    let reactive = one_module(module);
     let subject = AllLawful {
         reactive: &reactive,
-        relations: &loaded.relations,
+        relations: &module.relations,
         among,
         watched: 0,
     };
@@ -268,34 +268,34 @@ fn table_among(
 /// The table of a module.
 fn table_of(
     alloc: Global,
-    loaded: &Module,
+    module: &Module,
     scope: &SearchBounds<'_>,
 ) -> Result<LabReply, AllocError>
-    ensures { IfOk result (TellsOfTable loaded.now scope.now) }
+    ensures { IfOk result (TellsOfTable module.now scope.now) }
 {
-    let among = match signals_of_names(loaded.kernel.interface(), scope.inputs.as_slice()) {
+    let among = match signals_of_names(module.kernel.interface(), scope.inputs.as_slice()) {
         Ok(among) => among,
-        Err(fault) => return Ok(LabReply::Refused(refusal_of(fault))),
+        Err(refused) => return Ok(LabReply::Refused(refusal_of(refused))),
     };
-    let value = table_among(alloc, loaded, among, limits(scope.most))?;
+    let value = table_among(alloc, module, among, limits(scope.most))?;
     Ok(LabReply::Json(value))
 }
 
 /// What is told of a module that was loaded.
-fn loaded_told(alloc: Global, loaded: &Module) -> Result<Value, AllocError>
-    ensures { IfOk result (λ v. IsLoadedTold loaded.now (view v)) }
+fn module_json(alloc: Global, module: &Module) -> Result<Value, AllocError>
+    ensures { IfOk result (λ v. IsLoadedTold module.now (view v)) }
 {
-    let interface = loaded.kernel.interface();
+    let interface = module.kernel.interface();
     let inputs = names_json(alloc, interface, interface.offerable())?;
     let outputs = names_json(alloc, interface, interface.emittable())?;
     json!(in alloc; {"inputs": inputs, "ok": "load", "outputs": outputs})
 }
 
 /// The statements of a module.
-fn kernel_of(alloc: Global, loaded: &Module) -> Result<LabReply, AllocError>
-    ensures { IfOk result (TellsOfKernel loaded.now) }
+fn kernel_of(alloc: Global, module: &Module) -> Result<LabReply, AllocError>
+    ensures { IfOk result (TellsOfKernel module.now) }
 {
-    Ok(LabReply::Json(kernel_told(alloc, &loaded.kernel)?))
+    Ok(LabReply::Json(kernel_json(alloc, &module.kernel)?))
 }
 
 impl Lab {
@@ -312,12 +312,12 @@ impl Lab {
             self.new.loaded) }
         ensures kept { IfErr result (λ _. self.new ≡ self.old) }
     {
-        let loaded = match read_module(alloc, main, text) {
-            Ok(loaded) => loaded,
+        let module = match read_module(alloc, main, text) {
+            Ok(module) => module,
             Err(refusal) => return Ok(LabReply::Refused(Refusal::from(refusal))),
         };
-        let value = loaded_told(alloc, &loaded)?;
-        self.loaded = Some(Walk::begin(alloc, loaded)?);
+        let value = module_json(alloc, &module)?;
+        self.loaded = Some(Walk::begin(alloc, module)?);
         Ok(LabReply::Json(value))
     }
 

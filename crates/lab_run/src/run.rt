@@ -90,16 +90,16 @@ fn offered_of(interface: &Interface, names: &[&str]) -> Result<u64, PendingRefus
 fn prove_module(
     alloc: Global,
     proof: &ProveOrder<'_>,
-    loaded: &Module,
+    module: &Module,
 ) -> Result<LabReply, AllocError>
-    ensures { IfOk result (TellsOfModule loaded.now proof.now) }
+    ensures { IfOk result (TellsOfModule module.now proof.now) }
 {
-    let among = match offered_of(loaded.kernel.interface(), proof.inputs.as_slice()) {
+    let among = match offered_of(module.kernel.interface(), proof.inputs.as_slice()) {
         Ok(among) => among,
-        Err(fault) => return Ok(LabReply::Refused(refusal_of(fault))),
+        Err(refused) => return Ok(LabReply::Refused(refusal_of(refused))),
     };
     let claims = texts_of(alloc, proof.claims.as_slice())?;
-    let value = explore_among(alloc, loaded, claims.as_slice(), among, limits(proof.most))?;
+    let value = explore_among(alloc, module, claims.as_slice(), among, limits(proof.most))?;
     Ok(LabReply::Json(value))
 }
 
@@ -108,8 +108,8 @@ fn prove_text(alloc: Global, proof: &ProveOrder<'_>, text: &str) -> Result<LabRe
     ensures { IfOk result (TellsOfText proof.now text.now) }
 {
     match read_module(alloc, proof.main, text) {
-        Ok(loaded) => {
-            let told = prove_module(alloc, proof, &loaded)?;
+        Ok(module) => {
+            let told = prove_module(alloc, proof, &module)?;
             Ok(told)
         }
         Err(refusal) => Ok(LabReply::Refused(Refusal::from(refusal))),

@@ -50,10 +50,10 @@ impl Model for Walk {
 }
 
 /// Why inputs may not be offered.
-pub fn refusal_of(fault: PendingRefusal) -> Refusal
-    ensures { result ≡ refusal.Module (of_module.Pending fault) }
+pub fn refusal_of(refused: PendingRefusal) -> Refusal
+    ensures { result ≡ refusal.Module (of_module.Pending refused) }
 {
-    Refusal::Module(ModuleRefusal::Pending(fault))
+    Refusal::Module(ModuleRefusal::Pending(refused))
 }
 
 /// The name at a place.
@@ -77,7 +77,8 @@ fn offer_name(pending: &mut Pending<'_>, name: &str) -> Result<(), PendingRefusa
 /// The inputs of these names, where an instant of the module may take them.
 fn inputs_of(walked: &Module, names: &[&str]) -> Result<u64, PendingRefusal>
     ensures { MatchResult result (MayTake walked.now (map (λ t. t.now) names.now))
-        (λ fault. AreOffered (pending_of walked.now 0) (map (λ t. t.now) names.now) (Err fault)) }
+        (λ refused. AreOffered (pending_of walked.now 0) (map (λ t. t.now) names.now)
+        (Err refused)) }
 {
     let mut pending = Pending::new(walked.kernel.interface(), &walked.relations);
     for place in 0..names.len() {
@@ -171,7 +172,7 @@ impl Walk {
     {
         let signals = match inputs_of(&self.walked, names) {
             Ok(signals) => signals,
-            Err(fault) => return Ok(LabReply::Refused(refusal_of(fault))),
+            Err(refused) => return Ok(LabReply::Refused(refusal_of(refused))),
         };
         let (instant, line) = self.look(alloc, signals)?;
         advance(&mut self.states, &instant)?;
@@ -186,7 +187,7 @@ impl Walk {
     {
         let signals = match inputs_of(&self.walked, names) {
             Ok(signals) => signals,
-            Err(fault) => return Ok(LabReply::Refused(refusal_of(fault))),
+            Err(refused) => return Ok(LabReply::Refused(refusal_of(refused))),
         };
         let (_, line) = self.look(alloc, signals)?;
         Ok(LabReply::Line(line))

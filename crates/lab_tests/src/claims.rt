@@ -220,7 +220,7 @@ fn limits(rt: HostRuntime) {
 }
 
 /// What is told of two kernels of one interface.
-fn comparison_told(rt: &impl Abort, alloc: Global, first: &Kernel, second: &Kernel) -> Value
+fn comparison_json(rt: &impl Abort, alloc: Global, first: &Kernel, second: &Kernel) -> Value
     requires { second.now.interface ≡ first.now.interface }
 {
     let free = Relations::new(alloc);
@@ -256,11 +256,11 @@ fn comparison_told(rt: &impl Abort, alloc: Global, first: &Kernel, second: &Kern
 fn twins(rt: HostRuntime) {
     let alloc = rt.alloc();
     let kernel = paradox(&rt, alloc);
-    let told = comparison_told(&rt, alloc, &kernel, &kernel);
+    let told = comparison_json(&rt, alloc, &kernel, &kernel);
     expect_member(&rt, alloc, &told, "verdict", "\"same\"");
     let other = late(&rt, alloc);
     assert!(rt; are_same(other.interface(), kernel.interface()));
-    let told = comparison_told(&rt, alloc, &kernel, &other);
+    let told = comparison_json(&rt, alloc, &kernel, &other);
     let wanted = "[{\"first\":{\"outputs\":[]},\"inputs\":[],\"second\":{\"outputs\":[]}},\
         {\"first\":{\"undecided\":[\"O\"]},\"inputs\":[\"A\"],\"second\":{\"outputs\":[]}}]";
     expect_member(&rt, alloc, &told, "word", wanted);

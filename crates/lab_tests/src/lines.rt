@@ -13,7 +13,7 @@ use est_relations::relations::Relations;
 use est_rounds::rounds::Rounds;
 use lab_lines::request::Request;
 use lab_lines::table_json::find_table;
-use lab_mistakes::telling::{kernel_told, request_of, signals_of_names, state_json, verdict_json};
+use lab_mistakes::telling::{kernel_json, request_of, signals_of_names, state_json, verdict_json};
 use reactor_core::reading::read_module;
 use serde_json::Value;
 use state_search::search::Limits;
@@ -168,7 +168,7 @@ fn offered_signals(rt: HostRuntime) {
 #[test]
 fn statements_of_a_kernel(rt: HostRuntime) {
     let alloc = rt.alloc();
-    let told = kernel_told(alloc, &both(&rt, alloc)).expect(&rt, "room");
+    let told = kernel_json(alloc, &both(&rt, alloc)).expect(&rt, "room");
     let wanted = "{\"inputs\":2,\"ok\":\"kernel\",\"statements\":[\
         {\"kind\":\"loop\",\"parts\":[1]},{\"kind\":\"seq\",\"parts\":[2,7]},\
         {\"kind\":\"present\",\"parts\":[3,6]},\

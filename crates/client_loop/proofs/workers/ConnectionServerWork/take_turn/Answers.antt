@@ -1,5 +1,5 @@
 use Rattle.std.proofs.Common.{rules}
-use Rattle.client_loop.proofs.workers.ServiceWork.take_turn.Goals as goal
+use Rattle.client_loop.proofs.workers.ConnectionServerWork.take_turn.Goals as goal
 
 pub returns : goal.returns
 returns g c = record {
