@@ -12,7 +12,7 @@ import re
 
 ROOT = pathlib.Path(__file__).resolve().parent.parent
 PROGRAM = "crates/program_words/src/words.rt"
-LAB = "crates/lab_run/src/order.rt"
+LAB = "crates/lab_run/src/invocation.rt"
 PROTOCOLS = [(PROGRAM, r"protocol version (\d+)"), ("docs/PROTOCOL.md", r"This is version (\d+) of the protocol")]
 
 

@@ -1,8 +1,8 @@
 //! A second engine, asked for a step that is replayed.
 //!
 //! A step is replayed on the engine of its module, which may be the microstep engine. All engines
-//! keep one promise, so they cannot differ; `check` asks the plain engine beside it, which is far
-//! smaller. The outputs are compared, and the terms that the two next states leave.
+//! keep one promise, so they cannot differ; `audit_journals` asks the plain engine beside it, which
+//! is far smaller. The outputs are compared, and the terms that the two next states leave.
 ghost use Rattle.std.specs.Prelude.{◌≡◌, IfOk, IfErr, true, false};
 ghost use Rattle.est_kernel.specs.declared.kernel.Kernel.{Kernel as KernelValue};
 ghost use Rattle.est_meaning.specs.States.{state_term};

@@ -26,7 +26,11 @@ pub(crate) struct LineAnswer {
 }
 
 /// Answers a policy command of the session that the connection holds; NoSession if it holds none.
-fn command_policy<D: Desk>(desk: &mut D, held: &Option<SessionId>, command: AdminCommand) -> Reply
+fn answer_held_command<D: Desk>(
+    desk: &mut D,
+    held: &Option<SessionId>,
+    command: AdminCommand,
+) -> Reply
     ensures { Held D.answers held.now (λ session. to_policy (Some session) command)
         desk.old result desk.new }
 {
@@ -37,7 +41,7 @@ fn command_policy<D: Desk>(desk: &mut D, held: &Option<SessionId>, command: Admi
 }
 
 /// Answers a login of this user in these roles; AlreadyLoggedIn if the connection holds a login.
-fn ask_login<D: Desk>(
+fn answer_login<D: Desk>(
     desk: &mut D,
     login: Option<Login>,
     user: Name,
@@ -61,7 +65,7 @@ fn ask_login<D: Desk>(
 }
 
 /// Answers a logout; NoSession if the connection holds no login.
-fn ask_logout<D: Desk>(desk: &mut D, login: Option<Login>) -> LineAnswer
+fn answer_logout<D: Desk>(desk: &mut D, login: Option<Login>) -> LineAnswer
     ensures asked { Asks D.answers (Policy DeleteSession) (session_of login)
         desk.old result.reply desk.new }
     ensures login { session_of result.login
@@ -81,17 +85,21 @@ fn ask_logout<D: Desk>(desk: &mut D, login: Option<Login>) -> LineAnswer
 
 /// Answers a policy command on a connection that holds this login. An accepted login or logout
 /// changes what login the connection holds; so does a logout whose session had ended.
-fn ask_policy<D: Desk>(desk: &mut D, login: Option<Login>, command: AdminCommand) -> LineAnswer
+fn answer_policy_command<D: Desk>(
+    desk: &mut D,
+    login: Option<Login>,
+    command: AdminCommand,
+) -> LineAnswer
     ensures asked { Asks D.answers (Policy command) (session_of login)
         desk.old result.reply desk.new }
     ensures login { session_of result.login
         ≡ login_after (Policy command) result.reply (session_of login) }
 {
     match command {
-        AdminCommand::CreateSession { user, roles } => ask_login(desk, login, user, roles),
-        AdminCommand::DeleteSession => ask_logout(desk, login),
+        AdminCommand::CreateSession { user, roles } => answer_login(desk, login, user, roles),
+        AdminCommand::DeleteSession => answer_logout(desk, login),
         command => {
-            let reply = command_policy(desk, &held_session(&login), command);
+            let reply = answer_held_command(desk, &held_session(&login), command);
             LineAnswer { reply, login }
         }
     }
@@ -99,14 +107,14 @@ fn ask_policy<D: Desk>(desk: &mut D, login: Option<Login>, command: AdminCommand
 
 /// Answers a request on a connection that holds this login; NoSession if it needs one and the
 /// connection holds none.
-fn ask<D: Desk>(desk: &mut D, login: Option<Login>, request: Request) -> LineAnswer
+fn answer_request<D: Desk>(desk: &mut D, login: Option<Login>, request: Request) -> LineAnswer
     ensures asked { Asks D.answers request (session_of login) desk.old result.reply desk.new }
     ensures login { session_of result.login
         ≡ login_after request result.reply (session_of login) }
 {
     let held = held_session(&login);
     let reply = match request {
-        Request::Policy(command) => return ask_policy(desk, login, command),
+        Request::Policy(command) => return answer_policy_command(desk, login, command),
         Request::Slot { slot, command } => match held {
             Some(session) => desk.slot(session, slot, command),
             None => Reply::Refused(Refusal::Policy(PolicyRefusal::NoSession)),
@@ -137,7 +145,7 @@ pub(crate) fn respond<D: Desk>(
         return LineAnswer { reply, login };
     }
     match requests.read(alloc, line) {
-        Ok(request) => ask(desk, login, request),
+        Ok(request) => answer_request(desk, login, request),
         Err(refusal) => {
             let reply = Reply::Refused(refusal);
             LineAnswer { reply, login }

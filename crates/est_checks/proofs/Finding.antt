@@ -18,7 +18,7 @@ use Rattle.est_checks.specs.FirstFaults.{IsLimitPassed, checks, limit_passed_by}
 use Rattle.est_checks.specs.Inner.Recursion.{IsOrderFault}
 use Rattle.est_checks.specs.Inner.Stages.{IsLimitFault, emission_checks, fault_of_emissions, fault_of_names}
 use Rattle.est_checks.specs.Inner.Stages.{limit_checks, name_checks, run_checks}
-use Rattle.est_checks.specs.LinkFaults.{fault_before_order, lawless_number}
+use Rattle.est_checks.specs.LinkFaults.{fault_before_order, number_over_outputs}
 use Rattle.est_checks.specs.LinkFaults.{misnamed_main}
 use Rattle.est_modules.specs.Modules.{Program, program_named, first_in_bodies}
 use Rattle.est_modules.specs.ModuleOrders.{places_run, run_rows}
@@ -90,8 +90,8 @@ emissions : (ps : List Program) (main : List ℕ) (em : List ℕ → List ℕ �
 emissions ps main em are r found e told next =
     step EmitInput (IsFirstRefused ps) (first_refused ps em)
     (record { emitted = em; emissions = are; is = refl }) _ r found e told
-    (λ e. last Semantics (λ number. lawless_number (program_named ps main) ≡ number)
-    (lawless_number (program_named ps main)) refl r found e told next)
+    (λ e. last Semantics (λ number. number_over_outputs (program_named ps main) ≡ number)
+    (number_over_outputs (program_named ps main)) refl r found e told next)
 
 -- the checks of emissions and of relations find a fault
 pub emissions_here : (ps : List Program) (main : List ℕ) (em : List ℕ → List ℕ → Bool) (fault : LinkFault)

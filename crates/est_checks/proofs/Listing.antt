@@ -6,7 +6,7 @@ use Rattle.est_syntax.specs.Tree.{RenamingTree, RelationTree, excludes, implies}
 use Rattle.est_syntax.specs.Views.{renaming_view, relation_view}
 use Rattle.est_syntax.specs.declared.tree.Renaming.{Renaming}
 use Rattle.est_syntax.specs.declared.tree.Relation.{Relation}
-use Rattle.est_checks.specs.Inner.Offers.{is_past}
+use Rattle.est_checks.specs.Inner.Offers.{is_over_outputs}
 use Rattle.est_checks.specs.LawlessRelations.{is_lawless}
 use Rattle.std.specs.Option.{option_or}
 use Rattle.est_modules.specs.declared.head.Declared.{Declared}
@@ -64,16 +64,16 @@ pub run_nowhere : (p : Program) (bs : List Binder) (rs : List Renaming)
     → None ≡ unknown_in_run p bs (map renaming_view rs) None
 run_nowhere p bs rs e = e ∙ sym (outer_found (λ s. not (is_visible p bs s)) rs)
 
-past_is : (ds : List Declared) (r : RelationTree) → is_past (is_offerable ds) r ≡ is_lawless ds r
+past_is : (ds : List Declared) (r : RelationTree) → is_over_outputs (is_offerable ds) r ≡ is_lawless ds r
 past_is ds (excludes a b ns) = refl
 past_is ds (implies a b) = refl
 
 -- the first lawless relation, along the relations of the code
 pub lawless_listed : (offered : List ℕ → Bool) (ds : List Declared) (rs : List (Bor Relation)) {ts : List RelationTree}
     → ((s : List ℕ) → offered s ≡ is_offerable ds s) → map (λ (r : Bor Relation). relation_view r.now) rs ≡ ts
-    → position (λ (r : Bor Relation). is_past offered (relation_view r.now)) rs ≡ position (is_lawless ds) ts
+    → position (λ (r : Bor Relation). is_over_outputs offered (relation_view r.now)) rs ≡ position (is_lawless ds) ts
 lawless_listed offered ds rs {ts} same e =
-    sym (position_map (is_past offered) (λ (r : Bor Relation). relation_view r.now) rs)
-    ∙ ap (position (is_past offered)) e
+    sym (position_map (is_over_outputs offered) (λ (r : Bor Relation). relation_view r.now) rs)
+    ∙ ap (position (is_over_outputs offered)) e
     ∙ ap (λ (f : RelationTree → Bool). position f ts)
-    (fun_ext (λ r. ap (λ (f : List ℕ → Bool). is_past f r) (fun_ext same) ∙ past_is ds r))
+    (fun_ext (λ r. ap (λ (f : List ℕ → Bool). is_over_outputs f r) (fun_ext same) ∙ past_is ds r))

@@ -22,7 +22,7 @@ use Rattle.est_modules.specs.Occurrences.{first_of}
 use Rattle.est_modules.specs.ModuleOrders.{run_rows}
 use Rattle.est_modules.specs.Renamings.{renamed}
 use Rattle.est_checks.specs.MissingModules.{first_missing, missing_at}
-use Rattle.est_checks.specs.LinkFaults.{lawless_number}
+use Rattle.est_checks.specs.LinkFaults.{number_over_outputs}
 use Rattle.est_checks.specs.UnknownNames.{unknown_at}
 use Rattle.est_checks.specs.RecursiveRuns.{IsFirstRecursion, RunsItself}
 use Rattle.est_checks.specs.declared.fault.Limit.{Limit}
@@ -202,7 +202,7 @@ one_first_fault ps main a b =
     (λ none. one_test BadRename (first_in_bodies (bad_renaming_at ps) ps) a b
     (λ renamed. one_test UnknownName (first_in_bodies (unknown_at ps) ps) a b
     (λ known. one_check EmitInput (IsFirstRefused ps) (one_refused ps (none_placed ps distinct none)) a b
-    (λ accepted. one_test Semantics (lawless_number (program_named ps main)) a b
+    (λ accepted. one_test Semantics (number_over_outputs (program_named ps main)) a b
     (λ lawful. one_check TooLarge (IsLimitPassed ps main)
     (one_limit ps main (none_placed ps distinct none) there) a b
     (λ within h k. h ∙ sym k)))))))))

@@ -7,7 +7,7 @@ use Rattle.est_checks.specs.BadRenamings.{bad_renaming_at}
 use Rattle.est_checks.specs.Counting.{AreCounts}
 use Rattle.est_checks.specs.Duplicates.{first_duplicate}
 use Rattle.est_checks.specs.Emissions.{AreEmissions, first_refused}
-use Rattle.est_checks.specs.LinkFaults.{lawless_number}
+use Rattle.est_checks.specs.LinkFaults.{number_over_outputs}
 use Rattle.est_checks.specs.MissingModules.{first_missing}
 use Rattle.est_checks.specs.RecursiveRuns.{IsFirstRecursion}
 use Rattle.est_checks.specs.UnknownNames.{unknown_at}
@@ -67,7 +67,7 @@ checks ps main =
     ▸ Check BadRename (λ name. first_in_bodies (bad_renaming_at ps) ps ≡ name)
     ▸ Check UnknownName (λ name. first_in_bodies (unknown_at ps) ps ≡ name)
     ▸ Check EmitInput (IsFirstRefused ps)
-    ▸ Check Semantics (λ number. lawless_number (program_named ps main) ≡ number)
+    ▸ Check Semantics (λ number. number_over_outputs (program_named ps main) ≡ number)
     ▸ Check TooLarge (IsLimitPassed ps main)
     ▸ accept
 

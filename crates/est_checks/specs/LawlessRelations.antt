@@ -17,5 +17,5 @@ is_lawless ds (implies a b) = is_past_offers ds (a ∷ b ∷ [])
 
 -- the number, from 1, of the first relation of a module with a member that is neither an input nor an
 -- inputoutput of it
-abbrev pub first_lawless : Program → Option ℕ
-first_lawless p = option_map (λ i. i + 1) (position (is_lawless p.interface) p.relations)
+abbrev pub first_over_outputs : Program → Option ℕ
+first_over_outputs p = option_map (λ i. i + 1) (position (is_lawless p.interface) p.relations)

@@ -8,7 +8,7 @@ use Rattle.est_checks.specs.MissingModules.{first_missing}
 use Rattle.est_checks.specs.BadRenamings.{bad_renaming_at}
 use Rattle.est_checks.specs.UnknownNames.{unknown_at}
 use Rattle.est_checks.specs.Emissions.{first_refused}
-use Rattle.est_checks.specs.LawlessRelations.{first_lawless}
+use Rattle.est_checks.specs.LawlessRelations.{first_over_outputs}
 use Rattle.est_checks.specs.declared.fault.LinkFault.{LinkFault}
 use Rattle.est_checks.specs.declared.fault.LinkFault.TheVariants.{DuplicateName, MisnamedMain, UnknownModule, BadRename}
 use Rattle.est_checks.specs.declared.fault.LinkFault.TheVariants.{UnknownName, EmitInput, Semantics}
@@ -26,9 +26,9 @@ fault_before_order ps main =
     (option_map UnknownModule (first_missing ps main)))
 
 -- the number of the first lawless relation of the main module
-abbrev pub lawless_number : Option Program → Option ℕ
-lawless_number None = None
-lawless_number (Some p) = first_lawless p
+abbrev pub number_over_outputs : Option Program → Option ℕ
+number_over_outputs None = None
+number_over_outputs (Some p) = first_over_outputs p
 
 -- the first of the checks that come after it: renamings, names, emissions, relations of the main module
 abbrev pub fault_after_order : List Program → List ℕ → (List ℕ → List ℕ → Bool) → Option LinkFault
@@ -36,4 +36,4 @@ fault_after_order ps main emitted =
     option_or (option_map BadRename (first_in_bodies (bad_renaming_at ps) ps))
     (option_or (option_map UnknownName (first_in_bodies (unknown_at ps) ps))
     (option_or (option_map EmitInput (first_refused ps emitted))
-    (option_map Semantics (lawless_number (program_named ps main)))))
+    (option_map Semantics (number_over_outputs (program_named ps main)))))

@@ -5,14 +5,14 @@ ghost use Rattle.est_modules.specs.NameTables.{IsTable};
 ghost use Rattle.est_checks.specs.Emissions.{emitted_of};
 ghost use Rattle.est_checks.specs.FirstFaults.{Finds};
 ghost use Rattle.est_checks.specs.Inner.Stages.{fault_of_names, fault_of_emissions};
-ghost use Rattle.est_checks.specs.LinkFaults.{lawless_number, fault_before_order};
+ghost use Rattle.est_checks.specs.LinkFaults.{number_over_outputs, fault_before_order};
 
 use crate::bad_renamings::BadRename;
 use crate::duplicates::first_duplicate;
 use crate::emission::Emissions;
 use crate::fault::LinkFault;
 use crate::input_emissions::first_refused;
-use crate::lawless_relations::first_lawless;
+use crate::lawless_relations::first_over_outputs;
 use crate::missing_modules::first_missing;
 use crate::place_check::first_in_bodies;
 use crate::unknown_names::first_unknown;
@@ -53,11 +53,12 @@ pub fn check_before_order(
 
 /// The number of the first lawless relation of the main module.
 fn main_lawless_number(alloc: Global, main: Option<&Head<'_>>) -> Result<Option<usize>, AllocError>
-    ensures { IfOk result (λ number. number ≡ lawless_number (option_map (λ h. program_of h.now)
+    ensures { IfOk result
+        (λ number. number ≡ number_over_outputs (option_map (λ h. program_of h.now)
         main.entry)) }
 {
     match main {
-        Some(home) => first_lawless(alloc, home),
+        Some(home) => first_over_outputs(alloc, home),
         None => Ok(None),
     }
 }

@@ -4,8 +4,8 @@ ghost use Rattle.std.specs.List.{list_any, position};
 ghost use Rattle.est_syntax.specs.Views.{relation_view};
 ghost use Rattle.est_modules.specs.Modules.{is_offerable, program_of};
 ghost use Rattle.est_modules.specs.NameSets.{has};
-ghost use Rattle.est_checks.specs.Inner.Offers.{is_past};
-ghost use Rattle.est_checks.specs.LawlessRelations.{first_lawless};
+ghost use Rattle.est_checks.specs.Inner.Offers.{is_over_outputs};
+ghost use Rattle.est_checks.specs.LawlessRelations.{first_over_outputs};
 
 use est_modules::head::{Declared, Head};
 use est_modules::names::set::NameSet;
@@ -28,7 +28,7 @@ fn offered_of<'a>(alloc: Global, interface: &'a [Declared]) -> Result<NameSet<'a
     Ok(names)
 }
 
-fn are_past_offers(offered: &NameSet<'_>, names: &[Identifier]) -> bool
+fn are_over_outputs(offered: &NameSet<'_>, names: &[Identifier]) -> bool
     ensures { result ≡ list_any (λ n. not (has offered.now n)) names.now }
 {
     for name in names {
@@ -40,12 +40,14 @@ fn are_past_offers(offered: &NameSet<'_>, names: &[Identifier]) -> bool
 }
 
 /// Whether a member of a relation is not among the names that may be offered.
-fn is_past(offered: &NameSet<'_>, relation: &Relation) -> bool
-    ensures { result ≡ is_past (has offered.now) (relation_view relation.now) }
+fn is_over_outputs(offered: &NameSet<'_>, relation: &Relation) -> bool
+    ensures { result ≡ is_over_outputs (has offered.now) (relation_view relation.now) }
 {
     match relation {
         Relation::Excludes(first, second, later) => {
-            !offered.contains(first) || !offered.contains(second) || are_past_offers(offered, later)
+            !offered.contains(first)
+                || !offered.contains(second)
+                || are_over_outputs(offered, later)
         }
         Relation::Implies(first, second) => !offered.contains(first) || !offered.contains(second),
     }
@@ -53,12 +55,12 @@ fn is_past(offered: &NameSet<'_>, relation: &Relation) -> bool
 
 /// The number, from 1, of the first of these relations with a member that is not among the names
 /// that may be offered.
-fn lawless_number(offered: &NameSet<'_>, relations: &[&Relation]) -> Option<usize>
+fn number_over_outputs(offered: &NameSet<'_>, relations: &[&Relation]) -> Option<usize>
     ensures { result ≡ option_map (λ i. i + 1)
-        (position (λ r. is_past (has offered.now) (relation_view r.now)) relations.now) }
+        (position (λ r. is_over_outputs (has offered.now) (relation_view r.now)) relations.now) }
 {
     for place in 0..relations.len() {
-        if is_past(offered, relations[place]) {
+        if is_over_outputs(offered, relations[place]) {
             return Some(place + 1);
         }
     }
@@ -71,10 +73,10 @@ fn lawless_number(offered: &NameSet<'_>, relations: &[&Relation]) -> Option<usiz
 /// # Errors
 ///
 /// `AllocError` where memory is refused for its relations or the names that may be offered.
-pub fn first_lawless(alloc: Global, home: &Head<'_>) -> Result<Option<usize>, AllocError>
-    ensures { IfOk result (λ number. number ≡ first_lawless (program_of home.now)) }
+pub fn first_over_outputs(alloc: Global, home: &Head<'_>) -> Result<Option<usize>, AllocError>
+    ensures { IfOk result (λ number. number ≡ first_over_outputs (program_of home.now)) }
 {
     let relations = relations_of(alloc, home.declarations)?;
     let offered = offered_of(alloc, home.interface.signals())?;
-    Ok(lawless_number(&offered, &relations))
+    Ok(number_over_outputs(&offered, &relations))
 }

@@ -36,7 +36,7 @@ fn order_of(alloc: Global, heads: &Heads<'_>) -> Result<Order, LinkFault>
 }
 
 /// The checks from that of emissions on. No module uses a name that isn't visible.
-fn check_emissions<'a>(
+fn check_from_emissions<'a>(
     alloc: Global,
     names: &'a NameTable<'_>,
     heads: &'a Heads<'_>,
@@ -59,7 +59,7 @@ fn check_emissions<'a>(
 }
 
 /// The checks from that of renamings on.
-fn check_names(
+fn check_from_names(
     alloc: Global,
     heads: &Heads<'_>,
     order: &Order,
@@ -73,18 +73,18 @@ fn check_names(
     let names = numbered(alloc, &*heads, &further)?;
     match fault_of_names(alloc, &names, &*heads)? {
         Some(fault) => Err(fault),
-        None => check_emissions(alloc, &names, &*heads, order, main),
+        None => check_from_emissions(alloc, &names, &*heads, order, main),
     }
 }
 
 /// The checks from that of recursive runs on.
-fn check_runs(alloc: Global, heads: &Heads<'_>, main: &Identifier) -> Result<Order, LinkFault>
+fn check_from_runs(alloc: Global, heads: &Heads<'_>, main: &Identifier) -> Result<Order, LinkFault>
     requires { first_duplicate (map program_of heads.now) ≡ None }
     ensures order { IfOk result (λ order. IsOrderOf (map program_of heads.now) order) }
     ensures found { Finds (IsFirstOf (run_checks (map program_of heads.now) main.now)) result }
 {
     let order = order_of(alloc, &*heads)?;
-    check_names(alloc, &*heads, &order, main)?;
+    check_from_names(alloc, &*heads, &order, main)?;
     Ok(order)
 }
 
@@ -104,6 +104,6 @@ pub fn check_library(
     ensures found { Finds (IsFirstFault (map program_of heads.now) main.now) result }
 {
     let main = check_before_order(alloc, &*heads, main)?;
-    let order = check_runs(alloc, &*heads, &main)?;
+    let order = check_from_runs(alloc, &*heads, &main)?;
     Ok((main, order))
 }

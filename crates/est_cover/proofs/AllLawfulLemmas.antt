@@ -17,7 +17,7 @@ use Rattle.est_relations.specs.declared.relations.Relation.{Relation}
 use Rattle.est_relations.proofs.Answering.{and_first}
 use Rattle.est_cover.specs.InputSets.{may_offer, InputSet, IsAsked, HasInputs, HaveAllInputs}
 use Rattle.est_cover.specs.Inner.Parts.{AreWatched, HasPart, IsCovered}
-use Rattle.est_cover.specs.declared.asked.Asked.{Asked}
+use Rattle.est_cover.specs.declared.answered.AnsweredInputs.{AnsweredInputs}
 use Rattle.state_search.specs.declared.transition_system.Step.{Step}
 
 -- what holds of each value of a call that succeeds
@@ -26,24 +26,24 @@ on_ok (Ok x) P Q f h = f x h
 on_ok (Err e) P Q f h = tt
 
 -- the signals that may be offered, as a mask
-pub may_is : (ds : List Declaration) (among offer mask : ℕ) → bits offer ≡ offerable ds
-    → ((n : ℕ) → bits mask n ≡ (bits offer n && bits among n)) → bits mask ≡ may_offer ds (bits among)
-may_is ds among offer mask e h = fun_ext (λ n. h n ∙ rw e refl)
+pub may_is : (ds : List Declaration) (allowed offer mask : ℕ) → bits offer ≡ offerable ds
+    → ((n : ℕ) → bits mask n ≡ (bits offer n && bits allowed n)) → bits mask ≡ may_offer ds (bits allowed)
+may_is ds allowed offer mask e h = fun_ext (λ n. h n ∙ rw e refl)
 
-pub watches : (ds : List Declaration) (among offer mask emit watched all : ℕ) → bits offer ≡ offerable ds
-    → ((n : ℕ) → bits mask n ≡ (bits offer n && bits among n)) → bits emit ≡ emittable ds
+pub watches : (ds : List Declaration) (allowed offer mask emit watched all : ℕ) → bits offer ≡ offerable ds
+    → ((n : ℕ) → bits mask n ≡ (bits offer n && bits allowed n)) → bits emit ≡ emittable ds
     → ((n : ℕ) → bits all n ≡ (bits emit n || bits watched n)) → AreWatched ds offer mask all
-watches ds among offer mask emit watched all e h f k = record {
+watches ds allowed offer mask emit watched all e h f k = record {
   all = e;
-  offered = λ n t. rw (← e) (and_first (bits offer n) (bits among n) (sym (h n) ∙ t));
+  offered = λ n t. rw (← e) (and_first (bits offer n) (bits allowed n) (sym (h n) ∙ t));
   emitted = λ n t u. k n ∙ or_left (bits emit n) (bits watched n) (rw f u);
 }
 
 module _ {S A : Type 0} (answers : InputSet → A → Option S → Type 0) (is_state : S → Type 0) (may also : ℕ → Bool)
     (relations : List Relation) (unasked emit watched all : ℕ)
     (k : (n : ℕ) → bits all n ≡ (bits emit n || bits watched n)) (most : ℕ) (whole : Bool)
-    (new : List (Step S (Asked A))) where
-  fewer : (s : Step S (Asked A)) → IsAsked answers may relations (bits all) s.label s.next
+    (new : List (Step S (AnsweredInputs A))) where
+  fewer : (s : Step S (AnsweredInputs A)) → IsAsked answers may relations (bits all) s.label s.next
       → IsAsked answers may relations (bits watched) s.label s.next
   fewer s h = record {
     lawful = h.lawful;

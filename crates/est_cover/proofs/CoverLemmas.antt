@@ -13,7 +13,7 @@ use Rattle.est_relations.specs.Keeping.{AreLawful}
 use Rattle.est_relations.specs.declared.relations.Relation.{Relation}
 use Rattle.est_cover.specs.InputSets.{InputSet, IsAsked, HasInputs}
 use Rattle.est_cover.specs.Inner.Parts.{HasPart, IsNarrower, IsStepOf, IsCovered}
-use Rattle.est_cover.specs.declared.asked.Asked.{Asked}
+use Rattle.est_cover.specs.declared.answered.AnsweredInputs.{AnsweredInputs}
 use Rattle.est_cover.specs.declared.part.Part.{Part}
 use Rattle.state_search.specs.declared.transition_system.Step.{Step}
 use Rattle.est_cover.proofs.PartLemmas.{has_narrower, has_wider, narrower_is}
@@ -30,7 +30,7 @@ pairs_joined P (x ∷ xs) ys a b c = AllPairs-cons P x (xs ++ ys)
 module _ {S A : Type 0} (answers : InputSet → A → Option S → Type 0) (is_state : S → Type 0) (may : ℕ → Bool)
     (relations : List Relation) (watched : ℕ → Bool) (most : ℕ) where
   -- no lawful set has the part
-  pub covers_none : (unasked inputs : ℕ) (old : List (Step S (Asked A)))
+  pub covers_none : (unasked inputs : ℕ) (old : List (Step S (AnsweredInputs A)))
       → ((set : InputSet) → HasPart unasked inputs set → AreLawful relations set → ⊥)
       → IsCovered answers is_state may relations watched unasked inputs most true old old
   covers_none unasked inputs old none = record {
@@ -44,7 +44,8 @@ module _ {S A : Type 0} (answers : InputSet → A → Option S → Type 0) (is_s
   }
 
   -- one step
-  pub covers_one : (unasked inputs : ℕ) (old new : List (Step S (Asked A))) (s : Step S (Asked A)) (whole : Bool)
+  pub covers_one : (unasked inputs : ℕ) (old new : List (Step S (AnsweredInputs A))) (s : Step S (AnsweredInputs A))
+      (whole : Bool)
       → ((n : ℕ) → bits unasked n ≡ true → bits inputs n ≡ false)
       → IsStepOf answers is_state may relations watched unasked inputs s → new ≡ old ++ s ∷ []
       → MatchBool whole (Unit {0}) (most < length new)
@@ -71,7 +72,8 @@ module _ {S A : Type 0} (answers : InputSet → A → Option S → Type 0) (is_s
 
   -- what is within the narrower part is within the part
   wider : (p : ℕ) (b : Bool) (old new : Part) → bits old.unasked p ≡ true → IsNarrower p b old new
-      → (steps : List (Step S (Asked A))) → All (λ s. HasPart new.unasked new.inputs (bits s.label.inputs)) steps
+      → (steps : List (Step S (AnsweredInputs A)))
+      → All (λ s. HasPart new.unasked new.inputs (bits s.label.inputs)) steps
       → All (λ s. HasPart old.unasked old.inputs (bits s.label.inputs)) steps
   wider p b old new here n steps all =
       All-weaker (λ s. HasPart new.unasked new.inputs (bits s.label.inputs))
@@ -79,7 +81,8 @@ module _ {S A : Type 0} (answers : InputSet → A → Option S → Type 0) (is_s
       (λ s. has_wider p b old new n here (bits s.label.inputs)) steps all
 
   -- all lawful sets that have the part agree on a signal
-  pub covers_narrower : (p : ℕ) (b : Bool) (old new : Part) (before after : List (Step S (Asked A))) (whole : Bool)
+  pub covers_narrower : (p : ℕ) (b : Bool) (old new : Part) (before after : List (Step S (AnsweredInputs A)))
+      (whole : Bool)
       → bits old.unasked p ≡ true
       → ((set : InputSet) → HasPart old.unasked old.inputs set → AreLawful relations set → set p ≡ b)
       → IsNarrower p b old new
@@ -105,7 +108,7 @@ module _ {S A : Type 0} (answers : InputSet → A → Option S → Type 0) (is_s
     at false l = l
 
   -- those without a signal, of which there are too many
-  pub covers_stops : (p : ℕ) (b : Bool) (old new : Part) (before after : List (Step S (Asked A)))
+  pub covers_stops : (p : ℕ) (b : Bool) (old new : Part) (before after : List (Step S (AnsweredInputs A)))
       → bits old.unasked p ≡ true → IsNarrower p b old new
       → IsCovered answers is_state may relations watched new.unasked new.inputs most false before after
       → IsCovered answers is_state may relations watched old.unasked old.inputs most false before after
@@ -120,14 +123,15 @@ module _ {S A : Type 0} (answers : InputSet → A → Option S → Type 0) (is_s
   }
 
   -- those without a signal, and those with it
-  pub covers_both : (p : ℕ) (old low high : Part) (before mid after : List (Step S (Asked A))) (whole : Bool)
+  pub covers_both : (p : ℕ) (old low high : Part) (before mid after : List (Step S (AnsweredInputs A))) (whole : Bool)
       → bits old.unasked p ≡ true → IsNarrower p false old low → IsNarrower p true old high
       → IsCovered answers is_state may relations watched low.unasked low.inputs most true before mid
       → IsCovered answers is_state may relations watched high.unasked high.inputs most whole mid after
       → IsCovered answers is_state may relations watched old.unasked old.inputs most whole before after
   covers_both p old low high before mid after whole here n m a b = record {
     more = a.more ++ b.more;
-    split = b.split ∙ (ap (λ (xs : List (Step S (Asked A))). xs ++ b.more) a.split ∙ append_assoc before a.more b.more);
+    split = b.split
+        ∙ (ap (λ (xs : List (Step S (AnsweredInputs A))). xs ++ b.more) a.split ∙ append_assoc before a.more b.more);
     sound = All-append (λ t. IsAsked answers may relations watched t.label t.next) a.more b.more a.sound b.sound;
     states = All-append (λ t. (y : S) → t.next ≡ Some y → is_state y) a.more b.more a.states b.states;
     within = All-append (λ s. HasPart old.unasked old.inputs (bits s.label.inputs)) a.more b.more

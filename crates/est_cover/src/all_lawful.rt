@@ -3,7 +3,7 @@ ghost use Rattle.std.specs.Prelude.{◌≡◌, ◌≢◌};
 ghost use Rattle.est_kernel.specs.Bits.{bits};
 ghost use Rattle.est_cover.specs.InputSets.{HaveAllInputs, IsAsked, may_offer};
 
-use crate::asked::Asked;
+use crate::answered::AnsweredInputs;
 use crate::cover::{InputSets, cover};
 use crate::part::Part;
 use crate::reactive::Reactive;
@@ -18,7 +18,7 @@ pub struct AllLawful<'a, R> {
     pub reactive: &'a R,
     pub relations: &'a Relations,
     /// The signals that somebody may offer.
-    pub among: u64,
+    pub allowed: u64,
     /// Those of which each answer has to say whether they are offered.
     pub watched: u64,
 }
@@ -26,7 +26,7 @@ pub struct AllLawful<'a, R> {
 impl<'a, R: Reactive> TransitionSystem for AllLawful<'a, R> {
     type State = R::State;
 
-    type Label = Asked<R::Answer>;
+    type Label = AnsweredInputs<R::Answer>;
 
     type Scratch = R::Scratch;
 
@@ -35,11 +35,12 @@ impl<'a, R: Reactive> TransitionSystem for AllLawful<'a, R> {
     ghost is_state = { λ s x. R.is_state s.reactive.now x };
 
     ghost does = { λ s x i next. IsAsked (R.answers s.reactive.now x)
-        (may_offer (R.signals s.reactive.now) (bits s.among)) s.relations.now (bits s.watched) i
+        (may_offer (R.signals s.reactive.now) (bits s.allowed)) s.relations.now (bits s.watched) i
         next };
 
     ghost covers = { λ s x steps.
-        HaveAllInputs (may_offer (R.signals s.reactive.now) (bits s.among)) s.relations.now steps };
+        HaveAllInputs (may_offer (R.signals s.reactive.now) (bits s.allowed)) s.relations.now steps
+            };
 
     ghost apart = { λ s a b. a.inputs ≢ b.inputs };
 
@@ -48,11 +49,11 @@ impl<'a, R: Reactive> TransitionSystem for AllLawful<'a, R> {
         scratch: &mut R::Scratch,
         state: &R::State,
         most: usize,
-        steps: &mut Vec<Step<R::State, Asked<R::Answer>>>,
+        steps: &mut Vec<Step<R::State, AnsweredInputs<R::Answer>>>,
     ) -> Result<bool, AllocError> {
         let interface = self.reactive.interface();
         let offerable = interface.offerable();
-        let may = mask::intersection(offerable, self.among);
+        let may = mask::intersection(offerable, self.allowed);
         let sets = InputSets {
             relations: self.relations.as_slice(),
             offerable,

@@ -5,7 +5,7 @@ ghost use Rattle.est_kernel.specs.Bits.{bits};
 ghost use Rattle.est_relations.specs.Keeping.{AreLawful};
 ghost use Rattle.est_cover.specs.Inner.Parts.{AreWatched, IsCovered, IsNext, IsPart};
 
-use crate::asked::Asked;
+use crate::answered::AnsweredInputs;
 use crate::forced::{Forced, first_forced};
 use crate::part::{Part, first_in, with, without};
 use crate::reactive::Reactive;
@@ -31,7 +31,7 @@ pub struct InputSets<'a> {
 #[derive(Clone, Copy)]
 enum Next<S, A> {
     /// This is the step of all sets of inputs that have it.
-    Step(Step<S, Asked<A>>),
+    Step(Step<S, AnsweredInputs<A>>),
     /// It is split at this signal, which was not asked.
     Split(u8),
 }
@@ -41,7 +41,7 @@ fn step_of<S: Copy + Drop, A: Copy + Drop>(
     may: u64,
     part: Part,
     step: Step<S, A>,
-) -> Step<S, Asked<A>>
+) -> Step<S, AnsweredInputs<A>>
     ensures next { result.next ≡ step.next }
     ensures answer { result.label.answer ≡ step.label }
     ensures inputs { result.label.inputs ≡ part.inputs }
@@ -49,7 +49,7 @@ fn step_of<S: Copy + Drop, A: Copy + Drop>(
         ≡ (bits may n && not (bits part.unasked n)) }
 {
     Step {
-        label: Asked {
+        label: AnsweredInputs {
             inputs: part.inputs,
             asked: mask::difference(may, part.unasked),
             answer: step.label,
@@ -97,8 +97,8 @@ fn react<R: Reactive>(
 /// Adds a step, and answers whether there are not too many.
 fn add_step<S: Copy + Drop, A: Copy + Drop>(
     most: usize,
-    step: Step<S, Asked<A>>,
-    steps: &mut Vec<Step<S, Asked<A>>>,
+    step: Step<S, AnsweredInputs<A>>,
+    steps: &mut Vec<Step<S, AnsweredInputs<A>>>,
 ) -> Result<bool, AllocError>
     ensures { IfOk result (λ whole. (steps.new.items ≡ steps.old.items ++ step ∷ [])
         × MatchBool whole (Unit {0}) (most < length steps.new.items)) }
@@ -116,7 +116,7 @@ pub fn cover<R: Reactive>(
     state: &R::State,
     most: usize,
     part: Part,
-    steps: &mut Vec<Step<R::State, Asked<R::Answer>>>,
+    steps: &mut Vec<Step<R::State, AnsweredInputs<R::Answer>>>,
 ) -> Result<bool, AllocError>
     requires fits { R.fits reactive.now scratch.old }
     requires state { R.is_state reactive.now state.now }

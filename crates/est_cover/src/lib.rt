@@ -6,7 +6,7 @@
 #![tactic(auto)]
 
 pub mod all_lawful;
-pub mod asked;
+pub mod answered;
 mod cover;
 mod forced;
 mod part;

@@ -9,12 +9,12 @@ ghost use Rattle.est_cover.specs.InputSets.{Agrees, InputSet};
 
 use est_kernel::interface::Interface;
 use est_rounds::part_engine::Unsettled;
-use state_search::transition_system::{Standing, Step};
+use state_search::transition_system::{SearchState, Step};
 
 /// What reacts to the inputs of an instant.
 pub trait Reactive {
     /// Where it stands.
-    type State: Standing;
+    type State: SearchState;
     /// What it answers.
     type Answer: Copy + Drop;
     /// What it works with.

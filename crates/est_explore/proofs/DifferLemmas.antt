@@ -14,7 +14,7 @@ use Rattle.est_explore.specs.Comparisons.{IsReachedByBoth, HasMorePairs, HasMore
 use Rattle.est_explore.specs.ExploredBoth.{DoesBoth, IsExploredBoth, both_fresh}
 use Rattle.est_explore.specs.Same.{AnswersAt, shown_first, DifferBy}
 use Rattle.est_explore.specs.Verdicts.{outputs_of}
-use Rattle.est_cover.specs.declared.asked.Asked.{Asked}
+use Rattle.est_cover.specs.declared.answered.AnsweredInputs.{AnsweredInputs}
 use Rattle.est_explore.specs.declared.one_module.Answer.{Answer}
 use Rattle.est_explore.specs.declared.one_module.Answer.TheVariants.{Reaction, Stuck}
 use Rattle.est_explore.specs.declared.one_module.Position.{Position}
@@ -31,12 +31,14 @@ use Rattle.est_explore.proofs.JudgeLemmas.{pairs_mapped}
 use Rattle.est_explore.proofs.RunLemmas.{term_of_position}
 use Rattle.est_explore.proofs.SameLemmas.{AreTwins, AgreeFor, same_for, lawful_for_second}
 
-lawful_both : (m l : Module) (watched : ℕ → Bool) (x : PositionPair) (i : Asked AnswerPair) (next : Option PositionPair)
+lawful_both : (m l : Module) (watched : ℕ → Bool) (x : PositionPair) (i : AnsweredInputs AnswerPair)
+    (next : Option PositionPair)
     → DoesBoth m l watched x i next → IsLawful m (bits i.inputs)
 lawful_both m l watched x i next d = record { offered = d.lawful.offered; kept = d.lawful.kept }
 
 -- what both answer to the inputs themselves
-own : (m l : Module) (watched : ℕ → Bool) (x : PositionPair) (i : Asked AnswerPair) (next : Option PositionPair)
+own : (m l : Module) (watched : ℕ → Bool) (x : PositionPair) (i : AnsweredInputs AnswerPair)
+    (next : Option PositionPair)
     → DoesBoth m l watched x i next → AnswersBoth m.kernel l.kernel x (bits i.inputs) i.answer next
 own m l watched x i next d = d.answer (bits i.inputs) d.lawful.offered (λ n h. refl)
 
@@ -78,7 +80,7 @@ both_step m l x z i (Reaction o) (Reaction p) (Some y) (Some w) f g j = elim (ca
   some_is k = cc
 
 -- a way is a run of both
-path_first : (m l : Module) (watched : ℕ → Bool) (x y : PositionPair) (word : List (Asked AnswerPair))
+path_first : (m l : Module) (watched : ℕ → Bool) (x y : PositionPair) (word : List (AnsweredInputs AnswerPair))
     → Path (DoesBoth m l watched) x word y
     → Runs m (term_of_position m x.first) (map shown_first word) (term_of_position m y.first)
 path_first m l watched x y [] path = ap (λ (z : PositionPair). term_of_position m z.first) path
@@ -92,7 +94,8 @@ path_first m l watched x y (i ∷ word) path =
       path_first m l watched path.0 y word path.2,
     )
 
-path_second : (m l : Module) (watched : ℕ → Bool) → AreTwins m l → (x y : PositionPair) (word : List (Asked AnswerPair))
+path_second : (m l : Module) (watched : ℕ → Bool) → AreTwins m l
+    → (x y : PositionPair) (word : List (AnsweredInputs AnswerPair))
     → Path (DoesBoth m l watched) x word y
     → Runs l (term_of_position l x.second) (map shown_first word) (term_of_position l y.second)
 path_second m l watched t x y [] path = ap (λ (z : PositionPair). term_of_position l z.second) path
@@ -114,7 +117,7 @@ answers_at m x i (Reaction o) None h = absurd h
 answers_at m x i (Stuck u) (Some y) h = absurd h
 answers_at m x i (Stuck u) None h = h.cannot
 
-module _ (m l : Module) (twins : AreTwins m l) (watched : ℕ → Bool) (f : Found PositionPair (Asked AnswerPair))
+module _ (m l : Module) (twins : AreTwins m l) (watched : ℕ → Bool) (f : Found PositionPair (AnsweredInputs AnswerPair))
     (e : IsExploredBoth m l watched f) where
   deeper : (p q : ℕ) (a b : Node PositionPair) → IsNodeAt f.nodes.items p a → IsNodeAt f.nodes.items q b → p ≤ q
       → a.depth ≤ b.depth
@@ -129,40 +132,43 @@ module _ (m l : Module) (twins : AreTwins m l) (watched : ℕ → Bool) (f : Fou
   ]
 
   -- where no row tells a difference
-  pub agree_all : ((d : Row (Asked AnswerPair)) (k : ℕ) → k < length f.rows.items
+  pub agree_all : ((d : Row (AnsweredInputs AnswerPair)) (k : ℕ) → k < length f.rows.items
       → agree (get_or f.rows.items k d).label.answer.first (get_or f.rows.items k d).label.answer.second ≡ true)
       → length f.nodes.items ≤ f.done → (d : ℕ) → AgreeFor m l twins watched f e d
   agree_all pass all d = record {
     done = λ k n i w. let v = i.within in omega arith;
-    agrees = λ row c n i w. subst (λ (r : Row (Asked AnswerPair)). agree r.label.answer.first r.label.answer.second
+    agrees =
+        λ row c n i w. subst (λ (r : Row (AnsweredInputs AnswerPair)). agree r.label.answer.first r.label.answer.second
         ≡ true)
         c.2 (pass row c.0 c.1);
   }
 
   -- before the first row that tells one
-  agree_before : (at : ℕ) (r : Row (Asked AnswerPair)) (n : Node PositionPair) → at < length f.rows.items
-      → ((d : Row (Asked AnswerPair)) (k : ℕ) → k < at
+  agree_before : (at : ℕ) (r : Row (AnsweredInputs AnswerPair)) (n : Node PositionPair) → at < length f.rows.items
+      → ((d : Row (AnsweredInputs AnswerPair)) (k : ℕ) → k < at
       → agree (get_or f.rows.items k d).label.answer.first (get_or f.rows.items k d).label.answer.second ≡ true)
       → get_or f.rows.items at r ≡ r → IsNodeAt f.nodes.items r.from n → AgreeFor m l twins watched f e n.depth
   agree_before at r n w pass is here = record {
     done = λ k o i v. elim (cases_lt k r.from) [
-      | inl lt ↦ let turn : r.from ≤ f.done = subst (λ (a : Row (Asked AnswerPair)). a.from ≤ f.done) is
+      | inl lt ↦ let turn : r.from ≤ f.done = subst (λ (a : Row (AnsweredInputs AnswerPair)). a.from ≤ f.done) is
           (e.found.turn at r w)
           in omega arith
       | inr ge ↦ absurd (let d = deeper r.from k n o here i ge in omega arith)
     ];
     agrees = λ row c o i v. elim (cases_lt c.0 at) [
-      | inl lt ↦ subst (λ (a : Row (Asked AnswerPair)). agree a.label.answer.first a.label.answer.second ≡ true) c.2
+      | inl lt ↦
+          subst (λ (a : Row (AnsweredInputs AnswerPair)). agree a.label.answer.first a.label.answer.second ≡ true) c.2
           (pass row c.0 lt)
       | inr ge ↦ absurd (let d = deeper r.from row.from n o here i (later row c.0 c.1 c.2 ge) in omega arith)
     ];
   } where
-    later : (row : Row (Asked AnswerPair)) (k : ℕ) → k < length f.rows.items → get_or f.rows.items k row ≡ row
+    later : (row : Row (AnsweredInputs AnswerPair)) (k : ℕ) → k < length f.rows.items → get_or f.rows.items k row ≡ row
         → at ≤ k →
         r.from ≤ row.from
     later row k v s g = elim (cases_lt at k) [
-      | inl lt ↦ subst (λ (a : Row (Asked AnswerPair)). a.from ≤ row.from) (get_or_default f.rows.items at row r w ∙ is)
-          (subst (λ (a : Row (Asked AnswerPair)). (get_or f.rows.items at row).from ≤ a.from) s
+      | inl lt ↦ subst (λ (a : Row (AnsweredInputs AnswerPair)). a.from ≤ row.from)
+          (get_or_default f.rows.items at row r w ∙ is)
+          (subst (λ (a : Row (AnsweredInputs AnswerPair)). (get_or f.rows.items at row).from ≤ a.from) s
           (e.found.tree.in_turn at k row lt v))
       | inr eq ↦
           let ka : k ≡ at = omega arith in
@@ -171,8 +177,9 @@ module _ (m l : Module) (twins : AreTwins m l) (watched : ℕ → Bool) (f : Fou
     ]
 
   -- they differ by the first such row
-  differ_by : (at : ℕ) (r : Row (Asked AnswerPair)) (word : List (Asked AnswerPair)) → at < length f.rows.items
-      → ((d : Row (Asked AnswerPair)) (k : ℕ) → k < at
+  differ_by : (at : ℕ) (r : Row (AnsweredInputs AnswerPair)) (word : List (AnsweredInputs AnswerPair))
+      → at < length f.rows.items
+      → ((d : Row (AnsweredInputs AnswerPair)) (k : ℕ) → k < at
       → agree (get_or f.rows.items k d).label.answer.first (get_or f.rows.items k d).label.answer.second ≡ true)
       → get_or f.rows.items at r ≡ r → agree r.label.answer.first r.label.answer.second ≡ false
       → LedTo (DoesBoth m l watched) both_fresh f.nodes.items r word
@@ -195,7 +202,7 @@ module _ (m l : Module) (twins : AreTwins m l) (watched : ℕ → Bool) (f : Fou
         (same_for m l twins watched f e led.node.depth (agree_before at r led.node w pass is led.from));
   } where
     row : IsRow (DoesBoth m l watched) f.nodes.items r
-    row = subst (λ (a : Row (Asked AnswerPair)). IsRow (DoesBoth m l watched) f.nodes.items a) is
+    row = subst (λ (a : Row (AnsweredInputs AnswerPair)). IsRow (DoesBoth m l watched) f.nodes.items a) is
         (All-get_or (IsRow (DoesBoth m l watched) f.nodes.items) f.rows.items at r w e.found.tree.sound)
 
     step : DoesBoth m l watched led.node.state r.label row.after
@@ -206,19 +213,19 @@ module _ (m l : Module) (twins : AreTwins m l) (watched : ℕ → Bool) (f : Fou
     answer = own m l watched led.node.state r.label row.after step
 
   -- some row
-  abbrev nothing : Row (Asked AnswerPair)
+  abbrev nothing : Row (AnsweredInputs AnswerPair)
   nothing = record {
     from = 0;
     label = record { inputs = 0; asked = 0; answer = record { first = Stuck 0; second = Stuck 0 } };
     next = None;
   }
 
-  pub differ_first : (at : ℕ) (word : List (Asked AnswerPair)) → at < length f.rows.items
-      → ((d : Row (Asked AnswerPair)) → agree (get_or f.rows.items at d).label.answer.first
+  pub differ_first : (at : ℕ) (word : List (AnsweredInputs AnswerPair)) → at < length f.rows.items
+      → ((d : Row (AnsweredInputs AnswerPair)) → agree (get_or f.rows.items at d).label.answer.first
       (get_or f.rows.items at d).label.answer.second ≡ false)
-      → ((d : Row (Asked AnswerPair)) (k : ℕ) → k < at
+      → ((d : Row (AnsweredInputs AnswerPair)) (k : ℕ) → k < at
       → agree (get_or f.rows.items k d).label.answer.first (get_or f.rows.items k d).label.answer.second ≡ true)
-      → ((r : Row (Asked AnswerPair)) → LedTo (DoesBoth m l watched) both_fresh
+      → ((r : Row (AnsweredInputs AnswerPair)) → LedTo (DoesBoth m l watched) both_fresh
       f.nodes.items (get_or f.rows.items at r) word)
       → DifferBy m l word
   differ_first at word w bad pass led = differ_by at (get_or f.rows.items at nothing) word w pass
@@ -229,7 +236,7 @@ module _ (m l : Module) (twins : AreTwins m l) (watched : ℕ → Bool) (f : Fou
   reached : (k : ℕ) (n : Node PositionPair) → IsNodeAt f.nodes.items k n → IsReachedByBoth m l n.state
   reached k n here =
       let way = way_to (ArePositions m.kernel l.kernel) (DoesBoth m l watched)
-      (λ (a b : Asked AnswerPair). a.inputs ≢ b.inputs)
+      (λ (a b : AnsweredInputs AnswerPair). a.inputs ≢ b.inputs)
       both_fresh
       f.nodes.items f.rows.items e.found.tree e.begins k n here in
       record {
@@ -248,14 +255,15 @@ module _ (m l : Module) (twins : AreTwins m l) (watched : ℕ → Bool) (f : Fou
         (λ k d v. reached k (get_or f.nodes.items k d) (is_there f.nodes.items k d v));
   }
 
-  trial : Row (Asked AnswerPair) → PairTrial
+  trial : Row (AnsweredInputs AnswerPair) → PairTrial
   trial r = record { positions = (get_or f.nodes.items r.from e.begins.node).state; inputs = r.label.inputs }
 
-  row_at : (k : ℕ) (d : Row (Asked AnswerPair)) → k < length f.rows.items → IsRow (DoesBoth m l watched) f.nodes.items
+  row_at : (k : ℕ) (d : Row (AnsweredInputs AnswerPair)) → k < length f.rows.items
+      → IsRow (DoesBoth m l watched) f.nodes.items
       (get_or f.rows.items k d)
   row_at k d w = All-get_or (IsRow (DoesBoth m l watched) f.nodes.items) f.rows.items k d w e.found.tree.sound
 
-  apart : (a b : Row (Asked AnswerPair)) → IsRow (DoesBoth m l watched) f.nodes.items a
+  apart : (a b : Row (AnsweredInputs AnswerPair)) → IsRow (DoesBoth m l watched) f.nodes.items a
       → IsRow (DoesBoth m l watched) f.nodes.items b → a.from ≤ b.from
       → (a.from ≡ b.from → a.label.inputs ≢ b.label.inputs) → trial a ≢ trial b
   unfolding trial

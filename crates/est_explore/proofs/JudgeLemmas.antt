@@ -16,7 +16,7 @@ use Rattle.est_explore.specs.Explored.{IsExplored, fails}
 use Rattle.est_explore.specs.Runs.{Module, IsLawful, Instant, Goes, Runs, start}
 use Rattle.est_explore.specs.Verdicts.{shown, outputs_of, FailsAt, FailsBy, IsReached, HasMoreStates, HasMoreTrials}
 use Rattle.est_explore.specs.Verdicts.{Trial}
-use Rattle.est_cover.specs.declared.asked.Asked.{Asked}
+use Rattle.est_cover.specs.declared.answered.AnsweredInputs.{AnsweredInputs}
 use Rattle.est_explore.specs.declared.claim.Claim.{Claim}
 use Rattle.est_explore.specs.declared.claim.Claim.TheVariants.{NeverStuck, Always}
 use Rattle.est_explore.specs.declared.one_module.Answer.{Answer}
@@ -32,12 +32,12 @@ use Rattle.state_search.proofs.Nodes.{is_one, is_there}
 use Rattle.est_explore.proofs.RunLemmas.{term_of_position, DoesSo, IsCleared, holds_for}
 
 -- lawful inputs, from their mask
-lawful_of : (m : Module) (watched : ℕ → Bool) (x : Position) (i : Asked Answer) (next : Option Position)
+lawful_of : (m : Module) (watched : ℕ → Bool) (x : Position) (i : AnsweredInputs Answer) (next : Option Position)
     → DoesSo m watched x i next → IsLawful m (bits i.inputs)
 lawful_of m watched x i next d = record { offered = d.lawful.offered; kept = d.lawful.kept }
 
 -- what is answered to the inputs themselves
-own : (m : Module) (watched : ℕ → Bool) (x : Position) (i : Asked Answer) (next : Option Position)
+own : (m : Module) (watched : ℕ → Bool) (x : Position) (i : AnsweredInputs Answer) (next : Option Position)
     → DoesSo m watched x i next → AnswersSo m.kernel x (bits i.inputs) i.answer next
 own m watched x i next d = d.answer (bits i.inputs) d.lawful.offered (λ n h. refl)
 
@@ -49,7 +49,7 @@ goes_of m x y inputs (Reaction o) a = a.reacts
 goes_of m x y inputs (Stuck u) a = absurd a
 
 -- a way is a run
-pub path_runs : (m : Module) (watched : ℕ → Bool) (x y : Position) (word : List (Asked Answer))
+pub path_runs : (m : Module) (watched : ℕ → Bool) (x y : Position) (word : List (AnsweredInputs Answer))
     → Path (DoesSo m watched) x word y
     → Runs m (term_of_position m x) (map shown word) (term_of_position m y)
 path_runs m watched x y [] path = ap (λ (z : Position). term_of_position m z) path
@@ -89,7 +89,8 @@ pairs_mapped P g xs x h i j d l w =
     let within : j < length xs = rw length-map at w in
     rw (get_or-map g xs i x d (omega arith), get_or-map g xs j x d within) (h i j x l within)
 
-module _ (m : Module) (watched : ℕ → Bool) (f : Found Position (Asked Answer)) (e : IsExplored m watched f) where
+module _ (m : Module) (watched : ℕ → Bool) (f : Found Position (AnsweredInputs Answer))
+    (e : IsExplored m watched f) where
   -- nodes come after those of fewer steps
   deeper : (p q : ℕ) (a b : Node Position) → IsNodeAt f.nodes.items p a → IsNodeAt f.nodes.items q b → p ≤ q
       → a.depth ≤ b.depth
@@ -104,37 +105,42 @@ module _ (m : Module) (watched : ℕ → Bool) (f : Found Position (Asked Answer
   ]
 
   -- where no row fails
-  pub cleared_all : (claim : Claim) → ((d : Row (Asked Answer)) (k : ℕ) → k < length f.rows.items
+  pub cleared_all : (claim : Claim) → ((d : Row (AnsweredInputs Answer)) (k : ℕ) → k < length f.rows.items
       → fails claim (get_or f.rows.items k d).label.inputs (get_or f.rows.items k d).label.answer ≡ false)
       → length f.nodes.items ≤ f.done → (d : ℕ) → IsCleared m watched f e claim d
   cleared_all claim pass all d = record {
     done = λ k n i l. let w = i.within in omega arith;
-    passes = λ row c n i l. subst (λ (r : Row (Asked Answer)). fails claim r.label.inputs r.label.answer ≡ false) c.2
+    passes =
+        λ row c n i l. subst (λ (r : Row (AnsweredInputs Answer)). fails claim r.label.inputs r.label.answer ≡ false)
+        c.2
         (pass row c.0 c.1);
   }
 
   -- before the first row that fails
-  pub cleared_before : (claim : Claim) (at : ℕ) (r : Row (Asked Answer)) (n : Node Position) → at < length f.rows.items
-      → ((d : Row (Asked Answer)) (k : ℕ) → k < at
+  pub cleared_before : (claim : Claim) (at : ℕ) (r : Row (AnsweredInputs Answer)) (n : Node Position)
+      → at < length f.rows.items
+      → ((d : Row (AnsweredInputs Answer)) (k : ℕ) → k < at
       → fails claim (get_or f.rows.items k d).label.inputs (get_or f.rows.items k d).label.answer ≡ false)
       → get_or f.rows.items at r ≡ r → IsNodeAt f.nodes.items r.from n → IsCleared m watched f e claim n.depth
   cleared_before claim at r n w pass is here = record {
     done = λ k o i l. elim (cases_lt k r.from) [
-      | inl lt ↦ let turn : r.from ≤ f.done = subst (λ (a : Row (Asked Answer)). a.from ≤ f.done) is
+      | inl lt ↦ let turn : r.from ≤ f.done = subst (λ (a : Row (AnsweredInputs Answer)). a.from ≤ f.done) is
           (e.found.turn at r w) in omega arith
       | inr ge ↦ absurd (let d = deeper r.from k n o here i ge in omega arith)
     ];
     passes = λ row c o i l. elim (cases_lt c.0 at) [
-      | inl lt ↦ subst (λ (a : Row (Asked Answer)). fails claim a.label.inputs a.label.answer ≡ false) c.2
+      | inl lt ↦ subst (λ (a : Row (AnsweredInputs Answer)). fails claim a.label.inputs a.label.answer ≡ false) c.2
           (pass row c.0 lt)
       | inr ge ↦ absurd (let d = deeper r.from row.from n o here i (later row c.0 c.1 c.2 ge) in omega arith)
     ];
   } where
-    later : (row : Row (Asked Answer)) (k : ℕ) → k < length f.rows.items → get_or f.rows.items k row ≡ row → at ≤ k →
+    later : (row : Row (AnsweredInputs Answer)) (k : ℕ) → k < length f.rows.items → get_or f.rows.items k row ≡ row
+        → at ≤ k →
         r.from ≤ row.from
     later row k l s g = elim (cases_lt at k) [
-      | inl lt ↦ subst (λ (a : Row (Asked Answer)). a.from ≤ row.from) (get_or_default f.rows.items at row r w ∙ is)
-          (subst (λ (a : Row (Asked Answer)). (get_or f.rows.items at row).from ≤ a.from) s
+      | inl lt ↦ subst (λ (a : Row (AnsweredInputs Answer)). a.from ≤ row.from)
+          (get_or_default f.rows.items at row r w ∙ is)
+          (subst (λ (a : Row (AnsweredInputs Answer)). (get_or f.rows.items at row).from ≤ a.from) s
           (e.found.tree.in_turn at k row lt l))
       | inr eq ↦
           let same : k ≡ at = omega arith in
@@ -143,9 +149,9 @@ module _ (m : Module) (watched : ℕ → Bool) (f : Found Position (Asked Answer
     ]
 
   -- a claim fails by the first row by which it fails
-  pub fails_by : (claim : Claim) → IsClaimToldBy claim watched → (at : ℕ) (r : Row (Asked Answer))
-      (word : List (Asked Answer)) → at < length f.rows.items
-      → ((d : Row (Asked Answer)) (k : ℕ) → k < at
+  pub fails_by : (claim : Claim) → IsClaimToldBy claim watched → (at : ℕ) (r : Row (AnsweredInputs Answer))
+      (word : List (AnsweredInputs Answer)) → at < length f.rows.items
+      → ((d : Row (AnsweredInputs Answer)) (k : ℕ) → k < at
       → fails claim (get_or f.rows.items k d).label.inputs (get_or f.rows.items k d).label.answer ≡ false)
       → get_or f.rows.items at r ≡ r → fails claim r.label.inputs r.label.answer ≡ true
       → LedTo (DoesSo m watched) (record { state = Fresh }) f.nodes.items r word → FailsBy m claim word
@@ -162,7 +168,7 @@ module _ (m : Module) (watched : ℕ → Bool) (f : Found Position (Asked Answer
         (cleared_before claim at r led.node w pass is led.from));
   } where
     row : IsRow (DoesSo m watched) f.nodes.items r
-    row = subst (λ (a : Row (Asked Answer)). IsRow (DoesSo m watched) f.nodes.items a) is
+    row = subst (λ (a : Row (AnsweredInputs Answer)). IsRow (DoesSo m watched) f.nodes.items a) is
         (All-get_or (IsRow (DoesSo m watched) f.nodes.items) f.rows.items at r w e.found.tree.sound)
 
     step : DoesSo m watched led.node.state r.label row.after
@@ -170,16 +176,16 @@ module _ (m : Module) (watched : ℕ → Bool) (f : Found Position (Asked Answer
         (is_one f.nodes.items r.from row.before led.node row.from led.from) row.step
 
   -- some row
-  abbrev nothing : Row (Asked Answer)
+  abbrev nothing : Row (AnsweredInputs Answer)
   nothing = record { from = 0; label = record { inputs = 0; asked = 0; answer = Stuck 0 }; next = None }
 
-  pub fails_first : (claim : Claim) → IsClaimToldBy claim watched → (at : ℕ) (word : List (Asked Answer))
+  pub fails_first : (claim : Claim) → IsClaimToldBy claim watched → (at : ℕ) (word : List (AnsweredInputs Answer))
       → at < length f.rows.items
-      → ((d : Row (Asked Answer)) → fails claim (get_or f.rows.items at d).label.inputs
+      → ((d : Row (AnsweredInputs Answer)) → fails claim (get_or f.rows.items at d).label.inputs
       (get_or f.rows.items at d).label.answer ≡ true)
-      → ((d : Row (Asked Answer)) (k : ℕ) → k < at
+      → ((d : Row (AnsweredInputs Answer)) (k : ℕ) → k < at
       → fails claim (get_or f.rows.items k d).label.inputs (get_or f.rows.items k d).label.answer ≡ false)
-      → ((r : Row (Asked Answer)) → LedTo (DoesSo m watched) (record { state = Fresh }) f.nodes.items
+      → ((r : Row (AnsweredInputs Answer)) → LedTo (DoesSo m watched) (record { state = Fresh }) f.nodes.items
       (get_or f.rows.items at r) word)
       → FailsBy m claim word
   fails_first claim told at word w bad pass led = fails_by claim told at (get_or f.rows.items at nothing) word w pass
@@ -202,12 +208,12 @@ module _ (m : Module) (watched : ℕ → Bool) (f : Found Position (Asked Answer
         → IsReached m n.state
     by before came =
         let row : IsRow (DoesSo m watched) f.nodes.items came.row = subst
-        (λ (a : Row (Asked Answer)). IsRow (DoesSo m watched) f.nodes.items a)
+        (λ (a : Row (AnsweredInputs Answer)). IsRow (DoesSo m watched) f.nodes.items a)
         (came.by came.row) (All-get_or (IsRow (DoesSo m watched) f.nodes.items) f.rows.items n.by came.row came.within
         e.found.tree.sound) in
         let to : row.after ≡ Some n.state =
         leads_there (λ (x : Position). IsState m.kernel.root x.state) (DoesSo m watched)
-        (λ (a b : Asked Answer). a.inputs ≢ b.inputs)
+        (λ (a b : AnsweredInputs Answer). a.inputs ≢ b.inputs)
         f.nodes.items _ k n came.row.next row.after row.leads came.to here in
         let step : DoesSo m watched row.before.state came.row.label (Some n.state) = rw to at row.step in
         let earlier = came.earlier in
@@ -236,14 +242,14 @@ module _ (m : Module) (watched : ℕ → Bool) (f : Found Position (Asked Answer
         (λ k d w. reached k (get_or f.nodes.items k d) (is_there f.nodes.items k d w));
   }
 
-  trial : Row (Asked Answer) → Trial
+  trial : Row (AnsweredInputs Answer) → Trial
   trial r = record { position = (get_or f.nodes.items r.from e.begins.node).state; inputs = r.label.inputs }
 
-  row_at : (k : ℕ) (d : Row (Asked Answer)) → k < length f.rows.items → IsRow (DoesSo m watched) f.nodes.items
+  row_at : (k : ℕ) (d : Row (AnsweredInputs Answer)) → k < length f.rows.items → IsRow (DoesSo m watched) f.nodes.items
       (get_or f.rows.items k d)
   row_at k d w = All-get_or (IsRow (DoesSo m watched) f.nodes.items) f.rows.items k d w e.found.tree.sound
 
-  differ : (a b : Row (Asked Answer)) → IsRow (DoesSo m watched) f.nodes.items a
+  differ : (a b : Row (AnsweredInputs Answer)) → IsRow (DoesSo m watched) f.nodes.items a
       → IsRow (DoesSo m watched) f.nodes.items b → a.from ≤ b.from
       → (a.from ≡ b.from → a.label.inputs ≢ b.label.inputs) → trial a ≢ trial b
   unfolding trial

@@ -19,7 +19,7 @@ use Rattle.est_explore.specs.Explored.{IsExplored, fails}
 use Rattle.est_cover.specs.InputSets.{InputSet, Agrees, IsAsked, may_offer}
 use Rattle.est_meaning.specs.Knowledge.{IsIn}
 use Rattle.est_explore.specs.Runs.{Module, IsLawful, Instant, is_present, Goes, Runs, start}
-use Rattle.est_cover.specs.declared.asked.Asked.{Asked}
+use Rattle.est_cover.specs.declared.answered.AnsweredInputs.{AnsweredInputs}
 use Rattle.est_explore.specs.declared.claim.Claim.{Claim}
 use Rattle.est_explore.specs.declared.claim.Claim.TheVariants.{NeverStuck, Always}
 use Rattle.est_explore.specs.declared.one_module.Answer.{Answer}
@@ -41,8 +41,9 @@ abbrev pub term_of_position : Module → Position → Term
 term_of_position m x = state_term m.kernel.root x.state
 
 -- what a search takes for a step
-abbrev pub DoesSo : Module → (watched : ℕ → Bool) → Position → Asked Answer → Option Position → Type 0
-DoesSo m watched x i next = IsAsked (AnswersSo m.kernel x) (may_offer m.kernel.interface m.among) m.relations watched i
+abbrev pub DoesSo : Module → (watched : ℕ → Bool) → Position → AnsweredInputs Answer → Option Position → Type 0
+DoesSo m watched x i next = IsAsked (AnswersSo m.kernel x)
+    (may_offer m.kernel.interface m.allowed) m.relations watched i
     next
 
 -- what is not among signals
@@ -52,13 +53,14 @@ not_in f may within n out = elim (cases_Bool (f n)) [
   | inr e ↦ e
 ]
 
-module _ (m : Module) (watched : ℕ → Bool) (f : Found Position (Asked Answer)) (e : IsExplored m watched f) where
-  abbrev Does : Position → Asked Answer → Option Position → Type 0
+module _ (m : Module) (watched : ℕ → Bool) (f : Found Position (AnsweredInputs Answer))
+    (e : IsExplored m watched f) where
+  abbrev Does : Position → AnsweredInputs Answer → Option Position → Type 0
   Does = DoesSo m watched
 
   -- the row for these inputs at a node all of whose rows are there
   pub record RowFor (k : ℕ) (n : Node Position) (inputs : InputSet) : Type 0 where
-    pub row : Row (Asked Answer)
+    pub row : Row (AnsweredInputs Answer)
     pub listed : Contains f.rows.items row
     pub from : row.from ≡ k
     pub is : Agrees (bits row.label.asked) (bits row.label.inputs) inputs
@@ -80,7 +82,7 @@ module _ (m : Module) (watched : ℕ → Bool) (f : Found Position (Asked Answer
       let same_node : row.before ≡ n = is_one f.nodes.items k row.before n (rw has.from at row.from) here in
       let step : Does n.state has.row.label row.after = rw same_node at row.step in
       let is : Agrees (bits has.row.label.asked) (bits has.row.label.inputs) inputs =
-      subst (λ (a : Asked Answer). Agrees (bits a.asked) (bits a.inputs) inputs) (sym has.label) one.agrees in
+      subst (λ (a : AnsweredInputs Answer). Agrees (bits a.asked) (bits a.inputs) inputs) (sym has.label) one.agrees in
       record {
         row = has.row;
         listed = has.listed;
@@ -123,7 +125,8 @@ module _ (m : Module) (watched : ℕ → Bool) (f : Found Position (Asked Answer
   -- all nodes of fewer steps than d have all their rows, and the claim fails in none of these
   pub record IsCleared (claim : Claim) (d : ℕ) : Type 0 where
     pub done : (k : ℕ) (n : Node Position) → IsNodeAt f.nodes.items k n → n.depth < d → k < f.done
-    pub passes : (row : Row (Asked Answer)) → Contains f.rows.items row → (n : Node Position) → IsNodeAt f.nodes.items
+    pub passes : (row : Row (AnsweredInputs Answer)) → Contains f.rows.items row → (n : Node Position)
+        → IsNodeAt f.nodes.items
         row.from n
         → n.depth < d → fails claim row.label.inputs row.label.answer ≡ false
 
@@ -149,13 +152,14 @@ module _ (m : Module) (watched : ℕ → Bool) (f : Found Position (Asked Answer
       record { place = g.place; node = g.node; here = g.here; few = let w = g.few in omega arith; term = g.term }
 
   -- what is watched is the same in all inputs that a step is for
-  same_watched : (x : Position) (i : Asked Answer) (after : Option Position) → Does x i after → (inputs : InputSet)
+  same_watched : (x : Position) (i : AnsweredInputs Answer) (after : Option Position) → Does x i after
+      → (inputs : InputSet)
       → IsLawful m inputs → Agrees (bits i.asked) (bits i.inputs) inputs → (n : ℕ) → watched n ≡ true
       → inputs n ≡ bits i.inputs n
-  same_watched x i after step inputs lawful is n t = elim (cases_Bool (may_offer m.kernel.interface m.among n)) [
+  same_watched x i after step inputs lawful is n t = elim (cases_Bool (may_offer m.kernel.interface m.allowed n)) [
     | inl y ↦ is n (step.asks n y t)
-    | inr out ↦ not_in inputs (may_offer m.kernel.interface m.among) lawful.offered n out
-        ∙ sym (not_in (bits i.inputs) (may_offer m.kernel.interface m.among) step.lawful.offered n out)
+    | inr out ↦ not_in inputs (may_offer m.kernel.interface m.allowed) lawful.offered n out
+        ∙ sym (not_in (bits i.inputs) (may_offer m.kernel.interface m.allowed) step.lawful.offered n out)
   ]
 
   passes_holds : (test : Bor Test) → IsToldBy test.now watched → (i : ℕ) (answer : Answer) (emitted : ℕ)

@@ -13,7 +13,7 @@ use Rattle.est_cover.specs.InputSets.{InputSet, Agrees, may_offer}
 use Rattle.est_explore.specs.Runs.{Module, IsLawful, Instant, Goes, Runs, start}
 use Rattle.est_explore.specs.ExploredBoth.{DoesBoth, IsExploredBoth}
 use Rattle.est_explore.specs.Same.{SameFor}
-use Rattle.est_cover.specs.declared.asked.Asked.{Asked}
+use Rattle.est_cover.specs.declared.answered.AnsweredInputs.{AnsweredInputs}
 use Rattle.est_explore.specs.declared.one_module.Answer.{Answer}
 use Rattle.est_explore.specs.declared.one_module.Answer.TheVariants.{Reaction, Stuck}
 use Rattle.est_explore.specs.declared.one_module.Position.{Position}
@@ -72,28 +72,28 @@ both_do m l x inputs (Reaction o) (Reaction p) (Some y) (Some z) f g h nodes mos
 pub record AreTwins (m l : Module) : Type 0 where
   pub interface : l.kernel.interface ≡ m.kernel.interface
   pub relations : l.relations ≡ m.relations
-  pub among : l.among ≡ m.among
+  pub allowed : l.allowed ≡ m.allowed
 
 lawful_for_first : (m l : Module) → AreTwins m l → (inputs : InputSet) → IsLawful l inputs → IsLawful m inputs
 lawful_for_first m l t inputs h = record {
-  offered = λ n o. subst (λ (ds : _). may_offer ds m.among n ≡ true) t.interface
-      (subst (λ (a : ℕ → Bool). may_offer l.kernel.interface a n ≡ true) t.among (h.offered n o));
+  offered = λ n o. subst (λ (ds : _). may_offer ds m.allowed n ≡ true) t.interface
+      (subst (λ (a : ℕ → Bool). may_offer l.kernel.interface a n ≡ true) t.allowed (h.offered n o));
   kept = rw (← t.relations) h.kept;
 }
 
 pub lawful_for_second : (m l : Module) → AreTwins m l → (inputs : InputSet) → IsLawful m inputs → IsLawful l inputs
 lawful_for_second m l t inputs h = record {
-  offered = λ n o. subst (λ (ds : _). may_offer ds l.among n ≡ true) (sym t.interface)
-      (subst (λ (a : ℕ → Bool). may_offer m.kernel.interface a n ≡ true) (sym t.among) (h.offered n o));
+  offered = λ n o. subst (λ (ds : _). may_offer ds l.allowed n ≡ true) (sym t.interface)
+      (subst (λ (a : ℕ → Bool). may_offer m.kernel.interface a n ≡ true) (sym t.allowed) (h.offered n o));
   kept = rw t.relations h.kept;
 }
 
-module _ (m l : Module) (twins : AreTwins m l) (watched : ℕ → Bool) (f : Found PositionPair (Asked AnswerPair))
+module _ (m l : Module) (twins : AreTwins m l) (watched : ℕ → Bool) (f : Found PositionPair (AnsweredInputs AnswerPair))
     (e : IsExploredBoth m l watched f) where
   -- all nodes of fewer steps than d have all their rows, and in none of these the two differ
   pub record AgreeFor (d : ℕ) : Type 0 where
     pub done : (k : ℕ) (n : Node PositionPair) → IsNodeAt f.nodes.items k n → n.depth < d → k < f.done
-    pub agrees : (row : Row (Asked AnswerPair)) → Contains f.rows.items row → (n : Node PositionPair)
+    pub agrees : (row : Row (AnsweredInputs AnswerPair)) → Contains f.rows.items row → (n : Node PositionPair)
         → IsNodeAt f.nodes.items row.from
         n
         → n.depth < d → agree row.label.answer.first row.label.answer.second ≡ true
@@ -112,7 +112,8 @@ module _ (m l : Module) (twins : AreTwins m l) (watched : ℕ → Bool) (f : Fou
       let same_node : row.before ≡ n = is_one f.nodes.items k row.before n (rw has.from at row.from) here in
       let step : DoesBoth m l watched n.state has.row.label row.after = rw same_node at row.step in
       let is : Agrees (bits has.row.label.asked) (bits has.row.label.inputs) inputs =
-      subst (λ (a : Asked AnswerPair). Agrees (bits a.asked) (bits a.inputs) inputs) (sym has.label) one.agrees in
+      subst (λ (a : AnsweredInputs AnswerPair). Agrees (bits a.asked) (bits a.inputs) inputs)
+      (sym has.label) one.agrees in
       let answer = step.answer inputs lawful.offered is in
       both_do m l n.state inputs has.row.label.answer.first has.row.label.answer.second answer.first_next
       answer.second_next answer.first answer.second (c.agrees has.row has.listed n (rw has.from here) w)

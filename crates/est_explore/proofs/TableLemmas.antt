@@ -9,7 +9,7 @@ use Rattle.est_explore.specs.Explored.{IsExplored}
 use Rattle.est_cover.specs.InputSets.{InputSet}
 use Rattle.est_explore.specs.Runs.{Module, Instant, Runs, start}
 use Rattle.est_explore.specs.Tables.{StandsFor, IsRowOf, reacts, is_stuck, IsClosedTable}
-use Rattle.est_cover.specs.declared.asked.Asked.{Asked}
+use Rattle.est_cover.specs.declared.answered.AnsweredInputs.{AnsweredInputs}
 use Rattle.est_explore.specs.declared.one_module.Answer.{Answer}
 use Rattle.est_explore.specs.declared.one_module.Answer.TheVariants.{Reaction, Stuck}
 use Rattle.est_explore.specs.declared.one_module.Position.{Position}
@@ -21,7 +21,7 @@ use Rattle.state_search.proofs.Nodes.{is_one}
 use Rattle.est_explore.proofs.JudgeLemmas.{reached as is_reached}
 use Rattle.est_explore.proofs.RunLemmas.{term_of_position, DoesSo, row_for, follows}
 
-module _ (m : Module) (watched : ℕ → Bool) (f : Found Position (Asked Answer)) (e : IsExplored m watched f)
+module _ (m : Module) (watched : ℕ → Bool) (f : Found Position (AnsweredInputs Answer)) (e : IsExplored m watched f)
     (all : length f.nodes.items ≤ f.done) where
   -- every run leads to a node
   leads_to : (k : ℕ) (n : Node Position) → IsNodeAt f.nodes.items k n → (run : List Instant) (t : Term)
@@ -45,7 +45,7 @@ module _ (m : Module) (watched : ℕ → Bool) (f : Found Position (Asked Answer
   first_term : term_of_position m e.begins.node.state ≡ start m
   first_term = ap (λ (x : Position). term_of_position m x) e.begins.state
 
-  sound : (row : Row (Asked Answer)) → Contains f.rows.items row → IsRow (DoesSo m watched) f.nodes.items row
+  sound : (row : Row (AnsweredInputs Answer)) → Contains f.rows.items row → IsRow (DoesSo m watched) f.nodes.items row
   sound row c = All-contains (IsRow (DoesSo m watched) f.nodes.items) f.rows.items row e.found.tree.sound c
 
   pub closed_table : IsClosedTable m f

@@ -7,7 +7,7 @@ use Rattle.est_explore.specs.Inner.Answers.{AnswersSo}
 use Rattle.est_explore.specs.Claims.{holds}
 use Rattle.est_cover.specs.InputSets.{IsAsked, HaveAllInputs, may_offer}
 use Rattle.est_explore.specs.Runs.{Module}
-use Rattle.est_cover.specs.declared.asked.Asked.{Asked}
+use Rattle.est_cover.specs.declared.answered.AnsweredInputs.{AnsweredInputs}
 use Rattle.est_explore.specs.declared.claim.Claim.{Claim}
 use Rattle.est_explore.specs.declared.claim.Claim.TheVariants.{NeverStuck, Always}
 use Rattle.est_explore.specs.declared.one_module.Answer.{Answer}
@@ -17,11 +17,11 @@ use Rattle.state_search.specs.Table.{HasStateAt, IsFound}
 use Rattle.state_search.specs.declared.found.Found.{Found}
 
 -- the positions and steps are what a search of the module has found, each with these signals asked
-pub record IsExplored (m : Module) (watched : ℕ → Bool) (f : Found Position (Asked Answer)) : Type 0 where
+pub record IsExplored (m : Module) (watched : ℕ → Bool) (f : Found Position (AnsweredInputs Answer)) : Type 0 where
   pub begins : HasStateAt f.nodes.items 0 (record { state = Fresh })
   pub found : IsFound (λ x. IsState m.kernel.root x.state)
-      (λ x i next. IsAsked (AnswersSo m.kernel x) (may_offer m.kernel.interface m.among) m.relations watched i next)
-      (λ x steps. HaveAllInputs (may_offer m.kernel.interface m.among) m.relations steps) (λ a b. a.inputs ≢ b.inputs)
+      (λ x i next. IsAsked (AnswersSo m.kernel x) (may_offer m.kernel.interface m.allowed) m.relations watched i next)
+      (λ x steps. HaveAllInputs (may_offer m.kernel.interface m.allowed) m.relations steps) (λ a b. a.inputs ≢ b.inputs)
       f.nodes.items f.rows.items f.done
 
 -- whether the claim fails by what was answered

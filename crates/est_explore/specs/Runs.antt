@@ -16,11 +16,11 @@ use Rattle.est_relations.specs.declared.relations.Relation.{Relation}
 pub record Module : Type 0 where
   pub kernel : Kernel
   pub relations : List Relation
-  pub among : ℕ → Bool
+  pub allowed : ℕ → Bool
 
 -- each of the inputs may be offered, and each relation holds of them
 pub record IsLawful (m : Module) (inputs : InputSet) : Type 0 where
-  pub offered : IsIn inputs (may_offer m.kernel.interface m.among)
+  pub offered : IsIn inputs (may_offer m.kernel.interface m.allowed)
   pub kept : AreLawful m.relations inputs
 
 -- an instant: which signals are offered and which are emitted

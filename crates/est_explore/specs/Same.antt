@@ -7,7 +7,7 @@ use Rattle.est_meaning.specs.Rounds.{judged_signals}
 use Rattle.est_explore.specs.Inner.Pairs.{agree}
 use Rattle.est_explore.specs.Runs.{Module, IsLawful, Instant, Goes, Runs, start, IsRun}
 use Rattle.est_explore.specs.Verdicts.{outputs_of}
-use Rattle.est_cover.specs.declared.asked.Asked.{Asked}
+use Rattle.est_cover.specs.declared.answered.AnsweredInputs.{AnsweredInputs}
 use Rattle.est_explore.specs.declared.one_module.Answer.{Answer}
 use Rattle.est_explore.specs.declared.one_module.Answer.TheVariants.{Reaction, Stuck}
 use Rattle.est_explore.specs.declared.two_modules.AnswerPair.{AnswerPair}
@@ -28,15 +28,15 @@ AnswersAt m t i (Reaction outputs) = (u : Term) × Goes m t (bits i) (bits outpu
 AnswersAt m t i (Stuck undecided) = CannotReact (judged_signals m.kernel.interface (bits i)) (bits i) t
 
 -- an instant of both, by what the first does
-abbrev pub shown_first : Asked AnswerPair → Instant
+abbrev pub shown_first : AnsweredInputs AnswerPair → Instant
 shown_first a = record { inputs = bits a.inputs; outputs = outputs_of a.answer.first }
 
 -- a shortest word by which they differ: all its instants but the last one are a run of both, and in the last one the
 -- two
 -- answer otherwise
-pub record DifferBy (m l : Module) (word : List (Asked AnswerPair)) : Type 0 where
-  pub before : List (Asked AnswerPair)
-  pub last : Asked AnswerPair
+pub record DifferBy (m l : Module) (word : List (AnsweredInputs AnswerPair)) : Type 0 where
+  pub before : List (AnsweredInputs AnswerPair)
+  pub last : AnsweredInputs AnswerPair
   pub split : word ≡ before ++ last ∷ []
   pub first_left : Term
   pub second_left : Term

@@ -9,7 +9,7 @@ use Rattle.est_meaning.specs.States.{state_term}
 use Rattle.est_explore.specs.Runs.{Module, IsLawful, Instant, Goes, Runs, start}
 use Rattle.est_explore.specs.Verdicts.{IsReached}
 use Rattle.est_cover.specs.InputSets.{InputSet, Agrees}
-use Rattle.est_cover.specs.declared.asked.Asked.{Asked}
+use Rattle.est_cover.specs.declared.answered.AnsweredInputs.{AnsweredInputs}
 use Rattle.est_explore.specs.declared.one_module.Answer.{Answer}
 use Rattle.est_explore.specs.declared.one_module.Answer.TheVariants.{Reaction, Stuck}
 use Rattle.est_explore.specs.declared.one_module.Position.{Position}
@@ -34,12 +34,12 @@ pub data IsRowOf (m : Module) (nodes : List (Node Position)) (t : Term) (inputs 
       → IsRowOf m nodes t inputs (Stuck undecided) None
 
 -- the row is for these inputs: where it was asked, its own are the same
-abbrev pub IsFor : Row (Asked Answer) → InputSet → Type 0
+abbrev pub IsFor : Row (AnsweredInputs Answer) → InputSet → Type 0
 IsFor row inputs = Agrees (bits row.label.asked) (bits row.label.inputs) inputs
 
 -- some row from this place is for these inputs
-pub record HasRowFor (rows : List (Row (Asked Answer))) (place : ℕ) (inputs : InputSet) : Type 0 where
-  pub row : Row (Asked Answer)
+pub record HasRowFor (rows : List (Row (AnsweredInputs Answer))) (place : ℕ) (inputs : InputSet) : Type 0 where
+  pub row : Row (AnsweredInputs Answer)
   pub listed : Contains rows row
   pub from : row.from ≡ place
   pub is : IsFor row inputs
@@ -47,14 +47,15 @@ pub record HasRowFor (rows : List (Row (Asked Answer))) (place : ℕ) (inputs : 
 -- the table is closed: it begins where the module does; whatever a run leads to has a place, and to each place a run
 -- leads; at each place there is a row for each lawful set of inputs; each row is for some; and it is what the module
 -- does with each that it is for
-pub record IsClosedTable (m : Module) (f : Found Position (Asked Answer)) : Type 0 where
+pub record IsClosedTable (m : Module) (f : Found Position (AnsweredInputs Answer)) : Type 0 where
   pub begins : StandsFor m f.nodes.items 0 (start m)
   pub reached : (run : List Instant) (t : Term) → Runs m (start m) run t
       → (place : ℕ) × StandsFor m f.nodes.items place t
   pub only : (place : ℕ) (n : Node Position) → IsNodeAt f.nodes.items place n → IsReached m n.state
   pub complete : (place : ℕ) (t : Term) → StandsFor m f.nodes.items place t → (inputs : InputSet) → IsLawful m inputs
       → HasRowFor f.rows.items place inputs
-  pub lawful : (row : Row (Asked Answer)) → Contains f.rows.items row → IsLawful m (bits row.label.inputs)
-  pub right : (row : Row (Asked Answer)) → Contains f.rows.items row → (t : Term) → StandsFor m f.nodes.items row.from t
+  pub lawful : (row : Row (AnsweredInputs Answer)) → Contains f.rows.items row → IsLawful m (bits row.label.inputs)
+  pub right : (row : Row (AnsweredInputs Answer)) → Contains f.rows.items row → (t : Term)
+      → StandsFor m f.nodes.items row.from t
       → (inputs : InputSet) → IsLawful m inputs → IsFor row inputs
       → IsRowOf m f.nodes.items t inputs row.label.answer row.next

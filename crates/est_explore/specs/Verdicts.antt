@@ -8,7 +8,7 @@ use Rattle.est_meaning.specs.Rounds.{judged_signals}
 use Rattle.est_meaning.specs.States.{IsState, state_term}
 use Rattle.est_explore.specs.Claims.{holds, HoldsFor, Holds}
 use Rattle.est_explore.specs.Runs.{Module, IsLawful, Instant, Goes, Runs, start}
-use Rattle.est_cover.specs.declared.asked.Asked.{Asked}
+use Rattle.est_cover.specs.declared.answered.AnsweredInputs.{AnsweredInputs}
 use Rattle.est_explore.specs.declared.claim.Claim.{Claim}
 use Rattle.est_explore.specs.declared.claim.Claim.TheVariants.{NeverStuck, Always}
 use Rattle.est_explore.specs.declared.one_module.Answer.{Answer}
@@ -23,7 +23,7 @@ outputs_of (Reaction outputs) = bits outputs
 outputs_of (Stuck undecided) = λ n. false
 
 -- an answered set of inputs, as an instant
-abbrev pub shown : Asked Answer → Instant
+abbrev pub shown : AnsweredInputs Answer → Instant
 shown a = record { inputs = bits a.inputs; outputs = outputs_of a.answer }
 
 -- how the claim fails at t: it is Stuck with these inputs, and these signals are undecided; or it reacts so, and the
@@ -38,9 +38,9 @@ FailsAt m (Always test) t i (Reaction outputs) = (u : Term) × (Goes m t (bits i
 
 -- a shortest word of lawful inputs after which the claim fails: all its instants but the last one are a run, with the
 -- inputs of the last one it fails, and in fewer instants it does not
-pub record FailsBy (m : Module) (claim : Claim) (word : List (Asked Answer)) : Type 0 where
-  pub before : List (Asked Answer)
-  pub last : Asked Answer
+pub record FailsBy (m : Module) (claim : Claim) (word : List (AnsweredInputs Answer)) : Type 0 where
+  pub before : List (AnsweredInputs Answer)
+  pub last : AnsweredInputs Answer
   pub split : word ≡ before ++ last ∷ []
   pub left : Term
   pub runs : Runs m (start m) (map shown before) left

@@ -6,5 +6,5 @@ use Rattle.est_relations.specs.declared.relations.Relation.{Relation}
 use Rattle.est_explore.specs.Runs.{Module}
 
 -- the module of this kernel with these relations, whose inputs are among those of a mask
-abbrev pub module_of : Kernel → List Relation → (among : ℕ) → Module
-module_of kernel relations among = record { kernel = kernel; relations = relations; among = bits among }
+abbrev pub module_of : Kernel → List Relation → (allowed : ℕ) → Module
+module_of kernel relations allowed = record { kernel = kernel; relations = relations; allowed = bits allowed }

@@ -6,7 +6,7 @@ ghost use Rattle.est_explore.specs.Explored.{fails};
 
 use crate::one_module::Answer;
 use crate::reads::signals_of;
-use est_cover::asked::Asked;
+use est_cover::answered::AnsweredInputs;
 use est_kernel::mask;
 use est_kernel::statement::Test;
 use est_meaning::status::Status;
@@ -52,7 +52,7 @@ impl<'a> Claim<'a> {
     }
 
     /// Whether the claim fails by what was answered.
-    pub fn fails(&self, asked: &Asked<Answer>) -> bool
+    pub fn fails(&self, asked: &AnsweredInputs<Answer>) -> bool
         ensures { result ≡ fails self.now asked.now.inputs asked.now.answer }
     {
         match (self, asked.answer) {

@@ -8,14 +8,14 @@ ghost use Rattle.est_explore.specs.Claims.{IsClaimToldBy};
 ghost use Rattle.est_explore.specs.Explored.{IsExplored, fails};
 ghost use Rattle.est_explore.specs.Verdicts.{IsRight};
 ghost use Rattle.est_explore.specs.Views.{module_of};
-ghost use Rattle.est_cover.specs.declared.asked.Asked.{Asked as AskedValue};
+ghost use Rattle.est_cover.specs.declared.answered.AnsweredInputs.{AnsweredInputs as AnsweredValue};
 ghost use Rattle.est_explore.specs.declared.one_module.Answer.{Answer as AnswerValue};
 
 use crate::claim::Claim;
 use crate::one_module::{Answer, OneModule, Position};
 use crate::verdict::Verdict;
 use est_cover::all_lawful::AllLawful;
-use est_cover::asked::Asked;
+use est_cover::answered::AnsweredInputs;
 use est_kernel::state::State;
 use est_rounds::part_engine::PartEngine;
 use state_search::found::{Found, Row};
@@ -24,16 +24,16 @@ use state_search::word::word_to;
 use std::alloc::{AllocError, Global};
 
 /// The place of the first row by which the claim fails.
-fn first_failure(rows: &[Row<Asked<Answer>>], claim: &Claim<'_>) -> Option<usize>
+fn first_failure(rows: &[Row<AnsweredInputs<Answer>>], claim: &Claim<'_>) -> Option<usize>
     ensures { MatchOption result
-        ((d : RowValue (AskedValue AnswerValue)) (k : ℕ) → k < length rows.now → fails claim.now
+        ((d : RowValue (AnsweredValue AnswerValue)) (k : ℕ) → k < length rows.now → fails claim.now
         (slice_index_or rows.now k d).label.inputs (slice_index_or rows.now k d).label.answer ≡
         false)
         (λ at. (at < length rows.now)
-        × ((d : RowValue (AskedValue AnswerValue)) → fails claim.now
+        × ((d : RowValue (AnsweredValue AnswerValue)) → fails claim.now
         (slice_index_or rows.now at d).label.inputs (slice_index_or rows.now at d).label.answer
         ≡ true)
-        × ((d : RowValue (AskedValue AnswerValue)) (k : ℕ) → k < at → fails claim.now
+        × ((d : RowValue (AnsweredValue AnswerValue)) (k : ℕ) → k < at → fails claim.now
         (slice_index_or rows.now k d).label.inputs (slice_index_or rows.now k d).label.answer ≡
         false)) }
 {
@@ -51,12 +51,12 @@ pub fn explore<E: PartEngine>(
     subject: &AllLawful<'_, OneModule<'_, E>>,
     engine: &mut E,
     limits: Limits,
-) -> Result<Found<Position, Asked<Answer>>, AllocError>
+) -> Result<Found<Position, AnsweredInputs<Answer>>, AllocError>
     requires engine { E.is_for engine.old subject.now.reactive.now.kernel.now }
     ensures engine { E.is_for engine.new subject.now.reactive.now.kernel.now }
     ensures explored { IfOk result
         (IsExplored (module_of subject.now.reactive.now.kernel.now subject.now.relations.now
-        subject.now.among) (bits subject.now.watched)) }
+        subject.now.allowed) (bits subject.now.watched)) }
     ensures ended { IfOk result (λ f.
         HasEnded limits.states limits.steps f.nodes.items f.rows.items f.done) }
 {
@@ -71,16 +71,16 @@ pub fn explore<E: PartEngine>(
 pub fn judge<E: PartEngine>(
     alloc: Global,
     subject: &AllLawful<'_, OneModule<'_, E>>,
-    found: &Found<Position, Asked<Answer>>,
+    found: &Found<Position, AnsweredInputs<Answer>>,
     claim: &Claim<'_>,
 ) -> Result<Verdict, AllocError>
     requires explored { IsExplored (module_of subject.now.reactive.now.kernel.now
-        subject.now.relations.now subject.now.among) (bits subject.now.watched) found.now }
+        subject.now.relations.now subject.now.allowed) (bits subject.now.watched) found.now }
     requires watched { IsClaimToldBy claim.now (bits subject.now.watched) }
     ensures { (states steps : ℕ) → HasEnded states steps found.now.nodes.items found.now.rows.items
         found.now.done
         → IfOk result (IsRight (module_of subject.now.reactive.now.kernel.now
-        subject.now.relations.now subject.now.among) claim.now states steps) }
+        subject.now.relations.now subject.now.allowed) claim.now states steps) }
 {
     if let Some(at) = first_failure(&found.rows, claim) {
         let word = word_to(alloc, subject, found, at)?;

@@ -9,7 +9,7 @@ use est_kernel::interface::Interface;
 use est_kernel::kernel::Kernel;
 use est_kernel::state::{Inputs, State};
 use est_rounds::part_engine::{PartEngine, Unsettled};
-use state_search::transition_system::{Standing, Step};
+use state_search::transition_system::{SearchState, Step};
 use std::marker::PhantomData;
 
 /// What a module answers to the inputs of an instant.
@@ -27,7 +27,7 @@ pub struct Position {
     pub state: State,
 }
 
-impl Standing for Position {
+impl SearchState for Position {
     ghost exact = { Prim.search rules };
 }
 

@@ -8,13 +8,13 @@ ghost use Rattle.est_explore.specs.Inner.Pairs.{agree, AreFor};
 ghost use Rattle.est_explore.specs.ExploredBoth.{IsExploredBoth};
 ghost use Rattle.est_explore.specs.Comparisons.{IsRightOfBoth};
 ghost use Rattle.est_explore.specs.Views.{module_of};
-ghost use Rattle.est_cover.specs.declared.asked.Asked.{Asked as AskedValue};
+ghost use Rattle.est_cover.specs.declared.answered.AnsweredInputs.{AnsweredInputs as AnsweredValue};
 ghost use Rattle.est_explore.specs.declared.two_modules.AnswerPair.{AnswerPair as AnswerPairValue};
 
 use crate::one_module::Position;
 use crate::two_modules::{AnswerPair, EnginePair, PositionPair, TwoModules, agree};
 use est_cover::all_lawful::AllLawful;
-use est_cover::asked::Asked;
+use est_cover::answered::AnsweredInputs;
 use est_kernel::state::State;
 use est_rounds::part_engine::PartEngine;
 use state_search::found::{Found, Row};
@@ -30,23 +30,23 @@ pub enum Comparison {
     /// They differ in the last of these instants, and in no fewer.
     Differ {
         /// What happens.
-        word: Vec<Asked<AnswerPair>>,
+        word: Vec<AnsweredInputs<AnswerPair>>,
     },
     /// There are more states, or more steps, than were to be looked at.
     TooMany,
 }
 
 /// The place of the first row by which the two differ.
-fn first_difference(rows: &[Row<Asked<AnswerPair>>]) -> Option<usize>
+fn first_difference(rows: &[Row<AnsweredInputs<AnswerPair>>]) -> Option<usize>
     ensures { MatchOption result
-        ((d : RowValue (AskedValue AnswerPairValue)) (k : ℕ) → k < length rows.now
+        ((d : RowValue (AnsweredValue AnswerPairValue)) (k : ℕ) → k < length rows.now
         → agree (slice_index_or rows.now k d).label.answer.first
         (slice_index_or rows.now k d).label.answer.second ≡ true)
         (λ at. (at < length rows.now)
-        × ((d : RowValue (AskedValue AnswerPairValue))
+        × ((d : RowValue (AnsweredValue AnswerPairValue))
         → agree (slice_index_or rows.now at d).label.answer.first
         (slice_index_or rows.now at d).label.answer.second ≡ false)
-        × ((d : RowValue (AskedValue AnswerPairValue)) (k : ℕ) → k < at
+        × ((d : RowValue (AnsweredValue AnswerPairValue)) (k : ℕ) → k < at
         → agree (slice_index_or rows.now k d).label.answer.first
         (slice_index_or rows.now k d).label.answer.second ≡ true)) }
 {
@@ -65,15 +65,15 @@ pub fn explore_both<E: PartEngine, F: PartEngine>(
     subject: &AllLawful<'_, TwoModules<'_, E, F>>,
     engines: &mut EnginePair<E, F>,
     limits: Limits,
-) -> Result<Found<PositionPair, Asked<AnswerPair>>, AllocError>
+) -> Result<Found<PositionPair, AnsweredInputs<AnswerPair>>, AllocError>
     requires engines { AreFor (E.is_for engines.old.first subject.now.reactive.now.first.kernel.now)
         (F.is_for engines.old.second subject.now.reactive.now.second.kernel.now)
         subject.now.reactive.now.first.kernel.now subject.now.reactive.now.second.kernel.now }
     ensures explored { IfOk result (IsExploredBoth
         (module_of subject.now.reactive.now.first.kernel.now subject.now.relations.now
-        subject.now.among)
+        subject.now.allowed)
         (module_of subject.now.reactive.now.second.kernel.now subject.now.relations.now
-        subject.now.among) (bits subject.now.watched)) }
+        subject.now.allowed) (bits subject.now.watched)) }
     ensures ended { IfOk result (λ f.
         HasEnded limits.states limits.steps f.nodes.items f.rows.items f.done) }
 {
@@ -91,22 +91,22 @@ pub fn explore_both<E: PartEngine, F: PartEngine>(
 pub fn compare<E: PartEngine, F: PartEngine>(
     alloc: Global,
     subject: &AllLawful<'_, TwoModules<'_, E, F>>,
-    found: &Found<PositionPair, Asked<AnswerPair>>,
+    found: &Found<PositionPair, AnsweredInputs<AnswerPair>>,
 ) -> Result<Comparison, AllocError>
     requires interface { subject.now.reactive.now.second.kernel.now.interface
         ≡ subject.now.reactive.now.first.kernel.now.interface }
     requires explored { IsExploredBoth
         (module_of subject.now.reactive.now.first.kernel.now subject.now.relations.now
-        subject.now.among)
+        subject.now.allowed)
         (module_of subject.now.reactive.now.second.kernel.now subject.now.relations.now
-        subject.now.among) (bits subject.now.watched) found.now }
+        subject.now.allowed) (bits subject.now.watched) found.now }
     ensures { (states steps : ℕ)
         → HasEnded states steps found.now.nodes.items found.now.rows.items found.now.done
         → IfOk result (IsRightOfBoth
         (module_of subject.now.reactive.now.first.kernel.now subject.now.relations.now
-        subject.now.among)
+        subject.now.allowed)
         (module_of subject.now.reactive.now.second.kernel.now subject.now.relations.now
-        subject.now.among)
+        subject.now.allowed)
         states steps) }
 {
     if let Some(at) = first_difference(&found.rows) {

@@ -8,7 +8,7 @@ use crate::one_module::{Answer, OneModule, Position};
 use est_cover::reactive::Reactive;
 use est_kernel::interface::Interface;
 use est_rounds::part_engine::{PartEngine, Unsettled};
-use state_search::transition_system::{Standing, Step};
+use state_search::transition_system::{SearchState, Step};
 
 /// What two modules answer to the same inputs.
 #[derive(Clone, Copy, PartialEq, Eq, Debug)]
@@ -24,7 +24,7 @@ pub struct PositionPair {
     pub second: Position,
 }
 
-impl Standing for PositionPair {
+impl SearchState for PositionPair {
     ghost exact = { Prim.search rules };
 }
 

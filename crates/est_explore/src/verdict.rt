@@ -1,6 +1,6 @@
 //! What is answered to a claim.
 use crate::one_module::Answer;
-use est_cover::asked::Asked;
+use est_cover::answered::AnsweredInputs;
 
 /// What is answered to a claim.
 #[derive(Drop)]
@@ -10,7 +10,7 @@ pub enum Verdict {
     /// It fails in the last of these instants, and in no fewer.
     Fails {
         /// What happens.
-        word: Vec<Asked<Answer>>,
+        word: Vec<AnsweredInputs<Answer>>,
     },
     /// There are more states, or more steps, than were to be looked at.
     TooMany,

@@ -14,7 +14,7 @@ use Rattle.est_checks.specs.Emissions.{AreEmissions, first_refused, refused_at}
 use Rattle.est_checks.specs.FirstFaults.{IsFirstFault, limit_passed, limit_passed_by}
 use Rattle.est_kernel.specs.declared.limits.TheConstants.{MOST_STATEMENTS}
 use Rattle.est_link.specs.Inner.Checked.{IsChecked, IsSoundMain}
-use Rattle.est_checks.specs.LinkFaults.{lawless_number}
+use Rattle.est_checks.specs.LinkFaults.{number_over_outputs}
 use Rattle.est_modules.specs.Modules.{Program, program_named, first_in_bodies}
 use Rattle.est_modules.specs.Occurrences.{Occurrence, occurrences, first_of}
 use Rattle.est_checks.specs.UnknownNames.{unknown_at}
@@ -74,7 +74,8 @@ none_redeclared seen (q ∷ qs) h (suc i) p at =
     (or_none_parts (duplicate_of seen q) (duplicate_after (seen ++ q.name ∷ []) qs) h).1 i p at
 
 sound_main : (ps : List Program) (main : List ℕ) (n : ℕ) → first_duplicate ps ≡ None
-    → lawless_number (program_named ps main) ≡ None → limit_passed_by (program_named ps main) n ≡ None → (p : Program)
+    → number_over_outputs (program_named ps main) ≡ None → limit_passed_by (program_named ps main) n ≡ None
+    → (p : Program)
     → program_named ps main ≡ Some p → IsSoundMain p
 sound_main ps main n distinct lawful small p found =
     let place = found_place (λ (q : Program). bytes_eq q.name main) ps p found in
@@ -84,7 +85,7 @@ sound_main ps main n distinct lawful small p found =
       signals = limits.0;
       relations = limits.1;
       distinct = none_redeclared [] ps distinct place.0 p place.2;
-      lawful = ap lawless_number (sym found) ∙ lawful;
+      lawful = ap number_over_outputs (sym found) ∙ lawful;
     }
 
 -- ---- all checks

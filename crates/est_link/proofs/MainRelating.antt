@@ -12,7 +12,7 @@ use Rattle.est_modules.specs.Visible.{stands_in}
 use Rattle.est_link.specs.MainModule.{AreRelations, IsRelation, declaration_of, declarations_of, kernel_kind}
 use Rattle.est_link.specs.MainModule.{member_place}
 use Rattle.est_modules.specs.Modules.{is_offerable}
-use Rattle.est_checks.specs.LawlessRelations.{is_past_offers, is_lawless, first_lawless}
+use Rattle.est_checks.specs.LawlessRelations.{is_past_offers, is_lawless, first_over_outputs}
 use Rattle.est_modules.specs.Modules.{Program, is_offered_kind}
 use Rattle.est_modules.specs.Visible.{is_tick}
 use Rattle.est_modules.specs.declared.head.Declared.{Declared}
@@ -165,7 +165,8 @@ all_within ds (t ∷ ts) (r ∷ rs) distinct h are =
 
 -- relations of which none is lawless lie over the signals that may be offered
 pub over_inputs : (p : Program) (rs : List Relation) → redeclared [] (map (λ (d : Declared). d.name) p.interface) ≡ None
-    → first_lawless p ≡ None → AreRelations (declarations_of p) p.relations rs → AreOverInputs (declarations_of p) rs
+    → first_over_outputs p ≡ None → AreRelations (declarations_of p) p.relations rs
+    → AreOverInputs (declarations_of p) rs
 over_inputs p rs distinct lawful are =
     all_within p.interface p.relations rs distinct
     (no_place (is_lawless p.interface) p.relations

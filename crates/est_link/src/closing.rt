@@ -20,7 +20,7 @@ use std::alloc::{AllocError, Global};
 
 /// What the signals of a body mean where it is closed, and where memory is taken.
 #[derive(Clone, Copy)]
-pub struct Closing<'a> {
+pub struct CloseContext<'a> {
     /// Where memory is taken.
     pub alloc: Global,
     /// What the signals mean.
@@ -28,7 +28,7 @@ pub struct Closing<'a> {
 }
 
 /// What is emitted in place of a signal.
-fn close_sent(at: &Closing<'_>, signal: BoundSignal) -> Result<BoundSignal, AllocError>
+fn close_sent(at: &CloseContext<'_>, signal: BoundSignal) -> Result<BoundSignal, AllocError>
     ensures { IfOk result (λ n. name_view n ≡ (meant_by at.now.meanings.now
         (name_view signal)).sent) }
 {
@@ -37,7 +37,7 @@ fn close_sent(at: &Closing<'_>, signal: BoundSignal) -> Result<BoundSignal, Allo
 
 /// What is asked in place of a test. It goes as deep as the expressions lie in one another.
 #[cycle(tests)]
-fn close_test(at: &Closing<'_>, test: &BoundTest) -> Result<BoundTest, AllocError>
+fn close_test(at: &CloseContext<'_>, test: &BoundTest) -> Result<BoundTest, AllocError>
     ensures { IfOk result (λ t. query_view t ≡ query_meant (meant_by at.now.meanings.now)
         (query_view test.now)) }
 {
@@ -52,7 +52,7 @@ fn close_test(at: &Closing<'_>, test: &BoundTest) -> Result<BoundTest, AllocErro
 /// The same of operands with this connective between them.
 #[cycle(tests)]
 fn close_joined(
-    at: &Closing<'_>,
+    at: &CloseContext<'_>,
     connective: Connective,
     operands: &BoundOperands,
 ) -> Result<BoundTest, AllocError>
@@ -70,7 +70,7 @@ fn close_joined(
 }
 
 /// What is waited for in place of a wait.
-fn close_wait(at: &Closing<'_>, wait: &Wait) -> Result<Wait, AllocError>
+fn close_wait(at: &CloseContext<'_>, wait: &Wait) -> Result<Wait, AllocError>
     ensures immediate { IfOk result (λ w. w.immediate ≡ wait.now.immediate) }
     ensures test { IfOk result (λ w. query_view w.test ≡ query_meant (meant_by at.now.meanings.now)
         (query_view wait.now.test)) }
@@ -87,7 +87,7 @@ fn close_wait(at: &Closing<'_>, wait: &Wait) -> Result<Wait, AllocError>
 ///
 /// `AllocError` where memory is refused.
 #[cycle(close)]
-pub fn close(at: &Closing<'_>, body: &OpenBody) -> Result<Body, AllocError>
+pub fn close(at: &CloseContext<'_>, body: &OpenBody) -> Result<Body, AllocError>
     ensures { IfOk result (λ b. body_of b ≡ body_meant (meant_by at.now.meanings.now)
         (closed_of body.now)) }
 {
@@ -121,7 +121,7 @@ pub fn close(at: &Closing<'_>, body: &OpenBody) -> Result<Body, AllocError>
 /// A statement that waits for something while another runs, without runs.
 #[cycle(close)]
 fn close_watched(
-    at: &Closing<'_>,
+    at: &CloseContext<'_>,
     watch: Watch,
     wait: &Wait,
     body: &OpenBody,
@@ -137,13 +137,17 @@ fn close_watched(
 /// The body of a run, without runs.
 #[cycle(close)]
 #[tactic(auto, using(crate::proofs::Meanings::meant_in))]
-fn close_run(at: &Closing<'_>, body: &OpenBody, run: &SignalMeanings) -> Result<Body, AllocError>
+fn close_run(
+    at: &CloseContext<'_>,
+    body: &OpenBody,
+    run: &SignalMeanings,
+) -> Result<Body, AllocError>
     ensures { IfOk result (λ b. body_of b ≡ body_meant (meant_by at.now.meanings.now)
         (body_meant (meant_by run.now) (closed_of body.now))) }
 {
     let meanings = inside(at.alloc, at.meanings, run)?;
     close(
-        &Closing {
+        &CloseContext {
             alloc: at.alloc,
             meanings: &meanings,
         },
@@ -153,7 +157,7 @@ fn close_run(at: &Closing<'_>, body: &OpenBody, run: &SignalMeanings) -> Result<
 
 /// A body without runs, in a box.
 #[cycle(close)]
-fn close_box(at: &Closing<'_>, body: &OpenBody) -> Result<Box<Body>, AllocError>
+fn close_box(at: &CloseContext<'_>, body: &OpenBody) -> Result<Box<Body>, AllocError>
     ensures { IfOk result (λ b. body_of b.value ≡ body_meant (meant_by at.now.meanings.now)
         (closed_of body.now)) }
 {

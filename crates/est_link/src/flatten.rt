@@ -24,7 +24,7 @@ ghost use Rattle.est_reduce.specs.Views.{bound_query as query_view};
 
 use crate::bindings::{Binding, locals_around, signal_at, trap_at};
 use crate::bound_runs::bind_body;
-use crate::found_tests::find_test;
+use crate::bound_tests::bind_test;
 use crate::local_names::LocalNames;
 use crate::meaning::Meaning;
 use crate::module_bodies::ModuleBodies;
@@ -63,7 +63,7 @@ fn interface_run<'a>(heads: &'a Heads<'_>, name: &Identifier) -> &'a [Declared]
 }
 
 /// The flat statement of a `run`: the body of its module, its interface names bound.
-fn run<'b>(
+fn flatten_run<'b>(
     linker: &Linker<'_, 'b, '_>,
     scope: &NamedScope<'_, 'b>,
     name: &Identifier,
@@ -112,7 +112,10 @@ pub fn find_signal(
 }
 
 /// The signal that the emission of a name means.
-fn find_sent(place: &LinkContext<'_, '_, '_>, name: &Identifier) -> Result<BoundSignal, AllocError>
+fn bind_emitted(
+    place: &LinkContext<'_, '_, '_>,
+    name: &Identifier,
+) -> Result<BoundSignal, AllocError>
     ensures { IfOk result (λ n. name_view n ≡ emitted (signal_at
         (program_of place.now.linker.now.home.now) (binders_of place.now.scope.now) name.now)) }
 {
@@ -120,7 +123,7 @@ fn find_sent(place: &LinkContext<'_, '_, '_>, name: &Identifier) -> Result<Bound
 }
 
 /// What is waited for.
-fn find_wait(place: &LinkContext<'_, '_, '_>, delay: &Delay) -> Result<Wait, AllocError>
+fn bind_wait(place: &LinkContext<'_, '_, '_>, delay: &Delay) -> Result<Wait, AllocError>
     ensures immediate { IfOk result (λ w. w.immediate ≡ delay.now.immediate) }
     ensures test { IfOk result (λ w. query_view w.test
         ≡ asked_at (program_of place.now.linker.now.home.now) (binders_of place.now.scope.now)
@@ -128,7 +131,7 @@ fn find_wait(place: &LinkContext<'_, '_, '_>, delay: &Delay) -> Result<Wait, All
 {
     Ok(Wait {
         immediate: delay.immediate,
-        test: find_test(place, &delay.test)?,
+        test: bind_test(place, &delay.test)?,
     })
 }
 
@@ -140,7 +143,7 @@ fn box_nothing(alloc: Global) -> Result<Box<OpenBody>, AllocError>
 }
 
 /// The flat statement of a `present`, its branches being flat.
-fn present(
+fn flatten_present(
     at: &LinkContext<'_, '_, '_>,
     test: &Test,
     first: Box<OpenBody>,
@@ -150,7 +153,7 @@ fn present(
         (asked_at (program_of at.now.linker.now.home.now) (binders_of at.now.scope.now)
         (test_view test.now)) (closed_of first.value) (closed_of second.value)) }
 {
-    Ok(OpenBody::Present(find_test(at, test)?, first, second))
+    Ok(OpenBody::Present(bind_test(at, test)?, first, second))
 }
 
 /// The flat statement of a unit.
@@ -164,10 +167,10 @@ fn flat_unit<'b>(at: &LinkContext<'_, 'b, '_>, unit: &'b Unit) -> Result<OpenBod
         Unit::Nothing => Ok(OpenBody::Nothing),
         Unit::Pause => Ok(OpenBody::Pause),
         Unit::Halt => Ok(OpenBody::Halt),
-        Unit::Emit(name) => Ok(OpenBody::Emit(find_sent(at, name)?)),
-        Unit::Sustain(name) => Ok(OpenBody::Sustain(find_sent(at, name)?)),
+        Unit::Emit(name) => Ok(OpenBody::Emit(bind_emitted(at, name)?)),
+        Unit::Sustain(name) => Ok(OpenBody::Sustain(bind_emitted(at, name)?)),
         Unit::Exit(name) => Ok(OpenBody::Exit(trap_at(at.scope, name)?)),
-        Unit::Await(delay) => Ok(OpenBody::Await(find_wait(at, delay)?)),
+        Unit::Await(delay) => Ok(OpenBody::Await(bind_wait(at, delay)?)),
         Unit::Present(test, branches) => flat_test(at, test, branches),
         Unit::Suspend(p, delay, _) => flat_watched(at, Watch::Suspend, p, delay),
         Unit::Abort(p, delay, _) => flat_watched(at, Watch::Abort, p, delay),
@@ -175,7 +178,7 @@ fn flat_unit<'b>(at: &LinkContext<'_, 'b, '_>, unit: &'b Unit) -> Result<OpenBod
         Unit::Loop(p, _) => Ok(OpenBody::Loop(box_body(at, p)?)),
         Unit::LoopEach(p, test) => {
             let p = box_body(at, p)?;
-            Ok(OpenBody::LoopEach(find_test(at, test)?, p))
+            Ok(OpenBody::LoopEach(bind_test(at, test)?, p))
         }
         Unit::Every(delay, p, _) => flat_watched(at, Watch::Every, p, delay),
         Unit::Trap(name, p, _) => {
@@ -183,7 +186,7 @@ fn flat_unit<'b>(at: &LinkContext<'_, 'b, '_>, unit: &'b Unit) -> Result<OpenBod
             Ok(OpenBody::Trap(box_inside(at, &scope, p)?))
         }
         Unit::Signal(names, p, _) => flat_signal(at, names, p),
-        Unit::Run(name, renamings) => run(at.linker, at.scope, name, renamings),
+        Unit::Run(name, renamings) => flatten_run(at.linker, at.scope, name, renamings),
         Unit::Group(p) => flat_statement(at, p),
     }
 }
@@ -222,7 +225,7 @@ fn flat_watched<'b>(
         (binders_of at.now.scope.now) (statement_derived (statement_view statement.now)))) }
 {
     let body = box_body(at, statement)?;
-    Ok(OpenBody::Watched(watch, find_wait(at, delay)?, body))
+    Ok(OpenBody::Watched(watch, bind_wait(at, delay)?, body))
 }
 
 /// The flat statement of a `present`, with its branches.
@@ -240,15 +243,15 @@ fn flat_test<'b>(
     match branches {
         Branches::Then(body, _) => {
             let first = box_body(at, body)?;
-            present(at, test, first, box_nothing(at.linker.alloc)?)
+            flatten_present(at, test, first, box_nothing(at.linker.alloc)?)
         }
         Branches::Else(body, _) => {
             let second = box_body(at, body)?;
-            present(at, test, box_nothing(at.linker.alloc)?, second)
+            flatten_present(at, test, box_nothing(at.linker.alloc)?, second)
         }
         Branches::Both(body, other, _) => {
             let first = box_body(at, body)?;
-            present(at, test, first, box_body(at, other)?)
+            flatten_present(at, test, first, box_body(at, other)?)
         }
     }
 }

@@ -10,9 +10,9 @@
 mod bindings;
 mod body_table;
 mod bound_runs;
+mod bound_tests;
 mod closing;
 mod flatten;
-mod found_tests;
 pub mod laws;
 pub mod link;
 pub mod linked_module;

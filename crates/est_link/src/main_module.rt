@@ -8,7 +8,7 @@ ghost use Rattle.est_kernel.specs.declared.interface.TheConstants.{MOST_SIGNALS}
 ghost use Rattle.est_relations.specs.declared.relations.TheConstants.{MOST_RELATIONS};
 ghost use Rattle.est_link.specs.MainModule.{kernel_kind, declaration_of, declarations_of};
 ghost use Rattle.est_link.specs.MainModule.{IsRelation, AreRelations, member_place};
-ghost use Rattle.est_checks.specs.LawlessRelations.{first_lawless};
+ghost use Rattle.est_checks.specs.LawlessRelations.{first_over_outputs};
 ghost use Rattle.est_modules.specs.Modules.{program_of};
 ghost use Rattle.est_checks.specs.Duplicates.{redeclared};
 
@@ -150,7 +150,7 @@ pub fn main_module(alloc: Global, home: &Head<'_>, body: Body) -> Result<Flat, A
     requires signals { length (program_of home.now).interface ≤ MOST_SIGNALS }
     requires relations { length (program_of home.now).relations ≤ MOST_RELATIONS }
     requires distinct { redeclared [] (map (λ d. d.name) (program_of home.now).interface) ≡ None }
-    requires lawful { first_lawless (program_of home.now) ≡ None }
+    requires lawful { first_over_outputs (program_of home.now) ≡ None }
     requires bound { IsBound (declarations_of (program_of home.now)) 0 0 (body_of body) }
     ensures interface { IfOk result (λ f. f.interface ≡ declarations_of (program_of home.now)) }
     ensures relations { IfOk result (λ f. AreRelations (declarations_of (program_of home.now))

@@ -6,7 +6,7 @@ ghost use Rattle.est_link.specs.Inner.OpenBodies.{closed_of};
 ghost use Rattle.est_link.specs.Inner.Tables.{bodies_of, body_named, module_body_of};
 ghost use Rattle.est_reduce.specs.Views.{body_of};
 
-use crate::closing::{Closing, close};
+use crate::closing::{CloseContext, close};
 use crate::open_body::OpenBody;
 use crate::signal_meanings::SignalMeanings;
 use crate::used_signals::own_meanings;
@@ -57,7 +57,7 @@ impl ModuleBody {
         ensures { IfOk result (λ b. body_of b ≡ module_body_of self.now) }
     {
         close(
-            &Closing {
+            &CloseContext {
                 alloc,
                 meanings: &self.meanings,
             },

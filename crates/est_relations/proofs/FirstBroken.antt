@@ -88,10 +88,11 @@ first_at keep xs n d lt h f =
       within n l h = grind (arith, nat_tests)
 
 -- the first exclusion that would not hold
-pub first_broken : (rs : List Relation) (mask place n m : ℕ) (r : Relation) → n < length rs → r ≡ get_or rs n r
+pub first_broken_exclusion : (rs : List Relation) (mask place n m : ℕ) (r : Relation) → n < length rs
+    → r ≡ get_or rs n r
     → list_all (keeps_exclusion (bits (with_place mask place))) (take n rs) ≡ true → Excludes r mask place m
     → IsFirstBroken rs mask place (n + 1) m
-first_broken rs mask place n m r lt at before e = record {
+first_broken_exclusion rs mask place n m r lt at before e = record {
   index = n;
   numbered = refl;
   first = first_at (keeps_exclusion (bits (with_place mask place))) rs n r lt before
@@ -102,11 +103,11 @@ first_broken rs mask place n m r lt at before e = record {
 }
 
 -- the first relation that does not hold
-pub first_lacking : (rs : List Relation) (mask n : ℕ) (m : InterfaceSignal) (r : Relation) → n < length rs
+pub first_broken_implication : (rs : List Relation) (mask n : ℕ) (m : InterfaceSignal) (r : Relation) → n < length rs
     → r ≡ get_or rs n r
     → list_all (keeps (bits mask)) (take n rs) ≡ true → Lacks r mask m
     → IsFirstLacking rs mask (n + 1) m.index
-first_lacking rs mask n m r lt at before l = record {
+first_broken_implication rs mask n m r lt at before l = record {
   index = n;
   numbered = refl;
   first = first_at (keeps (bits mask)) rs n r lt before (ap (keeps (bits mask)) (sym at) ∙ l.broken);

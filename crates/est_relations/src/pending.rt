@@ -7,7 +7,7 @@ ghost use Rattle.est_relations.specs.Offers.{pending_inputs, place_of, with_plac
 
 use crate::refusal::PendingRefusal;
 use crate::relations::Relations;
-use crate::violations::{first_broken, first_lacking};
+use crate::violations::{first_broken_exclusion, first_broken_implication};
 use est_kernel::interface::Interface;
 use est_kernel::mask;
 use est_kernel::statement::InterfaceSignal;
@@ -66,7 +66,7 @@ fn add_input(
     if mask::has(inputs, signal.index) {
         return Err(PendingRefusal::AlreadyOffered);
     }
-    match first_broken(relations.as_slice(), inputs, signal) {
+    match first_broken_exclusion(relations.as_slice(), inputs, signal) {
         Some(broken) => Err(PendingRefusal::Excluded {
             relation: broken.relation,
             signal: interface.get(broken.signal).name,
@@ -141,7 +141,7 @@ impl<'a> Pending<'a> {
     pub fn ready(&self) -> Result<(), PendingRefusal>
         ensures { ReadyAnswer self.now result }
     {
-        match first_lacking(self.relations.as_slice(), self.inputs) {
+        match first_broken_implication(self.relations.as_slice(), self.inputs) {
             Some(lacking) => Err(PendingRefusal::Implied {
                 relation: lacking.relation,
                 missing: self.interface.get(lacking.signal).name,

@@ -15,7 +15,7 @@ use est_kernel::statement::InterfaceSignal;
 
 /// A relation that does not hold, and the signal that is to blame.
 #[derive(Clone, Copy)]
-pub struct Broken {
+pub struct BrokenRelation {
     /// Its number, counted from 1.
     pub relation: u8,
     /// Of an exclusion, its first pending member; of an implication, the signal that is missing.
@@ -43,7 +43,11 @@ fn excluded_by(relation: &Relation, inputs: u64, signal: InterfaceSignal) -> Opt
 }
 
 /// The first exclusion that would not hold with this signal. The signal is not pending.
-pub fn first_broken(relations: &[Relation], inputs: u64, signal: InterfaceSignal) -> Option<Broken>
+pub fn first_broken_exclusion(
+    relations: &[Relation],
+    inputs: u64,
+    signal: InterfaceSignal,
+) -> Option<BrokenRelation>
     requires few { length relations.now ≤ MOST_RELATIONS }
     requires kept { list_all (keeps_exclusion (bits inputs)) relations.now ≡ true }
     requires new { bits inputs signal.index ≡ false }
@@ -53,7 +57,7 @@ pub fn first_broken(relations: &[Relation], inputs: u64, signal: InterfaceSignal
 {
     for (index, relation) in relations.iter().enumerate() {
         if let Some(member) = excluded_by(relation, inputs, signal) {
-            return Some(Broken {
+            return Some(BrokenRelation {
                 relation: index as u8 + 1,
                 signal: member,
             });
@@ -82,7 +86,7 @@ fn lacking_by(relation: &Relation, inputs: u64) -> Option<InterfaceSignal>
 }
 
 /// The first relation that does not hold. Each exclusion holds.
-pub fn first_lacking(relations: &[Relation], inputs: u64) -> Option<Broken>
+pub fn first_broken_implication(relations: &[Relation], inputs: u64) -> Option<BrokenRelation>
     requires few { length relations.now ≤ MOST_RELATIONS }
     requires kept { list_all (keeps_exclusion (bits inputs)) relations.now ≡ true }
     ensures { MatchOption result
@@ -91,7 +95,7 @@ pub fn first_lacking(relations: &[Relation], inputs: u64) -> Option<Broken>
 {
     for (index, relation) in relations.iter().enumerate() {
         if let Some(missing) = lacking_by(relation, inputs) {
-            return Some(Broken {
+            return Some(BrokenRelation {
                 relation: index as u8 + 1,
                 signal: missing,
             });

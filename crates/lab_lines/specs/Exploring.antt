@@ -5,7 +5,7 @@ use Rattle.est_kernel.specs.declared.statement.Test.{Test}
 use Rattle.est_explore.specs.Explored.{IsExplored}
 use Rattle.est_explore.specs.Runs.{Module}
 use Rattle.est_explore.specs.Verdicts.{IsRight}
-use Rattle.est_cover.specs.declared.asked.Asked.{Asked}
+use Rattle.est_cover.specs.declared.answered.AnsweredInputs.{AnsweredInputs}
 use Rattle.est_explore.specs.declared.claim.Claim.{Claim}
 use Rattle.est_explore.specs.declared.claim.Claim.TheVariants.{NeverStuck, Always}
 use Rattle.est_explore.specs.declared.one_module.Answer.{Answer}
@@ -41,7 +41,7 @@ AreTold m states steps _ _ = ⊥
 -- what is told of a module: how many states and reactions a search of it has found that has ended, the verdict on the
 -- claim that it is never Stuck, and that on each test in turn
 pub record IsExploration (m : Module) (tests : List Test) (states steps : ℕ) (d : Data) : Type 0 where
-  pub found : Found Position (Asked Answer)
+  pub found : Found Position (AnsweredInputs Answer)
   pub watched : ℕ → Bool
   pub explored : IsExplored m watched found
   pub ended : HasEnded states steps found.nodes.items found.rows.items found.done

@@ -4,7 +4,7 @@ use Rattle.serde_json.specs.Data.{Data, number, unsigned, string, array, object,
 use Rattle.serde_json.specs.View.{items_of}
 use Rattle.est_kernel.specs.Bits.{bits}
 use Rattle.est_kernel.specs.declared.interface.Declaration.{Declaration}
-use Rattle.est_cover.specs.declared.asked.Asked.{Asked}
+use Rattle.est_cover.specs.declared.answered.AnsweredInputs.{AnsweredInputs}
 use Rattle.est_explore.specs.declared.one_module.Answer.{Answer}
 use Rattle.est_explore.specs.declared.one_module.Answer.TheVariants.{Reaction, Stuck}
 use Rattle.est_explore.specs.declared.two_modules.AnswerPair.{AnswerPair}
@@ -29,7 +29,7 @@ answer_members interface (Reaction outputs) = member (codes "outputs") (names_js
 answer_members interface (Stuck undecided) = member (codes "undecided") (names_json interface undecided) no_members
 
 -- an instant of a module
-abbrev pub instant_json : List Declaration → Asked Answer → Data
+abbrev pub instant_json : List Declaration → AnsweredInputs Answer → Data
 instant_json interface a =
     object (member (codes "inputs") (names_json interface a.inputs) (answer_members interface a.answer))
 
@@ -41,7 +41,7 @@ verdict_json interface (Fails word) = object (member (codes "verdict") (string (
     (member (codes "word") (array (items_of (map (instant_json interface) word.items))) no_members))
 
 -- an instant of two modules
-abbrev pub instant_of_both_json : List Declaration → Asked AnswerPair → Data
+abbrev pub instant_of_both_json : List Declaration → AnsweredInputs AnswerPair → Data
 instant_of_both_json interface a =
     object (member (codes "first") (object (answer_members interface a.answer.first))
     (member (codes "inputs") (names_json interface a.inputs)

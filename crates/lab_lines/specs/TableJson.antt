@@ -13,7 +13,7 @@ use Rattle.est_kernel.specs.declared.state.State.TheVariants.{Fresh, Done, Pause
 use Rattle.est_explore.specs.Explored.{IsExplored}
 use Rattle.est_explore.specs.Runs.{Module}
 use Rattle.est_explore.specs.Tables.{IsClosedTable}
-use Rattle.est_cover.specs.declared.asked.Asked.{Asked}
+use Rattle.est_cover.specs.declared.answered.AnsweredInputs.{AnsweredInputs}
 use Rattle.est_explore.specs.declared.one_module.Answer.{Answer}
 use Rattle.est_explore.specs.declared.one_module.Answer.TheVariants.{Reaction, Stuck}
 use Rattle.est_explore.specs.declared.one_module.Position.{Position}
@@ -27,7 +27,7 @@ abbrev pub place_json : Option ℕ → Data
 place_json place = option_map_or (λ n. number (unsigned n)) place null
 
 -- a row with this answer: what is asked, the place of the state before it, the inputs, and what comes of them
-abbrev pub answered_json : List Declaration → Row (Asked Answer) → Answer → Data
+abbrev pub answered_json : List Declaration → Row (AnsweredInputs Answer) → Answer → Data
 answered_json interface r (Reaction outputs) = object (member (codes "asked") (names_json interface r.label.asked)
     (member (codes "from") (number (unsigned r.from))
     (member (codes "inputs") (names_json interface r.label.inputs)
@@ -39,7 +39,7 @@ answered_json interface r (Stuck undecided) = object (member (codes "asked") (na
     (member (codes "undecided") (names_json interface undecided) no_members))))
 
 -- a row
-abbrev pub row_json : List Declaration → Row (Asked Answer) → Data
+abbrev pub row_json : List Declaration → Row (AnsweredInputs Answer) → Data
 row_json interface r = answered_json interface r r.label.answer
 
 -- the pauses in the set whose numbers are less than this one, in order
@@ -63,7 +63,7 @@ node_json n = state_json n.state.state
 
 -- the closed table of a module: its states in the order found, and the rows
 pub record IsTableTold (m : Module) (d : Data) : Type 0 where
-  pub found : Found Position (Asked Answer)
+  pub found : Found Position (AnsweredInputs Answer)
   pub closed : IsClosedTable m found
   pub said : d ≡ object (member (codes "ok") (string (codes "table"))
       (member (codes "rows") (array (items_of (map (row_json m.kernel.interface) found.rows.items)))
@@ -71,7 +71,7 @@ pub record IsTableTold (m : Module) (d : Data) : Type 0 where
 
 -- more states or more reactions were found than that, and how many
 pub record IsTooLarge (m : Module) (states steps : ℕ) (d : Data) : Type 0 where
-  pub found : Found Position (Asked Answer)
+  pub found : Found Position (AnsweredInputs Answer)
   pub watched : ℕ → Bool
   pub explored : IsExplored m watched found
   pub more : (states < length found.nodes.items) ⊎ (steps < length found.rows.items)

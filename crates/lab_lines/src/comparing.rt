@@ -86,9 +86,9 @@ pub fn compare_modules<E: PartEngine, F: PartEngine>(
         ≡ subject.now.reactive.now.first.kernel.now.interface }
     ensures { IfOk result (λ v. IsComparison
         (module_of subject.now.reactive.now.first.kernel.now subject.now.relations.now
-        subject.now.among)
+        subject.now.allowed)
         (module_of subject.now.reactive.now.second.kernel.now subject.now.relations.now
-        subject.now.among) limits.states limits.steps (view v)) }
+        subject.now.allowed) limits.states limits.steps (view v)) }
 {
     let found = explore_both(alloc, subject, engines, limits)?;
     let comparison = compare(alloc, subject, &found)?;

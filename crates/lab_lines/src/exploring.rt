@@ -15,7 +15,7 @@ ghost use Rattle.lab_lines.specs.FoundJson.{exploration_json};
 use crate::asked_test::AskedTest;
 use crate::found_json::verdict_json;
 use est_cover::all_lawful::AllLawful;
-use est_cover::asked::Asked;
+use est_cover::answered::AnsweredInputs;
 use est_explore::claim::Claim;
 use est_explore::judge::{explore, judge};
 use est_explore::one_module::{Answer, OneModule, Position};
@@ -42,17 +42,17 @@ fn watched_by(tests: &[AskedTest]) -> u64
 fn verdicts_on<E: PartEngine>(
     alloc: Global,
     subject: &AllLawful<'_, OneModule<'_, E>>,
-    found: &Found<Position, Asked<Answer>>,
+    found: &Found<Position, AnsweredInputs<Answer>>,
     tests: &[AskedTest],
     limits: Limits,
 ) -> Result<Vec<Value>, AllocError>
     requires explored { IsExplored (module_of subject.now.reactive.now.kernel.now
-        subject.now.relations.now subject.now.among) (bits subject.now.watched) found.now }
+        subject.now.relations.now subject.now.allowed) (bits subject.now.watched) found.now }
     requires watched { All (λ t. IsToldBy (test_of t) (bits subject.now.watched)) tests.now }
     requires ended { HasEnded limits.states limits.steps found.now.nodes.items found.now.rows.items
         found.now.done }
     ensures { IfOk result (λ told. AreTold (module_of subject.now.reactive.now.kernel.now
-        subject.now.relations.now subject.now.among) limits.states limits.steps
+        subject.now.relations.now subject.now.allowed) limits.states limits.steps
         (map test_of tests.now) (map view told.items)) }
 {
     let mut verdicts = Vec::new(alloc);
@@ -95,13 +95,13 @@ pub fn judge_module<E: PartEngine>(
 ) -> Result<Value, AllocError>
     requires engine { E.is_for engine.old subject.now.reactive.now.kernel.now }
     ensures { IfOk result (λ v. IsExploration (module_of subject.now.reactive.now.kernel.now
-        subject.now.relations.now subject.now.among) (map test_of tests.now) limits.states
+        subject.now.relations.now subject.now.allowed) (map test_of tests.now) limits.states
         limits.steps (view v)) }
 {
     let watching = AllLawful {
         reactive: subject.reactive,
         relations: subject.relations,
-        among: subject.among,
+        allowed: subject.allowed,
         watched: watched_by(tests),
     };
     let found = explore(alloc, &watching, engine, limits)?;

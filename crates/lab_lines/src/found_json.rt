@@ -6,7 +6,7 @@ ghost use Rattle.serde_json.specs.View.{items_of, view};
 ghost use Rattle.lab_lines.specs.FoundJson.{names_json, answer_members, instant_json, verdict_json};
 ghost use Rattle.lab_lines.specs.FoundJson.{instant_of_both_json};
 
-use est_cover::asked::Asked;
+use est_cover::answered::AnsweredInputs;
 use est_explore::one_module::Answer;
 use est_explore::two_modules::AnswerPair;
 use est_explore::verdict::Verdict;
@@ -48,7 +48,7 @@ fn answer_json(alloc: Global, interface: &Interface, answer: Answer) -> Result<V
 fn instant_json(
     alloc: Global,
     interface: &Interface,
-    asked: &Asked<Answer>,
+    asked: &AnsweredInputs<Answer>,
 ) -> Result<Value, AllocError>
     ensures { IfOk result (λ v. view v ≡ instant_json interface.now asked.now) }
 {
@@ -69,7 +69,7 @@ fn instant_json(
 fn word_json(
     alloc: Global,
     interface: &Interface,
-    word: &[Asked<Answer>],
+    word: &[AnsweredInputs<Answer>],
 ) -> Result<Value, AllocError>
     ensures { IfOk result (λ v.
         view v ≡ array (items_of (map (instant_json interface.now) word.now))) }
@@ -102,7 +102,7 @@ pub fn verdict_json(
 fn instant_of_both_json(
     alloc: Global,
     interface: &Interface,
-    asked: &Asked<AnswerPair>,
+    asked: &AnsweredInputs<AnswerPair>,
 ) -> Result<Value, AllocError>
     ensures { IfOk result (λ v. view v ≡ instant_of_both_json interface.now asked.now) }
 {
@@ -116,7 +116,7 @@ fn instant_of_both_json(
 pub fn word_of_both_json(
     alloc: Global,
     interface: &Interface,
-    word: &[Asked<AnswerPair>],
+    word: &[AnsweredInputs<AnswerPair>],
 ) -> Result<Value, AllocError>
     ensures { IfOk result (λ v.
         view v ≡ array (items_of (map (instant_of_both_json interface.now) word.now))) }

@@ -15,14 +15,14 @@ pub enum Request<'v> {
         /// Each is `never T` or `always T`.
         claims: Vec<&'v str>,
         /// What is looked at.
-        scope: SearchBounds<'v>,
+        bounds: SearchBounds<'v>,
     },
     /// Whether the module `main` of a text does the same.
     Same {
         main: &'v str,
         text: &'v str,
         /// What is looked at.
-        scope: SearchBounds<'v>,
+        bounds: SearchBounds<'v>,
     },
     /// All its states, and what it does at each.
     Table(SearchBounds<'v>),

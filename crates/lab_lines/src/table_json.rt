@@ -13,7 +13,7 @@ use crate::found_json::names_json;
 use crate::pauses::pause_numbers;
 use crate::refusal::TOO_MANY_CODE;
 use est_cover::all_lawful::AllLawful;
-use est_cover::asked::Asked;
+use est_cover::answered::AnsweredInputs;
 use est_explore::judge::explore;
 use est_explore::one_module::{Answer, OneModule, Position};
 use est_explore::table::is_closed;
@@ -81,7 +81,7 @@ fn place_json(place: Option<usize>) -> Value
 fn row_json(
     alloc: Global,
     interface: &Interface,
-    row: &Row<Asked<Answer>>,
+    row: &Row<AnsweredInputs<Answer>>,
 ) -> Result<Value, AllocError>
     ensures { IfOk result (λ v. view v ≡ row_json interface.now row.now) }
 {
@@ -108,7 +108,7 @@ fn row_json(
 fn rows_json(
     alloc: Global,
     interface: &Interface,
-    rows: &[Row<Asked<Answer>>],
+    rows: &[Row<AnsweredInputs<Answer>>],
 ) -> Result<Value, AllocError>
     ensures { IfOk result (λ v. view v ≡ array (items_of (map (row_json interface.now)
         rows.now))) }
@@ -150,9 +150,9 @@ pub fn find_table<E: PartEngine>(
 ) -> Result<Value, AllocError>
     requires { E.is_for engine.old subject.now.reactive.now.kernel.now }
     ensures { IfOk result (λ v. IsTableTold (module_of
-        subject.now.reactive.now.kernel.now subject.now.relations.now subject.now.among) (view v)
+        subject.now.reactive.now.kernel.now subject.now.relations.now subject.now.allowed) (view v)
         ⊎ IsTooLarge (module_of subject.now.reactive.now.kernel.now subject.now.relations.now
-        subject.now.among) limits.states limits.steps (view v)) }
+        subject.now.allowed) limits.states limits.steps (view v)) }
 {
     let interface = subject.reactive.kernel.interface();
     let found = explore(alloc, subject, engine, limits)?;

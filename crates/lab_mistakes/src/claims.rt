@@ -11,7 +11,7 @@ use lab_claims::claims;
 use lab_claims::claims::BadClaim;
 use lab_lines::asked_test::AskedTest;
 use lab_run::lab;
-use reactor_core::loaded::Module;
+use reactor_core::module::Module;
 use reactor_core::refusal::ReactorRefusal;
 use serde_json::Value;
 use state_search::search::Limits;
@@ -60,11 +60,11 @@ pub fn explore_among(
     alloc: Global,
     loaded: &Module,
     claims: &[&str],
-    among: u64,
+    allowed: u64,
     limits: Limits,
 ) -> Result<Value, AllocError>
-    ensures { IfOk result (λ v. TellsAmong loaded.now (map (λ t. t.now) claims.now) among
+    ensures { IfOk result (λ v. TellsAmong loaded.now (map (λ t. t.now) claims.now) allowed
         limits.states limits.steps (view v)) }
 {
-    lab::explore_among(alloc, loaded, claims, among, limits)
+    lab::explore_among(alloc, loaded, claims, allowed, limits)
 }

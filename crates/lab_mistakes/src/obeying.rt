@@ -7,7 +7,7 @@ ghost use Rattle.lab_run.specs.Walking.{GoesBack, Tries};
 use lab_lines::request::Request;
 use lab_run::lab::{Lab, LabReply};
 use lab_run::status;
-use lab_run::walk::Walk;
+use lab_run::walk::SteppedModule;
 use std::alloc::{AllocError, Global};
 
 /// Does what is asked of a lab.
@@ -27,7 +27,11 @@ pub fn obey(lab: &mut Lab, alloc: Global, request: &Request<'_>) -> Result<LabRe
 /// # Errors
 ///
 /// `AllocError` where memory is refused.
-pub fn try_instant(walk: &mut Walk, alloc: Global, names: &[&str]) -> Result<LabReply, AllocError>
+pub fn try_instant(
+    walk: &mut SteppedModule,
+    alloc: Global,
+    names: &[&str],
+) -> Result<LabReply, AllocError>
     ensures done { IfOk result (λ told. Tries walk.old (map (λ t. t.now) names.now) told
         walk.new) }
     ensures kept { IfErr result (λ _. walk.new ≡ walk.old) }
@@ -40,7 +44,7 @@ pub fn try_instant(walk: &mut Walk, alloc: Global, names: &[&str]) -> Result<Lab
 /// # Errors
 ///
 /// `AllocError` where memory is refused.
-pub fn go_back(walk: &mut Walk, alloc: Global, to: u64) -> Result<LabReply, AllocError>
+pub fn go_back(walk: &mut SteppedModule, alloc: Global, to: u64) -> Result<LabReply, AllocError>
     ensures done { IfOk result (λ told. GoesBack walk.old to told walk.new) }
     ensures kept { IfErr result (λ _. walk.new ≡ walk.old) }
 {

@@ -104,9 +104,9 @@ pub fn compare_modules<E: PartEngine, F: PartEngine>(
         ≡ subject.now.reactive.now.first.kernel.now.interface }
     ensures { IfOk result (λ v. IsComparison
         (module_of subject.now.reactive.now.first.kernel.now subject.now.relations.now
-        subject.now.among)
+        subject.now.allowed)
         (module_of subject.now.reactive.now.second.kernel.now subject.now.relations.now
-        subject.now.among) limits.states limits.steps (view v)) }
+        subject.now.allowed) limits.states limits.steps (view v)) }
 {
     comparing::compare_modules(alloc, subject, engines, limits)
 }

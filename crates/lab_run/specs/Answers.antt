@@ -10,7 +10,7 @@ use Rattle.est_explore.specs.Views.{module_of}
 use Rattle.est_relations.specs.declared.refusal.PendingRefusal.{PendingRefusal}
 use Rattle.reactor_core.specs.Loading.{Gives, IsLoadFault}
 use Rattle.reactor_core.specs.Standing.{given_by}
-use Rattle.reactor_core.specs.declared.loaded.Module.{Module}
+use Rattle.reactor_core.specs.declared.module.Module.{Module}
 use Rattle.reactor_core.specs.declared.refusal.ReactorRefusal.{ReactorRefusal}
 use Rattle.reactor_core.specs.declared.refusal.ModuleRefusal.TheVariants as of_module
 use Rattle.access_core.specs.Refusals.{of_reactor}
@@ -77,7 +77,7 @@ pub record IsNotOffered (interface : List Declaration) (names : List (List ℕ))
 
 -- the same of what is looked at
 abbrev pub IsNoScope : Module → SearchBounds → (given : Refusal) → Type 0
-IsNoScope m scope given = IsNotOffered m.kernel.interface (map (λ t. t.now) scope.inputs.items) given
+IsNoScope m bounds given = IsNotOffered m.kernel.interface (map (λ t. t.now) bounds.inputs.items) given
 
 -- what is told of a claim that can't be read: its number, and the server's refusal
 pub record IsBadClaimTold (bad : BadClaim) (d : Data) : Type 0 where
@@ -95,32 +95,32 @@ pub record IsBadClaim (interface : List Declaration) (claims : List (List ℕ)) 
 
 -- of the module it is answered to these claims that they are right or wrong in all runs in which only those inputs are
 -- offered, or that there are too many states or reactions
-pub record IsExplorationAmong (m : Module) (claims : List (List ℕ)) (among states steps : ℕ) (d : Data) : Type 0 where
+pub record IsExplorationAmong (m : Module) (claims : List (List ℕ)) (allowed states steps : ℕ) (d : Data) : Type 0 where
   pub tests : List Test
   pub read : AreClaimTexts m.kernel.interface claims tests
-  pub right : IsExploration (module_of m.kernel m.relations among) tests states steps d
+  pub right : IsExploration (module_of m.kernel m.relations allowed) tests states steps d
 
 -- the claims are judged, or one of them can't be read
-abbrev pub TellsAmong : Module → (claims : List (List ℕ)) → (among states steps : ℕ) → Data → Type 0
-TellsAmong m claims among states steps d =
-    IsExplorationAmong m claims among states steps d ⊎ IsBadClaim m.kernel.interface claims d
+abbrev pub TellsAmong : Module → (claims : List (List ℕ)) → (allowed states steps : ℕ) → Data → Type 0
+TellsAmong m claims allowed states steps d =
+    IsExplorationAmong m claims allowed states steps d ⊎ IsBadClaim m.kernel.interface claims d
 
 -- the same, where only the inputs of these names are offered
-pub record IsExplorationOf (m : Module) (claims : List (List ℕ)) (scope : SearchBounds) (d : Data) : Type 0 where
-  pub among : ℕ
-  pub named : AreNamed m.kernel.interface (map (λ t. t.now) scope.inputs.items) among
-  pub right : TellsAmong m claims among scope.most scope.most d
+pub record IsExplorationOf (m : Module) (claims : List (List ℕ)) (bounds : SearchBounds) (d : Data) : Type 0 where
+  pub allowed : ℕ
+  pub named : AreNamed m.kernel.interface (map (λ t. t.now) bounds.inputs.items) allowed
+  pub right : TellsAmong m claims allowed bounds.most bounds.most d
 
 -- what is answered to claims of the module
 abbrev pub TellsOfClaims : Module → (claims : List (List ℕ)) → SearchBounds → LabReply → Type 0
-TellsOfClaims m claims scope (Refused given) = IsNoScope m scope given
-TellsOfClaims m claims scope (Json v) = IsExplorationOf m claims scope (view v)
-TellsOfClaims m claims scope (Line line) = ⊥
+TellsOfClaims m claims bounds (Refused given) = IsNoScope m bounds given
+TellsOfClaims m claims bounds (Json v) = IsExplorationOf m claims bounds (view v)
+TellsOfClaims m claims bounds (Line line) = ⊥
 
 -- the two have one interface, and it is told whether they do the same
-pub record IsComparisonAmong (m other : Module) (among states steps : ℕ) (d : Data) : Type 0 where
+pub record IsComparisonAmong (m other : Module) (allowed states steps : ℕ) (d : Data) : Type 0 where
   pub same : other.kernel.interface ≡ m.kernel.interface
-  pub right : IsComparison (module_of m.kernel m.relations among) (module_of other.kernel m.relations among) states
+  pub right : IsComparison (module_of m.kernel m.relations allowed) (module_of other.kernel m.relations allowed) states
       steps d
 
 -- the other has another interface, and that is told
@@ -130,35 +130,36 @@ pub record IsOtherInterface (m other : Module) (d : Data) : Type 0 where
       (member (codes "fault") (string (codes "Interface")) no_members))
 
 -- the two are compared, or the other has another interface
-abbrev pub TellsOfTwo : (m other : Module) → (among states steps : ℕ) → Data → Type 0
-TellsOfTwo m other among states steps d = IsComparisonAmong m other among states steps d ⊎ IsOtherInterface m other d
+abbrev pub TellsOfTwo : (m other : Module) → (allowed states steps : ℕ) → Data → Type 0
+TellsOfTwo m other allowed states steps d = IsComparisonAmong m other allowed states steps d
+    ⊎ IsOtherInterface m other d
 
 -- the same of the module and that of a text, where only the inputs of these names are offered
-pub record IsComparisonOf (m : Module) (main text : List ℕ) (scope : SearchBounds) (d : Data) : Type 0 where
+pub record IsComparisonOf (m : Module) (main text : List ℕ) (bounds : SearchBounds) (d : Data) : Type 0 where
   pub other : Module
   pub gives : Gives main text (given_by other)
-  pub among : ℕ
-  pub named : AreNamed m.kernel.interface (map (λ t. t.now) scope.inputs.items) among
-  pub right : TellsOfTwo m other among scope.most scope.most d
+  pub allowed : ℕ
+  pub named : AreNamed m.kernel.interface (map (λ t. t.now) bounds.inputs.items) allowed
+  pub right : TellsOfTwo m other allowed bounds.most bounds.most d
 
 -- what is answered to the question whether the module and that of a text do the same
 abbrev pub TellsOfBoth : Module → (main text : List ℕ) → SearchBounds → LabReply → Type 0
-TellsOfBoth m main text scope (Refused given) = IsNoScope m scope given ⊎ IsNotLoaded main text given
-TellsOfBoth m main text scope (Json v) = IsComparisonOf m main text scope (view v)
-TellsOfBoth m main text scope (Line line) = ⊥
+TellsOfBoth m main text bounds (Refused given) = IsNoScope m bounds given ⊎ IsNotLoaded main text given
+TellsOfBoth m main text bounds (Json v) = IsComparisonOf m main text bounds (view v)
+TellsOfBoth m main text bounds (Line line) = ⊥
 
 -- the table of the module in which only those inputs are offered, or that it is too large
-pub record IsTableOf (m : Module) (scope : SearchBounds) (d : Data) : Type 0 where
-  pub among : ℕ
-  pub named : AreNamed m.kernel.interface (map (λ t. t.now) scope.inputs.items) among
-  pub right : IsTableTold (module_of m.kernel m.relations among) d
-      ⊎ IsTooLarge (module_of m.kernel m.relations among) scope.most scope.most d
+pub record IsTableOf (m : Module) (bounds : SearchBounds) (d : Data) : Type 0 where
+  pub allowed : ℕ
+  pub named : AreNamed m.kernel.interface (map (λ t. t.now) bounds.inputs.items) allowed
+  pub right : IsTableTold (module_of m.kernel m.relations allowed) d
+      ⊎ IsTooLarge (module_of m.kernel m.relations allowed) bounds.most bounds.most d
 
 -- what is answered to the question for the table
 abbrev pub TellsOfTable : Module → SearchBounds → LabReply → Type 0
-TellsOfTable m scope (Refused given) = IsNoScope m scope given
-TellsOfTable m scope (Json v) = IsTableOf m scope (view v)
-TellsOfTable m scope (Line line) = ⊥
+TellsOfTable m bounds (Refused given) = IsNoScope m bounds given
+TellsOfTable m bounds (Json v) = IsTableOf m bounds (view v)
+TellsOfTable m bounds (Line line) = ⊥
 
 -- ---- what a request does
 
@@ -177,11 +178,11 @@ TellsIf (Some s) tells told = tells s.walked told
 abbrev pub Obeys : (before : Option Standing) → Request → LabReply → (after : Option Standing) → Type 0
 Obeys before (Load main text) told after = Loads main.now text.now before told after
 Obeys before Kernel told after = TellsIf before TellsOfKernel told × (after ≡ before)
-Obeys before (Explore claims scope) told after =
-    TellsIf before (λ m. TellsOfClaims m (map (λ t. t.now) claims.items) scope) told × (after ≡ before)
-Obeys before (Same main text scope) told after =
-    TellsIf before (λ m. TellsOfBoth m main.now text.now scope) told × (after ≡ before)
-Obeys before (Table scope) told after = TellsIf before (λ m. TellsOfTable m scope) told × (after ≡ before)
+Obeys before (Explore claims bounds) told after =
+    TellsIf before (λ m. TellsOfClaims m (map (λ t. t.now) claims.items) bounds) told × (after ≡ before)
+Obeys before (Same main text bounds) told after =
+    TellsIf before (λ m. TellsOfBoth m main.now text.now bounds) told × (after ≡ before)
+Obeys before (Table bounds) told after = TellsIf before (λ m. TellsOfTable m bounds) told × (after ≡ before)
 Obeys before (Instant names) told after = MakesIf before (map (λ t. t.now) names.items) told after
 Obeys before (Try names) told after = TriesIf before (map (λ t. t.now) names.items) told after
 Obeys before (Back to) told after = GoesBackIf before to told after

@@ -13,7 +13,7 @@ use Rattle.lab_run.specs.Statuses.{status_of}
 use Rattle.lab_run.specs.declared.answer.LineAnswerer.{LineAnswerer}
 use Rattle.lab_run.specs.declared.lab.Lab.{Lab}
 use Rattle.lab_run.specs.declared.lab.LabReply.{LabReply}
-use Rattle.lab_run.specs.declared.order.ProveOrder.{ProveOrder}
+use Rattle.lab_run.specs.declared.invocation.ProveOptions.{ProveOptions}
 
 -- the status after the end of the lines
 abbrev pub status_of_end : EndReason → ℕ
@@ -56,24 +56,24 @@ pub record IsWrittenLine (told : LabReply) (status : ℕ) (written after : Optio
 abbrev pub TellsSo : LabReply → (status : ℕ) → (written after : Option (List ℕ)) → Type 0
 TellsSo told status written after = IsWrittenLine told status written after ⊎ (status ≡ 3)
 
--- the claims of the order are judged on the module of a text, and what is told of them is written
-pub record IsProved (p : ProveOrder) (text : List ℕ) (status : ℕ) (written after : Option (List ℕ)) : Type 0 where
+-- the claims of the invocation are judged on the module of a text, and what is told of them is written
+pub record IsProved (p : ProveOptions) (text : List ℕ) (status : ℕ) (written after : Option (List ℕ)) : Type 0 where
   pub told : LabReply
   pub right : TellsOfText p text told
   pub said : TellsSo told status written after
 
 -- the same, or memory was refused
-abbrev pub ProvesText : ProveOrder → (text : List ℕ) → (status : ℕ) → (written after : Option (List ℕ)) → Type 0
+abbrev pub ProvesText : ProveOptions → (text : List ℕ) → (status : ℕ) → (written after : Option (List ℕ)) → Type 0
 ProvesText p text status written after = IsProved p text status written after ⊎ (status ≡ 3)
 
--- an order to prove is done on some text; or the file can't be read, and nothing is written
-abbrev pub Proves : ProveOrder → (status : ℕ) → (written after : Option (List ℕ)) → Type 0
+-- an invocation to prove is done on some text; or the file can't be read, and nothing is written
+abbrev pub Proves : ProveOptions → (status : ℕ) → (written after : Option (List ℕ)) → Type 0
 Proves p status written after =
     ((text : List ℕ) × ProvesText p text status written after) ⊎ ((status ≡ 2) × (after ≡ written))
 
--- a run of the program: lines are answered; an order to prove is done; or the words can't be read, and nothing is
+-- a run of the program: lines are answered; an invocation to prove is done; or the words can't be read, and nothing is
 -- written
 abbrev pub Runs : (ahead : Option (List ℕ)) → (status : ℕ) → (written after : Option (List ℕ)) → Type 0
 Runs ahead status written after = ServesAll ahead status written after
-    ⊎ (((p : ProveOrder) × Proves p status written after)
+    ⊎ (((p : ProveOptions) × Proves p status written after)
     ⊎ (((status ≡ 2) ⊎ (status ≡ 3)) × (after ≡ written)))

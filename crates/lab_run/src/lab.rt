@@ -16,7 +16,7 @@ ghost use Rattle.lab_run.specs.Answers.{TellsOfKernel, TellsOfTable, TellsOfTwo}
 ghost use Rattle.wire_lines.specs.Replies.{line_of};
 ghost use Rattle.wire_lines.specs.Requests.{IsValue};
 
-use crate::walk::{Walk, refusal_of};
+use crate::walk::{SteppedModule, refusal_of};
 use access_core::refusal::Refusal;
 use access_core::reply::Reply;
 use est_cover::all_lawful::AllLawful;
@@ -34,7 +34,7 @@ use lab_lines::refusal::{CLAIM_CODE, INTERFACE_CODE};
 use lab_lines::request::{Request, SearchBounds};
 use lab_lines::statements::kernel_json;
 use lab_lines::table_json::find_table;
-use reactor_core::loaded::Module;
+use reactor_core::module::Module;
 use reactor_core::reading::read_module;
 use serde_json::{Value, json};
 use state_search::search::Limits;
@@ -56,7 +56,7 @@ pub enum LabReply {
 /// What is loaded.
 #[derive(Drop)]
 pub struct Lab {
-    loaded: Option<Walk>,
+    loaded: Option<SteppedModule>,
 }
 
 /// The engine of a module.
@@ -113,19 +113,19 @@ fn bad_claim_json(alloc: Global, bad: BadClaim) -> Result<Value, AllocError>
 fn judge_tests(
     alloc: Global,
     module: &Module,
-    among: u64,
+    allowed: u64,
     tests: &[AskedTest],
     limits: Limits,
 ) -> Result<Value, AllocError>
     ensures { IfOk result (λ v. IsExploration (module_of module.now.kernel module.now.relations
-        among) (map test_of tests.now) limits.states limits.steps (view v)) }
+        allowed) (map test_of tests.now) limits.states limits.steps (view v)) }
 {
     let mut engine = engine_of(alloc, module)?;
     let reactive = one_module(module);
     let subject = AllLawful {
         reactive: &reactive,
         relations: &module.relations,
-        among,
+        allowed,
         watched: 0,
     };
     judge_module(alloc, &subject, &mut engine, tests, limits)
@@ -136,14 +136,14 @@ pub fn explore_among(
     alloc: Global,
     module: &Module,
     claims: &[&str],
-    among: u64,
+    allowed: u64,
     limits: Limits,
 ) -> Result<Value, AllocError>
-    ensures { IfOk result (λ v. TellsAmong module.now (map (λ t. t.now) claims.now) among
+    ensures { IfOk result (λ v. TellsAmong module.now (map (λ t. t.now) claims.now) allowed
         limits.states limits.steps (view v)) }
 {
     match read_claims(alloc, module.kernel.interface(), claims)? {
-        Ok(tests) => judge_tests(alloc, module, among, tests.as_slice(), limits),
+        Ok(tests) => judge_tests(alloc, module, allowed, tests.as_slice(), limits),
         Err(bad) => bad_claim_json(alloc, bad),
     }
 }
@@ -153,15 +153,15 @@ fn explore_claims(
     alloc: Global,
     module: &Module,
     claims: &[&str],
-    scope: &SearchBounds<'_>,
+    bounds: &SearchBounds<'_>,
 ) -> Result<LabReply, AllocError>
-    ensures { IfOk result (TellsOfClaims module.now (map (λ t. t.now) claims.now) scope.now) }
+    ensures { IfOk result (TellsOfClaims module.now (map (λ t. t.now) claims.now) bounds.now) }
 {
-    let among = match signals_of_names(module.kernel.interface(), scope.inputs.as_slice()) {
-        Ok(among) => among,
+    let allowed = match signals_of_names(module.kernel.interface(), bounds.inputs.as_slice()) {
+        Ok(allowed) => allowed,
         Err(refused) => return Ok(LabReply::Refused(refusal_of(refused))),
     };
-    let value = explore_among(alloc, module, claims, among, limits(scope.most))?;
+    let value = explore_among(alloc, module, claims, allowed, limits(bounds.most))?;
     Ok(LabReply::Json(value))
 }
 
@@ -170,12 +170,13 @@ fn compare_both(
     alloc: Global,
     one: &Module,
     other: &Module,
-    among: u64,
+    allowed: u64,
     limits: Limits,
 ) -> Result<Value, AllocError>
     requires { other.now.kernel.interface ≡ one.now.kernel.interface }
-    ensures { IfOk result (λ v. IsComparison (module_of one.now.kernel one.now.relations among)
-        (module_of other.now.kernel one.now.relations among) limits.states limits.steps (view v)) }
+    ensures { IfOk result (λ v. IsComparison (module_of one.now.kernel one.now.relations allowed)
+        (module_of other.now.kernel one.now.relations allowed) limits.states limits.steps (view v))
+            }
 {
     let mut engines = EnginePair {
         first: engine_of(alloc, one)?,
@@ -188,7 +189,7 @@ fn compare_both(
     let subject = AllLawful {
         reactive: &both,
         relations: &one.relations,
-        among,
+        allowed,
         watched: 0,
     };
     compare_modules(alloc, &subject, &mut engines, limits)
@@ -207,14 +208,14 @@ fn compare_modules_of(
     alloc: Global,
     module: &Module,
     other: &Module,
-    among: u64,
+    allowed: u64,
     limits: Limits,
 ) -> Result<Value, AllocError>
-    ensures { IfOk result (λ v. TellsOfTwo module.now other.now among limits.states limits.steps
+    ensures { IfOk result (λ v. TellsOfTwo module.now other.now allowed limits.states limits.steps
         (view v)) }
 {
     if are_same(other.kernel.interface(), module.kernel.interface()) {
-        compare_both(alloc, module, other, among, limits)
+        compare_both(alloc, module, other, allowed, limits)
     } else {
         other_interface(alloc, module, other)
     }
@@ -226,19 +227,19 @@ fn compare_text(
     module: &Module,
     main: &str,
     text: &str,
-    scope: &SearchBounds<'_>,
+    bounds: &SearchBounds<'_>,
 ) -> Result<LabReply, AllocError>
-    ensures { IfOk result (TellsOfBoth module.now main.now text.now scope.now) }
+    ensures { IfOk result (TellsOfBoth module.now main.now text.now bounds.now) }
 {
-    let among = match signals_of_names(module.kernel.interface(), scope.inputs.as_slice()) {
-        Ok(among) => among,
+    let allowed = match signals_of_names(module.kernel.interface(), bounds.inputs.as_slice()) {
+        Ok(allowed) => allowed,
         Err(refused) => return Ok(LabReply::Refused(refusal_of(refused))),
     };
     let other = match read_module(alloc, main, text) {
         Ok(other) => other,
         Err(refusal) => return Ok(LabReply::Refused(Refusal::from(refusal))),
     };
-    let value = compare_modules_of(alloc, module, &other, among, limits(scope.most))?;
+    let value = compare_modules_of(alloc, module, &other, allowed, limits(bounds.most))?;
     Ok(LabReply::Json(value))
 }
 
@@ -246,12 +247,12 @@ fn compare_text(
 fn table_among(
     alloc: Global,
     module: &Module,
-    among: u64,
+    allowed: u64,
     limits: Limits,
 ) -> Result<Value, AllocError>
     ensures { IfOk result (λ v.
-        IsTableTold (module_of module.now.kernel module.now.relations among) (view v)
-        ⊎ IsTooLarge (module_of module.now.kernel module.now.relations among) limits.states
+        IsTableTold (module_of module.now.kernel module.now.relations allowed) (view v)
+        ⊎ IsTooLarge (module_of module.now.kernel module.now.relations allowed) limits.states
         limits.steps (view v)) }
 {
     let mut engine = engine_of(alloc, module)?;
@@ -259,7 +260,7 @@ fn table_among(
     let subject = AllLawful {
         reactive: &reactive,
         relations: &module.relations,
-        among,
+        allowed,
         watched: 0,
     };
     find_table(alloc, &subject, &mut engine, limits)
@@ -269,15 +270,15 @@ fn table_among(
 fn table_of(
     alloc: Global,
     module: &Module,
-    scope: &SearchBounds<'_>,
+    bounds: &SearchBounds<'_>,
 ) -> Result<LabReply, AllocError>
-    ensures { IfOk result (TellsOfTable module.now scope.now) }
+    ensures { IfOk result (TellsOfTable module.now bounds.now) }
 {
-    let among = match signals_of_names(module.kernel.interface(), scope.inputs.as_slice()) {
-        Ok(among) => among,
+    let allowed = match signals_of_names(module.kernel.interface(), bounds.inputs.as_slice()) {
+        Ok(allowed) => allowed,
         Err(refused) => return Ok(LabReply::Refused(refusal_of(refused))),
     };
-    let value = table_among(alloc, module, among, limits(scope.most))?;
+    let value = table_among(alloc, module, allowed, limits(bounds.most))?;
     Ok(LabReply::Json(value))
 }
 
@@ -317,7 +318,7 @@ impl Lab {
             Err(refusal) => return Ok(LabReply::Refused(Refusal::from(refusal))),
         };
         let value = module_json(alloc, &module)?;
-        self.loaded = Some(Walk::begin(alloc, module)?);
+        self.loaded = Some(SteppedModule::begin(alloc, module)?);
         Ok(LabReply::Json(value))
     }
 
@@ -336,13 +337,13 @@ impl Lab {
         &self,
         alloc: Global,
         claims: &[&str],
-        scope: &SearchBounds<'_>,
+        bounds: &SearchBounds<'_>,
     ) -> Result<LabReply, AllocError>
         ensures { IfOk result (TellsIf self.now.loaded (λ m. TellsOfClaims m
-            (map (λ t. t.now) claims.now) scope.now)) }
+            (map (λ t. t.now) claims.now) bounds.now)) }
     {
         match &self.loaded {
-            Some(walk) => explore_claims(alloc, walk.module(), claims, scope),
+            Some(walk) => explore_claims(alloc, walk.module(), claims, bounds),
             None => Ok(LabReply::Refused(Refusal::Empty)),
         }
     }
@@ -353,23 +354,23 @@ impl Lab {
         alloc: Global,
         main: &str,
         text: &str,
-        scope: &SearchBounds<'_>,
+        bounds: &SearchBounds<'_>,
     ) -> Result<LabReply, AllocError>
         ensures { IfOk result (TellsIf self.now.loaded (λ m. TellsOfBoth m main.now text.now
-            scope.now)) }
+            bounds.now)) }
     {
         match &self.loaded {
-            Some(walk) => compare_text(alloc, walk.module(), main, text, scope),
+            Some(walk) => compare_text(alloc, walk.module(), main, text, bounds),
             None => Ok(LabReply::Refused(Refusal::Empty)),
         }
     }
 
     /// Tells the table of the module that is loaded.
-    fn tabulate(&self, alloc: Global, scope: &SearchBounds<'_>) -> Result<LabReply, AllocError>
-        ensures { IfOk result (TellsIf self.now.loaded (λ m. TellsOfTable m scope.now)) }
+    fn tabulate(&self, alloc: Global, bounds: &SearchBounds<'_>) -> Result<LabReply, AllocError>
+        ensures { IfOk result (TellsIf self.now.loaded (λ m. TellsOfTable m bounds.now)) }
     {
         match &self.loaded {
-            Some(walk) => table_of(alloc, walk.module(), scope),
+            Some(walk) => table_of(alloc, walk.module(), bounds),
             None => Ok(LabReply::Refused(Refusal::Empty)),
         }
     }
@@ -427,9 +428,9 @@ impl Lab {
         match request {
             Request::Load { main, text } => self.load(alloc, *main, *text),
             Request::Kernel => self.tell_kernel(alloc),
-            Request::Explore { claims, scope } => self.explore(alloc, claims.as_slice(), scope),
-            Request::Same { main, text, scope } => self.compare(alloc, *main, *text, scope),
-            Request::Table(scope) => self.tabulate(alloc, scope),
+            Request::Explore { claims, bounds } => self.explore(alloc, claims.as_slice(), bounds),
+            Request::Same { main, text, bounds } => self.compare(alloc, *main, *text, bounds),
+            Request::Table(bounds) => self.tabulate(alloc, bounds),
             Request::Instant(names) => self.make_instant(alloc, names.as_slice()),
             Request::Try(names) => self.try_instant(alloc, names.as_slice()),
             Request::Back(to) => self.go_back(alloc, *to),

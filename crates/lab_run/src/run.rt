@@ -8,15 +8,15 @@ ghost use Rattle.lab_run.specs.Runs.{Proves, ProvesText, Runs, ServesAll, TellsS
 ghost use Rattle.lab_run.specs.Runs.{status_of_end};
 
 use crate::answer::{LineAnswerer, line_of};
+use crate::invocation::{Invocation, ProveOptions, WordFault};
 use crate::lab::{Lab, LabReply, explore_among, limits};
-use crate::order::{Order, ProveOrder, WordFault};
 use crate::status::{FAILS, UNKNOWN, UNREAD, status_of};
 use crate::walk::refusal_of;
 use access_core::refusal::Refusal;
 use est_kernel::interface::Interface;
 use est_relations::refusal::PendingRefusal;
 use lab_lines::offers::signals_of_names;
-use reactor_core::loaded::Module;
+use reactor_core::module::Module;
 use reactor_core::reading::read_module;
 use std::alloc::{AllocError, Global};
 use std::fs;
@@ -76,7 +76,7 @@ fn texts_of<'a>(alloc: Global, claims: &'a [String]) -> Result<Vec<&'a str>, All
 /// The signals that somebody may offer: those of these names, or without names all that may be
 /// offered.
 fn offered_of(interface: &Interface, names: &[&str]) -> Result<u64, PendingRefusal>
-    ensures among { IfOk result (IsAmong interface.now (map (λ t. t.now) names.now)) }
+    ensures allowed { IfOk result (IsAmong interface.now (map (λ t. t.now) names.now)) }
     ensures fault { IfErr result (AreNotNamed interface.now (map (λ t. t.now) names.now)) }
 {
     if names.is_empty() {
@@ -89,22 +89,28 @@ fn offered_of(interface: &Interface, names: &[&str]) -> Result<u64, PendingRefus
 /// Judges the claims on a module.
 fn prove_module(
     alloc: Global,
-    proof: &ProveOrder<'_>,
+    proof: &ProveOptions<'_>,
     module: &Module,
 ) -> Result<LabReply, AllocError>
     ensures { IfOk result (TellsOfModule module.now proof.now) }
 {
-    let among = match offered_of(module.kernel.interface(), proof.inputs.as_slice()) {
-        Ok(among) => among,
+    let allowed = match offered_of(module.kernel.interface(), proof.inputs.as_slice()) {
+        Ok(allowed) => allowed,
         Err(refused) => return Ok(LabReply::Refused(refusal_of(refused))),
     };
     let claims = texts_of(alloc, proof.claims.as_slice())?;
-    let value = explore_among(alloc, module, claims.as_slice(), among, limits(proof.most))?;
+    let value = explore_among(
+        alloc,
+        module,
+        claims.as_slice(),
+        allowed,
+        limits(proof.most),
+    )?;
     Ok(LabReply::Json(value))
 }
 
 /// Judges the claims on the module of a text.
-fn prove_text(alloc: Global, proof: &ProveOrder<'_>, text: &str) -> Result<LabReply, AllocError>
+fn prove_text(alloc: Global, proof: &ProveOptions<'_>, text: &str) -> Result<LabReply, AllocError>
     ensures { IfOk result (TellsOfText proof.now text.now) }
 {
     match read_module(alloc, proof.main, text) {
@@ -149,7 +155,7 @@ fn tell<O: Write>(memory: &mut MeteredMemory, output: &mut MeteredWriter<O>, tol
 /// Judges the claims on the module of a text, and writes what is told.
 fn prove_and_tell<O: Write>(
     memory: &mut MeteredMemory,
-    proof: &ProveOrder<'_>,
+    proof: &ProveOptions<'_>,
     text: &str,
     output: &mut MeteredWriter<O>,
 ) -> u8
@@ -166,7 +172,7 @@ fn prove_and_tell<O: Write>(
 fn prove<R: Files + Alloc<A = Global> + Sync, O: Write, E: Write>(
     rt: &R,
     memory: &mut MeteredMemory,
-    proof: &ProveOrder<'_>,
+    proof: &ProveOptions<'_>,
     output: &mut MeteredWriter<O>,
     errors: &mut E,
 ) -> u8
@@ -194,9 +200,9 @@ pub fn run<R: Files + Alloc<A = Global> + Sync, I: Read, O: Write, E: Write>(
     ensures { Runs (I.remaining input.old.device) result (O.contents output.old.device)
         (O.contents output.new.device) }
 {
-    match Order::from_words(memory.allocator(), words) {
-        Ok(Order::Serve) => serve(memory, input, output),
-        Ok(Order::Prove(proof)) => prove(rt, memory, &proof, output, errors),
+    match Invocation::from_words(memory.allocator(), words) {
+        Ok(Invocation::Serve) => serve(memory, input, output),
+        Ok(Invocation::Prove(proof)) => prove(rt, memory, &proof, output, errors),
         Err(WordFault::Words(fault)) => {
             let _ = write!(errors, "{fault}");
             UNREAD

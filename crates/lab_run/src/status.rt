@@ -57,14 +57,14 @@ fn all_told_by(verdicts: &[Value], word: &str) -> bool
     verdicts.iter().all(|verdict| is_told_by(verdict, word))
 }
 
-/// The same, of the items that they stand for.
+/// The same, said of the list of items, as a proof needs it.
 fn any_item_told_by(verdicts: &[Value], word: &str) -> bool
     ensures { result ≡ any_item (is_told_by word.now) (items_view verdicts.now) }
 {
     any_told_by(verdicts, word)
 }
 
-/// The same, of the items that they stand for.
+/// The same, said of the list of items, as a proof needs it.
 fn all_items_told_by(verdicts: &[Value], word: &str) -> bool
     ensures { result ≡ all_items (is_told_by word.now) (items_view verdicts.now) }
 {

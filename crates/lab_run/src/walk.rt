@@ -21,7 +21,7 @@ use lab_instant::instant::InstantReader;
 use lab_instant::seen::Instant;
 use lab_lines::inside::{back_line, instant_line};
 use lab_ties::stuck::ties_after;
-use reactor_core::loaded::Module;
+use reactor_core::module::Module;
 use reactor_core::refusal::ModuleRefusal;
 use std::alloc::{AllocError, Global};
 use std::marker::Model;
@@ -29,15 +29,15 @@ use std::marker::Model;
 /// A module with the states in which it stood, of which the last is where it stands. A contract
 /// sees these two.
 #[derive(Drop)]
-pub struct Walk {
+pub struct SteppedModule {
     walked: Module,
     inside: InstantReader,
     states: Vec<State>,
 }
 
-impl Model for Walk {
+impl Model for SteppedModule {
     ghost use Rattle.std.specs.Coded.{codes};
-    ghost use Rattle.reactor_core.specs.contracts.loaded.Module as held;
+    ghost use Rattle.reactor_core.specs.contracts.module.Module as held;
     ghost use Rattle.lab_run.specs.Walking.{AreLoaded, Standing};
 
     ghost Value = { Standing };
@@ -92,7 +92,7 @@ fn inputs_of(walked: &Module, names: &[&str]) -> Result<u64, PendingRefusal>
 fn last_of(states: &[State]) -> State
     requires { 0 < length states.now }
     ensures stands { StandsAt states.now result }
-    ensures among { Contains states.now result }
+    ensures allowed { Contains states.now result }
 {
     states[states.len() - 1]
 }
@@ -134,14 +134,14 @@ fn advance(states: &mut Vec<State>, instant: &Instant) -> Result<(), AllocError>
     }
 }
 
-impl Walk {
+impl SteppedModule {
     /// A module at its start.
-    pub fn begin(alloc: Global, walked: Module) -> Result<Walk, AllocError>
+    pub fn begin(alloc: Global, walked: Module) -> Result<SteppedModule, AllocError>
         ensures { IfOk result (λ begun. begun ≡ at_start walked) }
     {
         let inside = InstantReader::new(alloc, &walked.kernel)?;
         let states = vec![in alloc; State::Fresh]?;
-        Ok(Walk {
+        Ok(SteppedModule {
             walked,
             inside,
             states,

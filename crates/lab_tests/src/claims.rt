@@ -6,7 +6,7 @@ ghost use Rattle.est_micro.specs.Engine.{IsNetOf};
 use crate::lines::expect_member;
 use crate::modules::{A, B, O, both, is_absent, late, paradox};
 use est_cover::all_lawful::AllLawful;
-use est_cover::asked::Asked;
+use est_cover::answered::AnsweredInputs;
 use est_explore::claim::Claim;
 use est_explore::judge::{explore, judge};
 use est_explore::one_module::{Answer, OneModule};
@@ -32,7 +32,7 @@ pub const ALL: u64 = u64::MAX;
 /// How the instants of a counterexample are told: the inputs of each, and what is emitted or `?`
 /// and
 /// what is undecided, as masks.
-fn word_told(rt: &impl Abort, alloc: Global, word: &[Asked<Answer>]) -> String {
+fn word_told(rt: &impl Abort, alloc: Global, word: &[AnsweredInputs<Answer>]) -> String {
     let mut told = String::new(alloc);
     for asked in word {
         let inputs = asked.inputs;
@@ -69,7 +69,7 @@ fn answer_by<E: PartEngine>(
     engine: &mut E,
     kernel: &Kernel,
     relations: &Relations,
-    among: u64,
+    allowed: u64,
     claim: &Claim<'_>,
     most: usize,
 ) -> String
@@ -82,7 +82,7 @@ fn answer_by<E: PartEngine>(
     let subject = AllLawful {
         reactive: &reactive,
         relations,
-        among,
+        allowed,
         watched: claim.signals(),
     };
     let limits = Limits {
@@ -100,12 +100,14 @@ pub fn answer_told(
     alloc: Global,
     kernel: &Kernel,
     relations: &Relations,
-    among: u64,
+    allowed: u64,
     claim: &Claim<'_>,
     most: usize,
 ) -> String {
     let mut plain = Rounds::new();
-    let wanted = answer_by(rt, alloc, &mut plain, kernel, relations, among, claim, most);
+    let wanted = answer_by(
+        rt, alloc, &mut plain, kernel, relations, allowed, claim, most,
+    );
     let mut engine = engine_of(rt, alloc, kernel);
     let told = answer_by(
         rt,
@@ -113,7 +115,7 @@ pub fn answer_told(
         &mut engine,
         kernel,
         relations,
-        among,
+        allowed,
         claim,
         most,
     );
@@ -127,12 +129,12 @@ fn expect_answer(
     alloc: Global,
     kernel: &Kernel,
     relations: &Relations,
-    among: u64,
+    allowed: u64,
     claim: &Claim<'_>,
     most: usize,
     wanted: &str,
 ) {
-    let told = answer_told(rt, alloc, kernel, relations, among, claim, most);
+    let told = answer_told(rt, alloc, kernel, relations, allowed, claim, most);
     assert_eq!(rt; told.as_str(), wanted);
 }
 
@@ -237,7 +239,7 @@ fn comparison_json(rt: &impl Abort, alloc: Global, first: &Kernel, second: &Kern
     let subject = AllLawful {
         reactive: &two,
         relations: &free,
-        among: ALL,
+        allowed: ALL,
         watched: 0,
     };
     let mut engines = EnginePair {

@@ -5,7 +5,7 @@ use lab_mistakes::obeying::{go_back, obey, status_of, try_instant};
 use lab_mistakes::telling::request_of;
 use lab_run::answer::line_of;
 use lab_run::lab::{Lab, LabReply};
-use lab_run::walk::Walk;
+use lab_run::walk::SteppedModule;
 use reactor_core::reading::read_module;
 use serde_json::Value;
 use std::alloc::Global;
@@ -84,7 +84,7 @@ const SECOND: &str = "{\"began\":[],\"locals\":[],\"next\":\"end\",\"ok\":\"inst
     \"outputs\":[],\"went\":[[0,0],[2,0]]}\n";
 
 /// What a step of a walk is answered.
-fn step_told(rt: &impl Abort, alloc: Global, walk: &mut Walk, word: &str) -> LabReply {
+fn step_told(rt: &impl Abort, alloc: Global, walk: &mut SteppedModule, word: &str) -> LabReply {
     let names: [&str; 0] = [];
     let told = match word {
         "try" => try_instant(walk, alloc, names.as_slice()),
@@ -100,7 +100,7 @@ fn steps_of_a_walk(rt: HostRuntime) {
     let alloc = rt.alloc();
     let text = "module M: output O; emit O; pause end module";
     let module = read_module(alloc, "M", text).ok().expect(&rt, "a module");
-    let mut walk = Walk::begin(alloc, module).expect(&rt, "room");
+    let mut walk = SteppedModule::begin(alloc, module).expect(&rt, "room");
     for (word, wanted) in STEPS {
         let told = step_told(&rt, alloc, &mut walk, word);
         expect_line(&rt, alloc, told, wanted);

@@ -92,7 +92,7 @@ fn table_of(rt: &impl Abort, alloc: Global, kernel: &Kernel) -> Value {
     let subject = AllLawful {
         reactive: &by_parts,
         relations: &free,
-        among: 3,
+        allowed: 3,
         watched: 0,
     };
     let limits = Limits {
@@ -124,7 +124,7 @@ fn states_of_a_table(rt: HostRuntime) {
     let subject = AllLawful {
         reactive: &machine(&kernel),
         relations: &free,
-        among: 0,
+        allowed: 0,
         watched: 0,
     };
     let limits = Limits {

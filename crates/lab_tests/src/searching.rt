@@ -4,7 +4,7 @@ ghost use Rattle.std.specs.Prelude.{[]};
 ghost use Rattle.std.proofs.Common.{rules};
 
 use state_search::search::{Limits, search};
-use state_search::transition_system::{Standing, Step, TransitionSystem};
+use state_search::transition_system::{SearchState, Step, TransitionSystem};
 use std::alloc::AllocError;
 use std::hash::{Hash, Hasher};
 
@@ -22,7 +22,7 @@ impl Hash for Alike {
     fn hash<H: Hasher>(&self, _state: &mut H) {}
 }
 
-impl Standing for Alike {
+impl SearchState for Alike {
     ghost exact = { Prim.search rules };
 }
 

@@ -2,7 +2,7 @@
 ghost use Rattle.std.specs.Prelude.{◌≡◌, [], map, option_map, IfOk};
 ghost use Rattle.est_checks.specs.Duplicates.{first_duplicate};
 ghost use Rattle.est_checks.specs.Emissions.{emitted_of, refused_at};
-ghost use Rattle.est_checks.specs.LinkFaults.{lawless_number, fault_before_order};
+ghost use Rattle.est_checks.specs.LinkFaults.{number_over_outputs, fault_before_order};
 ghost use Rattle.est_checks.specs.LinkFaults.{fault_after_order};
 ghost use Rattle.est_checks.specs.Inner.InterfaceNames.{names_of};
 ghost use Rattle.est_modules.specs.Modules.{program_of, first_in_bodies};
@@ -16,7 +16,7 @@ use est_checks::bad_renamings::BadRename;
 use est_checks::emission::Emissions;
 use est_checks::fault::LinkFault;
 use est_checks::interface_names::{interfaces_of, own_names};
-use est_checks::lawless_relations::first_lawless;
+use est_checks::lawless_relations::first_over_outputs;
 use est_checks::missing_modules::first_missing;
 use est_checks::place_check::{PlaceCheck, first_in_bodies, first_in_body};
 use est_checks::unknown_names::UnknownName;
@@ -174,12 +174,13 @@ pub fn first_refused<'a>(
 }
 
 /// The number of the first lawless relation of the main module.
-fn lawless_number(alloc: Global, main: Option<&Head<'_>>) -> Result<Option<usize>, AllocError>
-    ensures { IfOk result (λ number. number ≡ lawless_number (option_map (λ h. program_of h.now)
+fn number_over_outputs(alloc: Global, main: Option<&Head<'_>>) -> Result<Option<usize>, AllocError>
+    ensures { IfOk result
+        (λ number. number ≡ number_over_outputs (option_map (λ h. program_of h.now)
         main.entry)) }
 {
     match main {
-        Some(home) => first_lawless(alloc, home),
+        Some(home) => first_over_outputs(alloc, home),
         None => Ok(None),
     }
 }
@@ -233,7 +234,7 @@ pub fn fault_after_order<'a>(
     if let Some(name) = first_refused(alloc, &*heads, &*table)? {
         return Ok(Some(LinkFault::EmitInput(name)));
     }
-    match lawless_number(alloc, heads.named(main))? {
+    match number_over_outputs(alloc, heads.named(main))? {
         Some(number) => Ok(Some(LinkFault::Semantics(number))),
         None => Ok(None),
     }

@@ -13,10 +13,10 @@ use Rattle.program_run.specs.declared.fault.Fault.TheVariants as fault
 use Rattle.program_run.specs.Reports.{Reports}
 use Rattle.program_run.specs.Faults.{status_of, IsOfWords, IsOutcome}
 use Rattle.program_run.specs.Serving.{ServesSource, ServesOverSocket}
-use Rattle.program_words.specs.Words.{IsOrder, IsRefused}
+use Rattle.program_words.specs.Words.{IsInvocation, IsRefused}
 use Rattle.program_words.specs.declared.fault.WordFault.{WordFault}
-use Rattle.program_words.specs.declared.order.Order.{Order}
-use Rattle.program_words.specs.declared.order.Order.TheVariants.{Script, Serve}
+use Rattle.program_words.specs.declared.invocation.Invocation.{Invocation}
+use Rattle.program_words.specs.declared.invocation.Invocation.TheVariants.{Script, Serve}
 use Rattle.clap.specs.Words.{Text}
 
 -- one connection is served over a new desk, it ends for this reason, and none of its logins is held any more
@@ -65,7 +65,7 @@ RunsScript refused report ahead answer written after = NeverOpens answer written
     ⊎ Ends refused report ahead answer written after
 
 -- the command line is rejected, or there was no memory to read it; nothing is written
-pub record IsNoOrder (words : List Text) (answer : Result ⊤ Fault) (written after : Option (List ℕ)) : Type 0 where
+pub record IsNoInvocation (words : List Text) (answer : Result ⊤ Fault) (written after : Option (List ℕ)) : Type 0 where
   pub why : WordFault
   pub refused : IsRefused words why
   pub given : Fault
@@ -73,26 +73,26 @@ pub record IsNoOrder (words : List Text) (answer : Result ⊤ Fault) (written af
   pub of_words : IsOfWords why given
   pub silent : Keeps written after
 
--- what the order asks for is done: one connection is served, with or without a report; or n workers serve a socket, and
--- standard output gets only the report at the end
-abbrev pub Does : Order → (refused : Bool) → (ahead : Option (List ℕ)) → Result ⊤ Fault
+-- what the invocation asks for is done: one connection is served, with or without a report; or n workers serve a
+-- socket, and standard output gets only the report at the end
+abbrev pub Does : Invocation → (refused : Bool) → (ahead : Option (List ℕ)) → Result ⊤ Fault
     → (written after : Option (List ℕ)) → Type 0
 Does (Script log report) refused ahead answer written after = RunsScript refused report ahead answer written after
 Does (Serve service) refused ahead answer written after =
     ServesSource ServesOverSocket service.workers service.connections answer written after
 
--- the command line spells an order, and it is carried out
-pub record DoesOrder (words : List Text) (refused : Bool) (ahead : Option (List ℕ)) (answer : Result ⊤ Fault)
+-- the command line spells an invocation, and it is carried out
+pub record DoesInvocation (words : List Text) (refused : Bool) (ahead : Option (List ℕ)) (answer : Result ⊤ Fault)
     (written after : Option (List ℕ)) : Type 0 where
-  pub order : Order
-  pub is : IsOrder words order
-  pub does : Does order refused ahead answer written after
+  pub invocation : Invocation
+  pub is : IsInvocation words invocation
+  pub does : Does invocation refused ahead answer written after
 
 -- the command line is rejected, or what it orders is done
 abbrev pub Obeys : (words : List Text) → (refused : Bool) → (ahead : Option (List ℕ)) → Result ⊤ Fault
     → (written after : Option (List ℕ)) → Type 0
-Obeys words refused ahead answer written after = IsNoOrder words answer written after
-    ⊎ DoesOrder words refused ahead answer written after
+Obeys words refused ahead answer written after = IsNoInvocation words answer written after
+    ⊎ DoesInvocation words refused ahead answer written after
 
 -- the status with which the program ends: 0 without a fault, else that of the fault
 abbrev pub status_after : Result ⊤ Fault → ℕ

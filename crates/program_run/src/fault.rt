@@ -13,7 +13,7 @@ use wire_reader::serving::EndReason;
 /// A fault of the program. Its text goes to standard error.
 #[derive(Debug, Drop, Error)]
 pub enum Fault {
-    /// The words are no order, or ask for help; with the text about them.
+    /// The words are no invocation, or ask for help; with the text about them.
     #[error(transparent)]
     Words(clap::Error),
     /// A word that is not UTF-8, so that the words cannot be read.

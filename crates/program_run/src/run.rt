@@ -14,7 +14,7 @@ use client_loop::connections::log_out_left;
 use client_loop::serving::{End, serve};
 use log::sink::Writer;
 use log::{Level, Logged, info};
-use program_words::order::Order;
+use program_words::invocation::Invocation;
 use std::alloc::Global;
 use std::fs::Files;
 use std::io::{Read, Write};
@@ -100,9 +100,11 @@ fn obey<R: Threads + Wait + Net + Files + Sync, I: Read, O: Write, E: Write>(
     ensures devices { NamesDevices result (has_failed input.old.faults input.new.faults)
         input.new.left (has_failed output.old.faults output.new.faults) }
 {
-    match Order::from_words(memory.allocator(), words)? {
-        Order::Script { log, report } => { script(rt, memory, input, output, errors, log, report) },
-        Order::Serve(service) => serve_socket(rt, memory.allocator(), &service, output),
+    match Invocation::from_words(memory.allocator(), words)? {
+        Invocation::Script { log, report } => {
+            script(rt, memory, input, output, errors, log, report)
+        },
+        Invocation::Serve(service) => serve_socket(rt, memory.allocator(), &service, output),
     }
 }
 

@@ -15,7 +15,7 @@ use policy_board::board::Board;
 use policy_board::board_list::{BoardName, FreshList};
 use policy_board::opening::Opened;
 use policy_board::seat::Seat;
-use program_words::order::{Service, WorkerCount};
+use program_words::invocation::{ServeOptions, WorkerCount};
 use slot_table::table::SlotTable;
 use std::alloc::Global;
 use std::fs::Files;
@@ -116,7 +116,7 @@ pub fn serve_source<
 pub fn serve<R: Threads + Wait + Net + Files + Sync, O: Write>(
     rt: &R,
     alloc: Global,
-    service: &Service<'_>,
+    service: &ServeOptions<'_>,
     output: &mut MeteredWriter<O>,
 ) -> Result<(), Fault>
     ensures serves { ServesSource ServesOverSocket service.now.workers service.now.connections

@@ -5,7 +5,7 @@ use client_loop::serving::{End, serve};
 use std::io;
 use std::io::{Read, Write};
 use std::test::Fail;
-use wire_reader::meter::{MeteredMemory, MeteredReader, MeteredWriter, READS};
+use wire_reader::meter::{MOST_READS, MeteredMemory, MeteredReader, MeteredWriter};
 use wire_reader::serving::EndReason;
 
 /// Gives `x` and LF in turn, one byte a read.
@@ -60,7 +60,9 @@ impl Write for Answers {
 /// byte is not read any more.
 #[test]
 fn a_connection_has_a_million_reads(rt: HostRuntime) -> Result<(), Fail> {
-    let mut reader = MeteredReader::new(ByBytes { left: READS + 1 });
+    let mut reader = MeteredReader::new(ByBytes {
+        left: MOST_READS + 1,
+    });
     let mut writer = MeteredWriter::new(Answers {
         whole: 0,
         place: 0,
@@ -73,7 +75,7 @@ fn a_connection_has_a_million_reads(rt: HostRuntime) -> Result<(), Fail> {
     assert!(rt; why == EndReason::ReadFault);
     assert_eq!(rt; reader.reads_left(), 0);
     let answers = writer.into_device();
-    assert_eq!(rt; answers.whole, READS / 2);
+    assert_eq!(rt; answers.whole, MOST_READS / 2);
     assert_eq!(rt; answers.place, 0);
     assert_eq!(rt; answers.others, 0);
     Ok(())

@@ -1,2 +1,2 @@
 pub mod CommandLines
-pub mod NamedOrders
+pub mod NamedInvocations

@@ -1,6 +1,6 @@
 -- How many workers there may be (this project's own form).
 use Rattle.std.specs.Prelude.{◌&&◌, ℕ, Bool, nat_le}
-use Rattle.program_words.specs.declared.order.TheConstants.{MOST_WORKERS}
+use Rattle.program_words.specs.declared.invocation.TheConstants.{MOST_WORKERS}
 
 -- this number of workers is allowed
 abbrev pub may_work : (count : ℕ) → Bool

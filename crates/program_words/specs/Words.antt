@@ -1,4 +1,4 @@
--- Which words are an order, by clap's rules for the program's command line (this project's own form).
+-- Which words are an invocation, by clap's rules for the program's command line (this project's own form).
 use Rattle.std.specs.Prelude.{◌≡◌, ◌⊎◌, ◌&&◌, ◌^◌, ℕ, Bool, true, false, List, [], Option, Some, None, if◌then◌else◌}
 use Rattle.std.specs.Prelude.{nat_lt, codes, option_and_then, unwrap_or}
 use Rattle.std.specs.Option.{option_map_or}
@@ -12,10 +12,10 @@ use Rattle.clap.specs.declared.builder.value_parser.ValueParser.TheVariants.{Uns
 use Rattle.program_words.specs.Counts.{may_work}
 use Rattle.program_words.specs.declared.fault.WordFault.{WordFault}
 use Rattle.program_words.specs.declared.fault.WordFault.TheVariants as fault
-use Rattle.program_words.specs.declared.order.Order.{Order}
-use Rattle.program_words.specs.declared.order.Order.TheVariants.{Script, Serve}
-use Rattle.program_words.specs.declared.order.Service.{Service}
-use Rattle.program_words.specs.declared.order.TheConstants.{MOST_CONNECTIONS, MOST_WORKERS, WORKERS}
+use Rattle.program_words.specs.declared.invocation.Invocation.{Invocation}
+use Rattle.program_words.specs.declared.invocation.Invocation.TheVariants.{Script, Serve}
+use Rattle.program_words.specs.declared.invocation.ServeOptions.{ServeOptions}
+use Rattle.program_words.specs.declared.invocation.TheConstants.{MOST_CONNECTIONS, MOST_WORKERS, DEFAULT_WORKERS}
 
 -- ---- the command line
 
@@ -46,7 +46,7 @@ serve_line =
     let with_workers = with_rule with_socket (number_rule (codes "workers") MOST_WORKERS) in
     with_rule with_workers (number_rule (codes "connections") MOST_CONNECTIONS)
 
--- the program's command line: one of its orders has to be named, or help or the version is asked for
+-- the program's command line: one of its invocations has to be named, or help or the version is asked for
 abbrev pub command_line : App
 command_line =
     let bare = new_app (codes "estserve") in
@@ -71,40 +71,40 @@ number_of name rows = option_and_then number_in (one_of name rows)
 
 -- the number of workers that was asked for, if that many are allowed; else the default
 abbrev pub allowed : (count : ℕ) → ℕ
-allowed count = if may_work count then count else WORKERS
+allowed count = if may_work count then count else DEFAULT_WORKERS
 
 -- the number of workers for which these options ask
 abbrev pub workers_in : List Row → ℕ
-workers_in rows = option_map_or allowed (number_of (codes "workers") rows) WORKERS
+workers_in rows = option_map_or allowed (number_of (codes "workers") rows) DEFAULT_WORKERS
 
 -- the service for which these options ask
-pub record IsService (rows : List Row) (service : Service) : Type 0 where
+pub record IsService (rows : List Row) (service : ServeOptions) : Type 0 where
   pub path : service.path.now ≡ unwrap_or (first_of (codes "socket") rows) []
   pub workers : service.workers ≡ workers_in rows
   pub connections : service.connections ≡ number_of (codes "connections") rows
 
--- ---- orders
+-- ---- invocations
 
--- the order that is named, and what is read of its options, give this order
-abbrev pub Gives : (named : Option (Text × List Row)) → Order → Type 0
+-- the invocation that is named, and what is read of its options, give this invocation
+abbrev pub Gives : (named : Option (Text × List Row)) → Invocation → Type 0
 Gives named (Script log report) = (rows : List Row) × (named ≡ Some (codes "script", rows))
     × (log ≡ is_set (codes "log") rows) × (report ≡ is_set (codes "report") rows)
 Gives named (Serve service) = (rows : List Row) × (named ≡ Some (codes "serve", rows)) × IsService rows service
 
--- what is named is the order of this name
+-- what is named is the invocation of this name
 abbrev pub Names : (name : Text) → (named : Option (Text × List Row)) → Type 0
 Names name named = (rows : List Row) × (named ≡ Some (name, rows))
 
--- one of the orders is named
+-- one of the invocations is named
 abbrev pub IsNamed : (named : Option (Text × List Row)) → Type 0
 IsNamed named = Names (codes "script") named ⊎ Names (codes "serve") named
 
--- the words are a command line without a fault, and give this order
-abbrev pub IsOrder : (words : List Text) → Order → Type 0
-IsOrder words order = (fault_of command_line words ≡ []) × Gives (subcommand_of command_line words) order
+-- the words are a command line without a fault, and give this invocation
+abbrev pub IsInvocation : (words : List Text) → Invocation → Type 0
+IsInvocation words invocation = (fault_of command_line words ≡ []) × Gives (subcommand_of command_line words) invocation
 
--- two orders are the same, wherever their texts lie in memory
-abbrev pub IsSame : Order → Order → Type 0
+-- two invocations are the same, wherever their texts lie in memory
+abbrev pub IsSame : Invocation → Invocation → Type 0
 IsSame (Script log report) (Script log2 report2) = (log ≡ log2) × (report ≡ report2)
 IsSame (Serve one) (Serve other) =
     (one.path.now ≡ other.path.now) × (one.workers ≡ other.workers) × (one.connections ≡ other.connections)

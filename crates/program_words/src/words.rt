@@ -4,12 +4,13 @@ ghost use Rattle.clap.specs.Words.{app_of, rule_of, rows_of, found_of};
 ghost use Rattle.clap.specs.Words.{HasKind, fault_of, subcommand_rows_of};
 ghost use Rattle.program_words.specs.Words.{flag_rule, option_rule, socket_rule, number_rule};
 ghost use Rattle.program_words.specs.Words.{script_line, serve_line, command_line};
-ghost use Rattle.program_words.specs.Words.{IsNamed, IsService, Gives, IsOrder, IsRefused};
+ghost use Rattle.program_words.specs.Words.{IsNamed, IsService, Gives, IsInvocation, IsRefused};
 ghost use Rattle.program_words.specs.Words.{is_set, workers_in};
-ghost use Rattle.program_words.specs.declared.order.TheConstants.{MOST_CONNECTIONS, MOST_WORKERS};
+ghost use Rattle.program_words.specs.declared.invocation.TheConstants.{MOST_CONNECTIONS};
+ghost use Rattle.program_words.specs.declared.invocation.TheConstants.{MOST_WORKERS};
 
 use crate::fault::WordFault;
-use crate::order::{MOST_CONNECTIONS, MOST_WORKERS, Order, Service, WorkerCount};
+use crate::invocation::{Invocation, MOST_CONNECTIONS, MOST_WORKERS, ServeOptions, WorkerCount};
 use clap::builder::ValueParser;
 use clap::error::ErrorKind;
 use clap::{Arg, ArgAction, ArgMatches, Command, Error};
@@ -29,7 +30,7 @@ fn flag<'a>(alloc: Global, name: &'a str, help: &'a str) -> Arg<'a>
         .action(ArgAction::SetTrue)
 }
 
-/// The words of the order to serve standard input and standard output.
+/// The words of the invocation to serve standard input and standard output.
 fn script_words<'a>(alloc: Global) -> Result<Command<'a>, AllocError>
     ensures { IfOk result (λ words. app_of words ≡ script_line) }
 {
@@ -85,7 +86,7 @@ fn connections_option<'a>(alloc: Global) -> Arg<'a>
     option(alloc, "connections", "C", help).value_parser(numbers)
 }
 
-/// The words of the order to serve the connections of a socket.
+/// The words of the invocation to serve the connections of a socket.
 fn serve_words<'a>(alloc: Global) -> Result<Command<'a>, AllocError>
     ensures { IfOk result (λ words. app_of words ≡ serve_line) }
 {
@@ -131,26 +132,26 @@ fn workers_of(matches: &ArgMatches<'_>) -> WorkerCount
 }
 
 /// The service that the words after `serve` ask for.
-fn service_of<'a>(matches: &ArgMatches<'a>) -> Service<'a>
+fn service_of<'a>(matches: &ArgMatches<'a>) -> ServeOptions<'a>
     ensures { IsService (rows_of (found_of matches.now)) result }
 {
-    Service {
+    ServeOptions {
         path: matches.get_str("socket").unwrap_or(""),
         workers: workers_of(matches),
         connections: matches.get_one("connections"),
     }
 }
 
-/// The order that the matches name.
-fn order_of<'a>(matches: &ArgMatches<'a>) -> Order<'a>
+/// The invocation that the matches name.
+fn order_of<'a>(matches: &ArgMatches<'a>) -> Invocation<'a>
     requires { IsNamed (subcommand_rows_of matches.now) }
     ensures { Gives (subcommand_rows_of matches.now) result }
 {
     if let Some(serve) = matches.subcommand_matches("serve") {
-        return Order::Serve(service_of(serve));
+        return Invocation::Serve(service_of(serve));
     }
     match matches.subcommand_matches("script") {
-        Some(script) => Order::Script {
+        Some(script) => Invocation::Script {
             log: has_flag(script, "log"),
             report: has_flag(script, "report"),
         },
@@ -158,9 +159,9 @@ fn order_of<'a>(matches: &ArgMatches<'a>) -> Order<'a>
     }
 }
 
-/// The order that the words give, of which the first is the program's own name.
-fn parse<'a, S: AsStr>(alloc: Global, words: &'a [S]) -> Result<Order<'a>, Error>
-    ensures ok { IfOk result (λ order. IsOrder (map S.text words.entry.now) order) }
+/// The invocation that the words give, of which the first is the program's own name.
+fn parse<'a, S: AsStr>(alloc: Global, words: &'a [S]) -> Result<Invocation<'a>, Error>
+    ensures ok { IfOk result (λ invocation. IsInvocation (map S.text words.entry.now) invocation) }
     ensures err { IfErr result (HasKind (fault_of command_line (map S.text words.entry.now))) }
 {
     let command = program_words(alloc)?;
@@ -168,19 +169,20 @@ fn parse<'a, S: AsStr>(alloc: Global, words: &'a [S]) -> Result<Order<'a>, Error
     Ok(order_of(&matches))
 }
 
-impl<'a> Order<'a> {
-    /// The order that the words give, of which the first is the program's own name.
+impl<'a> Invocation<'a> {
+    /// The invocation that the words give, of which the first is the program's own name.
     ///
     /// # Errors
     ///
-    /// - Words, where they are no order, or ask for help;
+    /// - Words, where they are no invocation, or ask for help;
     /// - Memory, where memory was refused.
-    pub fn from_words<S: AsStr>(alloc: Global, words: &'a [S]) -> Result<Order<'a>, WordFault>
-        ensures order { IfOk result (λ order. IsOrder (map S.text words.entry.now) order) }
+    pub fn from_words<S: AsStr>(alloc: Global, words: &'a [S]) -> Result<Invocation<'a>, WordFault>
+        ensures invocation
+            { IfOk result (λ invocation. IsInvocation (map S.text words.entry.now) invocation) }
         ensures refused { IfErr result (IsRefused (map S.text words.entry.now)) }
     {
         match parse(alloc, words) {
-            Ok(order) => Ok(order),
+            Ok(invocation) => Ok(invocation),
             Err(error) if error.kind() == ErrorKind::OutOfMemory => Err(WordFault::Memory),
             Err(error) => Err(WordFault::Words(error)),
         }

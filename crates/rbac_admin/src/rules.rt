@@ -63,7 +63,7 @@ pub fn check_role_exists(policy: &Policy, role: &Name) -> Result<(), PolicyRefus
     ensures { (entries : List Entry) → StandsFor policy.now entries
         → Tests (unknown_role entries role.now) result }
 {
-    if policy.is_role(role) {
+    if policy.has_role(role) {
         Ok(())
     } else {
         Err(PolicyRefusal::UnknownRole { role: *role })
@@ -115,7 +115,7 @@ pub fn check_user_is_new(policy: &Policy, user: &Name) -> Result<(), PolicyRefus
     ensures { (entries : List Entry) → StandsFor policy.now entries
         → Tests (Says (PolicyRefusal.UserExists user.now) (IsUser entries user.now)) result }
 {
-    if policy.is_user(user) {
+    if policy.has_user(user) {
         Err(PolicyRefusal::UserExists { user: *user })
     } else {
         Ok(())
@@ -141,7 +141,7 @@ pub fn check_role_is_new(policy: &Policy, role: &Name) -> Result<(), PolicyRefus
     ensures { (entries : List Entry) → StandsFor policy.now entries
         → Tests (Says (PolicyRefusal.RoleExists role.now) (IsRole entries role.now)) result }
 {
-    if policy.is_role(role) {
+    if policy.has_role(role) {
         Err(PolicyRefusal::RoleExists { role: *role })
     } else {
         Ok(())
@@ -277,7 +277,7 @@ pub fn check_set_is_new(policy: &Policy, set: &Name) -> Result<(), PolicyRefusal
     ensures { (entries : List Entry) → StandsFor policy.now entries
         → Tests (Says (PolicyRefusal.DsdExists set.now) (IsSetName entries set.now)) result }
 {
-    if policy.is_set(set) {
+    if policy.has_set(set) {
         Err(PolicyRefusal::DsdExists { set: *set })
     } else {
         Ok(())
@@ -289,7 +289,7 @@ pub fn check_set_exists(policy: &Policy, set: &Name) -> Result<(), PolicyRefusal
     ensures { (entries : List Entry) → StandsFor policy.now entries
         → Tests (Unless (IsSetName entries set.now) (PolicyRefusal.NoDsd set.now)) result }
 {
-    if policy.is_set(set) {
+    if policy.has_set(set) {
         Ok(())
     } else {
         Err(PolicyRefusal::NoDsd { set: *set })
@@ -435,7 +435,7 @@ pub fn check_user_exists(policy: &Policy, user: &Name) -> Result<(), PolicyRefus
     ensures { (entries : List Entry) → StandsFor policy.now entries
         → Tests (unknown_user entries user.now) result }
 {
-    if policy.is_user(user) {
+    if policy.has_user(user) {
         Ok(())
     } else {
         Err(PolicyRefusal::UnknownUser { user: *user })
@@ -452,7 +452,7 @@ fn first_unknown(policy: &Policy, roles: &RoleNames) -> Option<Name>
 {
     for place in 0..roles.len() {
         if let Some(role) = roles.get(place) {
-            if !policy.is_role(&role) {
+            if !policy.has_role(&role) {
                 return Some(role);
             }
         }

@@ -17,7 +17,7 @@ pub mod names;
 pub mod objects;
 pub mod opening;
 pub mod policy;
-pub mod readers;
+pub mod queries;
 mod rows;
 pub mod separation;
 mod sets;

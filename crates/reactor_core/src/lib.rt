@@ -12,7 +12,7 @@
 pub mod entry;
 pub mod journal;
 pub mod laws;
-pub mod loaded;
+pub mod module;
 pub mod nesting;
 pub mod reactor;
 pub mod reading;

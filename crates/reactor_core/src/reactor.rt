@@ -17,7 +17,7 @@ ghost use Rattle.reactor_core.specs.Answers.{ShownAnswer, HasRoom, RefusesEntry}
 
 use crate::entry::{Load, Move, PastInstant, SlotEntry, Stamp};
 use crate::journal::Journal;
-use crate::loaded::Module;
+use crate::module::Module;
 use crate::reactor::instant::Instant;
 use crate::reactor::parts::{Parts, check_relations, join};
 use crate::reading::read_module;
@@ -79,7 +79,7 @@ fn instant_at(instants: &[PastInstant], n: u64) -> Option<PastInstant>
 }
 
 /// The module of a load, which is read from its text, and the engine of the module's kernel.
-fn read_load(alloc: Global, load: &Load) -> Result<(Module, Micro), ReactorRefusal>
+fn build_module(alloc: Global, load: &Load) -> Result<(Module, Micro), ReactorRefusal>
     ensures given { IfOk result (λ read. ModuleOf load.now (given_by read.0)) }
     ensures engine { IfOk result (λ read. IsNetOf read.1.net read.0.kernel) }
     ensures fault { IfErr result (IsLoadFault load.now.main load.now.text) }
@@ -164,7 +164,7 @@ impl Reactor {
     ) -> Result<Reactor, (ReactorRefusal, Journal)>
         ensures { LoadAnswer journal stamp load.main load.text result }
     {
-        match read_load(alloc, &load) {
+        match build_module(alloc, &load) {
             Ok((loaded, engine)) => Reactor::begin(alloc, journal, stamp, load, loaded, engine),
             Err(fault) => Err((fault, journal)),
         }

@@ -1,6 +1,6 @@
-//! Orders and faults, word by word.
+//! Invocations and faults, word by word.
 use program_words::fault::WordFault;
-use program_words::order::{Order, WorkerCount};
+use program_words::invocation::{Invocation, WorkerCount};
 use std::alloc::{AllocError, Global};
 use std::process::Abort;
 use std::test::Fail;
@@ -8,9 +8,9 @@ use std::test::Fail;
 /// What the words come to, as a line.
 fn told(alloc: Global, words: &[&str]) -> Result<String, AllocError> {
     let mut line = String::new(alloc);
-    match Order::from_words(alloc, words) {
-        Ok(Order::Script { log, report }) => write!(line, "script {log} {report}"),
-        Ok(Order::Serve(service)) => write!(
+    match Invocation::from_words(alloc, words) {
+        Ok(Invocation::Script { log, report }) => write!(line, "script {log} {report}"),
+        Ok(Invocation::Serve(service)) => write!(
             line,
             "serve {} {} {:?}",
             service.path,

@@ -8,7 +8,7 @@ ghost use Rattle.state_search.specs.Inner.Places.{IsPlaced, Puts};
 ghost use Rattle.state_search.specs.Table.{HasStateAt};
 
 use crate::found::Node;
-use crate::transition_system::Standing;
+use crate::transition_system::SearchState;
 use std::alloc::{AllocError, Global};
 use std::collections::HashMap;
 use std::hash::{FoldHasher, Hasher};
@@ -36,7 +36,7 @@ impl Places {
 }
 
 /// The number of a state.
-fn number_of<S: Standing>(state: &S) -> u64
+fn number_of<S: SearchState>(state: &S) -> u64
     ensures { result ≡ number_of S.hash_input state.now }
 {
     let mut hasher = FoldHasher::default();
@@ -45,7 +45,7 @@ fn number_of<S: Standing>(state: &S) -> u64
 }
 
 /// The place of the state, if it has one. The search begins at the last state of its number.
-fn find<S: Standing>(
+fn find<S: SearchState>(
     before: &[Option<usize>],
     nodes: &[Node<S>],
     state: &S,
@@ -68,7 +68,7 @@ fn find<S: Standing>(
 }
 
 /// The place of the node's state. If it has none yet, the node comes at the end.
-pub fn place_of<S: Standing>(
+pub fn place_or_insert<S: SearchState>(
     places: &mut Places,
     nodes: &mut Vec<Node<S>>,
     node: Node<S>,

@@ -6,8 +6,8 @@ ghost use Rattle.state_search.specs.Inner.Searching.{Adds, IsSearching};
 ghost use Rattle.state_search.specs.Table.{HasStateAt, IsFound, HasEnded};
 
 use crate::found::{Found, Node, Row};
-use crate::places::{Places, place_of};
-use crate::transition_system::{Standing, Step, TransitionSystem};
+use crate::places::{Places, place_or_insert};
+use crate::transition_system::{SearchState, Step, TransitionSystem};
 use std::alloc::{AllocError, Global};
 
 /// How far a search goes: it stops once it has found more than this.
@@ -20,7 +20,7 @@ pub struct Limits {
 }
 
 /// Adds a step of the state at a place as a row, and the state after it as a node if it is new.
-fn add_row<S: Standing, L: Copy + Drop>(
+fn add_row<S: SearchState, L: Copy + Drop>(
     places: &mut Places,
     nodes: &mut Vec<Node<S>>,
     rows: &mut Vec<Row<L>>,
@@ -41,7 +41,7 @@ fn add_row<S: Standing, L: Copy + Drop>(
                 by: rows.len(),
                 depth: depth + 1,
             };
-            Some(place_of(places, nodes, node)?)
+            Some(place_or_insert(places, nodes, node)?)
         }
         None => None,
     };
@@ -134,7 +134,7 @@ pub fn search<M: TransitionSystem>(
         by: 0,
         depth: 0,
     };
-    place_of(&mut places, &mut found.nodes, first)?;
+    place_or_insert(&mut places, &mut found.nodes, first)?;
     while found.done < found.nodes.len() {
         if found.nodes.len() > limits.states {
             return Ok(found);

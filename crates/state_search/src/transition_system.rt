@@ -9,7 +9,7 @@ use std::alloc::AllocError;
 use std::hash::Hash;
 
 /// What a machine stands at.
-pub trait Standing: Copy + Eq + Hash + Drop {
+pub trait SearchState: Copy + Eq + Hash + Drop {
     /// States that compare alike are one.
     ghost exact: { IsExact Self.eq };
 }
@@ -25,7 +25,7 @@ pub struct Step<S, L> {
 /// What a search goes through: states, and steps between them.
 pub trait TransitionSystem {
     /// Where it stands.
-    type State: Standing;
+    type State: SearchState;
     /// What is to be seen of a step.
     type Label: Copy + Drop;
     /// What it works with.

@@ -1,8 +1,8 @@
 //! The commands: which members have to follow each command's word, and which request they make.
 //!
 //! Commands with the same keys share a reader. The words are tried in turn by `request_of`,
-//! `read_policy`, `read_plain`, `read_user_or_role` and `read_role_relation`: each knows some
-//! words, and passes any other on to the next.
+//! `read_policy`, `read_session_command`, `read_user_or_role` and `read_role_relation`: each knows
+//! some words, and passes any other on to the next.
 ghost use Rattle.std.specs.Prelude.{◌≡◌, codes, option_map, IfOk};
 ghost use Rattle.json.specs.Lex.{tokens};
 ghost use Rattle.wire_lines.specs.Inner.Members.{name_of, parsed_after, number_after};
@@ -210,7 +210,7 @@ fn read_role_relation(reader: &mut Reader<'_>, word: &str) -> Option<AdminComman
     }
 }
 
-/// Tries the words that add or delete a user or a role, then those of `relation`.
+/// Tries the words that add or delete a user or a role, then those of `read_role_relation`.
 #[tactic(auto, unfolding(crate::specs::Inner::Commands::request_of, crate::specs::Inner::Commands::user_or_role_rows))]
 fn read_user_or_role(reader: &mut Reader<'_>, word: &str) -> Option<AdminCommand>
     ensures { option_map Policy result ≡ request_in user_or_role_rows word.now reader.old }
@@ -236,9 +236,9 @@ fn read_user_or_role(reader: &mut Reader<'_>, word: &str) -> Option<AdminCommand
     }
 }
 
-/// Tries `logout`, `activate`, `drop` and `undsd`; then the words of `user_or_role`.
+/// Tries `logout`, `activate`, `drop` and `undsd`; then the words of `read_user_or_role`.
 #[tactic(auto, unfolding(crate::specs::Inner::Commands::request_of, crate::specs::Inner::Commands::plain_rows))]
-fn read_plain(reader: &mut Reader<'_>, word: &str) -> Option<AdminCommand>
+fn read_session_command(reader: &mut Reader<'_>, word: &str) -> Option<AdminCommand>
     ensures { option_map Policy result ≡ request_in plain_rows word.now reader.old }
 {
     match word {
@@ -262,7 +262,7 @@ fn read_plain(reader: &mut Reader<'_>, word: &str) -> Option<AdminCommand>
     }
 }
 
-/// Tries the words of policy commands that list roles, then those of `plain`.
+/// Tries the words of policy commands that list roles, then those of `read_session_command`.
 #[tactic(auto, unfolding(crate::specs::Inner::Commands::policy_rows))]
 fn read_policy(
     alloc: Global,
@@ -274,11 +274,11 @@ fn read_policy(
     match word {
         "login" => read_login(alloc, reader),
         "dsd" => read_separation(alloc, reader),
-        _ => Ok(read_plain(reader, word).map(Request::Policy)),
+        _ => Ok(read_session_command(reader, word).map(Request::Policy)),
     }
 }
 
-/// The request of this word. Tries the words on slots and `check`, then those of `policy`.
+/// The request of this word. Tries the words on slots and `check`, then those of `read_policy`.
 #[tactic(auto, unfolding(crate::specs::Inner::Commands::rows))]
 fn request_of(
     alloc: Global,

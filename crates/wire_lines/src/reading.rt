@@ -31,7 +31,7 @@ fn in_order(alloc: Global, line: &[u8]) -> Result<String, Refusal>
 }
 
 /// The request of a line, whatever the order of its keys, or NotJson, NotARequest or Memory.
-fn request_of_value(alloc: Global, scratch: &mut Scratch, line: &[u8]) -> Result<Request, Refusal>
+fn read_reordered(alloc: Global, scratch: &mut Scratch, line: &[u8]) -> Result<Request, Refusal>
     ensures { IsReadAs line.now result }
 {
     let text = in_order(alloc, line)?;
@@ -61,11 +61,11 @@ impl RequestReader {
         ensures { IsReadAs line.now result }
     {
         let Ok(text) = std::str::from_utf8(line) else {
-            return request_of_value(alloc, &mut self.scratch, line);
+            return read_reordered(alloc, &mut self.scratch, line);
         };
         match request_at(alloc, &mut self.scratch, text) {
             Ok(Some(request)) => Ok(request),
-            Ok(None) => request_of_value(alloc, &mut self.scratch, line),
+            Ok(None) => read_reordered(alloc, &mut self.scratch, line),
             Err(_) => Err(Refusal::Memory),
         }
     }

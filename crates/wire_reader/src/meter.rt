@@ -4,13 +4,13 @@ ghost use Rattle.std.specs.Prelude.{◌≡◌, ◌≤◌, ◌<◌, ◌-◌, ◌�
 ghost use Rattle.std.specs.Prelude.{IfNone, IfSome, IfOk, OnOk, OnErr, IsTrue, IsFalse};
 ghost use Rattle.std.specs.Io.KnownBytes.{Appends, Keeps};
 ghost use Rattle.wire_reader.specs.Meters.{Reads, has_failed};
-ghost use Rattle.wire_reader.specs.declared.meter.TheConstants.{READS};
+ghost use Rattle.wire_reader.specs.declared.meter.TheConstants.{MOST_READS};
 
 use std::alloc::{AllocError, Global};
 use std::io::{Read, Write};
 
 /// The most reads that one meter lets through.
-pub const READS: u32 = 1_000_000;
+pub const MOST_READS: u32 = 1_000_000;
 
 /// The most faults that one meter counts.
 pub const MOST_FAULTS: u64 = u64::MAX;
@@ -38,12 +38,12 @@ impl<R> MeteredReader<R> {
     /// A meter on a reader that has let nothing through.
     pub fn new(device: R) -> Self
         ensures device { result.device ≡ device }
-        ensures left { result.left ≡ READS }
+        ensures left { result.left ≡ MOST_READS }
         ensures faults { result.faults ≡ 0 }
     {
         MeteredReader {
             device,
-            left: READS,
+            left: MOST_READS,
             faults: 0,
         }
     }

@@ -4,6 +4,6 @@ use Rattle.std.specs.List.{list_any}
 use Rattle.est_syntax.specs.Tree.{RelationTree, excludes, implies}
 
 -- a member of the relation is not among these names
-abbrev pub is_past : (List ℕ → Bool) → RelationTree → Bool
-is_past offered (excludes a b ns) = list_any (λ n. not (offered n)) (a ∷ b ∷ ns)
-is_past offered (implies a b) = list_any (λ n. not (offered n)) (a ∷ b ∷ [])
+abbrev pub is_over_outputs : (List ℕ → Bool) → RelationTree → Bool
+is_over_outputs offered (excludes a b ns) = list_any (λ n. not (offered n)) (a ∷ b ∷ ns)
+is_over_outputs offered (implies a b) = list_any (λ n. not (offered n)) (a ∷ b ∷ [])

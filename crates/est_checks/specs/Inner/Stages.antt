@@ -6,7 +6,7 @@ use Rattle.est_checks.specs.BadRenamings.{bad_renaming_at}
 use Rattle.est_checks.specs.Counting.{AreCounts}
 use Rattle.est_checks.specs.Emissions.{first_refused}
 use Rattle.est_checks.specs.FirstFaults.{Check, IsFirstRefused, IsLimitPassed, limit_passed_by}
-use Rattle.est_checks.specs.LinkFaults.{lawless_number}
+use Rattle.est_checks.specs.LinkFaults.{number_over_outputs}
 use Rattle.est_checks.specs.RecursiveRuns.{IsFirstRecursion}
 use Rattle.est_checks.specs.UnknownNames.{unknown_at}
 use Rattle.est_modules.specs.Modules.{Program, program_named, first_in_bodies}
@@ -30,7 +30,7 @@ fault_of_names ps =
 abbrev pub fault_of_emissions : List Program → List ℕ → (List ℕ → List ℕ → Bool) → Option LinkFault
 fault_of_emissions ps main emitted =
     option_or (option_map EmitInput (first_refused ps emitted))
-    (option_map Semantics (lawless_number (program_named ps main)))
+    (option_map Semantics (number_over_outputs (program_named ps main)))
 
 -- the last check
 abbrev pub limit_checks : List Program → List ℕ → Rules LinkFault
@@ -40,7 +40,7 @@ limit_checks ps main = Check TooLarge (IsLimitPassed ps main) ▸ accept
 abbrev pub emission_checks : List Program → List ℕ → Rules LinkFault
 emission_checks ps main =
     Check EmitInput (IsFirstRefused ps)
-    ▸ Check Semantics (λ number. lawless_number (program_named ps main) ≡ number)
+    ▸ Check Semantics (λ number. number_over_outputs (program_named ps main) ≡ number)
     ▸ limit_checks ps main
 
 -- the checks from that of renamings on

@@ -9,7 +9,7 @@ use Rattle.est_meaning.specs.Knowledge.{IsIn}
 use Rattle.est_relations.specs.Keeping.{AreLawful}
 use Rattle.est_relations.specs.declared.relations.Relation.{Relation}
 use Rattle.est_cover.specs.InputSets.{InputSet, IsAsked, HasInputs}
-use Rattle.est_cover.specs.declared.asked.Asked.{Asked}
+use Rattle.est_cover.specs.declared.answered.AnsweredInputs.{AnsweredInputs}
 use Rattle.est_cover.specs.declared.cover.Next.{Next}
 use Rattle.est_cover.specs.declared.cover.Next.TheVariants.{Step as Stepped, Split}
 use Rattle.est_cover.specs.declared.part.Part.{Part}
@@ -50,7 +50,7 @@ pub record AreWatched (interface : List Declaration) (offer may watched : ℕ) :
 
 -- the step is that of each set of inputs that has the part
 pub record IsStepOf {S A : Type 0} (answers : InputSet → A → Option S → Type 0) (is_state : S → Type 0) (may : ℕ → Bool)
-    (relations : List Relation) (watched : ℕ → Bool) (unasked inputs : ℕ) (s : Step S (Asked A)) : Type 0 where
+    (relations : List Relation) (watched : ℕ → Bool) (unasked inputs : ℕ) (s : Step S (AnsweredInputs A)) : Type 0 where
   pub sound : IsAsked answers may relations watched s.label s.next
   pub state : (y : S) → s.next ≡ Some y → is_state y
   pub is : s.label.inputs ≡ inputs
@@ -66,8 +66,8 @@ IsNext answers is_state may relations watched unasked inputs (Split p) = bits un
 -- the steps of the sets of inputs that have this part are added; or there are more steps than `most` before all are
 pub record IsCovered {S A : Type 0} (answers : InputSet → A → Option S → Type 0) (is_state : S → Type 0)
     (may : ℕ → Bool) (relations : List Relation) (watched : ℕ → Bool) (unasked inputs most : ℕ) (whole : Bool)
-    (old new : List (Step S (Asked A))) : Type 0 where
-  pub more : List (Step S (Asked A))
+    (old new : List (Step S (AnsweredInputs A))) : Type 0 where
+  pub more : List (Step S (AnsweredInputs A))
   pub split : new ≡ old ++ more
   pub sound : All (λ s. IsAsked answers may relations watched s.label s.next) more
   pub states : All (λ s. (y : S) → s.next ≡ Some y → is_state y) more

@@ -3,7 +3,7 @@ use Rattle.std.specs.Prelude.{◌≡◌, ℕ, ◌≤◌, Bool, List, [], length,
 use Rattle.est_kernel.specs.declared.interface.TheConstants.{MOST_SIGNALS}
 use Rattle.est_link.specs.Bodies.{HasSoundNames}
 use Rattle.est_checks.specs.Duplicates.{first_duplicate, redeclared}
-use Rattle.est_checks.specs.LawlessRelations.{first_lawless}
+use Rattle.est_checks.specs.LawlessRelations.{first_over_outputs}
 use Rattle.est_modules.specs.Modules.{Program, program_named}
 use Rattle.est_checks.specs.MissingModules.{first_missing}
 use Rattle.est_modules.specs.declared.head.Declared.{Declared}
@@ -14,7 +14,7 @@ pub record IsSoundMain (p : Program) : Type 0 where
   pub signals : length p.interface ≤ MOST_SIGNALS
   pub relations : length p.relations ≤ MOST_RELATIONS
   pub distinct : redeclared [] (map (λ (d : Declared). d.name) p.interface) ≡ None
-  pub lawful : first_lawless p ≡ None
+  pub lawful : first_over_outputs p ≡ None
 
 -- a library without a fault
 pub record IsChecked (ps : List Program) (main : List ℕ) : Type 0 where

@@ -9,7 +9,7 @@ use std::io::{ErrorKind, Read, Write};
 use std::test::Fail;
 use wire_reader::exchange::write_then_read_line;
 use wire_reader::lines::{LINE_BYTES, Line, LineFault, LineReader};
-use wire_reader::meter::{MeteredMemory, MeteredReader, MeteredWriter, READS};
+use wire_reader::meter::{MOST_READS, MeteredMemory, MeteredReader, MeteredWriter};
 use wire_reader::replies::{Replies, WriteFault};
 use wire_reader::serving::{AnswerText, Answerer, EndReason, answer_connection};
 
@@ -133,7 +133,7 @@ fn a_line_lies_across_the_end_of_the_buffer(rt: HostRuntime) -> Result<(), Fail>
 fn a_million_reads(rt: HostRuntime) -> Result<(), Fail> {
     let mut reader = MeteredReader::new(ByBytes { is_end: false });
     let mut lines = LineReader::new(&mut MeteredMemory::new(rt.alloc()))?;
-    for _ in 0..READS / 2 {
+    for _ in 0..MOST_READS / 2 {
         assert!(rt; lines.next_line(&mut reader) == Ok(Line::Whole));
     }
     assert!(rt; lines.next_line(&mut reader) == Err(LineFault::Read));

@@ -117,12 +117,12 @@ fn step<B: BoardName, R: Wait>(
 
 /// What workers share.
 #[derive(Drop)]
-struct Service<'a, B: BoardName, T> {
+struct ServeOptions<'a, B: BoardName, T> {
     board: &'a Board<B>,
     table: &'a T,
 }
 
-impl<'a, B: BoardName + Send, T: Lends<SlotTable<B>>> Work for Service<'a, B, T> {
+impl<'a, B: BoardName + Send, T: Lends<SlotTable<B>>> Work for ServeOptions<'a, B, T> {
     type Seat = Worker<B>;
 
     ghost turn = { λ worker number before after. Unit {0} };
@@ -150,7 +150,7 @@ fn run_over<B: BoardName + Send + Sync, T: Lends<SlotTable<B>> + Sync, R: Thread
     table: &T,
     workers: Vec<Worker<B>>,
 ) -> Result<Vec<Worker<B>>, AllocError> {
-    let service = Service { board, table };
+    let service = ServeOptions { board, table };
     boards_are_shared::<B>();
     let back = run_each(rt, alloc, &service, workers, u64::MAX)?;
     Ok(back.seats)

@@ -13,8 +13,8 @@ returns-in_err-main-clause-found c =
     (first_found (map program_of c.args.heads.now) c.args.main.now c.in_err-main.field-0.0
     c.in_err-main.ensures.found)
 
-pub check_runs-requires : goal.check_runs-requires
-check_runs-requires c = none_twice (map program_of c.args.heads.now) c.args.main.now c.in_ok-main.ensures.found
+pub check_from_runs-requires : goal.check_from_runs-requires
+check_from_runs-requires c = none_twice (map program_of c.args.heads.now) c.args.main.now c.in_ok-main.ensures.found
 
 pub returns-in_err-order-clause-found : goal.returns-in_err-order-clause-found
 returns-in_err-order-clause-found c =

@@ -6,5 +6,6 @@ use Rattle.lab_lines.specs.Tests.{test_of}
 use Rattle.lab_lines.proofs.exploring.verdicts_on.Given as goal
 
 abbrev pub invariant-loop-test : goal.invariant-loop-test
-invariant-loop-test g l = AreTold (module_of l.subject.reactive.now.kernel.now l.subject.relations.now l.subject.among)
+invariant-loop-test g l =
+    AreTold (module_of l.subject.reactive.now.kernel.now l.subject.relations.now l.subject.allowed)
     l.fn.limits.states l.fn.limits.steps (map test_of (take l.test-index l.tests)) (map view l.verdicts.items)

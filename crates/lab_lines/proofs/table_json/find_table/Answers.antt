@@ -3,7 +3,7 @@ use Rattle.serde_json.specs.Data.{Data, array, member, no_members, object, strin
 use Rattle.serde_json.specs.View.{items_of, view}
 use Rattle.est_kernel.specs.Bits.{bits}
 use Rattle.est_kernel.specs.declared.interface.Declaration.{Declaration}
-use Rattle.est_cover.specs.declared.asked.Asked.{Asked}
+use Rattle.est_cover.specs.declared.answered.AnsweredInputs.{AnsweredInputs}
 use Rattle.est_explore.specs.declared.one_module.Answer.{Answer}
 use Rattle.state_search.specs.declared.found.Row.{Row}
 use Rattle.lab_lines.specs.TableJson.{node_json, row_json}
@@ -42,7 +42,8 @@ returns g c =
     c.in_ok-rows.ensures
     ∙ ap (λ (i : List Declaration). array (items_of (map (row_json i) c.as_slice-2.result.now)))
     c.interface-interface.ensures
-    ∙ ap (λ (xs : List (Row (Asked Answer))). array (items_of (map (row_json k) xs))) c.as_slice-2.ensures.value in
+    ∙ ap (λ (xs : List (Row (AnsweredInputs Answer))). array (items_of (map (row_json k) xs)))
+    c.as_slice-2.ensures.value in
     inl (record {
       found = c.in_ok-found.found;
       closed = c.is_closed.ensures.table _ _ c.in_ok-found.ensures.explored closed;

@@ -4,7 +4,7 @@ use Rattle.clap.specs.Words.{subcommand_rows_of}
 use Rattle.clap.specs.declared.parser.matches.ArgMatches.{ArgMatches}
 use Rattle.program_words.specs.Words.{Gives, IsNamed, command_line}
 use Rattle.program_words.proofs.CommandLines.{has_known_matches, is_simple_line}
-use Rattle.program_words.proofs.NamedOrders.{is_named}
+use Rattle.program_words.proofs.NamedInvocations.{is_named}
 use Rattle.program_words.proofs.words.parse.Goals as goal
 
 -- what is known of the matches of a command that is read as the program's

@@ -3,7 +3,7 @@ use Rattle.std.proofs.lemmas.Result.{IfOk-weaker}
 use Rattle.clap.specs.Words.{app_of, new_app, rule_of, with_rule}
 use Rattle.clap.specs.Simple.{app_of_fields}
 use Rattle.program_words.specs.Words.{number_rule, socket_rule}
-use Rattle.program_words.specs.declared.order.TheConstants.{MOST_CONNECTIONS, MOST_WORKERS}
+use Rattle.program_words.specs.declared.invocation.TheConstants.{MOST_CONNECTIONS, MOST_WORKERS}
 use Rattle.program_words.proofs.CommandLines.{is_local}
 use Rattle.program_words.proofs.words.serve_words.Goals as goal
 

@@ -24,7 +24,7 @@ returns-then-eq g c = record {
   node = c.index-nodes-at.result;
   is = is_read _ _ _ (rw c.in-Some.is at c.loop-place.invariant.sought).here.is.within c.index-nodes-at.is;
   state = ap (λ (n : Node _). n.state) c.index-nodes-at.is
-      ∙ g.met.S.Standing.exact _ _ (sym c.eq.ensures ∙ c.if-eq.true);
+      ∙ g.met.S.SearchState.exact _ _ (sym c.eq.ensures ∙ c.if-eq.true);
 }
 
 pub bounds-before-at : goal.bounds-before-at

@@ -4,15 +4,16 @@ use Rattle.state_search.proofs.PlaceLemmas.{no_places}
 use Rattle.state_search.proofs.TreeLemmas.{begins}
 use Rattle.state_search.proofs.search.search.Goals as goal
 
-pub place_of-requires : goal.place_of-requires
-place_of-requires g c = rw c.new.ensures.items (no_places _ _ c.new-places.ensures.last c.new-places.ensures.before)
+pub place_or_insert-requires : goal.place_or_insert-requires
+place_or_insert-requires g c =
+    rw c.new.ensures.items (no_places _ _ c.new-places.ensures.last c.new-places.ensures.before)
 
 pub loop-found-init : goal.loop-found-init
 loop-found-init g c =
-    let one = puts_first _ _ _ (rw c.new.ensures.items at c.in_ok-place_of.ensures.puts) in
+    let one = puts_first _ _ _ (rw c.new.ensures.items at c.in_ok-place_or_insert.ensures.puts) in
     record {
       fits = c.requires.fits;
-      places = c.in_ok-place_of.ensures.places;
+      places = c.in_ok-place_or_insert.ensures.places;
       first = rw one (record { node = _; is = is_last [] _ 0 refl; state = refl });
       searching = rw (one, c.new-2.ensures.items) (begins _ _ _ _ _ c.requires.state refl);
     }
