@@ -4,7 +4,8 @@ import subprocess
 import unittest
 
 from refusing import loaded
-from peers import NOT_JSON, STORED, TOO_LONG, report
+from mutating import padded
+from peers import LOGIN, NOT_JSON, STORED, TOO_LONG, accepted, command, refused, report
 from running import WAIT_SECONDS, program
 from wire import LONGEST
 
@@ -15,7 +16,8 @@ REPORT_OF_NOTHING = report(4)
 READ_FAULT = b"estserve: read fault\n"
 WRITE_FAULT = b"estserve: write fault\n"
 CLOSED = b"connection ended: Closed\n"
-AMPLE = 1_000_000  # bytes of a call, or calls, more than any run here needs
+READS = 1_000_000  # of a connection
+AMPLE = 2 * READS  # bytes of a call, or calls, more than any run here needs
 # words, their status, what is written on standard output, and whether nothing is on standard error
 WORDS = [
     (["script"], 0, b"", True),
@@ -28,7 +30,20 @@ WORDS = [
     (["--log", "script"], 2, b"", False),
     (["script", "--log"], 0, b"", False),
     (["script", "--log", "--report"], 0, REPORT_OF_NOTHING, False),
+    (["script", "--report", "--log"], 0, REPORT_OF_NOTHING, False),
 ]
+LOGOUT = command("logout")
+NO_SESSION = refused(4)
+# what is sent, of which a read may end anywhere, and what is answered
+LINES_AND_ENDS = [
+    (b"", b""),
+    (LOGOUT + b"[\n", NO_SESSION + NOT_JSON),
+    (b"[\n" + LOGOUT[:-1], NOT_JSON + NO_SESSION),
+    (b"\n\r\n\n" + LOGOUT[:-1] + b"\r", NOT_JSON * 3 + NO_SESSION),
+]
+# a login, a line that is no JSON, and a grant by a last line without its LF: no logout
+HELD_LOGIN = LOGIN + b"fly\n" + command("grant", object="0", op="load", role="root")[:-1]
+HELD_ANSWERS = accepted("login", session=1, version=5) + NOT_JSON + accepted("grant", version=6)
 # what is sent, and what is answered before the report
 LONG_LINES = [
     (b"x" * LONGEST + b"\n[", NOT_JSON * 2),
@@ -37,6 +52,7 @@ LONG_LINES = [
     (b"\xff\n[", NOT_JSON * 2),
     (b"x" * (LONGEST + 1) + b"\n[", TOO_LONG),
     (b"x" * (LONGEST + 1), TOO_LONG),
+    (padded(LOGOUT[:-1], 50_000) + b"\n" + padded(LOGOUT[:-1], 49_000) + b"\n" + padded(LOGOUT[:-1], LONGEST), NO_SESSION * 3),
 ]
 
 
@@ -68,14 +84,38 @@ class Streams(unittest.TestCase):
         self.assertEqual(run(["script", "--report"], LINES), (0, ANSWERS + REPORT, b""))
 
     def test_few_bytes_at_once(self):
-        for count in (1, 7, 64):
+        for count in range(1, 65):
             with self.subTest(count):
                 self.assertEqual(run(["script"], LINES, (count, AMPLE), (count, AMPLE)), (0, ANSWERS, b""))
 
+    def test_a_read_may_end_anywhere_in_a_line(self):
+        for lines, answers in LINES_AND_ENDS:
+            for count in range(1, len(lines) + 1):
+                with self.subTest(lines, count=count):
+                    self.assertEqual(run(["script"], lines, (count, AMPLE)), (0, answers, b""))
+
+    def test_answers_wait_until_a_read_is_needed(self):
+        self.assertEqual(run(["script"], LINES, writes=(AMPLE, 1)), (0, ANSWERS, b""))
+
+    def test_a_held_login_is_logged_out_at_the_end(self):
+        for count in (1, 7, AMPLE):
+            with self.subTest(count):
+                ended = run(["script", "--report"], HELD_LOGIN, (count, AMPLE), (11, AMPLE))
+                self.assertEqual(ended, (0, HELD_ANSWERS + report(7), b""))
+
     def test_long_lines_and_bytes_that_are_no_text(self):
         for lines, answers in LONG_LINES:
-            with self.subTest(lines[:8]):
-                self.assertEqual(run(["script", "--report"], lines), (0, answers + REPORT_OF_NOTHING, b""))
+            for count in (5, 1_000, LONGEST, AMPLE):
+                with self.subTest(lines[:8], count=count):
+                    ended = run(["script", "--report"], lines, (count, AMPLE))
+                    self.assertEqual(ended, (0, answers + REPORT_OF_NOTHING, b""))
+
+    def test_a_connection_has_a_million_reads(self):
+        """Each whole line before the last byte is answered, and that byte is not read any more."""
+        line = b"a line of 19 bytes." + b"\n"
+        status, output, errors = run(["script"], line * (READS // len(line)) + b"x", (1, AMPLE))
+        self.assertEqual((status, errors), (1, READ_FAULT))
+        self.assertTrue(output == NOT_JSON * (READS // len(line)), f"{len(output)} bytes of answers")
 
 
 class DevicesThatFail(unittest.TestCase):

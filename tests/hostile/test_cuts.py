@@ -17,7 +17,7 @@ NUMBERS = re.compile(rb'"(session|version|place)":(\d+)')
 TEXT = "module M: output O, P; emit O; pause; emit P end module"
 KEYWORDS = re.compile("module|output|emit|pause|end")
 READS = 1_000_000  # of a connection
-LONG = 60_000  # bytes of a line that comes in single bytes; `program_tests` has lines of one byte
+LONG = 60_000  # bytes of a line that comes in single bytes; tests/faults has short lines
 
 
 def renumbered(answers, histories):

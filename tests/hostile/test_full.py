@@ -1,5 +1,5 @@
 """A full policy journal, and session numbers that are used up, over a server's connections. On the program built without proof this
-takes minutes, so only `run --long` does it; the crate `program_tests` has both on a desk."""
+takes minutes, so only `run --long` does it; the crate `server_tests` has both on a desk."""
 import itertools
 import unittest
 

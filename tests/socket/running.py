@@ -93,7 +93,7 @@ def is_listening(path, process):
     """Whether a socket of this process takes connections at this path. Its file is there a moment before, and a connection is
     refused then; another process may have one whose file was at this path."""
     with open("/proc/net/unix", encoding="utf-8", errors="replace") as sockets:
-        rows = [row.split() for row in sockets]
+        rows = [row.rstrip("\n").split(None, 7) for row in sockets]
     listening = {row[6] for row in rows[1:] if len(row) == 8 and row[-1] == str(path) and int(row[3], 16) & ACCEPTS}
     return bool(listening & sockets_of(process))
 
@@ -135,8 +135,12 @@ class Server:
         self._environment = environment
         self._output = output
 
+    def order(self):
+        """The words that the program is called with."""
+        return ["serve", "--socket", str(self.path), *self._words]
+
     def __enter__(self):
-        command = [*program(), "serve", "--socket", str(self.path), *self._words]
+        command = [*program(), *self.order()]
         streams = {"stdin": subprocess.DEVNULL, "stdout": self._output, "stderr": subprocess.PIPE}
         self.process = subprocess.Popen(command, **streams, env=self._environment)
         try:

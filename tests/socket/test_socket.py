@@ -15,6 +15,41 @@ from estserve_client.connection import Refusal  # noqa: E402
 
 SOCKET_FAULT = (1, b"", b"estserve: socket fault\n")
 LOGIN = b'{"cmd":"login","roles":["root"],"user":"root"}\n'
+# what is said of words that are no order, and such words
+NO_ORDERS = {
+    "requires a subcommand but one was not provided": [""],
+    "required arguments were not provided": ["serve", "serve --workers 2"],
+    "a value is required for": ["serve --socket", "serve --socket a --workers"],
+    "cannot be used multiple times": ["script --log --log", "script --report --report", "serve --socket a --socket b"],
+    "unexpected value 'true' for '--log' found": ["script --log=true"],
+    "unexpected argument": [
+        "script --socket a",
+        "serve --socket a --log",
+        "script more",
+        "--log script",
+        "script --version",
+    ],
+    "unrecognized subcommand": ["srcipt"],
+    "invalid value": [
+        *(f"serve --socket a --workers {word}" for word in ("0", "17", "four", "18446744073709551617")),
+        "serve --socket a --workers=-1",
+        *(f"serve --socket a --connections {word}" for word in ("0", "65536")),
+    ],
+    "Serves standard input": ["script -h"],
+    "Usage: ": ["--help", "help"],
+}
+# words after `serve`, in which {} stands for the path, and how many workers the server then has
+ORDERS = [
+    ("--socket {}", 4),
+    ("--socket={}", 4),
+    ("--workers 2 --socket {}", 2),
+    ("--socket {} --workers 1", 1),
+    ("--socket {} --workers 16", 16),
+    ("--socket {} --workers 010", 10),
+    ("--socket {} --connections 7", 4),
+    ("--socket {} --connections 65535", 4),
+    ("--connections=9 --workers=3 --socket={}", 3),
+]
 
 
 def raw(path):
@@ -41,13 +76,18 @@ class Connections(unittest.TestCase):
             self.assertEqual(server.end(), (0, report(10, "slot 0: 4 entries, 1 loads, 3 instants"), b""))
             self.assertFalse(server.path.exists())
 
-    def test_each_script_of_the_examples_has_its_answers_and_its_report(self):
-        for answers in sorted((ROOT / "examples" / "scripts").glob("*.stdout")):
-            with self.subTest(answers.stem), Server("--workers", "1", "--connections", "1") as server:
-                script = answers.with_suffix("").read_bytes()
-                self.assertEqual(answers_to(server.path, script), answers.read_bytes())
-                judged = replayed(lines_of(script.decode()), lines_of(answers.read_text()))
-                self.assertEqual(server.end(), (0, judged.report().encode(), b""))
+    def test_each_dialogue_has_its_answers_and_its_report(self):
+        for folder in ("examples/scripts", "tests/dialogues"):
+            for answers in sorted((ROOT / folder).glob("*.stdout")):
+                self.one_dialogue(answers)
+
+    def one_dialogue(self, answers):
+        """Has a dialogue on a server of its own, and compares its answers and its report with those of the replay."""
+        with self.subTest(answers.stem), Server("--workers", "1", "--connections", "1") as server:
+            script = answers.with_suffix("").read_bytes()
+            self.assertEqual(answers_to(server.path, script), answers.read_bytes())
+            judged = replayed(lines_of(script.decode()), lines_of(answers.read_text()))
+            self.assertEqual(server.end(), (0, judged.report().encode(), b""))
 
     def test_the_calls_of_two_clients_are_the_entries_of_its_journals(self):
         with Server("--workers", "2", "--connections", "1") as server, server.root() as root, server.client() as ann:
@@ -170,6 +210,18 @@ class EndOfAServer(unittest.TestCase):
             self.assertEqual(server.end(), (0, None, b""))
 
 
+class OrderedServer(Server):
+    """A server that is called with these words after `serve`, in which {} stands for its path."""
+
+    def order(self):
+        return ["serve", *(word.format(self.path) for word in self._words)]
+
+
+def threads_of(process):
+    """How many threads a process has."""
+    return len(os.listdir(f"/proc/{process}/task"))
+
+
 class PathsAndWords(unittest.TestCase):
     def test_a_path_that_cannot_be_bound(self):
         with tempfile.TemporaryDirectory() as name:
@@ -215,12 +267,24 @@ class PathsAndWords(unittest.TestCase):
         self.assertIn(b"protocol version 1\n", told)
 
     def test_words_that_are_no_order(self):
-        for words in ([], ["--workers", "0"], ["--workers", "17"], ["--connections", "0"], ["--connections", "65536"], ["--log"]):
-            with self.subTest(words):
-                path = ["--socket", "/nowhere/socket"] if words else []
-                status, printed, told = run("serve", *path, *words)
-                self.assertEqual((status, printed), (2, b""))
-                self.assertIn(b"Usage" if not words or words == ["--log"] else b"invalid value", told)
+        for said, lines in NO_ORDERS.items():
+            for line in lines:
+                with self.subTest(line):
+                    status, printed, told = run(*line.split())
+                    self.assertEqual((status, printed), (2, b""))
+                    self.assertIn(said, told.decode())
+
+    def test_words_that_are_an_order(self):
+        for line, workers in ORDERS:
+            with self.subTest(line), OrderedServer(*line.split()) as server:
+                wait_for(lambda: threads_of(server.process.pid) == 1 + workers)
+
+    def test_a_path_may_have_a_blank(self):
+        with tempfile.TemporaryDirectory() as name:
+            path = pathlib.Path(name) / "a b"
+            with Server("--connections", "1", path=path) as server:
+                self.assertTrue(path.is_socket())
+                self.assertIsNone(server.process.poll())
 
     def test_a_word_that_is_not_utf_8(self):
         for words in ([b"\xff"], ["script", b"--\xe9"], ["serve", "--socket", b"/nowhere/\xc3\x28"]):

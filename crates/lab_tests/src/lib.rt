@@ -1,11 +1,10 @@
 //! The worked examples of proved exploration: modules, claims, and what is answered, through public
-//! calls alone. This crate has tests and nothing else, and stands above the crates that it calls.
+//! calls alone. What is seen inside instants is shown by `tests/lab`. This crate has tests and
+//! nothing else, and stands above the crates that it calls.
 #![tactic(auto)]
 
 #[cfg(test)]
 mod claims;
-#[cfg(test)]
-mod instants;
 #[cfg(test)]
 mod labs;
 #[cfg(test)]
@@ -16,5 +15,3 @@ mod modules;
 mod searching;
 #[cfg(test)]
 mod texts;
-#[cfg(test)]
-mod ties;

@@ -1,4 +1,3 @@
-mod derived;
 pub mod loads;
 mod programs;
 mod reactions;

@@ -1,3 +1,3 @@
+mod asking;
 mod playing;
 mod receipts;
-mod sharing;

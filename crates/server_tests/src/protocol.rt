@@ -1,6 +1,2 @@
 mod connections;
 mod devices;
-mod lines;
-mod logins;
-mod opening;
-mod requests;

@@ -5,7 +5,5 @@ mod many;
 mod meeting;
 mod revocation;
 mod server;
-mod shared;
-mod slots;
 mod turns;
 mod workers;

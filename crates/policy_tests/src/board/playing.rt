@@ -1,8 +1,8 @@
 //! Boards at which examples are played.
 ghost use Rattle.std.specs.Prelude.{◌≡◌};
 
+use crate::board::asking::refuse;
 use crate::board::receipts::{command, count_three, give_all, learn};
-use crate::board::sharing::{refuse, share, tell};
 use policy_board::board::Board;
 use policy_board::board_list::{BoardName, FreshList};
 use policy_board::opening::Opened;
@@ -11,7 +11,6 @@ use policy_board::seat::Seat;
 use std::alloc::Global;
 use std::process::Abort;
 use std::sync::Wait;
-use std::thread::Threads;
 
 /// What is played at two seats, of which one may be idle.
 #[derive(Clone, Copy)]
@@ -90,39 +89,4 @@ pub(crate) fn play<B: BoardName, R: Wait + Abort>(
     run(rt, alloc, &board, seats.as_mut_slice(), example);
     let entries = close(rt, board, readers);
     (entries, receipts_of(seats))
-}
-
-/// What is played by threads, each at a seat of its own.
-#[derive(Clone, Copy)]
-pub(crate) enum Sharing {
-    /// `tell`.
-    Told,
-    /// `share`.
-    Asked,
-}
-
-/// Plays the example at a new board, and closes it. Answers how many entries the journal has.
-pub(crate) fn play_in_threads<B: BoardName + Send + Sync, R: Threads + Wait + Abort + Sync>(
-    rt: &R,
-    alloc: Global,
-    fresh: FreshList,
-    example: Sharing,
-) -> usize
-    requires { fresh.seen.book ≡ B.book }
-{
-    let Opened {
-        board,
-        mut seats,
-        readers,
-    } = Board::<B>::open(rt, alloc, fresh, 3)
-        .ok()
-        .expect(rt, "a board");
-    let one = seats.pop().expect(rt, "a seat");
-    let other = seats.pop().expect(rt, "a seat");
-    let third = seats.pop().expect(rt, "a seat");
-    match example {
-        Sharing::Told => tell(rt, alloc, &board, one, other, third),
-        Sharing::Asked => share(rt, alloc, &board, one, other, third),
-    }
-    close(rt, board, readers)
 }

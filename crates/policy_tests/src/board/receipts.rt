@@ -1,11 +1,11 @@
 //! What the seats of a board keep of their calls.
+use crate::board::asking::{enter, first, grant, grant_once, login, may_audit, refusal, revoke};
 use crate::board::playing::{Example, play};
-use crate::board::sharing::{enter, grant, grant_once, login, may_audit, refusal, revoke};
 use history_receipts::receipt::{Kept, SlotReceipt};
 use policy_board::board::Board;
 use policy_board::board_list::{BoardName, FreshList};
 use policy_board::seat::Seat;
-use rbac_policy::commands::AdminCommand;
+use rbac_policy::commands::{AdminCommand, SessionId};
 use reactor_core::entry::SlotWord;
 use std::alloc::Global;
 use std::marker::Brand;
@@ -116,6 +116,8 @@ pub(crate) fn learn<B: BoardName, R: Wait + Abort>(
     asker.learn(grant_once(rt, alloc, board, giver));
     assert!(rt; asker.seen() == 6 && asker.receipts().len() == 0);
     assert!(rt; matches!(may_audit(board, asker), Ok(true)));
+    assert!(rt; matches!(asker.lives(first()), Ok(true)));
+    assert!(rt; matches!(asker.lives(SessionId::new(2)), Ok(false)));
 }
 
 /// Slot commands are counted from 1, whichever seat keeps them, and stand among the policy commands

@@ -1,70 +1,16 @@
-//! Connections to a desk that is lent: how they end, and that no session is left living.
-use access_core::refusal::Refusal;
-use access_core::reply::Reply;
+//! Connections whose reader cuts anywhere, and whose devices fail: how they end, and that no
+//! session is left living.
+use crate::protocol::devices::{AMPLE, Calls, Input, Output, STEP};
 use access_core::single::Single;
+use client_loop::connections::log_out_left;
 use client_loop::serving::{End, serve};
-use rbac_admin::refusal::PolicyRefusal;
-use rbac_policy::commands::{AdminCommand, SessionId};
+use rbac_policy::commands::SessionId;
 use rbac_policy::objects::{Object, Operation};
 use std::alloc::Global;
-use std::io;
-use std::io::{ErrorKind, Read, Write};
 use std::process::Abort;
 use std::sync::Wait;
-use std::test::Fail;
 use wire_reader::meter::{MeteredMemory, MeteredReader, MeteredWriter};
 use wire_reader::serving::EndReason;
-
-/// More calls or bytes than any test needs.
-const AMPLE: usize = 1_000_000;
-
-/// Gives at most `step` of its bytes at once. After `calls_that_work` calls it fails.
-#[derive(Drop)]
-struct Trickle<'a> {
-    bytes: &'a [u8],
-    step: usize,
-    calls_that_work: usize,
-}
-
-impl Read for Trickle<'_> {
-    fn read(&mut self, buf: &mut [u8]) -> io::Result<usize> {
-        if self.calls_that_work == 0 {
-            return Err(io::Error::from(ErrorKind::Other));
-        }
-        self.calls_that_work -= 1;
-        let count = self.bytes.len().min(self.step).min(buf.len());
-        let (front, rest) = self.bytes.split_at(count);
-        buf[..count].copy_from_slice(front);
-        self.bytes = rest;
-        Ok(count)
-    }
-}
-
-/// Takes at most `step` bytes at once. After `calls_that_work` calls it fails.
-#[derive(Drop)]
-struct Sink {
-    written: Vec<u8>,
-    step: usize,
-    calls_that_work: usize,
-}
-
-impl Write for Sink {
-    fn write(&mut self, buf: &[u8]) -> io::Result<usize> {
-        if self.calls_that_work == 0 {
-            return Err(io::Error::from(ErrorKind::Other));
-        }
-        self.calls_that_work -= 1;
-        let count = buf.len().min(self.step);
-        match self.written.extend_from_slice(&buf[..count]) {
-            Ok(()) => Ok(count),
-            Err(_) => Err(io::Error::from(ErrorKind::OutOfMemory)),
-        }
-    }
-
-    fn flush(&mut self) -> io::Result<()> {
-        Ok(())
-    }
-}
 
 /// A login, a line that is no JSON, a grant by a last line without LF.
 const LINES: &str = "{\"cmd\":\"login\",\"roles\":[\"root\"],\"user\":\"root\"}\nfly\n\
@@ -79,37 +25,23 @@ const ANSWERS: &str =
 /// How long the answers to the two lines are that end with LF.
 const FIRST_ANSWERS: usize = 68;
 
-/// How many bytes of the answers n writes of eleven bytes take.
+/// How many bytes of the answers n writes take.
 fn taken_by(calls: usize) -> usize {
-    let first_calls = FIRST_ANSWERS.div_ceil(11);
+    let first_calls = FIRST_ANSWERS.div_ceil(STEP);
     if calls <= first_calls {
-        return FIRST_ANSWERS.min(calls.saturating_mul(11));
+        return FIRST_ANSWERS.min(calls.saturating_mul(STEP));
     }
-    let more = (calls - first_calls).saturating_mul(11);
+    let more = (calls - first_calls).saturating_mul(STEP);
     ANSWERS.len().min(FIRST_ANSWERS.saturating_add(more))
 }
 
-/// How a connection to this desk ends, and what it writes. No login is left.
-fn served<R: Abort + Wait>(
-    rt: &R,
-    alloc: Global,
-    desk: &mut Single,
-    reader: Trickle<'_>,
-    calls_that_write: usize,
-) -> (EndReason, Vec<u8>) {
-    let mut reader = MeteredReader::new(reader);
-    let mut writer = MeteredWriter::new(Sink {
-        written: Vec::new(alloc),
-        step: 11,
-        calls_that_work: calls_that_write,
-    });
-    let mut memory = MeteredMemory::new(alloc);
-    let End { why, left } = serve(&mut memory, &mut reader, &mut writer, desk);
-    assert!(rt; left.is_none(), "a login is left");
-    if let Some(login) = left {
-        login.logout_at_last(rt, desk);
+/// The lines, so many bytes at once.
+fn lines_by(step: usize, calls: Calls) -> Input<'static> {
+    Input {
+        bytes: LINES.as_bytes(),
+        step,
+        calls,
     }
-    (why, writer.into_device().written)
 }
 
 /// Whether root's first session lives: it may administer the policy.
@@ -117,79 +49,90 @@ fn lives(desk: &Single) -> bool {
     desk.check(SessionId::new(1), Operation::Administer, &Object::Policy)
 }
 
-fn lines_by(step: usize, calls_that_work: usize) -> Trickle<'static> {
-    Trickle {
-        bytes: LINES.as_bytes(),
-        step,
-        calls_that_work,
+/// How a connection to a new desk ends, after which no login is left and no session lives.
+fn end_of<R: Abort + Wait>(
+    rt: &R,
+    memory: &mut MeteredMemory,
+    reader: &mut MeteredReader<Input<'_>>,
+    writer: &mut MeteredWriter<Output>,
+) -> EndReason {
+    let mut desk = Single::new(memory.allocator()).ok().expect(rt, "a desk");
+    let End { why, left } = serve(memory, reader, writer, &mut desk);
+    let is_left = left.is_some();
+    log_out_left(rt, &mut desk, left);
+    assert!(rt; !is_left);
+    assert!(rt; !lives(&desk));
+    why
+}
+
+/// How a connection over these devices ends, which writes the answers from the first on.
+fn served<R: Abort + Wait>(
+    rt: &R,
+    alloc: Global,
+    input: Input<'_>,
+    output: Output,
+) -> (EndReason, usize) {
+    let mut memory = MeteredMemory::new(alloc);
+    let mut reader = MeteredReader::new(input);
+    let mut writer = MeteredWriter::new(output);
+    let why = end_of(rt, &mut memory, &mut reader, &mut writer);
+    let written = writer.into_device().written;
+    assert!(rt; ANSWERS.as_bytes().starts_with(written.as_slice()));
+    (why, written.len())
+}
+
+#[test]
+fn the_first_read_ends_after_each_byte(rt: HostRuntime) {
+    for place in 1..=LINES.len() {
+        let input = lines_by(place, Calls::that_fail_from(AMPLE));
+        let output = Output::new(rt.alloc(), Calls::that_fail_from(AMPLE));
+        let (why, written) = served(&rt, rt.alloc(), input, output);
+        assert!(rt;
+            why == EndReason::Closed && written == ANSWERS.len(),
+            "{place}"
+        );
     }
 }
 
 #[test]
-fn a_held_login_is_logged_out_at_the_end(rt: HostRuntime) -> Result<(), Fail> {
-    for step in [1usize, 7, 5000] {
-        let mut desk = Single::new(rt.alloc())?;
-        let (why, written) = served(&rt, rt.alloc(), &mut desk, lines_by(step, AMPLE), AMPLE);
-        assert!(rt; why == EndReason::Closed);
-        assert!(rt; written.as_slice() == ANSWERS.as_bytes());
-        assert!(rt; !lives(&desk));
-        assert_eq!(rt; desk.entries().len(), 7);
-    }
-    Ok(())
-}
-
-#[test]
-fn no_session_lives_where_a_device_fails(rt: HostRuntime) -> Result<(), Fail> {
+fn no_session_lives_where_the_reader_fails(rt: HostRuntime) {
     for calls in 0..=LINES.len().div_ceil(7) {
-        let mut desk = Single::new(rt.alloc())?;
-        let (why, written) = served(&rt, rt.alloc(), &mut desk, lines_by(7, calls), AMPLE);
+        let input = lines_by(7, Calls::that_fail_from(calls));
+        let output = Output::new(rt.alloc(), Calls::that_fail_from(AMPLE));
+        let (why, _) = served(&rt, rt.alloc(), input, output);
         assert!(rt; why == EndReason::ReadFault, "{calls}");
-        assert!(rt;
-            ANSWERS.as_bytes().starts_with(written.as_slice()),
-            "{calls}"
-        );
-        assert!(rt; !lives(&desk), "{calls}");
     }
-    for calls in 0..12usize {
-        let mut desk = Single::new(rt.alloc())?;
-        let (why, written) = served(&rt, rt.alloc(), &mut desk, lines_by(AMPLE, AMPLE), calls);
-        let taken = taken_by(calls);
-        assert!(rt;
-            (why == EndReason::Closed) == (taken == ANSWERS.len()),
-            "{calls}"
-        );
-        assert!(rt;
-            (why == EndReason::WriteFault) == (taken < ANSWERS.len()),
-            "{calls}"
-        );
-        assert!(rt;
-            ANSWERS.as_bytes().starts_with(written.as_slice()),
-            "{calls}"
-        );
-        assert_eq!(rt; written.len(), taken, "{calls}");
-        assert!(rt; !lives(&desk), "{calls}");
-    }
-    Ok(())
 }
 
-/// Two connections to one desk, one after the other: the second finds what the first left.
 #[test]
-fn connections_follow_each_other(rt: HostRuntime) -> Result<(), Fail> {
-    let mut desk = Single::new(rt.alloc())?;
-    let (first, _) = served(&rt, rt.alloc(), &mut desk, lines_by(AMPLE, AMPLE), AMPLE);
-    let (second, written) = served(&rt, rt.alloc(), &mut desk, lines_by(AMPLE, AMPLE), AMPLE);
-    assert!(rt; first == EndReason::Closed);
-    assert!(rt; second == EndReason::Closed);
-    let wanted =
-        "{\"ok\":\"login\",\"session\":2,\"version\":8}\n{\"code\":2,\"fault\":\"NotJson\"}\n\
-        {\"code\":31,\"fault\":\"AlreadyGranted\"}\n";
-    assert!(rt; written.as_slice() == wanted.as_bytes());
-    let after = desk.admin(Some(SessionId::new(2)), AdminCommand::DeleteSession);
-    assert!(rt;
-        matches!(
-            after,
-            Reply::Refused(Refusal::Policy(PolicyRefusal::NoSession))
-        )
-    );
-    Ok(())
+fn no_session_lives_where_the_writer_fails(rt: HostRuntime) {
+    for calls in 0..12usize {
+        let input = lines_by(AMPLE, Calls::that_fail_from(AMPLE));
+        let output = Output::new(rt.alloc(), Calls::that_fail_from(calls));
+        let (why, written) = served(&rt, rt.alloc(), input, output);
+        let taken = taken_by(calls);
+        let wanted = if taken == ANSWERS.len() {
+            EndReason::Closed
+        } else {
+            EndReason::WriteFault
+        };
+        assert!(rt; why == wanted && written == taken, "{calls}");
+    }
+}
+
+/// Reader, writer and memory fail before the connection, and it is served to its end.
+#[test]
+fn faults_before_a_connection_are_none_of_its_own(rt: HostRuntime) {
+    let mut memory = MeteredMemory::new(rt.alloc());
+    let mut reader = MeteredReader::new(lines_by(AMPLE, Calls::of_which_one_fails()));
+    let mut writer = MeteredWriter::new(Output::new(rt.alloc(), Calls::of_which_one_fails()));
+    let is_read = reader.read(&mut [0; 4]).is_some();
+    let is_written = writer.write(b"lost").is_some();
+    let is_given = memory.zeros(usize::MAX / 2).is_ok();
+    assert!(rt; !is_read && !is_written && !is_given);
+    let why = end_of(&rt, &mut memory, &mut reader, &mut writer);
+    assert!(rt; why == EndReason::Closed);
+    assert!(rt; (reader.faults(), writer.faults(), memory.refusals()) == (1, 1, 1));
+    let written = writer.into_device().written;
+    assert!(rt; written.as_slice() == ANSWERS.as_bytes());
 }

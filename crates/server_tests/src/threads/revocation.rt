@@ -93,7 +93,8 @@ fn may_offer<B: BoardName, R: Abort>(rt: &R, board: &Board<B>, seat: &mut Seat<B
         .expect(rt, "an answer")
 }
 
-/// Ann offers, as far as she may. What her seat has seen never falls.
+/// Ann asks whether she may offer, and offers, as far as she may. What her seat has seen never
+/// falls.
 fn offer_on<B: BoardName, R: Wait + Abort>(
     rt: &R,
     board: &Board<B>,
@@ -102,6 +103,7 @@ fn offer_on<B: BoardName, R: Wait + Abort>(
 ) -> Seat<B> {
     for _ in 0..COMMANDS {
         let before = seat.seen();
+        may_offer(rt, board, &mut seat);
         offer(rt, board, table, &mut seat);
         assert!(rt; before <= seat.seen());
     }

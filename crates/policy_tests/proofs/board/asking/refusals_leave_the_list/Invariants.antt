@@ -1,4 +1,4 @@
-use Rattle.policy_tests.proofs.board.sharing.refusals_leave_the_list.Given as goal
+use Rattle.policy_tests.proofs.board.asking.refusals_leave_the_list.Given as goal
 
 -- the list that was just begun
 abbrev pub ghosts-play : goal.ghosts-play

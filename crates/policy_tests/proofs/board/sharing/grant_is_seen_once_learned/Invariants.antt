@@ -1,5 +1,0 @@
-use Rattle.policy_tests.proofs.board.sharing.grant_is_seen_once_learned.Given as goal
-
--- the list that was just begun
-abbrev pub ghosts-play_in_threads : goal.ghosts-play_in_threads
-ghosts-play_in_threads g a = record { book = a.fresh.seen.book }
