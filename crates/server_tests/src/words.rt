@@ -16,7 +16,7 @@ fn kind_of_no_words(rt: &impl Abort, alloc: Global) -> String {
 }
 
 #[test]
-fn no_words_at_all_are_no_order(rt: HostRuntime) {
+fn no_words_at_all_are_no_invocation(rt: HostRuntime) {
     let kind = kind_of_no_words(&rt, rt.alloc());
     assert_eq!(rt; kind.as_str(), "MissingSubcommand");
 }

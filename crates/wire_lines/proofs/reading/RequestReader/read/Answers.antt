@@ -4,7 +4,7 @@ use Rattle.wire_lines.specs.Requests.{IsRequest}
 use Rattle.wire_lines.specs.Inner.Commands.{request_at}
 use Rattle.wire_lines.specs.declared.request.Request.{Request}
 use Rattle.wire_lines.proofs.CommandLemmas.{read_is}
-use Rattle.wire_lines.proofs.reading.request_of_tokens.Goals as goal
+use Rattle.wire_lines.proofs.reading.RequestReader.read.Goals as goal
 
 -- what was read of the line, if anything was, is its request
 asked : {E : Type 0} (line text : List ℕ) (found : Result (Option Request) E) → text ≡ line → IsUtf8 line
