@@ -1,4 +1,5 @@
 mod closing;
 mod commands;
+mod deciding;
 mod receipts;
 mod server;

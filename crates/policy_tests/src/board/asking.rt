@@ -8,6 +8,7 @@ use rbac_admin::refusal::PolicyRefusal;
 use rbac_policy::commands::{AdminCommand, SessionId};
 use rbac_policy::names::{Name, RoleNames};
 use rbac_policy::objects::{Object, Operation};
+use server_mistakes::{boards, seats};
 use std::alloc::{AllocError, Global};
 use std::marker::Brand;
 use std::process::Abort;
@@ -49,7 +50,7 @@ pub(crate) fn may_audit<B: BoardName>(
     board: &Board<B>,
     seat: &mut Seat<B>,
 ) -> Result<bool, BoardRefusal> {
-    board.check_access(seat, first(), Operation::Audit, &Object::Policy)
+    boards::check_access(board, seat, first(), Operation::Audit, &Object::Policy)
 }
 
 /// Logs root in, whose session is the first.
@@ -60,11 +61,10 @@ pub(crate) fn enter<B: BoardName, R: Wait + Abort>(
     seat: &mut Seat<B>,
 ) {
     let command = login(alloc).expect(rt, "room");
-    let receipt = board
-        .admin(rt, seat, None, command)
+    let receipt = boards::admin(rt, board, seat, None, command)
         .ok()
         .expect(rt, "a receipt");
-    assert!(rt; receipt.version() == 5 && receipt.session() == Some(first()));
+    assert!(rt; receipt.version() == 5 && seats::session_of(&receipt) == Some(first()));
 }
 
 /// The receipt of a command that the first session gives, and that is accepted.
@@ -74,8 +74,7 @@ pub(crate) fn give<B: BoardName, R: Wait + Abort>(
     seat: &mut Seat<B>,
     command: AdminCommand,
 ) -> Acceptance<B> {
-    board
-        .admin(rt, seat, Some(first()), command)
+    boards::admin(rt, board, seat, Some(first()), command)
         .ok()
         .expect(rt, "a receipt")
 }
@@ -87,7 +86,7 @@ pub(crate) fn refusal<B: BoardName, R: Wait>(
     seat: &mut Seat<B>,
     command: AdminCommand,
 ) -> Option<BoardRefusal> {
-    board.admin(rt, seat, Some(first()), command).err()
+    boards::admin(rt, board, seat, Some(first()), command).err()
 }
 
 /// Logs root in, and grants.

@@ -8,6 +8,7 @@ use policy_board::board_list::{BoardName, FreshList};
 use policy_board::opening::Opened;
 use policy_board::reader::SlotReader;
 use policy_board::seat::Seat;
+use server_mistakes::boards;
 use std::alloc::Global;
 use std::process::Abort;
 use std::sync::Wait;
@@ -83,7 +84,7 @@ pub(crate) fn play<B: BoardName, R: Wait + Abort>(
         board,
         mut seats,
         readers,
-    } = Board::<B>::open(rt, alloc, fresh, 2)
+    } = boards::open::<B, R>(rt, alloc, fresh, 2)
         .ok()
         .expect(rt, "a board");
     run(rt, alloc, &board, seats.as_mut_slice(), example);

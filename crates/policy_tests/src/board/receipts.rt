@@ -7,6 +7,7 @@ use policy_board::board_list::{BoardName, FreshList};
 use policy_board::seat::Seat;
 use rbac_policy::commands::{AdminCommand, SessionId};
 use reactor_core::entry::SlotWord;
+use server_mistakes::{boards, seats};
 use std::alloc::Global;
 use std::marker::Brand;
 use std::process::Abort;
@@ -20,7 +21,7 @@ fn keeps_admin<B: BoardName>(
     version: u64,
     command: &AdminCommand,
 ) -> bool {
-    match seat.receipts().get(place) {
+    match seats::receipts(seat).get(place) {
         Some(Kept::Admin { version: v, entry }) => *v == version && entry.command == *command,
         Some(Kept::Slot(_)) | None => false,
     }
@@ -29,7 +30,7 @@ fn keeps_admin<B: BoardName>(
 /// The number of the slot command whose receipt the seat keeps at this place: the second of slot 3,
 /// a step.
 fn counted<B: BoardName>(seat: &Seat<B>, place: usize) -> Option<u64> {
-    match seat.receipts().get(place)? {
+    match seats::receipts(seat).get(place)? {
         Kept::Slot(
             SlotReceipt {
                 slot: 3,
@@ -48,8 +49,9 @@ fn counted<B: BoardName>(seat: &Seat<B>, place: usize) -> Option<u64> {
 /// Counts a step, which was the second command of slot 3.
 fn count<B: BoardName, R: Wait + Abort>(rt: &R, board: &Board<B>, seat: &mut Seat<B>) {
     match seat.make_room() {
-        Ok(()) => board.number_receipt(
+        Ok(()) => boards::number_receipt(
             rt,
+            board,
             seat,
             SlotReceipt {
                 slot: 3,
@@ -75,30 +77,45 @@ pub(crate) fn command<B: BoardName, R: Wait + Abort>(
     other: &mut Seat<B>,
 ) {
     assert!(rt; refusal(rt, board, seat, grant()).is_some());
-    assert!(rt; seat.receipts().len() == 0);
+    assert!(rt; seats::receipts(seat).len() == 0);
     grant_once(rt, alloc, board, seat);
     assert!(rt; refusal(rt, board, seat, grant()).is_some());
     let command = login(alloc).expect(rt, "room");
-    assert!(rt; seat.receipts().len() == 2);
+    assert!(rt; seats::receipts(seat).len() == 2);
     assert!(rt; keeps_admin(seat, 0, 5, &command) && keeps_admin(seat, 1, 6, &grant()));
-    assert!(rt; board.admin(rt, other, None, command).is_ok());
-    assert!(rt; other.receipts().len() == 1);
+    let again = boards::admin(rt, board, other, None, command)
+        .ok()
+        .expect(rt, "a receipt");
+    assert!(rt; seats::session_of(&again) == Some(SessionId::new(2)));
+    assert!(rt; seats::receipts(other).len() == 1);
+}
+
+/// The first session gives the command, of which the seat keeps no receipt if it is refused.
+fn give_or_not<B: BoardName, R: Wait + Abort>(
+    rt: &R,
+    board: &Board<B>,
+    seat: &mut Seat<B>,
+    command: AdminCommand,
+) {
+    let before = seat.receipts().len();
+    let refused = refusal(rt, board, seat, command).is_some();
+    assert!(rt; !refused || seat.receipts().len() == before);
 }
 
 /// Whatever is refused, a seat keeps a receipt for each entry and no others. It gives a login,
 /// grants and revokes, and passes over refusals.
-pub(crate) fn give_all<B: BoardName, R: Wait>(
+pub(crate) fn give_all<B: BoardName, R: Wait + Abort>(
     rt: &R,
     alloc: Global,
     board: &Board<B>,
     seat: &mut Seat<B>,
 ) {
     if let Ok(command) = login(alloc) {
-        let _answer = board.admin(rt, seat, None, command);
+        let _answer = boards::admin(rt, board, seat, None, command);
     }
     for _ in 0..3u32 {
-        refusal(rt, board, seat, grant());
-        refusal(rt, board, seat, revoke());
+        give_or_not(rt, board, seat, grant());
+        give_or_not(rt, board, seat, revoke());
     }
 }
 
@@ -113,8 +130,8 @@ pub(crate) fn learn<B: BoardName, R: Wait + Abort>(
 ) {
     assert!(rt; matches!(may_audit(board, asker), Ok(false)));
     assert!(rt; asker.seen() == 4);
-    asker.learn(grant_once(rt, alloc, board, giver));
-    assert!(rt; asker.seen() == 6 && asker.receipts().len() == 0);
+    seats::learn(asker, grant_once(rt, alloc, board, giver));
+    assert!(rt; asker.seen() == 6 && seats::receipts(asker).len() == 0);
     assert!(rt; matches!(may_audit(board, asker), Ok(true)));
     assert!(rt; matches!(asker.lives(first()), Ok(true)));
     assert!(rt; matches!(asker.lives(SessionId::new(2)), Ok(false)));

@@ -11,6 +11,8 @@ use policy_board::board_list::{BoardName, FreshList};
 use policy_board::opening::Opened;
 use policy_board::seat::Seat;
 use rbac_policy::commands::{AdminCommand, SessionId};
+use server_mistakes::closing::close;
+use server_mistakes::slots;
 use slot_table::closing::Histories;
 use slot_table::table::SlotTable;
 use std::alloc::Global;
@@ -104,7 +106,7 @@ fn say<B: BoardName, R: Wait + Abort>(
     match asked(rt, alloc, line) {
         Request::Policy(command) => change(rt, alloc, board, seat, command, wanted),
         Request::Slot { slot, command } => {
-            let reply = table.command(rt, board, seat, root(), slot, command);
+            let reply = slots::command(rt, table, board, seat, root(), slot, command);
             expect_told(rt, alloc, line, &reply, wanted);
         }
         Request::Check { .. } => assert!(rt; false, "a check"),
@@ -178,7 +180,7 @@ pub(crate) fn play<B: BoardName, R: Wait + Abort>(
         let _receipts = seat.into_receipts();
     }
     assert!(rt; seats.len() <= SEATS);
-    table.close(rt, alloc, board, seats)
+    close(rt, alloc, table, board, seats)
 }
 
 /// How many policy entries a closed server has, or why it gives no journals.
