@@ -177,8 +177,7 @@ impl<'a> Invocation<'a> {
     /// - Words, where they are no invocation, or ask for help;
     /// - Memory, where memory was refused.
     pub fn from_words<S: AsStr>(alloc: Global, words: &'a [S]) -> Result<Invocation<'a>, WordFault>
-        ensures invocation
-            { IfOk result (λ invocation. IsInvocation (map S.text words.entry.now) invocation) }
+        ensures invocation { IfOk result (λ invocation. IsInvocation (map S.text words.entry.now) invocation) }
         ensures refused { IfErr result (IsRefused (map S.text words.entry.now)) }
     {
         match parse(alloc, words) {
