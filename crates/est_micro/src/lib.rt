@@ -26,7 +26,7 @@ mod learning;
 pub mod micro;
 mod next;
 mod outputs;
-mod parts;
+mod part_reactions;
 mod pass_begin;
 mod pass_resume;
 mod passes;

@@ -15,7 +15,7 @@ ghost use Rattle.est_micro.specs.Outcomes.{HasNoCode, IsOutcomeOf};
 ghost use Rattle.est_micro.specs.Parts.{AgreeBut, AreInputsAlone};
 ghost use Rattle.est_micro.specs.Runs.{IsSettledBut};
 
-use crate::cells::{Found, Place};
+use crate::cells::{Place, Swept};
 use crate::direction::Direction;
 use crate::next::collect;
 use crate::settling::{DecidedCells, decide_cells};
@@ -43,7 +43,7 @@ fn outcome(
     outputs_count: usize,
     state: &State,
     from: &PauseSet,
-    found: &Found,
+    found: &Swept,
 ) -> Option<Outcome>
     requires state { IsState kernel.now.root state.now }
     requires lives { state.now ≡ Done → ⊥ }
@@ -86,7 +86,7 @@ pub(crate) fn read_outcome(
     kernel: &Kernel,
     outputs_count: usize,
     state: &State,
-    found: &Found,
+    found: &Swept,
 ) -> Option<Outcome>
     requires state { IsState kernel.now.root state.now }
     requires outputs_count { outputs_count ≡ output_count kernel.now.interface }

@@ -23,8 +23,8 @@ ghost use Rattle.est_micro.specs.Runs.{Ready};
 use crate::cells::Place;
 use crate::direction::Direction;
 use crate::outputs::exchange;
-use crate::pass_begin::pass;
-use crate::pass_resume::pass_on;
+use crate::pass_begin::pass_begun;
+use crate::pass_resume::pass_resumed;
 use est_kernel::code_set::CodeSet;
 use est_kernel::kernel::Kernel;
 use est_kernel::mask;
@@ -96,9 +96,17 @@ fn pass_sheet(
         traps: 0,
     };
     match state {
-        State::Fresh => pass(net, &place, root, Status::Present, env, fresh),
-        State::Done => pass(net, &place, root, Status::Absent, env, fresh),
-        State::Paused(pauses) => pass_on(net, &place, root, pauses, Status::Present, env, fresh),
+        State::Fresh => pass_begun(net, &place, root, Status::Present, env, fresh),
+        State::Done => pass_begun(net, &place, root, Status::Absent, env, fresh),
+        State::Paused(pauses) => pass_resumed(
+            net,
+            &place,
+            root,
+            pauses,
+            Status::Present,
+            env,
+            fresh,
+        ),
     }
 }
 

@@ -20,12 +20,12 @@ ghost use Rattle.est_micro.specs.Parts.{AgreeBut, AreInputsAlone};
 ghost use Rattle.est_micro.specs.Runs.{IsRound, IsSettledBut, sheet_swept};
 ghost use Rattle.est_micro.specs.Views.{IsSwept};
 
-use crate::cells::{Found, Place};
+use crate::cells::{Place, Swept};
 use crate::direction::Direction;
 use crate::outputs::{exchange, in_doubt};
 use crate::passes::{newly_decided, pass_all};
-use crate::sweep_begin::begin;
-use crate::sweep_resume::resume;
+use crate::sweep_begin::sweep_begun;
+use crate::sweep_resume::sweep_resumed;
 use est_kernel::kernel::Kernel;
 use est_kernel::state::State;
 use est_kernel::statement::Statement;
@@ -41,7 +41,7 @@ fn sweep(
     state: &State,
     env: &Env,
     direction: Direction,
-) -> Found
+) -> Swept
     requires state { IsState root.now state.now }
     requires fits { FitsMasks root.now }
     requires traps { 0 + trap_depth (term_of root.now) ≤ 62 }
@@ -61,9 +61,9 @@ fn sweep(
         direction,
     };
     match state {
-        State::Fresh => begin(net, &place, root, Status::Present, env),
-        State::Done => begin(net, &place, root, Status::Absent, env),
-        State::Paused(pauses) => resume(net, &place, root, pauses, Status::Present, env),
+        State::Fresh => sweep_begun(net, &place, root, Status::Present, env),
+        State::Done => sweep_begun(net, &place, root, Status::Absent, env),
+        State::Paused(pauses) => sweep_resumed(net, &place, root, pauses, Status::Present, env),
     }
 }
 
@@ -77,7 +77,7 @@ fn round(
     unasked: u64,
     env: &mut Env,
     direction: Direction,
-) -> Found
+) -> Swept
     requires state { IsState kernel.now.root state.now }
     requires outputs_count { outputs_count ≡ output_count kernel.now.interface }
     requires size { length net.old.cells.items ≡ cell_count kernel.now }
@@ -97,7 +97,7 @@ fn round(
 #[derive(Clone, Copy)]
 pub struct DecidedCells {
     /// What the cells of the statement say.
-    pub found: Found,
+    pub found: Swept,
     /// What is known of the signals of the interface.
     pub env: Env,
     /// Which way the last sweep went.

@@ -12,12 +12,12 @@ use Rattle.est_rounds.specs.declared.signal_set.Env.{Env as Known}
 use Rattle.est_micro.specs.Runs.{sheet_swept, IsExchanged, IsRound}
 use Rattle.est_micro.specs.Views.{IsSwept}
 use Rattle.est_micro.specs.declared.direction.Direction.{Direction}
-use Rattle.est_micro.specs.declared.cells.Found.{Found}
+use Rattle.est_micro.specs.declared.cells.Swept.{Swept}
 use Rattle.est_micro.proofs.settling.round.Goals as goal
 
 round_is : (d : Direction) (k : Kernel) (x : State) (inputs unasked : ℕ) (root : Statement) (outputs_count : ℕ)
     (e f : Known)
-    (old mid new : List Status) (r : Found)
+    (old mid new : List Status) (r : Swept)
     → root ≡ k.root → outputs_count ≡ output_count k.interface
     → IsSwept true root outputs_count 0 (sheet_swept d root x (env_of e)) old mid r
     → IsExchanged k.interface (bits unasked) (bits inputs) (bits r.judged.must.signals.interface)

@@ -9,7 +9,7 @@ ghost use Rattle.est_net.specs.Layout.{cell_count, output_count};
 ghost use Rattle.est_rounds.specs.Parts.{not_asked};
 ghost use Rattle.est_micro.specs.Outcomes.{HasNoCode, IsOutcomeOf};
 
-use crate::cells::Found;
+use crate::cells::Swept;
 use crate::micro::{Micro, read_outcome};
 use crate::waiting::first_waited;
 use est_kernel::kernel::Kernel;
@@ -24,7 +24,7 @@ fn told_if_decided(
     kernel: &Kernel,
     outputs_count: usize,
     state: &State,
-    found: &Found,
+    found: &Swept,
 ) -> Option<Outcome>
     requires state { IsState kernel.now.root state.now }
     requires outputs_count { outputs_count ≡ output_count kernel.now.interface }

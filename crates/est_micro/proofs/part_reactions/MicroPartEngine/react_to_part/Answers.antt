@@ -1,7 +1,7 @@
 use Rattle.est_kernel.specs.Bits.{bits}
 use Rattle.est_micro.proofs.PartReactions.{inputs_alone, left_open, named_unasked, settled_for}
 use Rattle.est_micro.proofs.Settles.{full_settled}
-use Rattle.est_micro.proofs.parts.MicroPartEngine.react_to_part.Goals as goal
+use Rattle.est_micro.proofs.part_reactions.MicroPartEngine.react_to_part.Goals as goal
 
 pub settle_by-settled-requires-clause-apart : goal.settle_by-settled-requires-clause-apart
 settle_by-settled-requires-clause-apart c =
