@@ -109,7 +109,7 @@ round_made unasked way k x inputs e f old new r before now alone ready h before_
     }
 
 pub settled : (unasked : ℕ → Bool) (k : Kernel) (x : State) (inputs : ℕ → Bool) (before now : ℕ) (cells : List Status)
-    (r : DecidedCells) → Settling unasked k x inputs before now cells r.found r.env → (now ≡ before)
+    (r : DecidedCells) → Settling unasked k x inputs before now cells r.swept r.env → (now ≡ before)
     ⊎ (now ≡ length cells)
     → IsSettledBut unasked k x inputs cells r
 settled unasked k x inputs before now cells r h e = record {
@@ -124,7 +124,7 @@ settled unasked k x inputs before now cells r h e = record {
 -- a table without an open cell is settled
 pub full_settled : (unasked : ℕ → Bool) (k : Kernel) (x : State) (inputs : ℕ → Bool) (cells : List Status)
     (r : DecidedCells)
-    → IsSettledBut unasked k x inputs cells r → decided cells ≡ length cells → IsSettled k x inputs cells r.found
+    → IsSettledBut unasked k x inputs cells r → decided cells ≡ length cells → IsSettled k x inputs cells r.swept
 full_settled unasked k x inputs cells r h all = record {
   size = h.size;
   sound = h.sound;
@@ -136,7 +136,7 @@ full_settled unasked k x inputs cells r h all = record {
 -- and so is one where each input is asked
 pub none_settled : (unasked : ℕ → Bool) (k : Kernel) (x : State) (inputs : ℕ → Bool) (cells : List Status)
     (r : DecidedCells)
-    → ((n : ℕ) → unasked n ≡ false) → IsSettledBut unasked k x inputs cells r → IsSettled k x inputs cells r.found
+    → ((n : ℕ) → unasked n ≡ false) → IsSettledBut unasked k x inputs cells r → IsSettled k x inputs cells r.swept
 none_settled unasked k x inputs cells r none h = elim h.closed [
   | inl all ↦ full_settled unasked k x inputs cells r h all
   | inr quiet ↦ record {

@@ -98,6 +98,6 @@ pub record IsSettledBut (unasked : ℕ → Bool) (k : Kernel) (x : State) (input
   pub closed : (decided cells ≡ length cells)
       ⊎ IsClosedBut unasked k.interface inputs k.root x (table_of k.interface k.root cells)
   pub found : let T = sheet_in (cell_at cells) true k.root (output_count k.interface) 0 in
-      IsJudged T.cells.must T.cells.may (emits is_sure true k.root T) (emits is_possible true k.root T) r.found.judged
+      IsJudged T.cells.must T.cells.may (emits is_sure true k.root T) (emits is_possible true k.root T) r.swept.judged
   pub knows : env_of r.env ≡ known_but unasked k.interface inputs (output_cells k.interface cells)
   pub offered : AreOfferedTrue k.interface inputs cells

@@ -30,6 +30,7 @@ mod part_reactions;
 mod pass_begin;
 mod pass_resume;
 mod passes;
+mod question;
 mod settling;
 mod sweep_begin;
 mod sweep_resume;

@@ -286,16 +286,16 @@ fn resume_loop(
 }
 
 /// What counts of a side of a `||`: one that has ended gives code 0 where the `||` is run.
-fn side(is_on: bool, found: &Swept, run: Status) -> Judgement
-    ensures { IsJudged (cond is_on (codes_of found.now.judged.must.codes) (sure_code run 0))
-        (cond is_on (codes_of found.now.judged.can.codes) (may_code run 0))
-        (set_of found.now.judged.must.signals) (set_of found.now.judged.can.signals) result }
+fn side(is_on: bool, swept: &Swept, run: Status) -> Judgement
+    ensures { IsJudged (cond is_on (codes_of swept.now.judged.must.codes) (sure_code run 0))
+        (cond is_on (codes_of swept.now.judged.can.codes) (may_code run 0))
+        (set_of swept.now.judged.must.signals) (set_of swept.now.judged.can.signals) result }
 {
     if is_on {
-        found.judged
+        swept.judged
     } else {
         let ended = cells::leaf(run, Completion::End);
-        cells::giving(&ended, &found.judged)
+        cells::giving(&ended, &swept.judged)
     }
 }
 
