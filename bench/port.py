@@ -30,7 +30,8 @@ CRATES = {
     "est_meaning": ("status",),
     "est_rounds": ("acts", "answer", "engine", "judged", "resume", "resume_step", "rounds", "signal_set", "start", "step"),
     "est_net": ("emissions", "extents", "lay", "net", "pause_run", "reach", "reading", "table"),
-    "est_micro": ("begin", "cells", "decided", "direction", "extents", "idle", "learning", "next", "outputs", "pass", "pass_on", "passes", "resume", "run", "micro"),
+    "est_micro": ("cells", "decided", "direction", "extents", "idle", "learning", "micro", "next", "outputs", "pass_begin", "pass_resume", "passes",
+                  "question", "settling", "sweep_begin", "sweep_resume"),
 }
 BY_HAND = {"est_kernel": ("interface", "kernel", "state")}  # modules of bench/port.rs
 INSTANTS = 20

@@ -26,7 +26,7 @@ use Rattle.est_micro.specs.Sweeps.{swept_parts, swept, told}
 use Rattle.est_micro.specs.declared.direction.Direction.{Direction}
 use Rattle.est_micro.specs.declared.direction.Direction.TheVariants.{Forwards, Backwards}
 use Rattle.est_micro.specs.Views.{Changes, IsJudged, IsLeft, IsPaired, IsSwept, IsBegun}
-use Rattle.est_micro.specs.declared.cells.Found.{Found}
+use Rattle.est_micro.specs.declared.cells.Swept.{Swept}
 use Rattle.est_micro.specs.declared.cells.Place.{Place}
 use Rattle.est_micro.proofs.Frames.{scoped, sheet_same, changes_then, learn_changes}
 use Rattle.est_micro.proofs.Nodes.{JudgedOf, Owned, one_swept, two_swept, two_swept_back, node_is_swept, ends_found}
@@ -60,7 +60,7 @@ paired f a b c d s u v w x y j h k l = record {
 
 -- a statement without parts
 pub leaf_begun : (s : Statement) (at : Place) (gate : Status) (e : Known) (old m0 new : List Status) (own : Judgement)
-    (r : Found)
+    (r : Swept)
     → sheet_size at.main s at.traps ≡ at.traps + 3
     → parts_in (cell_at m0) at.main s at.cell at.traps
     ≡ swept_parts at.direction at.main s (env_of e) (cell_at m0 at.cell) (parts_in
@@ -91,7 +91,7 @@ trapped_at at = record {
 
 pub present_begun : (n : ℕ) (at : Place) (t : _) (a : _) (p : Statement) (b : _) (q : Statement)
     (gate asked g1 g2 o go : Status) (e : Known)
-    (old m0 m1 m2 new : List Status) (r1 r2 r : Found) (own : Judgement)
+    (old m0 m1 m2 new : List Status) (r1 r2 r : Swept) (own : Judgement)
     → asked ≡ status_of (env_of e) (query_of t) → Learns at.cell gate old m0 → go ≡ cell_at m0 at.cell
     → g1 ≡ and_status go asked → o ≡ opposite asked → g2 ≡ and_status go o
     → IsBegun p (part_at at (at.number + 1) (at.cell + at.traps + 3)) g1 e m0 m1 r1
@@ -132,7 +132,7 @@ inside_is main p E f S T j h s e = e ∙ ap (λ (z : Signals). told E z) (h.emit
 
 pub seq_begun : (n : ℕ) (at : Place) (a : _) (p : Statement) (b : _) (q : Statement) (gate later go : Status)
     (e f : Known)
-    (old m0 m1 m2 new : List Status) (r1 r2 r : Found) (own : Judgement)
+    (old m0 m1 m2 new : List Status) (r1 r2 r : Swept) (own : Judgement)
     → Learns at.cell gate old m0 → go ≡ cell_at m0 at.cell
     → later ≡ verdict (codes_of r1.judged.must.codes 0) (codes_of r1.judged.can.codes 0)
     → env_of f ≡ told (env_of e) (set_of r1.judged.must.signals)
@@ -168,7 +168,7 @@ seq_begun n at a p b q gate later go e f old m0 m1 m2 new r1 r2 r own learns go_
     (let x = w.past in omega arith)
 
 pub par_begun : (n : ℕ) (at : Place) (a : _) (p : Statement) (b : _) (q : Statement) (gate go : Status) (e f : Known)
-    (old m0 m1 m2 new : List Status) (r1 r2 r : Found) (own : Judgement)
+    (old m0 m1 m2 new : List Status) (r1 r2 r : Swept) (own : Judgement)
     → at.direction ≡ Forwards → Learns at.cell gate old m0 → go ≡ cell_at m0 at.cell
     → env_of f ≡ told (env_of e) (set_of r1.judged.must.signals)
     → IsBegun p (part_at at (at.number + 1) (at.cell + at.traps + 3)) go e m0 m1 r1
@@ -202,7 +202,7 @@ par_begun n at a p b q gate go e f old m0 m1 m2 new r1 r2 r own goes learns go_i
 
 pub par_begun_back : (n : ℕ) (at : Place) (a : _) (p : Statement) (b : _) (q : Statement) (gate go : Status) (k : ℕ)
     (e f : Known)
-    (old m0 m1 m2 new : List Status) (r1 r2 r : Found) (own : Judgement)
+    (old m0 m1 m2 new : List Status) (r1 r2 r : Swept) (own : Judgement)
     → at.direction ≡ Backwards → Learns at.cell gate old m0 → go ≡ cell_at m0 at.cell
     → k ≡ at.cell + at.traps + 3 + sheet_size at.main p at.traps
     → env_of f ≡ told (env_of e) (set_of r2.judged.must.signals)
@@ -235,7 +235,7 @@ par_begun_back n at a p b q gate go k e f old m0 m1 m2 new r1 r2 r own goes lear
     (let x = w.past in omega arith)
 
 pub suspend_begun : (at : Place) (t : _) (a : _) (p : Statement) (gate go : Status) (e : Known)
-    (old m0 m1 new : List Status) (r1 r : Found) → Learns at.cell gate old m0 → go ≡ cell_at m0 at.cell
+    (old m0 m1 new : List Status) (r1 r : Swept) → Learns at.cell gate old m0 → go ≡ cell_at m0 at.cell
     → IsBegun p (part_at at (at.number + 1) (at.cell + at.traps + 3)) go e m0 m1 r1
     → IsLeft at.cell at.traps r1.judged r1.past m1 new r
     → IsBegun (Suspend' t a p) at gate e old new r
@@ -262,7 +262,7 @@ IsHidden s x j = IsJudged (codes_of x.must.codes) (codes_of x.can.codes) (withou
     (without s (set_of x.can.signals)) j
 
 pub trap_begun : (at : Place) (a : _) (p : Statement) (gate go : Status) (e : Known)
-    (old m0 m1 new : List Status) (r1 r : Found) (own : Judgement) → Learns at.cell gate old m0
+    (old m0 m1 new : List Status) (r1 r : Swept) (own : Judgement) → Learns at.cell gate old m0
     → go ≡ cell_at m0 at.cell
     → IsBegun p (trapped_at at) go e m0 m1 r1
     → IsTrapped r1.judged own → IsLeft at.cell at.traps own r1.past m1 new r
@@ -308,7 +308,7 @@ emitting_found a b c d s u v w x y j h k l = record {
 -- a loop that was begun again has no restart of its own
 pub again_begun : (m n : ℕ) (way : Direction) (main : Bool) (c t : ℕ) (a : _) (p : Statement) (gate go : Status)
     (e : Known)
-    (old m0 m1 new : List Status) (r1 r : Found) → main ≡ false → Learns c gate old m0 → go ≡ cell_at m0 c
+    (old m0 m1 new : List Status) (r1 r : Swept) → main ≡ false → Learns c gate old m0 → go ≡ cell_at m0 c
     → IsBegun p (record { number = n; main = main; cell = c + t + 3; traps = t; direction = way }) go e m0 m1 r1
     → IsLeft c t r1.judged r1.past m1 new r
     → IsBegun (Loop' a p) (record { number = m; main = main; cell = c; traps = t; direction = way }) gate e old new r
@@ -335,7 +335,7 @@ again_begun m n way false c t a p gate go e old m0 m1 new r1 r h learns go_is bo
 -- a loop that can go on, with its body as the restart begins it
 pub loop_begun : (m n : ℕ) (way : Direction) (main : Bool) (c t : ℕ) (a : _) (p : Statement) (gate go : Status)
     (e : Known)
-    (old m0 m1 m2 new : List Status) (r1 r2 r : Found) (own : Judgement) → main ≡ true → Learns c gate old m0
+    (old m0 m1 m2 new : List Status) (r1 r2 r : Swept) (own : Judgement) → main ≡ true → Learns c gate old m0
     → go ≡ cell_at m0 c
     → IsBegun p (record { number = n; main = main; cell = c + t + 3; traps = t; direction = way }) go e m0 m1 r1
     → IsBegun p (record { number = n; main = false; cell = r1.past; traps = t; direction = way }) Absent e m1 m2 r2
@@ -359,7 +359,7 @@ loop_begun m n way true c t a p gate go e old m0 m1 m2 new r1 r2 r own h learns 
 
 -- a local signal's binder: its body, and then the status
 pub record LocalSwept (main : Bool) (s : ℕ) (p : Statement) (c t : ℕ) (F : Status → Sheet main p → Sheet main p)
-    (old m0 m2 : List Status) (r1 : Found) : Type 0 where
+    (old m0 m2 : List Status) (r1 : Swept) : Type 0 where
   pub body : sheet_in (cell_at m2) main p (c + t + 4) t ≡ F (cell_at old (c + t + 3))
       (sheet_in (cell_at old) main p (c + t + 4) t)
   pub status : cell_at m2 (c + t + 3) ≡ learned (cell_at old (c + t + 3))
@@ -370,7 +370,7 @@ pub record LocalSwept (main : Bool) (s : ℕ) (p : Statement) (c t : ℕ) (F : S
 
 pub local_swept : (main : Bool) (s : ℕ) (p : Statement) (c t : ℕ) (F : Status → Sheet main p → Sheet main p)
     (gate status : Status)
-    (old m0 m1 m2 : List Status) (r1 : Found) → Learns c gate old m0
+    (old m0 m1 m2 : List Status) (r1 : Swept) → Learns c gate old m0
     → IsSwept main p (c + t + 3 + 1) t (F (cell_at m0 (c + t + 3))) m0 m1 r1
     → status ≡ verdict (set_of r1.judged.must.signals (inner s)) (set_of r1.judged.can.signals (inner s))
     → Learns (c + t + 3) status m1 m2 → LocalSwept main s p c t F old m0 m2 r1
@@ -411,7 +411,7 @@ hidden_found n a b s u x j h l = record {
 }
 
 pub local_begun : (at : Place) (s : LocalSignal) (a : _) (p : Statement) (gate go status : Status) (e inside : Known)
-    (old m0 m1 m2 new : List Status) (r1 r : Found) (own : Judgement) → Learns at.cell gate old m0
+    (old m0 m1 m2 new : List Status) (r1 r : Swept) (own : Judgement) → Learns at.cell gate old m0
     → go ≡ cell_at m0 at.cell
     → env_of inside ≡ with_local (env_of e) s.index (cell_at m0 (at.cell + at.traps + 3))
     → IsBegun p (part_at at (at.number + 1) (at.cell + at.traps + 3 + 1)) go inside m0 m1 r1
@@ -444,14 +444,14 @@ local_begun at s a p gate go status e inside old m0 m1 m2 new r1 r own learns go
 
 -- places are still within the cells after a part was swept
 pub within_one : (lo k : ℕ) (old m0 m1 : List Status) (s : Statement) (at : Place) (gate : Status) (e : Known)
-    (r : Found)
+    (r : Swept)
     → lo + k ≤ length old → length m0 ≡ length old → IsBegun s at gate e m0 m1 r → lo ≤ length m1
 unfolding IsBegun
 within_one lo k old m0 m1 s at gate e r h m b = let n = b.changes.size in omega arith
 
 pub within_two : (lo k j : ℕ) (old m0 m1 m2 : List Status) (s t : Statement) (at bt : Place) (gate hate : Status)
     (e f : Known)
-    (r q : Found) → lo + k + j ≤ length old → length m0 ≡ length old → IsBegun s at gate e m0 m1 r
+    (r q : Swept) → lo + k + j ≤ length old → length m0 ≡ length old → IsBegun s at gate e m0 m1 r
     → IsBegun t bt hate f m1 m2 q
     → lo ≤ length m2
 unfolding IsBegun
@@ -460,7 +460,7 @@ within_two lo k j old m0 m1 m2 s t at bt gate hate e f r q h m b d =
     let o = d.changes.size in
     omega arith
 
-pub within_next : (old m0 m1 : List Status) (s : Statement) (at : Place) (gate : Status) (e : Known) (r : Found) (j : ℕ)
+pub within_next : (old m0 m1 : List Status) (s : Statement) (at : Place) (gate : Status) (e : Known) (r : Swept) (j : ℕ)
     → IsBegun s at gate e m0 m1 r → at.cell + sheet_size at.main s at.traps + j ≤ length old → length m0 ≡ length old
     → r.past + j ≤ length m1
 unfolding IsBegun
@@ -474,13 +474,13 @@ pub within_back : (k a n m : ℕ) (old m0 : List Status) → k ≡ a + n → a +
 within_back k a n m old m0 e h l = omega arith
 
 pub within_local : (a k : ℕ) (old m0 m1 : List Status) (s : Statement) (at : Place) (gate : Status) (e : Known)
-    (r : Found)
+    (r : Swept)
     → a + 4 + k ≤ length old → length m0 ≡ length old → IsBegun s at gate e m0 m1 r → a + 3 < length m1
 unfolding IsBegun
 within_local a k old m0 m1 s at gate e r h m b = let n = b.changes.size in omega arith
 
 pub within_told : (a k : ℕ) (old m0 m1 m2 : List Status) (s : Statement) (at : Place) (gate : Status) (e : Known)
-    (r : Found)
+    (r : Swept)
     → a + 4 + k ≤ length old → length m0 ≡ length old → IsBegun s at gate e m0 m1 r → length m2 ≡ length m1
     → a + 3 ≤ length m2
 unfolding IsBegun

@@ -30,7 +30,7 @@ use Rattle.est_rounds.specs.declared.signal_set.SignalSet.{SignalSet}
 use Rattle.est_micro.specs.Sweeps.{live_swept, live_swept_parts, may_told, sure_told, sweep_by, swept, swept_parts}
 use Rattle.est_micro.specs.declared.direction.Direction.{Direction}
 use Rattle.est_micro.specs.Views.{AddsEmitted, IsJudged, IsRead, IsResumed, IsSwept}
-use Rattle.est_micro.specs.declared.cells.Found.{Found}
+use Rattle.est_micro.specs.declared.cells.Swept.{Swept}
 use Rattle.est_micro.specs.declared.cells.Place.{Place}
 use Rattle.est_micro.proofs.BegunNodes.{nothing_changes}
 use Rattle.est_micro.proofs.Frames.{and_same, same_node_of, scoped, size_least}
@@ -271,7 +271,7 @@ live_swept_kept way s bits r e f c t d =
 
 -- what is read of such a statement is what a sweep finds
 read_swept : (way : Direction) (main : Bool) (s : Statement) (bits : ℕ → Bool) (run : Status) (e : Env) (c t : ℕ)
-    (cells : List Status) (r : Found) → main ≡ true → AllDecided c (c + sheet_size main s t) cells
+    (cells : List Status) (r : Swept) → main ≡ true → AllDecided c (c + sheet_size main s t) cells
     → (let T = sheet_in (cell_at cells) main s c t in
     IsJudged T.cells.must T.cells.may (emits is_sure main s T) (emits is_possible main s T) r.judged)
     → r.past ≡ c + sheet_size main s t → IsSwept true s c t (live_swept way s bits run e) cells cells r
@@ -285,7 +285,7 @@ read_swept way true s bits run e c t cells r m d j p = record {
 read_swept way false s bits run e c t cells r m d j p = let z : false ≡ true = m in cc
 
 pub read_resumed : (s : Statement) (at : Place) (pauses : PauseSet) (run : Status) (e : Known) (cells : List Status)
-    (r : Found) → at.main ≡ true → IsRead s at cells r → IsResumed s at pauses run e cells cells r
+    (r : Swept) → at.main ≡ true → IsRead s at cells r → IsResumed s at pauses run e cells cells r
 unfolding IsResumed
 read_resumed s at pauses run e cells r m h =
     read_swept at.direction at.main s (pauses_of pauses) run (env_of e) at.cell at.traps cells r m h.decided h.found
@@ -351,7 +351,7 @@ emits_same main (Binder' s a p) f c t d =
 
 -- what is found of such a statement, by the codes that its cells give and the signals that they emit
 pub decided_read : (s : Statement) (at : Place) (cells : List Status) (old new : SignalSet) (codes : CodeSet)
-    (past : ℕ) (r : Found) → set_of old ≡ no_signals
+    (past : ℕ) (r : Swept) → set_of old ≡ no_signals
     → AddsEmitted at.main s at.cell at.traps cells old new past
     → AllDecided at.cell (at.cell + sheet_size at.main s at.traps) cells
     → codes_of codes ≡ sure_codes (cell_at cells) (at.cell + 1) (at.traps + 2)
@@ -373,7 +373,7 @@ decided_read s at cells old new codes past r none adds all given is =
     let signals = adds.adds ∙ (ap (λ (z : Signals). union z (emits is_sure at.main s T)) none
     ∙ none_union (emits is_sure at.main s T)) in
     let same = codes_same f (c + 1) (t + 2) (λ i l u. d i (omega arith) (omega arith)) in
-    subst (λ (z : Found). IsRead s at cells z) (sym is) (record {
+    subst (λ (z : Swept). IsRead s at cells z) (sym is) (record {
       decided = all;
       found = record {
         must = given;

@@ -29,7 +29,7 @@ use Rattle.est_rounds.specs.declared.signal_set.Env.{Env as Known}
 use Rattle.est_micro.specs.Sweeps.{entered, sure_told, may_told, sweep_by, swept, swept_parts}
 use Rattle.est_micro.specs.declared.direction.Direction.{Direction}
 use Rattle.est_micro.specs.Views.{IsBegun, IsIdle, IsJudged, IsSwept}
-use Rattle.est_micro.specs.declared.cells.Found.{Found}
+use Rattle.est_micro.specs.declared.cells.Swept.{Swept}
 use Rattle.est_micro.specs.declared.cells.Place.{Place}
 use Rattle.est_micro.proofs.Frames.{same_node_of, scoped, sheet_same, size_least}
 use Rattle.est_micro.proofs.Told.{either_way}
@@ -318,7 +318,7 @@ parts_false main (Binder' s a p) c t = scoped refl (false_node _ t _ _ (parts_fa
 
 -- a statement that is not begun, and whose cells were all made false, is swept
 false_swept : (way : Direction) (main : Bool) (s : Statement) (e : Env) (g : Status) (c t : ℕ)
-    (old new : List Status) (r : Found)
+    (old new : List Status) (r : Swept)
     → NoneTrue c (c + sheet_size main s t) old → learned (cell_at old c) g ≡ Absent
     → AreFalse c (c + sheet_size main s t) old new
     → IsJudged no_codes no_codes no_signals no_signals r.judged → r.past ≡ c + sheet_size main s t
@@ -339,7 +339,7 @@ false_swept way main s e g c t old new r none a h j past =
       past = past;
     }
 
-pub idle_begun : (s : Statement) (at : Place) (gate : Status) (e : Known) (old new : List Status) (past : ℕ) (r : Found)
+pub idle_begun : (s : Statement) (at : Place) (gate : Status) (e : Known) (old new : List Status) (past : ℕ) (r : Swept)
     → IsIdle s at gate old past → AreFalse at.cell past old new
     → IsJudged no_codes no_codes no_signals no_signals r.judged → r.past ≡ past
     → IsBegun s at gate e old new r

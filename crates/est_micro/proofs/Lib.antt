@@ -3,6 +3,7 @@ mod SweepsAreSound
 mod SweepsComeToRest
 mod Frames
 mod KeptExtents
+mod KernelNets
 mod Telling
 mod Nodes
 mod BegunNodes

@@ -17,7 +17,7 @@ use Rattle.est_micro.specs.Sweeps.{entered, left, one_way, sure_told, may_told}
 use Rattle.est_micro.specs.declared.direction.Direction.{Direction}
 use Rattle.est_micro.specs.declared.direction.Direction.TheVariants.{Forwards, Backwards}
 use Rattle.est_micro.specs.Views.{Changes, IsJudged, IsLeft, IsSwept, node_swept}
-use Rattle.est_micro.specs.declared.cells.Found.{Found}
+use Rattle.est_micro.specs.declared.cells.Swept.{Swept}
 use Rattle.est_micro.proofs.Frames.{Same, size_least, sure_same, possible_same, same_node_of, parts_same, sheet_same}
 use Rattle.est_micro.proofs.Frames.{changes_then, learn_changes}
 
@@ -46,7 +46,7 @@ Owned main s G T j = IsJudged (G T).must (G T).may (emits is_sure main s T) (emi
 
 pub node_is_swept : (main : Bool) (s : Statement) (c t : ℕ) (P : Status → Parts main s → Parts main s)
     (G : Sheet main s → Cells)
-    (gate : Status) (old m0 m2 new : List Status) (own : Judgement) (past : ℕ) (r : Found)
+    (gate : Status) (old m0 m2 new : List Status) (own : Judgement) (past : ℕ) (r : Swept)
     → Learns c gate old m0
     → parts_in (cell_at m2) main s c t ≡ P (cell_at m0 c) (parts_in (cell_at old) main s c t)
     → Changes (c + t + 3) (c + sheet_size main s t) m0 m2
@@ -101,7 +101,7 @@ node_is_swept main s c t P G gate old m0 m2 new own past r learns parts changes 
 
 -- one part
 pub record OneSwept (main : Bool) (p : Statement) (d t : ℕ) (F : Sheet main p → Sheet main p) (old m0 m1 : List Status)
-    (r : Found)
+    (r : Swept)
     : Type 0 where
   pub sheet : sheet_in (cell_at m1) main p d t ≡ F (sheet_in (cell_at old) main p d t)
   pub found : JudgedOf main p (sheet_in (cell_at m1) main p d t) r.judged
@@ -109,7 +109,7 @@ pub record OneSwept (main : Bool) (p : Statement) (d t : ℕ) (F : Sheet main p 
   pub past : r.past ≡ d + sheet_size main p t
 
 pub one_swept : (main : Bool) (p : Statement) (d t : ℕ) (F : Sheet main p → Sheet main p) (old m0 m1 : List Status)
-    (r : Found)
+    (r : Swept)
     → Same d (d + sheet_size main p t) (cell_at m0) (cell_at old) → IsSwept main p d t F m0 m1 r
     → OneSwept main p d t F old m0 m1 r
 one_swept main p d t F old m0 m1 r h x = record {
@@ -122,7 +122,7 @@ one_swept main p d t F old m0 m1 r h x = record {
 -- two parts, the second after the first
 pub record TwoSwept (mp mq : Bool) (p q : Statement) (d t : ℕ) (F : Sheet mp p → Sheet mp p)
     (H : Sheet mq q → Sheet mq q)
-    (old m0 m2 : List Status) (r1 r2 : Found) : Type 0 where
+    (old m0 m2 : List Status) (r1 r2 : Swept) : Type 0 where
   pub first : sheet_in (cell_at m2) mp p d t ≡ F (sheet_in (cell_at old) mp p d t)
   pub second : sheet_in (cell_at m2) mq q (d + sheet_size mp p t) t
       ≡ H (sheet_in (cell_at old) mq q (d + sheet_size mp p t) t)
@@ -132,7 +132,7 @@ pub record TwoSwept (mp mq : Bool) (p q : Statement) (d t : ℕ) (F : Sheet mp p
   pub past : r2.past ≡ d + sheet_size mp p t + sheet_size mq q t
 
 pub two_swept : (mp mq : Bool) (p q : Statement) (d t : ℕ) (F : Sheet mp p → Sheet mp p) (H : Sheet mq q → Sheet mq q)
-    (old m0 m1 m2 : List Status) (r1 r2 : Found)
+    (old m0 m1 m2 : List Status) (r1 r2 : Swept)
     → Same d (d + sheet_size mp p t + sheet_size mq q t) (cell_at m0) (cell_at old)
     → IsSwept mp p d t F m0 m1 r1 → IsSwept mq q r1.past t H m1 m2 r2 → TwoSwept mp mq p q d t F H old m0 m2 r1 r2
 two_swept mp mq p q d t F H old m0 m1 m2 r1 r2 h x y' =
@@ -154,7 +154,7 @@ two_swept mp mq p q d t F H old m0 m1 m2 r1 r2 h x y' =
 
 -- two parts, the second swept before the first
 pub two_swept_back : (mp mq : Bool) (p q : Statement) (d t k : ℕ) (F : Sheet mp p → Sheet mp p)
-    (H : Sheet mq q → Sheet mq q) (old m0 m1 m2 : List Status) (r1 r2 : Found)
+    (H : Sheet mq q → Sheet mq q) (old m0 m1 m2 : List Status) (r1 r2 : Swept)
     → k ≡ d + sheet_size mp p t
     → Same d (d + sheet_size mp p t + sheet_size mq q t) (cell_at m0) (cell_at old)
     → IsSwept mq q k t H m0 m1 r2 → IsSwept mp p d t F m1 m2 r1 → TwoSwept mp mq p q d t F H old m0 m2 r1 r2

@@ -52,7 +52,7 @@ use Rattle.est_rounds.specs.declared.signal_set.Env.{Env as Known}
 use Rattle.est_rounds.specs.declared.signal_set.SignalSet.{SignalSet}
 use Rattle.est_micro.specs.Runs.{IsSettled, output_cells, table_of}
 use Rattle.est_micro.specs.Engine.{GoesOnFrom, HasValues, IsAsMeant}
-use Rattle.est_micro.specs.declared.cells.Found.{Found}
+use Rattle.est_micro.specs.declared.cells.Swept.{Swept}
 use Rattle.est_micro.proofs.AllDecided.{all_cells_decided}
 
 -- the code of a kernel's cells is one of its term, where it has not ended
@@ -77,18 +77,18 @@ abbrev Meant : Kernel → State → (ℕ → Bool) → List Status → Type 0
 Meant k x inputs cells = TableBelow (judged_signals k.interface inputs) k.root
     (table_meaning (judged_signals k.interface inputs) inputs k.root x) (table_of k.interface k.root cells)
 
-least_of : (k : Kernel) (x : State) (inputs : ℕ → Bool) (cells : List Status) (r : Found)
+least_of : (k : Kernel) (x : State) (inputs : ℕ → Bool) (cells : List Status) (r : Swept)
     → IsSettled k x inputs cells r
     → Meant k x inputs cells
 least_of k x inputs cells r h = table_least (judged_signals k.interface inputs) inputs k.root x
     (table_of k.interface k.root cells) h.closed
 
-pub as_meant : (k : Kernel) (x : State) (inputs : ℕ → Bool) (cells : List Status) (r : Found)
+pub as_meant : (k : Kernel) (x : State) (inputs : ℕ → Bool) (cells : List Status) (r : Swept)
     → IsSettled k x inputs cells r → IsAsMeant k x inputs cells
 as_meant k x inputs cells r h = record { sound = h.sound; whole = least_of k x inputs cells r h }
 
 -- where there is a reaction, every cell is decided
-decided_by : (k : Kernel) (x : State) (inputs : ℕ → Bool) (cells : List Status) (r : Found)
+decided_by : (k : Kernel) (x : State) (inputs : ℕ → Bool) (cells : List Status) (r : Swept)
     → IsSettled k x inputs cells r
     → (o : Signals) (n : ℕ) (u : Term)
     → Gives (state_term k.root x) (last_env (judged_signals k.interface inputs) inputs (state_term k.root x)) o n u
@@ -113,7 +113,7 @@ decided_by k x inputs cells r h o n u g =
     known_below_is (inl h) d = absurd (d h)
     known_below_is (inr h) d = h
 
-values_of : (k : Kernel) (x : State) (inputs : ℕ → Bool) (cells : List Status) (r : Found)
+values_of : (k : Kernel) (x : State) (inputs : ℕ → Bool) (cells : List Status) (r : Swept)
     → IsLoopSafe (term_of k.root)
     → IsState k.root x → IsSettled k x inputs cells r
     → TableDecided (judged_signals k.interface inputs) k.root (table_of k.interface k.root cells)
@@ -127,7 +127,7 @@ values_of k x inputs cells r safe q h d = record {
 }
 
 -- where the table has a code, there is a reaction, and every cell has its value
-pub values_by_code : (k : Kernel) (x : State) (inputs : ℕ → Bool) (cells : List Status) (r : Found)
+pub values_by_code : (k : Kernel) (x : State) (inputs : ℕ → Bool) (cells : List Status) (r : Swept)
     → IsLoopSafe (term_of k.root)
     → IsState k.root x → IsSettled k x inputs cells r → (n : ℕ) → codes_of r.judged.must.codes n ≡ true
     → HasValues k x inputs cells
@@ -139,7 +139,7 @@ values_by_code k x inputs cells r safe q h n c =
     values_of k x inputs cells r safe q h (decided_by k x inputs cells r h rule.signals n rule.rest rule.gives)
 
 -- the signals that are emitted, and the code, are those of the reaction
-emitted_are : (k : Kernel) (x : State) (inputs : ℕ → Bool) (cells : List Status) (r : Found)
+emitted_are : (k : Kernel) (x : State) (inputs : ℕ → Bool) (cells : List Status) (r : Swept)
     → IsSettled k x inputs cells r
     → (v : HasValues k x inputs cells) → set_of r.judged.must.signals ≡ v.values.signals
 emitted_are k x inputs cells r h v =
@@ -153,7 +153,7 @@ emitted_are k x inputs cells r h v =
     ∙ (sheet_sure s x e
     ∙ ap (λ a. a.signals) (gives_must (state_term s x) e v.values.signals v.values.code v.values.rest v.values.gives)))
 
-code_is : (k : Kernel) (x : State) (inputs : ℕ → Bool) (cells : List Status) (r : Found)
+code_is : (k : Kernel) (x : State) (inputs : ℕ → Bool) (cells : List Status) (r : Swept)
     → IsSettled k x inputs cells r
     → (v : HasValues k x inputs cells) → (n : ℕ) → codes_of r.judged.must.codes n ≡ true → v.values.code ≡ n
 code_is k x inputs cells r h v n c =
@@ -183,7 +183,7 @@ next_of k (Paused p) inputs from cells d q n g v =
     (next_pauses j inputs k.root d p q.live q.exclusive (table_of k.interface k.root cells) v.values)
 
 -- the kernel pauses
-pub reaction_paused : (k : Kernel) (x : State) (i : Inputs) (cells : List Status) (r : Found) (from : ℕ → Bool)
+pub reaction_paused : (k : Kernel) (x : State) (i : Inputs) (cells : List Status) (r : Swept) (from : ℕ → Bool)
     (next : PauseSet)
     → HasDistinctPauses k.root → IsLoopSafe (term_of k.root) → IsState k.root x → (x ≡ Done → ⊥) → GoesOnFrom x from
     → IsSettled k x (bits i.signals) cells r → codes_of r.judged.must.codes 1 ≡ true
@@ -211,7 +211,7 @@ reaction_paused k x i cells r from next d safe q n g h c same =
     }
 
 -- the kernel ends
-pub reaction_ended : (k : Kernel) (x : State) (i : Inputs) (cells : List Status) (r : Found) (from : ℕ → Bool)
+pub reaction_ended : (k : Kernel) (x : State) (i : Inputs) (cells : List Status) (r : Swept) (from : ℕ → Bool)
     → HasDistinctPauses k.root → IsLoopSafe (term_of k.root) → IsState k.root x → (x ≡ Done → ⊥) → GoesOnFrom x from
     → IsSettled k x (bits i.signals) cells r → codes_of r.judged.must.codes 0 ≡ true
     → IsReaction k x i (record { outputs = r.judged.must.signals.interface; next = Done })
@@ -239,14 +239,14 @@ unfolding set_of
 set_seen a f n e = ap (λ (g : Signals). g (outer n)) e
 
 -- the kernel had ended
-pub done_values : (k : Kernel) (inputs : ℕ → Bool) (cells : List Status) (r : Found) → IsLoopSafe (term_of k.root)
+pub done_values : (k : Kernel) (inputs : ℕ → Bool) (cells : List Status) (r : Swept) → IsLoopSafe (term_of k.root)
     → IsSettled k Done inputs cells r → HasValues k Done inputs cells
 done_values k inputs cells r safe h =
     let last = last_env (judged_signals k.interface inputs) inputs nothing in
     let g : Gives nothing last no_signals 0 nothing = record { signals = refl; code = refl; rest = refl } in
     values_of k Done inputs cells r safe tt h (decided_by k Done inputs cells r h no_signals 0 nothing g)
 
-pub reaction_done : (k : Kernel) (i : Inputs) (cells : List Status) (r : Found) → IsLoopSafe (term_of k.root)
+pub reaction_done : (k : Kernel) (i : Inputs) (cells : List Status) (r : Swept) → IsLoopSafe (term_of k.root)
     → IsSettled k Done (bits i.signals) cells r
     → IsReaction k Done i (record { outputs = r.judged.must.signals.interface; next = Done })
 reaction_done k i cells r safe h =
@@ -295,7 +295,7 @@ left_unknown true i v w h = ap is_unknown (h refl)
 left_unknown false true v w h = refl
 left_unknown false false v w h = refl
 
-undecided_at : (k : Kernel) (x : State) (inputs : ℕ → Bool) (cells : List Status) (r : Found) (e : Known) (u n : ℕ)
+undecided_at : (k : Kernel) (x : State) (inputs : ℕ → Bool) (cells : List Status) (r : Swept) (e : Known) (u n : ℕ)
     → IsSettled k x inputs cells r
     → env_of e ≡ known (judged_signals k.interface inputs) inputs (output_cells k.interface cells)
     → bits u n ≡ (bits e.possible.interface n && not (bits e.present.interface n))
@@ -310,7 +310,7 @@ undecided_at k x inputs cells r e u n h knows is =
     (table_of k.interface k.root cells) h.sound h.closed n l)))
 
 -- a table without an open cell has one of the two codes
-pub some_code : (k : Kernel) (x : State) (inputs : ℕ → Bool) (cells : List Status) (r : Found)
+pub some_code : (k : Kernel) (x : State) (inputs : ℕ → Bool) (cells : List Status) (r : Swept)
     → IsLoopSafe (term_of k.root)
     → IsState k.root x → (x ≡ Done → ⊥) → IsSettled k x inputs cells r
     → codes_of r.judged.must.codes 0 ≡ false → codes_of r.judged.must.codes 1 ≡ false
@@ -327,7 +327,7 @@ some_code k x inputs cells r safe q n h a b d =
     (ap (λ (f : Codes). f c) h.found.must ∙ there)
 
 -- the kernel has no reaction
-pub no_reaction : (k : Kernel) (x : State) (i : Inputs) (cells : List Status) (r : Found) (e : Known) (u : Stuck)
+pub no_reaction : (k : Kernel) (x : State) (i : Inputs) (cells : List Status) (r : Swept) (e : Known) (u : Stuck)
     → IsLoopSafe (term_of k.root)
     → IsState k.root x → (x ≡ Done → ⊥) → IsSettled k x (bits i.signals) cells r
     → env_of e ≡ known (judged_signals k.interface (bits i.signals)) (bits i.signals) (output_cells k.interface cells)

@@ -83,7 +83,7 @@ if_named None h = tt
 pub left_open : (u asked : ℕ → Bool) (k : Kernel) (x : State) (inputs : ℕ → Bool) (cells : List Status)
     (r : DecidedCells)
     (w : Option ℕ) → u ≡ not_asked k.interface asked → IsState k.root x → IsSettledByAll u k x inputs cells r
-    → (decided cells ≡ length cells → HasNoCode x r.found)
+    → (decided cells ≡ length cells → HasNoCode x r.swept)
     → w ≡ waits_for u true k.root (pauses_from x) Present (env_of r.env)
     (sheet_in (cell_at cells) true k.root (output_count k.interface) 0)
     → IsLeftOpen k x asked inputs cells (record { waits_for = w })
@@ -92,7 +92,7 @@ left_open u asked k x inputs cells r w e q h none is =
     let T = table_of k.interface k.root cells in
     let some : decided cells ≢ length cells = λ all.
     let c = none all in
-    some_code k x inputs cells r.found k.loop_safe q c.lives (full_settled u k x inputs cells r s all) c.ends c.pauses
+    some_code k x inputs cells r.swept k.loop_safe q c.lives (full_settled u k x inputs cells r s all) c.ends c.pauses
     (full_decided k inputs cells (judged_within k.interface inputs) s.size all) in
     let first : w ≡ table_waits_for (not_asked k.interface asked) k.interface inputs k.root x T =
     is ∙ (ap (λ (z : Env). waits_for u true k.root (pauses_from x) Present z T.sheet) s.knows

@@ -175,11 +175,6 @@ pass_round_by i unasked inputs s x e f old new a h others agree = record {
   exchange = exchange_by i unasked inputs _ _ _ _ _ a h.exchange others agree;
 }
 
-pub pass_round_size : (i : List Declaration) (unasked inputs : ℕ → Bool) (s : Statement) (x : State) (e f : Known)
-    (old new : List Status) → IsPassRound i unasked inputs s x e f old new → length new ≡ length old
-pass_round_size i unasked inputs s x e f old new h =
-    h.exchange.changes.size ∙ (pass_changes s x (output_count i) (env_of e) old h.mid h.pass).size
-
 pub pass_round_more : (i : List Declaration) (unasked inputs : ℕ → Bool) (s : Statement) (x : State) (e f : Known)
     (old new : List Status) → IsPassRound i unasked inputs s x e f old new → decided old ≤ decided new
 pass_round_more i unasked inputs s x e f old new h =
@@ -187,21 +182,19 @@ pass_round_more i unasked inputs s x e f old new h =
     let b = (pass_changes s x (output_count i) (env_of e) old h.mid h.pass).more in
     omega arith
 
-pub pass_round_is : (k : Kernel) (x : State) (inputs unasked : ℕ) (root : Statement) (outputs_count : ℕ) (e f : Known)
-    (old mid new : List Status) (j : Judgement) (listed : List Emission) → root ≡ k.root
-    → outputs_count ≡ output_count k.interface → listed ≡ emissions true k.root (output_count k.interface) 0
-    → SheetPasses root x outputs_count (env_of e) old mid
+pub pass_round_is : (k : Kernel) (x : State) (inputs unasked : ℕ) (e f : Known) (old mid new : List Status)
+    (j : Judgement) (listed : List Emission) → listed ≡ emissions true k.root (output_count k.interface) 0
+    → SheetPasses k.root x (output_count k.interface) (env_of e) old mid
     → ((n : ℕ) → bits j.must.signals.interface n ≡ list_any (is_of is_sure (cell_at mid) n) listed)
     → ((n : ℕ) → bits j.can.signals.interface n ≡ list_any (is_of is_possible (cell_at mid) n) listed)
     → IsExchanged k.interface (bits unasked) (bits inputs) (bits j.must.signals.interface)
     (bits j.can.signals.interface) mid new f
     → IsPassRound k.interface (bits unasked) (bits inputs) k.root x e f old new
-pass_round_is k x inputs unasked root outputs_count e f old mid new j listed a b l h sure possible ex = record {
+pass_round_is k x inputs unasked e f old mid new j listed l h sure possible ex = record {
   mid = mid;
   sure = bits j.must.signals.interface;
   possible = bits j.can.signals.interface;
-  pass = subst (λ (n : ℕ). SheetPasses k.root x n (env_of e) old mid) b
-      (subst (λ (z : Statement). SheetPasses z x outputs_count (env_of e) old mid) a h);
+  pass = h;
   sure_is = λ n. sure n ∙ (ap (λ (z : List Emission). list_any (is_of is_sure (cell_at mid) n) z) l
       ∙ sym (emitted_listed is_sure n true k.root (output_count k.interface) 0 (cell_at mid)));
   possible_is = λ n. possible n ∙ (ap (λ (z : List Emission). list_any (is_of is_possible (cell_at mid) n) z) l

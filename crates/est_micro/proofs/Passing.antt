@@ -24,7 +24,7 @@ use Rattle.est_micro.specs.Hearing.{Heard}
 use Rattle.est_micro.specs.Passes.{Keeps, Passes}
 use Rattle.est_micro.specs.Sweeps.{left, swept}
 use Rattle.est_micro.specs.Views.{Changes, IsSwept}
-use Rattle.est_micro.specs.declared.cells.Found.{Found}
+use Rattle.est_micro.specs.declared.cells.Swept.{Swept}
 use Rattle.est_micro.specs.declared.direction.Direction.{Direction}
 use Rattle.est_micro.proofs.BegunNodes.{nothing_changes, widen}
 use Rattle.est_micro.proofs.Frames.{changes_then, learn_changes, node_same, sheet_same}
@@ -211,7 +211,7 @@ pub record GivenBy (y : Cells) (own : Judgement) : Type 0 where
 
 -- a sweep is a pass
 pub sweep_passes : (way : Direction) (main : Bool) (s : Statement) (c t : ℕ) (g : Status) (l : Env)
-    (old new : List Status) (r : Found) → IsSwept main s c t (swept way main s l g) old new r
+    (old new : List Status) (r : Swept) → IsSwept main s c t (swept way main s l g) old new r
     → Passes main s c t g l old new
 sweep_passes way main s c t g l old new r h = record {
   changes = h.changes;

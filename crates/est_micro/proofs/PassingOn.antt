@@ -19,7 +19,7 @@ use Rattle.est_micro.specs.Hearing.{Heard}
 use Rattle.est_micro.specs.Passes.{Passes, PassesOn}
 use Rattle.est_micro.specs.Sweeps.{live_swept}
 use Rattle.est_micro.specs.Views.{Changes, IsSwept}
-use Rattle.est_micro.specs.declared.cells.Found.{Found}
+use Rattle.est_micro.specs.declared.cells.Swept.{Swept}
 use Rattle.est_micro.specs.declared.direction.Direction.{Direction}
 use Rattle.est_micro.proofs.BegunNodes.{widen}
 use Rattle.est_micro.proofs.Frames.{node_same}
@@ -179,7 +179,7 @@ loop_on_again bits a p c t g h l old new y k =
 
 -- a sweep is a pass
 pub sweep_passes_on : (way : Direction) (s : Statement) (bits : ℕ → Bool) (c t : ℕ) (g : Status) (l : Env)
-    (old new : List Status) (r : Found) → IsSwept true s c t (live_swept way s bits g l) old new r
+    (old new : List Status) (r : Swept) → IsSwept true s c t (live_swept way s bits g l) old new r
     → PassesOn s bits c t g l old new
 sweep_passes_on way s bits c t g l old new r h = record {
   changes = h.changes;

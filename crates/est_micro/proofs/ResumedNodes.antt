@@ -28,7 +28,7 @@ use Rattle.est_micro.specs.Sweeps.{swept, live_swept_parts, live_swept, told}
 use Rattle.est_micro.specs.declared.direction.Direction.{Direction}
 use Rattle.est_micro.specs.declared.direction.Direction.TheVariants.{Forwards, Backwards}
 use Rattle.est_micro.specs.Views.{IsJudged, IsLeft, IsPaired, IsSwept, IsBegun, IsResumed, IsChosen}
-use Rattle.est_micro.specs.declared.cells.Found.{Found}
+use Rattle.est_micro.specs.declared.cells.Swept.{Swept}
 use Rattle.est_micro.specs.declared.cells.Place.{Place}
 use Rattle.est_micro.proofs.Frames.{scoped}
 use Rattle.est_micro.proofs.Nodes.{one_swept, two_swept, two_swept_back, node_is_swept, ends_found, is_backwards}
@@ -43,7 +43,7 @@ flip false x y = refl
 
 pub pause_resumed : (n : _) (at : Place) (pauses : PauseSet) (run : Status) (e : Known) (old m0 new : List Status)
     (own : Judgement)
-    (r : Found) → Learns at.cell Absent old m0 → IsJudged (sure_code run 0) (may_code run 0) no_signals no_signals own
+    (r : Swept) → Learns at.cell Absent old m0 → IsJudged (sure_code run 0) (may_code run 0) no_signals no_signals own
     → IsLeft at.cell at.traps own (at.cell + at.traps + 3) m0 new r → IsResumed (Pause n) at pauses run e old new r
 unfolding IsResumed
 pause_resumed n at pauses run e old m0 new own r learns owned is_left =
@@ -54,7 +54,7 @@ pause_resumed n at pauses run e old m0 new own r learns owned is_left =
     learns refl (nothing_changes _ _ m0) owned is_left (omega arith)
 
 pub present_resumed : (at : Place) (t : _) (a : _) (p : Statement) (b : _) (q : Statement) (pauses : PauseSet)
-    (run asked g1 g2 o go : Status) (on : Bool) (e : Known) (old m0 m1 m2 new : List Status) (r1 r2 r : Found)
+    (run asked g1 g2 o go : Status) (on : Bool) (e : Known) (old m0 m1 m2 new : List Status) (r1 r2 r : Swept)
     (own : Judgement)
     → asked ≡ status_of (env_of e) (query_of t) → on ≡ is_live p (pauses_of pauses) → Learns at.cell Absent old m0
     → go ≡ cell_at m0 at.cell → g1 ≡ and_status go asked → o ≡ opposite asked → g2 ≡ and_status go o
@@ -93,7 +93,7 @@ present_resumed at t a p b q pauses run asked g1 g2 o go on e old m0 m1 m2 new r
     (let x = w.past in omega arith)
 
 pub seq_resumed : (at : Place) (a : _) (p : Statement) (b : _) (q : Statement) (pauses : PauseSet)
-    (run later go : Status) (on : Bool) (e f : Known) (old m0 m1 m2 new : List Status) (r1 r2 r : Found)
+    (run later go : Status) (on : Bool) (e f : Known) (old m0 m1 m2 new : List Status) (r1 r2 r : Swept)
     (own : Judgement)
     → on ≡ is_live p (pauses_of pauses) → Learns at.cell Absent old m0 → go ≡ cell_at m0 at.cell
     → later ≡ verdict (codes_of r1.judged.must.codes 0) (codes_of r1.judged.can.codes 0)
@@ -155,7 +155,7 @@ side_found on live run a b s u x j e h l = record {
 }
 
 pub par_resumed : (at : Place) (a : _) (p : Statement) (b : _) (q : Statement) (pauses : PauseSet)
-    (run go : Status) (on1 on2 : Bool) (e f : Known) (old m0 m1 m2 new : List Status) (r1 r2 r : Found)
+    (run go : Status) (on1 on2 : Bool) (e f : Known) (old m0 m1 m2 new : List Status) (r1 r2 r : Swept)
     (x y own : Judgement)
     → at.direction ≡ Forwards → on1 ≡ is_live p (pauses_of pauses) → on2 ≡ is_live q (pauses_of pauses)
     → Learns at.cell Absent old m0
@@ -198,7 +198,7 @@ par_resumed at a p b q pauses run go on1 on2 e f old m0 m1 m2 new r1 r2 r x y ow
     (let x = w.past in omega arith)
 
 pub par_resumed_back : (at : Place) (a : _) (p : Statement) (b : _) (q : Statement) (pauses : PauseSet)
-    (run go : Status) (on1 on2 : Bool) (k : ℕ) (e f : Known) (old m0 m1 m2 new : List Status) (r1 r2 r : Found)
+    (run go : Status) (on1 on2 : Bool) (k : ℕ) (e f : Known) (old m0 m1 m2 new : List Status) (r1 r2 r : Swept)
     (x y own : Judgement)
     → at.direction ≡ Backwards → on1 ≡ is_live p (pauses_of pauses) → on2 ≡ is_live q (pauses_of pauses)
     → Learns at.cell Absent old m0 → go ≡ cell_at m0 at.cell
@@ -249,7 +249,7 @@ HasCodes x y j = IsJudged (either_code (codes_of x.must.codes) (codes_of y.must.
 
 pub suspend_resumed : (at : Place) (t : _) (a : _) (p : Statement) (pauses : PauseSet)
     (run asked o inside stays : Status) (e : Known)
-    (old m0 m1 new : List Status) (r1 r : Found) (held own : Judgement)
+    (old m0 m1 new : List Status) (r1 r : Swept) (held own : Judgement)
     → asked ≡ status_of (env_of e) (query_of t) → Learns at.cell Absent old m0
     → o ≡ opposite asked → inside ≡ and_status run o → stays ≡ and_status run asked
     → IsResumed p (part_at at (at.number + 1) (at.cell + at.traps + 3)) pauses inside e m0 m1 r1
@@ -288,7 +288,7 @@ suspend_resumed at t a p pauses run asked o inside stays e old m0 m1 new r1 r he
     is_left (let x = w.past in omega arith)
 
 pub loop_resumed : (at : Place) (a : _) (p : Statement) (pauses : PauseSet) (run later : Status) (e f : Known)
-    (old m0 m1 m2 new : List Status) (r1 r2 r : Found) (own : Judgement) → Learns at.cell Absent old m0
+    (old m0 m1 m2 new : List Status) (r1 r2 r : Swept) (own : Judgement) → Learns at.cell Absent old m0
     → later ≡ verdict (codes_of r1.judged.must.codes 0) (codes_of r1.judged.can.codes 0)
     → IsResumed p (part_at at (at.number + 1) (at.cell + at.traps + 3)) pauses run e m0 m1 r1
     → env_of f ≡ told (env_of e) (set_of r1.judged.must.signals)
@@ -324,7 +324,7 @@ loop_resumed at a p pauses run later e f old m0 m1 m2 new r1 r2 r own learns lat
     (let x = w.past in omega arith)
 
 pub trap_resumed : (at : Place) (a : _) (p : Statement) (pauses : PauseSet) (run : Status) (e : Known)
-    (old m0 m1 new : List Status) (r1 r : Found) (own : Judgement) → Learns at.cell Absent old m0
+    (old m0 m1 new : List Status) (r1 r : Swept) (own : Judgement) → Learns at.cell Absent old m0
     → IsResumed p (trapped_at at) pauses run e m0 m1 r1
     → IsTrapped r1.judged own → IsLeft at.cell at.traps own r1.past m1 new r
     → IsResumed (Trap' a p) at pauses run e old new r
@@ -349,7 +349,7 @@ trap_resumed at a p pauses run e old m0 m1 new r1 r own learns body trapped is_l
     is_left (let x = w.past in omega arith)
 
 pub local_resumed : (at : Place) (s : LocalSignal) (a : _) (p : Statement) (pauses : PauseSet) (run status : Status)
-    (e inside : Known) (old m0 m1 m2 new : List Status) (r1 r : Found) (own : Judgement) → Learns at.cell Absent old m0
+    (e inside : Known) (old m0 m1 m2 new : List Status) (r1 r : Swept) (own : Judgement) → Learns at.cell Absent old m0
     → env_of inside ≡ with_local (env_of e) s.index (cell_at m0 (at.cell + at.traps + 3))
     → IsResumed p (part_at at (at.number + 1) (at.cell + at.traps + 3 + 1)) pauses run inside m0 m1 r1
     → status ≡ verdict (set_of r1.judged.must.signals (inner s.index)) (set_of r1.judged.can.signals (inner s.index))
@@ -381,7 +381,7 @@ local_resumed at s a p pauses run status e inside old m0 m1 m2 new r1 r own lear
 pub begun_chosen : (n : ℕ) (way : Direction) (main : Bool) (c t : ℕ) (p : Statement) (pauses : PauseSet) (is_on : Bool)
     (gate run : Status)
     (e : Known)
-    (old new : List Status) (r : Found) → main ≡ true → is_on ≡ false
+    (old new : List Status) (r : Swept) → main ≡ true → is_on ≡ false
     → IsBegun p (record { number = n; main = main; cell = c; traps = t; direction = way }) gate e old new r
     → IsChosen p (record { number = n; main = main; cell = c; traps = t; direction = way }) pauses is_on gate run e
     old new r
@@ -394,7 +394,7 @@ begun_chosen n way false c t p pauses is_on gate run e old new r h off b = let z
 
 -- a part that goes on
 pub resumed_chosen : (at : Place) (p : Statement) (pauses : PauseSet) (is_on : Bool) (gate run : Status) (e : Known)
-    (old new : List Status) (r : Found) → is_on ≡ true → IsResumed p at pauses run e old new r
+    (old new : List Status) (r : Swept) → is_on ≡ true → IsResumed p at pauses run e old new r
     → IsChosen p at pauses is_on gate run e old new r
 unfolding IsResumed
 resumed_chosen at p pauses is_on gate run e old new r on b =
@@ -406,12 +406,12 @@ resumed_chosen at p pauses is_on gate run e old new r on b =
 -- places are still within the cells after a part was swept
 pub resumed_one : (lo k : ℕ) (old m0 m1 : List Status) (s : Statement) (at : Place) (pauses : PauseSet) (run : Status)
     (e : Known)
-    (r : Found) → lo + k ≤ length old → length m0 ≡ length old → IsResumed s at pauses run e m0 m1 r → lo ≤ length m1
+    (r : Swept) → lo + k ≤ length old → length m0 ≡ length old → IsResumed s at pauses run e m0 m1 r → lo ≤ length m1
 unfolding IsResumed
 resumed_one lo k old m0 m1 s at pauses run e r h m b = let n = b.changes.size in omega arith
 
 pub resumed_two : (lo k j : ℕ) (old m0 m1 m2 : List Status) (s t : Statement) (at bt : Place) (pauses : PauseSet)
-    (run gate : Status) (e f : Known) (r q : Found) → lo + k + j ≤ length old → length m0 ≡ length old
+    (run gate : Status) (e f : Known) (r q : Swept) → lo + k + j ≤ length old → length m0 ≡ length old
     → IsResumed s at pauses run e m0 m1 r → IsBegun t bt gate f m1 m2 q → lo ≤ length m2
 unfolding IsBegun IsResumed
 resumed_two lo k j old m0 m1 m2 s t at bt pauses run gate e f r q h m b d =
@@ -420,7 +420,7 @@ resumed_two lo k j old m0 m1 m2 s t at bt pauses run gate e f r q h m b d =
     omega arith
 
 pub resumed_next : (old m0 m1 : List Status) (s : Statement) (at : Place) (pauses : PauseSet) (run : Status) (e : Known)
-    (r : Found)
+    (r : Swept)
     (j : ℕ) → IsResumed s at pauses run e m0 m1 r → at.cell + sheet_size true s at.traps + j ≤ length old
     → length m0 ≡ length old → r.past + j ≤ length m1
 unfolding IsResumed
@@ -431,14 +431,14 @@ resumed_next old m0 m1 s at pauses run e r j b h m =
 
 pub resumed_local : (a k : ℕ) (old m0 m1 : List Status) (s : Statement) (at : Place) (pauses : PauseSet) (run : Status)
     (e : Known)
-    (r : Found) → a + 4 + k ≤ length old → length m0 ≡ length old → IsResumed s at pauses run e m0 m1 r
+    (r : Swept) → a + 4 + k ≤ length old → length m0 ≡ length old → IsResumed s at pauses run e m0 m1 r
     → a + 3 < length m1
 unfolding IsResumed
 resumed_local a k old m0 m1 s at pauses run e r h m b = let n = b.changes.size in omega arith
 
 pub resumed_told : (a k : ℕ) (old m0 m1 m2 : List Status) (s : Statement) (at : Place) (pauses : PauseSet)
     (run : Status)
-    (e : Known) (r : Found) → a + 4 + k ≤ length old → length m0 ≡ length old → IsResumed s at pauses run e m0 m1 r
+    (e : Known) (r : Swept) → a + 4 + k ≤ length old → length m0 ≡ length old → IsResumed s at pauses run e m0 m1 r
     → length m2 ≡ length m1 → a + 3 ≤ length m2
 unfolding IsResumed
 resumed_told a k old m0 m1 m2 s at pauses run e r h m b d = let n = b.changes.size in omega arith

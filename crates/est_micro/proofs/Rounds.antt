@@ -34,7 +34,7 @@ use Rattle.est_micro.specs.Hearing.{Heard, Seen}
 use Rattle.est_micro.specs.declared.direction.Direction.{Direction}
 use Rattle.est_micro.specs.Parts.{AreInputsAlone, IsClosedBut, known_but, opened}
 use Rattle.est_micro.specs.Runs.{sheet_swept, output_cells, output_gate, IsRound, table_of}
-use Rattle.est_micro.specs.declared.cells.Found.{Found}
+use Rattle.est_micro.specs.declared.cells.Swept.{Swept}
 use Rattle.est_micro.proofs.Frames.{sheet_same}
 use Rattle.est_micro.proofs.Unasked.{emitted_there, heard_but, opened_less, seen_but}
 use Rattle.est_micro.proofs.SweepsAreSound.{swept_sound, live_swept_sound}
@@ -133,7 +133,7 @@ gate_is inputs a b n h = rw h refl
 pub round_sheet : (way : Direction) (i : List Declaration) (unasked inputs : ℕ → Bool) (s : Statement)
     (x : State) (e f : Known)
     (old new : List Status)
-    (r : Found) → (h : IsRound way i unasked inputs s x e f old new r)
+    (r : Swept) → (h : IsRound way i unasked inputs s x e f old new r)
     → sheet_in (cell_at new) true s (output_count i) 0 ≡ sheet_in (cell_at h.mid) true s (output_count i) 0
 round_sheet way i unasked inputs s x e f old new r h =
     sheet_same (cell_at new) (cell_at h.mid) true s (output_count i) 0 (λ k l u. h.exchange.changes.after k l)
@@ -142,7 +142,7 @@ round_sheet way i unasked inputs s x e f old new r h =
 pub before_round : (way : Direction) (i : List Declaration) (unasked inputs : ℕ → Bool) (s : Statement)
     (x : State) (e f : Known)
     (old new : List Status)
-    (r : Found) → (h : IsRound way i unasked inputs s x e f old new r) → (n : ℕ) → rank i n < output_count i
+    (r : Swept) → (h : IsRound way i unasked inputs s x e f old new r) → (n : ℕ) → rank i n < output_count i
     → output_cells i h.mid n ≡ output_cells i old n
 before_round way i unasked inputs s x e f old new r h n l = h.sweep.changes.before (rank i n) l
 
@@ -169,7 +169,7 @@ rank_within f (suc m) n l h = elim (last m n l) [
 
 -- the outputs after a round
 told_cell : (way : Direction) (i : List Declaration) (unasked inputs : ℕ → Bool) (s : Statement)
-    (x : State) (e f : Known) (old new : List Status) (r : Found)
+    (x : State) (e f : Known) (old new : List Status) (r : Swept)
     → (h : IsRound way i unasked inputs s x e f old new r) → (n : ℕ) → n < length i
     → (emittable i n && not (inputs n)) ≡ true
     → output_cells i new n ≡ learned (output_cells i old n)
@@ -193,7 +193,7 @@ told_cell way i unasked inputs s x e f old new r h n l j =
 pub round_sound : (way : Direction) (i : List Declaration) (unasked inputs : ℕ → Bool) (s : Statement)
     (x : State) (e f : Known)
     (old new : List Status)
-    (r : Found) → IsWithinPlaces (judged_signals i inputs)
+    (r : Swept) → IsWithinPlaces (judged_signals i inputs)
     → AreInputsAlone i unasked → IsClosed i 0 0 (term_of s)
     → env_of e ≡ known_but unasked i inputs (output_cells i old) → IsRound way i unasked inputs s x e f old new r
     → TableBelow (judged_signals i inputs) s (table_of i s old) (table_meaning (judged_signals i inputs) inputs s x)
@@ -226,7 +226,7 @@ round_sound way i unasked inputs s x e f old new r w a z k h c =
 pub round_quiet : (way : Direction) (i : List Declaration) (unasked inputs : ℕ → Bool) (s : Statement)
     (x : State) (e f : Known)
     (old new : List Status)
-    (r : Found) → IsWithinPlaces (judged_signals i inputs)
+    (r : Swept) → IsWithinPlaces (judged_signals i inputs)
     → AreInputsAlone i unasked → IsClosed i 0 0 (term_of s) → env_of e ≡ known_but unasked i inputs (output_cells i old)
     → (h : IsRound way i unasked inputs s x e f old new r)
     → TableBelow (judged_signals i inputs) s (table_of i s old) (table_meaning (judged_signals i inputs) inputs s x)

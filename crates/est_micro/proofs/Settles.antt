@@ -37,7 +37,7 @@ use Rattle.est_micro.specs.declared.direction.Direction.{Direction}
 use Rattle.est_micro.specs.Parts.{AreInputsAlone, IsClosedBut, known_but}
 use Rattle.est_micro.specs.Runs.{AreOfferedTrue, output_cells, output_gate, IsExchanged, IsRound, IsSettled}
 use Rattle.est_micro.specs.Runs.{IsSettledBut, Ready, table_of}
-use Rattle.est_micro.specs.declared.cells.Found.{Found}
+use Rattle.est_micro.specs.declared.cells.Swept.{Swept}
 use Rattle.est_micro.specs.declared.settling.DecidedCells.{DecidedCells}
 use Rattle.est_micro.proofs.Exchanging.{emittable_within}
 use Rattle.est_micro.proofs.Frames.{sheet_same}
@@ -50,7 +50,7 @@ use Rattle.est_micro.proofs.Rounds.{gate_is}
 
 -- what holds after one
 pub record Settling (unasked : ℕ → Bool) (k : Kernel) (x : State) (inputs : ℕ → Bool) (before now : ℕ)
-    (cells : List Status) (found : Found) (env : Known) : Type 0 where
+    (cells : List Status) (found : Swept) (env : Known) : Type 0 where
   pub ready : Ready unasked k x inputs cells env
   pub counted : now ≡ decided cells
   pub rising : before ≤ now
@@ -63,7 +63,7 @@ pub told_offered : (inputs sure possible : ℕ → Bool) (n : ℕ) → inputs n 
 told_offered inputs sure possible n h = rw h refl
 
 stay_true : (way : Direction) (i : List Declaration) (unasked inputs : ℕ → Bool) (s : Statement) (x : State)
-    (e f : Known) (old new : List Status) (r : Found) → IsRound way i unasked inputs s x e f old new r
+    (e f : Known) (old new : List Status) (r : Swept) → IsRound way i unasked inputs s x e f old new r
     → AreOfferedTrue i inputs old → AreOfferedTrue i inputs new
 stay_true way i unasked inputs s x e f old new r h was n l o p =
     let a = bits r.judged.must.signals.interface in
@@ -73,7 +73,7 @@ stay_true way i unasked inputs s x e f old new r h was n l o p =
     (before_round way i unasked inputs s x e f old new r h n (rank_within (emittable i) (length i) n l o) ∙ was n l o p)
 
 pub round_made : (unasked : ℕ → Bool) (way : Direction) (k : Kernel) (x : State) (inputs : ℕ → Bool) (e f : Known)
-    (old new : List Status) (r : Found)
+    (old new : List Status) (r : Swept)
     (before now : ℕ)
     → AreInputsAlone k.interface unasked
     → Ready unasked k x inputs old e → IsRound way k.interface unasked inputs k.root x e f old new r
@@ -109,7 +109,7 @@ round_made unasked way k x inputs e f old new r before now alone ready h before_
     }
 
 pub settled : (unasked : ℕ → Bool) (k : Kernel) (x : State) (inputs : ℕ → Bool) (before now : ℕ) (cells : List Status)
-    (r : DecidedCells) → Settling unasked k x inputs before now cells r.found r.env → (now ≡ before)
+    (r : DecidedCells) → Settling unasked k x inputs before now cells r.swept r.env → (now ≡ before)
     ⊎ (now ≡ length cells)
     → IsSettledBut unasked k x inputs cells r
 settled unasked k x inputs before now cells r h e = record {
@@ -124,7 +124,7 @@ settled unasked k x inputs before now cells r h e = record {
 -- a table without an open cell is settled
 pub full_settled : (unasked : ℕ → Bool) (k : Kernel) (x : State) (inputs : ℕ → Bool) (cells : List Status)
     (r : DecidedCells)
-    → IsSettledBut unasked k x inputs cells r → decided cells ≡ length cells → IsSettled k x inputs cells r.found
+    → IsSettledBut unasked k x inputs cells r → decided cells ≡ length cells → IsSettled k x inputs cells r.swept
 full_settled unasked k x inputs cells r h all = record {
   size = h.size;
   sound = h.sound;
@@ -136,7 +136,7 @@ full_settled unasked k x inputs cells r h all = record {
 -- and so is one where each input is asked
 pub none_settled : (unasked : ℕ → Bool) (k : Kernel) (x : State) (inputs : ℕ → Bool) (cells : List Status)
     (r : DecidedCells)
-    → ((n : ℕ) → unasked n ≡ false) → IsSettledBut unasked k x inputs cells r → IsSettled k x inputs cells r.found
+    → ((n : ℕ) → unasked n ≡ false) → IsSettledBut unasked k x inputs cells r → IsSettled k x inputs cells r.swept
 none_settled unasked k x inputs cells r none h = elim h.closed [
   | inl all ↦ full_settled unasked k x inputs cells r h all
   | inr quiet ↦ record {

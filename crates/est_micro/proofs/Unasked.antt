@@ -24,7 +24,7 @@ use Rattle.est_rounds.specs.declared.signal_set.Env.{Env as Known}
 use Rattle.est_micro.specs.Hearing.{Heard, Seen}
 use Rattle.est_micro.specs.Parts.{AgreeBut, AreInputsAlone, known_but, opened}
 use Rattle.est_micro.specs.Runs.{output_cells, IsExchanged, IsRound}
-use Rattle.est_micro.specs.declared.cells.Found.{Found}
+use Rattle.est_micro.specs.declared.cells.Swept.{Swept}
 use Rattle.est_micro.specs.declared.direction.Direction.{Direction}
 
 -- less is known
@@ -165,7 +165,7 @@ exchange_by i unasked inputs sure possible old new e a x others h =
     exchange_agrees i unasked inputs others sure possible old new e a h x
 
 pub round_by : (way : Direction) (i : List Declaration) (unasked inputs : ℕ → Bool) (s : Statement) (x : State)
-    (e f : Known) (old new : List Status) (r : Found) → AreInputsAlone i unasked
+    (e f : Known) (old new : List Status) (r : Swept) → AreInputsAlone i unasked
     → IsRound way i unasked inputs s x e f old new r → (others : ℕ → Bool) → AgreeBut unasked inputs others
     → IsRound way i unasked others s x e f old new r
 round_by way i unasked inputs s x e f old new r a y others h = record {

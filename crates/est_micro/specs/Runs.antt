@@ -23,7 +23,7 @@ use Rattle.est_micro.specs.Parts.{IsClosedBut, known_but}
 use Rattle.est_micro.specs.Sweeps.{swept, live_swept}
 use Rattle.est_micro.specs.declared.direction.Direction.{Direction}
 use Rattle.est_micro.specs.Views.{Changes, IsJudged, IsSwept}
-use Rattle.est_micro.specs.declared.cells.Found.{Found}
+use Rattle.est_micro.specs.declared.cells.Swept.{Swept}
 use Rattle.est_micro.specs.declared.settling.DecidedCells.{DecidedCells}
 
 -- the sheet of a kernel's statement after a sweep, by its state
@@ -52,7 +52,7 @@ pub record IsExchanged (i : List Declaration) (unasked inputs sure possible : �
 -- one round: a sweep by what is known, and then the cells of the signals
 pub record IsRound (d : Direction) (i : List Declaration) (unasked inputs : ℕ → Bool) (s : Statement) (x : State)
     (e f : Known) (old new : List Status)
-    (r : Found) : Type 0 where
+    (r : Swept) : Type 0 where
   pub mid : List Status
   pub sweep : IsSwept true s (output_count i) 0 (sheet_swept d s x (env_of e)) old mid r
   pub exchange : IsExchanged i unasked inputs (bits r.judged.must.signals.interface)
@@ -78,7 +78,7 @@ pub record Ready (unasked : ℕ → Bool) (k : Kernel) (x : State) (inputs : ℕ
 
 -- nothing more can be decided: each cell that is decided is as the meaning says, the gates decide nothing more, and
 -- this is what the cells say
-pub record IsSettled (k : Kernel) (x : State) (inputs : ℕ → Bool) (cells : List Status) (r : Found) : Type 0 where
+pub record IsSettled (k : Kernel) (x : State) (inputs : ℕ → Bool) (cells : List Status) (r : Swept) : Type 0 where
   pub size : length cells ≡ cell_count k
   pub sound : let j = judged_signals k.interface inputs in
       TableBelow j k.root (table_of k.interface k.root cells) (table_meaning j inputs k.root x)
@@ -98,6 +98,6 @@ pub record IsSettledBut (unasked : ℕ → Bool) (k : Kernel) (x : State) (input
   pub closed : (decided cells ≡ length cells)
       ⊎ IsClosedBut unasked k.interface inputs k.root x (table_of k.interface k.root cells)
   pub found : let T = sheet_in (cell_at cells) true k.root (output_count k.interface) 0 in
-      IsJudged T.cells.must T.cells.may (emits is_sure true k.root T) (emits is_possible true k.root T) r.found.judged
+      IsJudged T.cells.must T.cells.may (emits is_sure true k.root T) (emits is_possible true k.root T) r.swept.judged
   pub knows : env_of r.env ≡ known_but unasked k.interface inputs (output_cells k.interface cells)
   pub offered : AreOfferedTrue k.interface inputs cells

@@ -18,7 +18,7 @@ use Rattle.est_rounds.specs.declared.signal_set.Env.{Env as Known}
 use Rattle.est_rounds.specs.declared.signal_set.SignalSet.{SignalSet}
 use Rattle.est_micro.specs.Sweeps.{entered, left, sure_told, may_told, swept_parts, swept, live_swept_parts, live_swept}
 use Rattle.est_micro.specs.declared.cells.Place.{Place}
-use Rattle.est_micro.specs.declared.cells.Found.{Found}
+use Rattle.est_micro.specs.declared.cells.Swept.{Swept}
 
 -- only cells from place lo on and before place hi have changed, and none where no more are decided
 pub record Changes (lo hi : ℕ) (old new : List Status) : Type 0 where
@@ -45,7 +45,7 @@ pub record AreTold (c n : ℕ) (j : Judgement) (old new : List Status) : Type 0 
       (codes_of j.must.codes) (codes_of j.can.codes)
 
 -- the code cells of a statement whose cells begin at place c are told what is judged, and read
-pub record IsLeft (c traps : ℕ) (own : Judgement) (past : ℕ) (old new : List Status) (r : Found) : Type 0 where
+pub record IsLeft (c traps : ℕ) (own : Judgement) (past : ℕ) (old new : List Status) (r : Swept) : Type 0 where
   pub told : AreTold (c + 1) (traps + 2) own old new
   pub found : IsJudged (sure_codes (cell_at new) (c + 1) (traps + 2)) (possible_codes (cell_at new) (c + 1) (traps + 2))
       (set_of own.must.signals) (set_of own.can.signals) r.judged
@@ -59,7 +59,7 @@ IsPaired f x y j =
 
 -- the sheet of a statement from a place on is F of what it was, and this is what its cells say
 pub record IsSwept (main : Bool) (s : Statement) (c traps : ℕ) (F : Sheet main s → Sheet main s) (old new : List Status)
-    (r : Found)
+    (r : Swept)
     : Type 0 where
   pub sheet : sheet_in (cell_at new) main s c traps ≡ F (sheet_in (cell_at old) main s c traps)
   pub changes : Changes c (c + sheet_size main s traps) old new
@@ -77,14 +77,14 @@ node_swept main s P G gate T =
     left U (G U)
 
 -- the cells of a statement that is begun, if at all, by the gate are swept
-unfoldable pub IsBegun : Statement → Place → Status → Known → List Status → List Status → Found → Type 0
+unfoldable pub IsBegun : Statement → Place → Status → Known → List Status → List Status → Swept → Type 0
 IsBegun s at gate e old new r =
     IsSwept at.main s at.cell at.traps
     (node_swept at.main s (swept_parts at.direction at.main s (env_of e))
     (λ U. (gates at.main s gate (env_of e) U).cells) gate) old new r
 
 -- the cells of a statement that goes on, if it is run, are swept
-unfoldable pub IsResumed : Statement → Place → PauseSet → Status → Known → List Status → List Status → Found → Type 0
+unfoldable pub IsResumed : Statement → Place → PauseSet → Status → Known → List Status → List Status → Swept → Type 0
 IsResumed s at pauses run e old new r =
     IsSwept true s at.cell at.traps
     (node_swept true s (live_swept_parts at.direction s (pauses_of pauses) run (env_of e))
@@ -93,7 +93,7 @@ IsResumed s at pauses run e old new r =
 
 -- the cells of a part are swept: if it is on (one of its pauses is set), it goes on where it is run; else the gate
 -- tells whether it is begun
-abbrev pub IsChosen : Statement → Place → PauseSet → Bool → Status → Status → Known → List Status → List Status → Found
+abbrev pub IsChosen : Statement → Place → PauseSet → Bool → Status → Status → Known → List Status → List Status → Swept
     → Type 0
 IsChosen p at pauses is_on gate run e old new r =
     IsSwept true p at.cell at.traps
@@ -121,7 +121,7 @@ pub record AddsBoth (main : Bool) (p q : Statement) (c traps : ℕ) (cells : Lis
   pub past_is : past ≡ c + sheet_size main p traps + sheet_size main q traps
 
 -- all cells of a statement are decided, and this is what they say
-pub record IsRead (s : Statement) (at : Place) (cells : List Status) (r : Found) : Type 0 where
+pub record IsRead (s : Statement) (at : Place) (cells : List Status) (r : Swept) : Type 0 where
   pub decided : AllDecided at.cell (at.cell + sheet_size at.main s at.traps) cells
   pub found : let T = sheet_in (cell_at cells) at.main s at.cell at.traps in
       IsJudged T.cells.must T.cells.may (emits is_sure at.main s T) (emits is_possible at.main s T) r.judged

@@ -47,7 +47,7 @@ pub struct Place {
 
 /// What the cells of a statement say after a sweep.
 #[derive(Clone, Copy)]
-pub struct Found {
+pub struct Swept {
     /// What it surely gives and emits, and what it possibly does.
     pub judged: Judgement,
     /// The first place after its cells.
@@ -233,7 +233,7 @@ pub fn leaf(run: Status, completion: Completion) -> Judgement
 }
 
 /// What is found of a statement that takes no part; `past` is the first place after its cells.
-pub fn nothing(past: usize) -> Found
+pub fn nothing(past: usize) -> Swept
     ensures judged { IsJudged no_codes no_codes no_signals no_signals result.judged }
     ensures past { result.past ≡ past }
 {
@@ -241,7 +241,7 @@ pub fn nothing(past: usize) -> Found
         signals: signal_set::no_signal(),
         codes: CodeSet::empty(),
     };
-    Found {
+    Swept {
         judged: Judgement {
             must: none,
             can: none,
@@ -486,7 +486,7 @@ fn with_possible(present: u64, more: u64, possible: u64) -> u64
 
 /// Tells a statement's code cells what is judged of it, and reads them.
 #[inline(always)]
-pub fn leave(net: &mut Net, at: &Place, own: &Judgement, past: usize) -> Found
+pub fn leave(net: &mut Net, at: &Place, own: &Judgement, past: usize) -> Swept
     requires within { at.now.cell + at.now.traps + 3 ≤ length net.old.cells.items }
     requires few { at.now.traps ≤ 62 }
     ensures left { IsLeft at.now.cell at.now.traps own.now past net.old.cells.items
@@ -495,7 +495,7 @@ pub fn leave(net: &mut Net, at: &Place, own: &Judgement, past: usize) -> Found
     ensures kept { kept net.new ≡ kept net.old }
 {
     let read = tell(net, at.cell + 1, at.traps + 2, own);
-    Found {
+    Swept {
         judged: Judgement {
             must: Acts {
                 signals: own.must.signals,

@@ -17,7 +17,7 @@ ghost use Rattle.est_net.specs.Layout.{sure_codes};
 ghost use Rattle.est_rounds.specs.Views.{set_of};
 ghost use Rattle.est_micro.specs.Views.{AddsBoth, AddsEmitted, IsRead};
 
-use crate::cells::{self, Found, Place};
+use crate::cells::{self, Place, Swept};
 use crate::extents::past;
 use est_kernel::code_set::CodeSet;
 use est_kernel::statement::{LocalSignal, Signal, Statement};
@@ -183,7 +183,7 @@ pub fn is_decided(net: &Net, at: &Place, s: &Statement) -> bool
 
 /// What is found of a statement all of whose cells are decided.
 #[inline(always)]
-pub fn read(net: &Net, at: &Place, s: &Statement) -> Found
+pub fn read(net: &Net, at: &Place, s: &Statement) -> Swept
     requires fits { FitsMasks s.now }
     requires within { at.now.cell + sheet_size at.now.main s.now at.now.traps
         ≤ length net.now.cells.items }
@@ -203,5 +203,5 @@ pub fn read(net: &Net, at: &Place, s: &Statement) -> Found
         must: acts,
         can: acts,
     };
-    Found { judged, past }
+    Swept { judged, past }
 }

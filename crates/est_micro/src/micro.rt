@@ -1,24 +1,21 @@
 //! The microstep engine.
 
-ghost use Rattle.std.specs.Prelude.{◌≡◌, ◌≤◌, length, IfOk, IfErr, IfSome, IfNone, OnOk, ℕ, Bool};
+ghost use Rattle.std.specs.Prelude.{◌≡◌, ◌≤◌, length, IfOk, IfErr, IfSome, IfNone, OnOk};
 ghost use Rattle.est_kernel.specs.Bits.{bits};
 ghost use Rattle.est_kernel.specs.Pauses.{pauses_of};
 ghost use Rattle.est_kernel.specs.declared.state.State.TheVariants.{Done};
 ghost use Rattle.est_meaning.specs.States.{IsState};
 ghost use Rattle.est_net.specs.Cells.{decided};
-ghost use Rattle.est_net.specs.Extents.{HasExtents};
 ghost use Rattle.est_net.specs.Kept.{kept, reopened};
-ghost use Rattle.est_net.specs.Layout.{cell_count, output_count};
 ghost use Rattle.est_rounds.specs.Contract.{HasNoReaction, IsReaction};
 ghost use Rattle.est_micro.specs.Engine.{GoesOnFrom, HasValues, IsAsMeant, IsNetOf};
 ghost use Rattle.est_micro.specs.Outcomes.{HasNoCode, IsOutcomeOf};
-ghost use Rattle.est_micro.specs.Parts.{AgreeBut, AreInputsAlone};
-ghost use Rattle.est_micro.specs.Runs.{IsSettledBut};
 
-use crate::cells::{Found, Place};
+use crate::cells::{Place, Swept};
 use crate::direction::Direction;
 use crate::next::collect;
-use crate::settling::{DecidedCells, decide_cells};
+use crate::question::Question;
+use crate::settling::decide_cells;
 use est_kernel::completion::Completion;
 use est_kernel::kernel::Kernel;
 use est_kernel::mask;
@@ -30,9 +27,9 @@ use est_rounds::engine::Engine;
 /// The engine that decides the cells of a table, each once, until nothing more can be decided.
 #[derive(Drop)]
 pub struct Micro {
-    net: Net,
+    pub(crate) net: Net,
     /// Which way the next run sweeps first: as the last one swept last.
-    direction: Direction,
+    pub(crate) direction: Direction,
 }
 
 /// The outcome of a kernel that had not ended, where its cells give a code: its pauses are read off
@@ -40,28 +37,25 @@ pub struct Micro {
 fn outcome(
     net: &Net,
     kernel: &Kernel,
-    outputs_count: usize,
     state: &State,
     from: &PauseSet,
-    found: &Found,
+    swept: &Swept,
 ) -> Option<Outcome>
+    requires net { IsNetOf net.now kernel.now }
     requires state { IsState kernel.now.root state.now }
     requires lives { state.now ≡ Done → ⊥ }
     requires from { GoesOnFrom state.now (pauses_of from.now) }
-    requires outputs_count { outputs_count ≡ output_count kernel.now.interface }
-    requires size { length net.now.cells.items ≡ cell_count kernel.now }
-    requires extents { HasExtents net.now.extents.items 0 0 kernel.now.root }
     ensures some { IfSome result
-        (λ o. IsOutcomeOf kernel.now state.now net.now.cells.items found.now o) }
-    ensures none { IfNone result (HasNoCode state.now found.now) }
+        (λ o. IsOutcomeOf kernel.now state.now net.now.cells.items swept.now o) }
+    ensures none { IfNone result (HasNoCode state.now swept.now) }
 {
-    let must = found.judged.must;
+    let must = swept.judged.must;
     if must.codes.has(Completion::Pause) {
         let place = Place {
             number: 0,
             main: true,
             direction: Direction::Forwards,
-            cell: outputs_count,
+            cell: net.outputs(),
             traps: 0,
         };
         let mut next = PauseSet::new();
@@ -84,25 +78,22 @@ fn outcome(
 pub(crate) fn read_outcome(
     net: &Net,
     kernel: &Kernel,
-    outputs_count: usize,
     state: &State,
-    found: &Found,
+    swept: &Swept,
 ) -> Option<Outcome>
+    requires net { IsNetOf net.now kernel.now }
     requires state { IsState kernel.now.root state.now }
-    requires outputs_count { outputs_count ≡ output_count kernel.now.interface }
-    requires size { length net.now.cells.items ≡ cell_count kernel.now }
-    requires extents { HasExtents net.now.extents.items 0 0 kernel.now.root }
     ensures some { IfSome result
-        (λ o. IsOutcomeOf kernel.now state.now net.now.cells.items found.now o) }
-    ensures none { IfNone result (HasNoCode state.now found.now) }
+        (λ o. IsOutcomeOf kernel.now state.now net.now.cells.items swept.now o) }
+    ensures none { IfNone result (HasNoCode state.now swept.now) }
 {
     match state {
         State::Done => Some(Outcome {
-            outputs: found.judged.must.signals.interface,
+            outputs: swept.judged.must.signals.interface,
             next: State::Done,
         }),
-        State::Fresh => outcome(net, kernel, outputs_count, state, &PauseSet::new(), found),
-        State::Paused(from) => outcome(net, kernel, outputs_count, state, from, found),
+        State::Fresh => outcome(net, kernel, state, &PauseSet::new(), swept),
+        State::Paused(from) => outcome(net, kernel, state, from, swept),
     }
 }
 
@@ -132,39 +123,6 @@ impl Micro {
         self.net.steps()
     }
 
-    /// Decides the cells by these inputs, of which some are not asked.
-    pub(crate) fn settle_by(
-        &mut self,
-        kernel: &Kernel,
-        state: &State,
-        inputs: u64,
-        unasked: u64,
-    ) -> DecidedCells
-        requires net { IsNetOf self.old.net kernel.now }
-        requires state { IsState kernel.now.root state.now }
-        requires apart { AreInputsAlone kernel.now.interface (bits unasked) }
-        ensures net { IsNetOf self.new.net kernel.now }
-        ensures settled { (others : ℕ → Bool) → AgreeBut (bits unasked) (bits inputs) others
-            → IsSettledBut (bits unasked) kernel.now state.now others self.new.net.cells.items
-            result }
-        ensures once { kept self.new.net ≡ reopened self.old.net }
-    {
-        let outputs_count = self.net.outputs();
-        let possible = self.net.reach().from_state(state);
-        let settled = decide_cells(
-            &mut self.net,
-            kernel,
-            outputs_count,
-            state,
-            possible,
-            inputs,
-            unasked,
-            self.direction,
-        );
-        self.direction = settled.direction;
-        settled
-    }
-
     /// Reacts to the inputs of an instant, for the kernel of its table. Where there is a reaction,
     /// each cell is decided, with its value in it, so `steps` is then the number of cells. Where
     /// there is none, exactly those cells are open that the meaning leaves open. The table is
@@ -182,9 +140,15 @@ impl Micro {
             self.new.net.cells.items }
         ensures once { kept self.new.net ≡ reopened self.old.net }
     {
-        let settled = self.settle_by(kernel, state, inputs.signals, 0);
-        let outputs_count = self.net.outputs();
-        match read_outcome(&self.net, kernel, outputs_count, state, &settled.found) {
+        let question = Question {
+            kernel,
+            state,
+            inputs: inputs.signals,
+            unasked: 0,
+        };
+        let settled = decide_cells(&mut self.net, &question, self.direction);
+        self.direction = settled.direction;
+        match read_outcome(&self.net, kernel, state, &settled.swept) {
             Some(outcome) => Ok(outcome),
             None => Err(Stuck {
                 undecided: mask::difference(

@@ -3,19 +3,18 @@
 
 ghost use Rattle.std.specs.Prelude.{◌≡◌, ◌≢◌, ◌<◌, ◌≤◌, ◌||◌, ◌&&◌, ℕ, true, false, length, ltb};
 ghost use Rattle.est_kernel.specs.Bits.{bits};
-ghost use Rattle.est_kernel.specs.Interfaces.{emittable};
 ghost use Rattle.est_meaning.specs.Rounds.{how_many};
 ghost use Rattle.est_cells.specs.Tables.{is_sure, is_possible};
 ghost use Rattle.est_net.specs.Cells.{cell_at};
 ghost use Rattle.est_net.specs.Kept.{kept};
-ghost use Rattle.est_net.specs.Layout.{output_count};
+ghost use Rattle.est_micro.specs.Engine.{IsNetOf};
 ghost use Rattle.est_micro.specs.Outputs.{AreSignalsTold, IsToldOne, told_of};
 ghost use Rattle.est_micro.specs.Runs.{IsExchanged};
 
 use crate::cells::{is_true, may_be_true};
 use crate::learning::learn;
+use crate::question::Question;
 use est_kernel::code_set::CodeSet;
-use est_kernel::kernel::Kernel;
 use est_kernel::mask;
 use est_meaning::status::Status;
 use est_net::net::Net;
@@ -118,29 +117,25 @@ fn exchange_all(
 
 /// Tells the cells of the signals what the statement emits. Answers what is then known, by the
 /// cells and by what was offered. Of the inputs that are not asked nothing is.
-pub fn exchange(
-    net: &mut Net,
-    kernel: &Kernel,
-    inputs: u64,
-    unasked: u64,
-    judged: &Judgement,
-) -> Env
-    requires room { output_count kernel.now.interface ≤ length net.old.cells.items }
-    requires signals { bits net.old.signals ≡ emittable kernel.now.interface }
-    ensures exchanged { IsExchanged kernel.now.interface (bits unasked) (bits inputs)
-        (bits judged.now.must.signals.interface)
+pub fn exchange(net: &mut Net, question: &Question<'_>, judged: &Judgement) -> Env
+    requires net { IsNetOf net.old question.now.kernel.now }
+    ensures exchanged { IsExchanged question.now.kernel.now.interface (bits question.now.unasked)
+        (bits question.now.inputs) (bits judged.now.must.signals.interface)
         (bits judged.now.can.signals.interface) net.old.cells.items net.new.cells.items result }
+    ensures net { IsNetOf net.new question.now.kernel.now }
     ensures kept { kept net.new ≡ kept net.old }
 {
+    let inputs = question.inputs;
     let signals = net.signals();
-    let read = exchange_all(net, signals, kernel.interface().len(), inputs, judged);
+    let places = question.kernel.interface().len();
+    let read = exchange_all(net, signals, places, inputs, judged);
     Env {
         present: SignalSet {
-            interface: mask::difference(mask::union(inputs, read.sure), unasked),
+            interface: mask::difference(mask::union(inputs, read.sure), question.unasked),
             local: 0,
         },
         possible: SignalSet {
-            interface: mask::union(mask::union(inputs, read.possible), unasked),
+            interface: mask::union(mask::union(inputs, read.possible), question.unasked),
             local: 0,
         },
     }

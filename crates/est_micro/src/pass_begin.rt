@@ -22,7 +22,7 @@ ghost use Rattle.est_micro.specs.Passes.{Passes};
 
 use crate::cells::Place;
 use crate::extents::{number_after, past};
-use crate::sweep_begin::begin;
+use crate::sweep_begin::sweep_begun;
 use est_kernel::mask;
 use est_kernel::statement::Statement;
 use est_meaning::status::Status;
@@ -58,11 +58,11 @@ fn visit(net: &mut Net, at: &Place, s: &Statement, gate: Status, env: &Env)
         net.old.cells.items net.new.cells.items }
     ensures kept { kept net.new ≡ kept net.old }
 {
-    begin(net, at, s, gate, env);
+    sweep_begun(net, at, s, gate, env);
 }
 
 /// Passes over the sides of a `||`.
-#[cycle(pass)]
+#[cycle(pass_begun)]
 fn pass_par(net: &mut Net, at: &Place, p: &Statement, q: &Statement, env: &Env, fresh: u64)
     requires fits { FitsMasks p.now × FitsMasks q.now }
     requires first_extents { HasExtents net.old.extents.items (at.now.number + 1)
@@ -94,12 +94,12 @@ fn pass_par(net: &mut Net, at: &Place, p: &Statement, q: &Statement, env: &Env, 
         traps: at.traps,
     };
     let go = net.status(at.cell);
-    pass(net, &place, p, go, env, fresh);
-    pass(net, &next, q, go, env, fresh);
+    pass_begun(net, &place, p, go, env, fresh);
+    pass_begun(net, &next, q, go, env, fresh);
 }
 
 /// Passes over the parts of a `;`.
-#[cycle(pass)]
+#[cycle(pass_begun)]
 fn pass_seq(net: &mut Net, at: &Place, p: &Statement, q: &Statement, env: &Env, fresh: u64)
     requires fits { FitsMasks p.now × FitsMasks q.now }
     requires first_extents { HasExtents net.old.extents.items (at.now.number + 1)
@@ -131,15 +131,15 @@ fn pass_seq(net: &mut Net, at: &Place, p: &Statement, q: &Statement, env: &Env, 
         traps: at.traps,
     };
     let go = net.status(at.cell);
-    pass(net, &place, p, go, env, fresh);
+    pass_begun(net, &place, p, go, env, fresh);
     let code = place.cell + 1;
     let ends = net.status(code);
-    pass(net, &next, q, ends, env, fresh);
+    pass_begun(net, &next, q, ends, env, fresh);
 }
 
 /// Passes over a body inside this many traps. That of a loop that can go on is not begun again in
 /// the instant in which it is begun.
-#[cycle(pass)]
+#[cycle(pass_begun)]
 fn pass_body(net: &mut Net, at: &Place, p: &Statement, traps: usize, env: &Env, fresh: u64)
     requires fits { FitsMasks p.now }
     requires extents { HasExtents net.old.extents.items (at.now.number + 1) traps p.now }
@@ -165,11 +165,11 @@ fn pass_body(net: &mut Net, at: &Place, p: &Statement, traps: usize, env: &Env, 
         traps,
     };
     let go = net.status(at.cell);
-    pass(net, &place, p, go, env, fresh)
+    pass_begun(net, &place, p, go, env, fresh)
 }
 
 /// Passes over the parts of a statement.
-#[cycle(pass)]
+#[cycle(pass_begun)]
 fn pass_parts(net: &mut Net, at: &Place, s: &Statement, gate: Status, env: &Env, fresh: u64)
     requires fits { FitsMasks s.now }
     requires extents { HasExtents net.old.extents.items at.now.number at.now.traps
@@ -197,9 +197,9 @@ fn pass_parts(net: &mut Net, at: &Place, s: &Statement, gate: Status, env: &Env,
 }
 
 /// Passes over a statement that is begun, if at all, by the gate.
-#[cycle(pass)]
+#[cycle(pass_begun)]
 #[inline(always)]
-pub fn pass(net: &mut Net, at: &Place, s: &Statement, gate: Status, env: &Env, fresh: u64)
+pub fn pass_begun(net: &mut Net, at: &Place, s: &Statement, gate: Status, env: &Env, fresh: u64)
     requires fits { FitsMasks s.now }
     requires extents { HasExtents net.old.extents.items at.now.number at.now.traps
         s.now }

@@ -20,8 +20,8 @@ ghost use Rattle.est_micro.specs.Passes.{PassesOn, SidePasses};
 
 use crate::cells::Place;
 use crate::extents::{is_live, number_after, past};
-use crate::pass_begin::{is_reader, pass};
-use crate::sweep_resume::resume;
+use crate::pass_begin::{is_reader, pass_begun};
+use crate::sweep_resume::sweep_resumed;
 use est_kernel::pause_set::PauseSet;
 use est_kernel::statement::Statement;
 use est_meaning::status::Status;
@@ -29,7 +29,14 @@ use est_net::net::Net;
 use est_rounds::signal_set::Env;
 
 /// Sweeps a statement, as a pass.
-fn visit_on(net: &mut Net, at: &Place, s: &Statement, pauses: &PauseSet, run: Status, env: &Env)
+fn visit_resumed(
+    net: &mut Net,
+    at: &Place,
+    s: &Statement,
+    pauses: &PauseSet,
+    run: Status,
+    env: &Env,
+)
     requires main { at.now.main ≡ true }
     requires fits { FitsMasks s.now }
     requires extents { HasExtents net.old.extents.items at.now.number at.now.traps
@@ -42,11 +49,11 @@ fn visit_on(net: &mut Net, at: &Place, s: &Statement, pauses: &PauseSet, run: St
         (env_of env.now) net.old.cells.items net.new.cells.items }
     ensures kept { kept net.new ≡ kept net.old }
 {
-    resume(net, at, s, pauses, run, env);
+    sweep_resumed(net, at, s, pauses, run, env);
 }
 
 /// Passes over a side of a `||`, if it goes on.
-#[cycle(pass_on)]
+#[cycle(pass_resumed)]
 fn pass_side(
     net: &mut Net,
     at: &Place,
@@ -68,13 +75,13 @@ fn pass_side(
     ensures kept { kept net.new ≡ kept net.old }
 {
     if is_live(net, at.number, at.traps, p, pauses) {
-        pass_on(net, at, p, pauses, run, env, fresh)
+        pass_resumed(net, at, p, pauses, run, env, fresh)
     }
 }
 
 /// Passes over the sides of a `||`.
-#[cycle(pass_on)]
-fn pass_on_par(
+#[cycle(pass_resumed)]
+fn pass_resumed_par(
     net: &mut Net,
     at: &Place,
     p: &Statement,
@@ -119,8 +126,8 @@ fn pass_on_par(
 }
 
 /// Passes over a `;` whose first part goes on.
-#[cycle(pass_on)]
-fn pass_on_first(
+#[cycle(pass_resumed)]
+fn pass_resumed_first(
     net: &mut Net,
     at: &Place,
     p: &Statement,
@@ -161,15 +168,15 @@ fn pass_on_first(
         cell: past(net, &place, p),
         traps: at.traps,
     };
-    pass_on(net, &place, p, pauses, run, env, fresh);
+    pass_resumed(net, &place, p, pauses, run, env, fresh);
     let code = place.cell + 1;
     let ends = net.status(code);
-    pass(net, &next, q, ends, env, fresh);
+    pass_begun(net, &next, q, ends, env, fresh);
 }
 
 /// Passes over a `;`.
-#[cycle(pass_on)]
-fn pass_on_seq(
+#[cycle(pass_resumed)]
+fn pass_resumed_seq(
     net: &mut Net,
     at: &Place,
     p: &Statement,
@@ -205,7 +212,7 @@ fn pass_on_seq(
         traps: at.traps,
     };
     if is_live(net, place.number, at.traps, p, pauses) {
-        pass_on_first(net, at, p, q, pauses, run, env, fresh);
+        pass_resumed_first(net, at, p, q, pauses, run, env, fresh);
         return;
     }
     let next = Place {
@@ -215,12 +222,12 @@ fn pass_on_seq(
         cell: past(net, &place, p),
         traps: at.traps,
     };
-    pass_on(net, &next, q, pauses, run, env, fresh);
+    pass_resumed(net, &next, q, pauses, run, env, fresh);
 }
 
 /// Passes over a loop: its body, and then its restart.
-#[cycle(pass_on)]
-fn pass_on_loop(
+#[cycle(pass_resumed)]
+fn pass_resumed_loop(
     net: &mut Net,
     at: &Place,
     p: &Statement,
@@ -257,15 +264,15 @@ fn pass_on_loop(
         cell: past(net, &place, p),
         traps: at.traps,
     };
-    pass_on(net, &place, p, pauses, run, env, fresh);
+    pass_resumed(net, &place, p, pauses, run, env, fresh);
     let code = place.cell + 1;
     let ends = net.status(code);
-    pass(net, &again, p, ends, env, fresh);
+    pass_begun(net, &again, p, ends, env, fresh);
 }
 
 /// Passes over the parts of a statement.
-#[cycle(pass_on)]
-fn pass_on_parts(
+#[cycle(pass_resumed)]
+fn pass_resumed_parts(
     net: &mut Net,
     at: &Place,
     s: &Statement,
@@ -287,23 +294,23 @@ fn pass_on_parts(
     ensures kept { kept net.new ≡ kept net.old }
 {
     match s {
-        Statement::Seq(p, q) => pass_on_seq(net, at, p, q, pauses, run, env, fresh),
-        Statement::Par(p, q) => pass_on_par(net, at, p, q, pauses, run, env, fresh),
-        Statement::Loop(p) => pass_on_loop(net, at, p, pauses, run, env, fresh),
-        Statement::Nothing => visit_on(net, at, s, pauses, run, env),
-        Statement::Pause(_) => visit_on(net, at, s, pauses, run, env),
-        Statement::Emit(_) => visit_on(net, at, s, pauses, run, env),
-        Statement::Exit(_) => visit_on(net, at, s, pauses, run, env),
-        Statement::Present(_, _, _) => visit_on(net, at, s, pauses, run, env),
-        Statement::Suspend(_, _) => visit_on(net, at, s, pauses, run, env),
-        Statement::Trap(_) => visit_on(net, at, s, pauses, run, env),
-        Statement::Local(_, _) => visit_on(net, at, s, pauses, run, env),
+        Statement::Seq(p, q) => pass_resumed_seq(net, at, p, q, pauses, run, env, fresh),
+        Statement::Par(p, q) => pass_resumed_par(net, at, p, q, pauses, run, env, fresh),
+        Statement::Loop(p) => pass_resumed_loop(net, at, p, pauses, run, env, fresh),
+        Statement::Nothing => visit_resumed(net, at, s, pauses, run, env),
+        Statement::Pause(_) => visit_resumed(net, at, s, pauses, run, env),
+        Statement::Emit(_) => visit_resumed(net, at, s, pauses, run, env),
+        Statement::Exit(_) => visit_resumed(net, at, s, pauses, run, env),
+        Statement::Present(_, _, _) => visit_resumed(net, at, s, pauses, run, env),
+        Statement::Suspend(_, _) => visit_resumed(net, at, s, pauses, run, env),
+        Statement::Trap(_) => visit_resumed(net, at, s, pauses, run, env),
+        Statement::Local(_, _) => visit_resumed(net, at, s, pauses, run, env),
     }
 }
 
 /// Passes over a statement that goes on from its pauses, if it is run.
-#[cycle(pass_on)]
-pub fn pass_on(
+#[cycle(pass_resumed)]
+pub fn pass_resumed(
     net: &mut Net,
     at: &Place,
     s: &Statement,
@@ -325,6 +332,6 @@ pub fn pass_on(
     ensures kept { kept net.new ≡ kept net.old }
 {
     if is_reader(net, at.number, fresh) {
-        pass_on_parts(net, at, s, pauses, run, env, fresh)
+        pass_resumed_parts(net, at, s, pauses, run, env, fresh)
     }
 }

@@ -1,21 +1,17 @@
 //! Passes between the rounds of a run: each goes over what reads the signals that the one before
 //! decided, and then the cells of the signals are told what is emitted.
 
-ghost use Rattle.std.specs.Prelude.{◌≡◌, ◌≤◌, ◌+◌, ℕ, Bool, true, length};
+ghost use Rattle.std.specs.Prelude.{◌≡◌, ◌≤◌, ℕ, Bool};
 ghost use Rattle.std.specs.List.{list_any};
 ghost use Rattle.est_kernel.specs.Bits.{bits};
-ghost use Rattle.est_kernel.specs.Interfaces.{emittable};
-ghost use Rattle.est_kernel.specs.Limits.{trap_depth};
-ghost use Rattle.est_kernel.specs.Masks.{FitsMasks};
-ghost use Rattle.est_kernel.specs.View.{term_of};
 ghost use Rattle.est_meaning.specs.States.{IsState};
-ghost use Rattle.est_cells.specs.Tables.{is_possible, is_sure, sheet_size};
+ghost use Rattle.est_cells.specs.Tables.{is_possible, is_sure};
 ghost use Rattle.est_net.specs.Cells.{cell_at, decided};
-ghost use Rattle.est_net.specs.Emissions.{emissions, is_of};
-ghost use Rattle.est_net.specs.Extents.{HasExtents};
+ghost use Rattle.est_net.specs.Emissions.{is_of};
 ghost use Rattle.est_net.specs.Kept.{kept};
-ghost use Rattle.est_net.specs.Layout.{cell_count, output_count};
+ghost use Rattle.est_net.specs.Layout.{output_count};
 ghost use Rattle.est_rounds.specs.Views.{env_of};
+ghost use Rattle.est_micro.specs.Engine.{IsNetOf};
 ghost use Rattle.est_micro.specs.Parts.{AgreeBut, AreInputsAlone};
 ghost use Rattle.est_micro.specs.Passes.{IsPassRound, SheetPasses};
 ghost use Rattle.est_micro.specs.Runs.{Ready};
@@ -23,13 +19,12 @@ ghost use Rattle.est_micro.specs.Runs.{Ready};
 use crate::cells::Place;
 use crate::direction::Direction;
 use crate::outputs::exchange;
-use crate::pass_begin::pass;
-use crate::pass_resume::pass_on;
+use crate::pass_begin::pass_begun;
+use crate::pass_resume::pass_resumed;
+use crate::question::Question;
 use est_kernel::code_set::CodeSet;
-use est_kernel::kernel::Kernel;
 use est_kernel::mask;
 use est_kernel::state::State;
-use est_kernel::statement::Statement;
 use est_meaning::status::Status;
 use est_net::net::Net;
 use est_rounds::acts::{Acts, Judgement};
@@ -70,108 +65,70 @@ fn judged(net: &Net) -> Judgement
     }
 }
 
-/// Passes over the cells of a kernel's statement from this state.
-fn pass_sheet(
-    net: &mut Net,
-    root: &Statement,
-    outputs_count: usize,
-    state: &State,
-    env: &Env,
-    fresh: u64,
-)
-    requires state { IsState root.now state.now }
-    requires fits { FitsMasks root.now }
-    requires traps { 0 + trap_depth (term_of root.now) ≤ 62 }
-    requires extents { HasExtents net.old.extents.items 0 0 root.now }
-    requires within { outputs_count + sheet_size true root.now 0 ≤ length net.old.cells.items }
-    ensures passes { SheetPasses root.now state.now outputs_count (env_of env.now)
+/// Passes over the cells of a kernel's statement by what is known.
+fn pass_sheet(net: &mut Net, question: &Question<'_>, env: &Env, fresh: u64)
+    requires net { IsNetOf net.old question.now.kernel.now }
+    requires state { IsState question.now.kernel.now.root question.now.state.now }
+    ensures passes { SheetPasses question.now.kernel.now.root question.now.state.now
+        (output_count question.now.kernel.now.interface) (env_of env.now)
         net.old.cells.items net.new.cells.items }
+    ensures net { IsNetOf net.new question.now.kernel.now }
     ensures kept { kept net.new ≡ kept net.old }
 {
+    let root = question.kernel.root();
     let place = Place {
         number: 0,
         main: true,
         direction: Direction::Forwards,
-        cell: outputs_count,
+        cell: net.outputs(),
         traps: 0,
     };
-    match state {
-        State::Fresh => pass(net, &place, root, Status::Present, env, fresh),
-        State::Done => pass(net, &place, root, Status::Absent, env, fresh),
-        State::Paused(pauses) => pass_on(net, &place, root, pauses, Status::Present, env, fresh),
+    let run = Status::Present;
+    match question.state {
+        State::Fresh => pass_begun(net, &place, root, run, env, fresh),
+        State::Done => pass_begun(net, &place, root, Status::Absent, env, fresh),
+        State::Paused(pauses) => pass_resumed(net, &place, root, pauses, run, env, fresh),
     }
 }
 
 /// One pass, and then the cells of the signals.
-fn pass_round(
-    net: &mut Net,
-    kernel: &Kernel,
-    outputs_count: usize,
-    state: &State,
-    inputs: u64,
-    unasked: u64,
-    env: &mut Env,
-    fresh: u64,
-)
-    requires state { IsState kernel.now.root state.now }
-    requires outputs_count { outputs_count ≡ output_count kernel.now.interface }
-    requires size { length net.old.cells.items ≡ cell_count kernel.now }
-    requires signals { bits net.old.signals ≡ emittable kernel.now.interface }
-    requires extents { HasExtents net.old.extents.items 0 0 kernel.now.root }
-    requires emissions { net.old.emissions.items
-        ≡ emissions true kernel.now.root (output_count kernel.now.interface) 0 }
-    ensures made { IsPassRound kernel.now.interface (bits unasked) (bits inputs) kernel.now.root
-        state.now env.old env.new net.old.cells.items net.new.cells.items }
+fn pass_round(net: &mut Net, question: &Question<'_>, env: &mut Env, fresh: u64)
+    requires net { IsNetOf net.old question.now.kernel.now }
+    requires state { IsState question.now.kernel.now.root question.now.state.now }
+    ensures made { IsPassRound question.now.kernel.now.interface (bits question.now.unasked)
+        (bits question.now.inputs) question.now.kernel.now.root question.now.state.now
+        env.old env.new net.old.cells.items net.new.cells.items }
+    ensures net { IsNetOf net.new question.now.kernel.now }
     ensures kept { kept net.new ≡ kept net.old }
 {
-    pass_sheet(net, kernel.root(), outputs_count, state, env, fresh);
+    pass_sheet(net, question, env, fresh);
     let said = judged(net);
-    *env = exchange(net, kernel, inputs, unasked, &said);
+    *env = exchange(net, question, &said);
 }
 
 /// Passes until no signal is decided any more.
-pub fn pass_all(
-    net: &mut Net,
-    kernel: &Kernel,
-    outputs_count: usize,
-    state: &State,
-    inputs: u64,
-    unasked: u64,
-    env: &mut Env,
-    fresh: u64,
-)
-    requires state { IsState kernel.now.root state.now }
-    requires outputs_count { outputs_count ≡ output_count kernel.now.interface }
-    requires size { length net.old.cells.items ≡ cell_count kernel.now }
-    requires signals { bits net.old.signals ≡ emittable kernel.now.interface }
-    requires extents { HasExtents net.old.extents.items 0 0 kernel.now.root }
-    requires emissions { net.old.emissions.items
-        ≡ emissions true kernel.now.root (output_count kernel.now.interface) 0 }
-    requires apart { AreInputsAlone kernel.now.interface (bits unasked) }
-    ensures size { length net.new.cells.items ≡ length net.old.cells.items }
+pub fn pass_all(net: &mut Net, question: &Question<'_>, env: &mut Env, fresh: u64)
+    requires net { IsNetOf net.old question.now.kernel.now }
+    requires state { IsState question.now.kernel.now.root question.now.state.now }
+    requires apart { AreInputsAlone question.now.kernel.now.interface (bits question.now.unasked) }
     ensures more { decided net.old.cells.items ≤ decided net.new.cells.items }
-    ensures ready { (others : ℕ → Bool) → AgreeBut (bits unasked) (bits inputs) others
-        → Ready (bits unasked) kernel.now state.now others net.old.cells.items env.old
-        → Ready (bits unasked) kernel.now state.now others net.new.cells.items env.new }
+    ensures ready { (others : ℕ → Bool)
+        → AgreeBut (bits question.now.unasked) (bits question.now.inputs) others
+        → Ready (bits question.now.unasked) question.now.kernel.now question.now.state.now others
+        net.old.cells.items env.old
+        → Ready (bits question.now.unasked) question.now.kernel.now question.now.state.now others
+        net.new.cells.items env.new }
+    ensures net { IsNetOf net.new question.now.kernel.now }
     ensures kept { kept net.new ≡ kept net.old }
 {
-    let places = kernel.interface().len();
+    let places = question.kernel.interface().len();
     let mut fresh = fresh;
     for _ in 0..places {
         if fresh == 0 {
             return;
         }
         let was = *env;
-        pass_round(
-            net,
-            kernel,
-            outputs_count,
-            state,
-            inputs,
-            unasked,
-            env,
-            fresh,
-        );
+        pass_round(net, question, env, fresh);
         fresh = newly_decided(&was, env);
     }
 }

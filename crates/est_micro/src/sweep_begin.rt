@@ -23,7 +23,7 @@ ghost use Rattle.est_rounds.specs.Views.{env_of};
 ghost use Rattle.est_micro.specs.Views.{IsBegun};
 ghost use Rattle.est_micro.specs.declared.direction.Direction.TheVariants.{Forwards, Backwards};
 
-use crate::cells::{self, Found, Place};
+use crate::cells::{self, Place, Swept};
 use crate::direction::Direction;
 use crate::extents::{number_after, past};
 use crate::idle::past_idle;
@@ -37,7 +37,7 @@ use est_rounds::signal_set::{self, Env};
 
 /// Sweeps a statement without parts that gives this code where it is begun.
 #[inline(always)]
-fn begin_leaf(net: &mut Net, at: &Place, completion: Completion, gate: Status) -> Found
+fn begin_leaf(net: &mut Net, at: &Place, completion: Completion, gate: Status) -> Swept
     requires code { code_of completion < 64 }
     requires within { at.now.cell + at.now.traps + 3 ≤ length net.old.cells.items }
     requires few { at.now.traps ≤ 62 }
@@ -55,7 +55,7 @@ fn begin_leaf(net: &mut Net, at: &Place, completion: Completion, gate: Status) -
 }
 
 /// Sweeps an emission.
-fn begin_emit(net: &mut Net, at: &Place, signal: Signal, gate: Status) -> Found
+fn begin_emit(net: &mut Net, at: &Place, signal: Signal, gate: Status) -> Swept
     requires bit { HasSignalBit signal }
     requires within { at.now.cell + at.now.traps + 3 ≤ length net.old.cells.items }
     requires few { at.now.traps ≤ 62 }
@@ -69,7 +69,7 @@ fn begin_emit(net: &mut Net, at: &Place, signal: Signal, gate: Status) -> Found
 }
 
 /// Sweeps a `present` whose test has this status.
-#[cycle(begin)]
+#[cycle(sweep_begun)]
 fn begin_present(
     net: &mut Net,
     at: &Place,
@@ -78,7 +78,7 @@ fn begin_present(
     q: &Statement,
     gate: Status,
     env: &Env,
-) -> Found
+) -> Swept
     requires fits { FitsMasks p.now × FitsMasks q.now }
     requires first_extents { HasExtents net.old.extents.items (at.now.number + 1)
         at.now.traps p.now }
@@ -102,7 +102,7 @@ fn begin_present(
         cell: at.cell + at.traps + 3,
         traps: at.traps,
     };
-    let first = begin(net, &place, p, go.and(asked), env);
+    let first = sweep_begun(net, &place, p, go.and(asked), env);
     let place = Place {
         number: number_after(net, &place, p),
         main: at.main,
@@ -110,14 +110,14 @@ fn begin_present(
         cell: first.past,
         traps: at.traps,
     };
-    let second = begin(net, &place, q, go.and(asked.opposite()), env);
+    let second = sweep_begun(net, &place, q, go.and(asked.opposite()), env);
     let own = cells::either(&first.judged, &second.judged);
     cells::leave(net, at, &own, second.past)
 }
 
 /// Sweeps a `suspend`.
-#[cycle(begin)]
-fn begin_suspend(net: &mut Net, at: &Place, p: &Statement, gate: Status, env: &Env) -> Found
+#[cycle(sweep_begun)]
+fn begin_suspend(net: &mut Net, at: &Place, p: &Statement, gate: Status, env: &Env) -> Swept
     requires fits { FitsMasks p.now }
     requires extents { HasExtents net.old.extents.items (at.now.number + 1)
         at.now.traps p.now }
@@ -138,12 +138,12 @@ fn begin_suspend(net: &mut Net, at: &Place, p: &Statement, gate: Status, env: &E
         cell: at.cell + at.traps + 3,
         traps: at.traps,
     };
-    let body = begin(net, &place, p, go, env);
+    let body = sweep_begun(net, &place, p, go, env);
     cells::leave(net, at, &body.judged, body.past)
 }
 
 /// Sweeps a `;`.
-#[cycle(begin)]
+#[cycle(sweep_begun)]
 fn begin_seq(
     net: &mut Net,
     at: &Place,
@@ -151,7 +151,7 @@ fn begin_seq(
     q: &Statement,
     gate: Status,
     env: &Env,
-) -> Found
+) -> Swept
     requires fits { FitsMasks p.now × FitsMasks q.now }
     requires first_extents { HasExtents net.old.extents.items (at.now.number + 1)
         at.now.traps p.now }
@@ -176,7 +176,7 @@ fn begin_seq(
         cell: at.cell + at.traps + 3,
         traps: at.traps,
     };
-    let first = begin(net, &place, p, go, env);
+    let first = sweep_begun(net, &place, p, go, env);
     let inside = cells::with_emitted(env, first.judged.must.signals);
     let later = cells::ends(&first.judged);
     let place = Place {
@@ -186,14 +186,14 @@ fn begin_seq(
         cell: first.past,
         traps: at.traps,
     };
-    let second = begin(net, &place, q, later, &inside);
+    let second = sweep_begun(net, &place, q, later, &inside);
     let own = cells::followed(&first.judged, &second.judged);
     cells::leave(net, at, &own, second.past)
 }
 
 /// Sweeps a loop of the incarnation that can go on: its body, and then the cells of its restart.
-#[cycle(begin)]
-fn begin_loop(net: &mut Net, at: &Place, p: &Statement, gate: Status, env: &Env) -> Found
+#[cycle(sweep_begun)]
+fn begin_loop(net: &mut Net, at: &Place, p: &Statement, gate: Status, env: &Env) -> Swept
     requires main { at.now.main ≡ true }
     requires fits { FitsMasks p.now }
     requires extents { HasExtents net.old.extents.items (at.now.number + 1)
@@ -215,7 +215,7 @@ fn begin_loop(net: &mut Net, at: &Place, p: &Statement, gate: Status, env: &Env)
         cell: at.cell + at.traps + 3,
         traps: at.traps,
     };
-    let first = begin(net, &place, p, go, env);
+    let first = sweep_begun(net, &place, p, go, env);
     let place = Place {
         number: at.number + 1,
         main: false,
@@ -223,14 +223,14 @@ fn begin_loop(net: &mut Net, at: &Place, p: &Statement, gate: Status, env: &Env)
         cell: first.past,
         traps: at.traps,
     };
-    let again = begin(net, &place, p, Status::Absent, env);
+    let again = sweep_begun(net, &place, p, Status::Absent, env);
     let own = cells::emitting(&first.judged, &again.judged);
     cells::leave(net, at, &own, again.past)
 }
 
 /// Sweeps a loop inside a restart, which has no cells for a restart of its own.
-#[cycle(begin)]
-fn begin_again(net: &mut Net, at: &Place, p: &Statement, gate: Status, env: &Env) -> Found
+#[cycle(sweep_begun)]
+fn begin_again(net: &mut Net, at: &Place, p: &Statement, gate: Status, env: &Env) -> Swept
     requires main { at.now.main ≡ false }
     requires fits { FitsMasks p.now }
     requires extents { HasExtents net.old.extents.items (at.now.number + 1)
@@ -251,12 +251,12 @@ fn begin_again(net: &mut Net, at: &Place, p: &Statement, gate: Status, env: &Env
         cell: at.cell + at.traps + 3,
         traps: at.traps,
     };
-    let body = begin(net, &place, p, go, env);
+    let body = sweep_begun(net, &place, p, go, env);
     cells::leave(net, at, &body.judged, body.past)
 }
 
 /// Sweeps a `||`, the first side before the second.
-#[cycle(begin)]
+#[cycle(sweep_begun)]
 fn begin_par(
     net: &mut Net,
     at: &Place,
@@ -264,7 +264,7 @@ fn begin_par(
     q: &Statement,
     gate: Status,
     env: &Env,
-) -> Found
+) -> Swept
     requires direction { at.now.direction ≡ Forwards }
     requires fits { FitsMasks p.now × FitsMasks q.now }
     requires first_extents { HasExtents net.old.extents.items (at.now.number + 1)
@@ -290,7 +290,7 @@ fn begin_par(
         cell: at.cell + at.traps + 3,
         traps: at.traps,
     };
-    let first = begin(net, &place, p, go, env);
+    let first = sweep_begun(net, &place, p, go, env);
     let inside = cells::with_emitted(env, first.judged.must.signals);
     let place = Place {
         number: number_after(net, &place, p),
@@ -299,13 +299,13 @@ fn begin_par(
         cell: first.past,
         traps: at.traps,
     };
-    let second = begin(net, &place, q, go, &inside);
+    let second = sweep_begun(net, &place, q, go, &inside);
     let own = cells::beside(&first.judged, &second.judged);
     cells::leave(net, at, &own, second.past)
 }
 
 /// Sweeps a `||`, the second side before the first.
-#[cycle(begin)]
+#[cycle(sweep_begun)]
 fn begin_par_back(
     net: &mut Net,
     at: &Place,
@@ -313,7 +313,7 @@ fn begin_par_back(
     q: &Statement,
     gate: Status,
     env: &Env,
-) -> Found
+) -> Swept
     requires direction { at.now.direction ≡ Backwards }
     requires fits { FitsMasks p.now × FitsMasks q.now }
     requires first_extents { HasExtents net.old.extents.items (at.now.number + 1)
@@ -346,16 +346,16 @@ fn begin_par_back(
         cell: past(net, &place, p),
         traps: at.traps,
     };
-    let second = begin(net, &later, q, go, env);
+    let second = sweep_begun(net, &later, q, go, env);
     let inside = cells::with_emitted(env, second.judged.must.signals);
-    let first = begin(net, &place, p, go, &inside);
+    let first = sweep_begun(net, &place, p, go, &inside);
     let own = cells::beside(&first.judged, &second.judged);
     cells::leave(net, at, &own, second.past)
 }
 
 /// Sweeps a trap.
-#[cycle(begin)]
-fn begin_trap(net: &mut Net, at: &Place, p: &Statement, gate: Status, env: &Env) -> Found
+#[cycle(sweep_begun)]
+fn begin_trap(net: &mut Net, at: &Place, p: &Statement, gate: Status, env: &Env) -> Swept
     requires fits { FitsMasks p.now }
     requires extents { HasExtents net.old.extents.items (at.now.number + 1)
         (at.now.traps + 1) p.now }
@@ -375,14 +375,14 @@ fn begin_trap(net: &mut Net, at: &Place, p: &Statement, gate: Status, env: &Env)
         cell: at.cell + at.traps + 3,
         traps: at.traps + 1,
     };
-    let body = begin(net, &place, p, go, env);
+    let body = sweep_begun(net, &place, p, go, env);
     let own = cells::out_of_trap(&body.judged);
     cells::leave(net, at, &own, body.past)
 }
 
 /// Sweeps a local signal's binder: its body, and then the cell of its status, by what the body
 /// emits.
-#[cycle(begin)]
+#[cycle(sweep_begun)]
 fn begin_local(
     net: &mut Net,
     at: &Place,
@@ -390,7 +390,7 @@ fn begin_local(
     p: &Statement,
     gate: Status,
     env: &Env,
-) -> Found
+) -> Swept
     requires fits { (s.index < 64) × FitsMasks p.now }
     requires extents { HasExtents net.old.extents.items (at.now.number + 1)
         at.now.traps p.now }
@@ -413,15 +413,15 @@ fn begin_local(
         cell: cell + 1,
         traps: at.traps,
     };
-    let body = begin(net, &place, p, go, &inside);
+    let body = sweep_begun(net, &place, p, go, &inside);
     learn(net, cell, cells::status_of(&body.judged, s));
     let own = cells::hiding(&body.judged, s);
     cells::leave(net, at, &own, body.past)
 }
 
 /// Sweeps the cells of a statement that is begun, if at all, by the gate, one after another.
-#[cycle(begin)]
-fn begin_each(net: &mut Net, at: &Place, s: &Statement, gate: Status, env: &Env) -> Found
+#[cycle(sweep_begun)]
+fn begin_each(net: &mut Net, at: &Place, s: &Statement, gate: Status, env: &Env) -> Swept
     requires fits { FitsMasks s.now }
     requires extents { HasExtents net.old.extents.items at.now.number at.now.traps
         s.now }
@@ -461,8 +461,8 @@ fn begin_each(net: &mut Net, at: &Place, s: &Statement, gate: Status, env: &Env)
 
 /// Sweeps the cells of a statement that is begun, if at all, by the gate. Where it is not, and none
 /// of them is true, all of them are false at once.
-#[cycle(begin)]
-pub fn begin(net: &mut Net, at: &Place, s: &Statement, gate: Status, env: &Env) -> Found
+#[cycle(sweep_begun)]
+pub fn sweep_begun(net: &mut Net, at: &Place, s: &Statement, gate: Status, env: &Env) -> Swept
     requires fits { FitsMasks s.now }
     requires extents { HasExtents net.old.extents.items at.now.number at.now.traps
         s.now }

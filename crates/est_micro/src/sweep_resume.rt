@@ -24,12 +24,12 @@ ghost use Rattle.est_rounds.specs.Views.{env_of, set_of};
 ghost use Rattle.est_micro.specs.Views.{IsChosen, IsJudged, IsResumed};
 ghost use Rattle.est_micro.specs.declared.direction.Direction.TheVariants.{Forwards, Backwards};
 
-use crate::cells::{self, Found, Place};
+use crate::cells::{self, Place, Swept};
 use crate::decided;
 use crate::direction::Direction;
 use crate::extents::{is_live, number_after, past};
 use crate::learning::learn;
-use crate::sweep_begin::begin;
+use crate::sweep_begin::sweep_begun;
 use est_kernel::completion::Completion;
 use est_kernel::pause_set::PauseSet;
 use est_kernel::statement::{LocalSignal, Statement};
@@ -41,7 +41,7 @@ use est_rounds::signal_set::{self, Env};
 
 /// Sweeps a pause, which ends where it is run.
 #[inline(always)]
-fn resume_pause(net: &mut Net, at: &Place, run: Status) -> Found
+fn resume_pause(net: &mut Net, at: &Place, run: Status) -> Swept
     requires within { at.now.cell + at.now.traps + 3 ≤ length net.old.cells.items }
     requires few { at.now.traps ≤ 62 }
     ensures swept { (e n pauses : _)
@@ -56,7 +56,7 @@ fn resume_pause(net: &mut Net, at: &Place, run: Status) -> Found
 
 /// Sweeps a part. If it is on (one of its pauses is set), it goes on where it is run; else the gate
 /// tells whether it is begun.
-#[cycle(resume)]
+#[cycle(sweep_resumed)]
 fn part(
     net: &mut Net,
     at: &Place,
@@ -66,7 +66,7 @@ fn part(
     gate: Status,
     run: Status,
     env: &Env,
-) -> Found
+) -> Swept
     requires main { at.now.main ≡ true }
     requires live { is_on ≡ true → is_live p.now (pauses_of pauses.now) ≡ true }
     requires fits { FitsMasks p.now }
@@ -80,14 +80,14 @@ fn part(
     ensures kept { kept net.new ≡ kept net.old }
 {
     if is_on {
-        resume(net, at, p, pauses, run, env)
+        sweep_resumed(net, at, p, pauses, run, env)
     } else {
-        begin(net, at, p, gate, env)
+        sweep_begun(net, at, p, gate, env)
     }
 }
 
 /// Sweeps a `present` whose test has this status.
-#[cycle(resume)]
+#[cycle(sweep_resumed)]
 fn resume_present(
     net: &mut Net,
     at: &Place,
@@ -97,7 +97,7 @@ fn resume_present(
     pauses: &PauseSet,
     run: Status,
     env: &Env,
-) -> Found
+) -> Swept
     requires main { at.now.main ≡ true }
     requires live { (is_live p.now (pauses_of pauses.now) || is_live q.now (pauses_of pauses.now))
         ≡ true }
@@ -148,7 +148,7 @@ fn resume_present(
 }
 
 /// Sweeps a `suspend` whose test has this status.
-#[cycle(resume)]
+#[cycle(sweep_resumed)]
 fn resume_suspend(
     net: &mut Net,
     at: &Place,
@@ -157,7 +157,7 @@ fn resume_suspend(
     pauses: &PauseSet,
     run: Status,
     env: &Env,
-) -> Found
+) -> Swept
     requires main { at.now.main ≡ true }
     requires live { is_live p.now (pauses_of pauses.now) ≡ true }
     requires fits { FitsMasks p.now }
@@ -179,14 +179,14 @@ fn resume_suspend(
         cell: at.cell + at.traps + 3,
         traps: at.traps,
     };
-    let body = resume(net, &place, p, pauses, run.and(asked.opposite()), env);
+    let body = sweep_resumed(net, &place, p, pauses, run.and(asked.opposite()), env);
     let held = cells::leaf(run.and(asked), Completion::Pause);
     let own = cells::with_codes(&body.judged, &held);
     cells::leave(net, at, &own, body.past)
 }
 
 /// Sweeps a `;`.
-#[cycle(resume)]
+#[cycle(sweep_resumed)]
 fn resume_seq(
     net: &mut Net,
     at: &Place,
@@ -195,7 +195,7 @@ fn resume_seq(
     pauses: &PauseSet,
     run: Status,
     env: &Env,
-) -> Found
+) -> Swept
     requires main { at.now.main ≡ true }
     requires live { (is_live p.now (pauses_of pauses.now) || is_live q.now (pauses_of pauses.now))
         ≡ true }
@@ -239,7 +239,7 @@ fn resume_seq(
 }
 
 /// Sweeps a loop.
-#[cycle(resume)]
+#[cycle(sweep_resumed)]
 fn resume_loop(
     net: &mut Net,
     at: &Place,
@@ -247,7 +247,7 @@ fn resume_loop(
     pauses: &PauseSet,
     run: Status,
     env: &Env,
-) -> Found
+) -> Swept
     requires main { at.now.main ≡ true }
     requires live { is_live p.now (pauses_of pauses.now) ≡ true }
     requires fits { FitsMasks p.now }
@@ -270,7 +270,7 @@ fn resume_loop(
         cell: at.cell + at.traps + 3,
         traps: at.traps,
     };
-    let first = resume(net, &place, p, pauses, run, env);
+    let first = sweep_resumed(net, &place, p, pauses, run, env);
     let inside = cells::with_emitted(env, first.judged.must.signals);
     let later = cells::ends(&first.judged);
     let place = Place {
@@ -280,22 +280,22 @@ fn resume_loop(
         cell: first.past,
         traps: at.traps,
     };
-    let again = begin(net, &place, p, later, &inside);
+    let again = sweep_begun(net, &place, p, later, &inside);
     let own = cells::followed(&first.judged, &again.judged);
     cells::leave(net, at, &own, again.past)
 }
 
 /// What counts of a side of a `||`: one that has ended gives code 0 where the `||` is run.
-fn side(is_on: bool, found: &Found, run: Status) -> Judgement
-    ensures { IsJudged (cond is_on (codes_of found.now.judged.must.codes) (sure_code run 0))
-        (cond is_on (codes_of found.now.judged.can.codes) (may_code run 0))
-        (set_of found.now.judged.must.signals) (set_of found.now.judged.can.signals) result }
+fn side(is_on: bool, swept: &Swept, run: Status) -> Judgement
+    ensures { IsJudged (cond is_on (codes_of swept.now.judged.must.codes) (sure_code run 0))
+        (cond is_on (codes_of swept.now.judged.can.codes) (may_code run 0))
+        (set_of swept.now.judged.must.signals) (set_of swept.now.judged.can.signals) result }
 {
     if is_on {
-        found.judged
+        swept.judged
     } else {
         let ended = cells::leaf(run, Completion::End);
-        cells::giving(&ended, &found.judged)
+        cells::giving(&ended, &swept.judged)
     }
 }
 
@@ -317,7 +317,7 @@ fn second_lives(
 }
 
 /// Sweeps a `||`, the first side before the second.
-#[cycle(resume)]
+#[cycle(sweep_resumed)]
 fn resume_par(
     net: &mut Net,
     at: &Place,
@@ -326,7 +326,7 @@ fn resume_par(
     pauses: &PauseSet,
     run: Status,
     env: &Env,
-) -> Found
+) -> Swept
     requires main { at.now.main ≡ true }
     requires direction { at.now.direction ≡ Forwards }
     requires live { (is_live p.now (pauses_of pauses.now) || is_live q.now (pauses_of pauses.now))
@@ -374,7 +374,7 @@ fn resume_par(
 }
 
 /// Sweeps a `||`, the second side before the first.
-#[cycle(resume)]
+#[cycle(sweep_resumed)]
 fn resume_par_back(
     net: &mut Net,
     at: &Place,
@@ -383,7 +383,7 @@ fn resume_par_back(
     pauses: &PauseSet,
     run: Status,
     env: &Env,
-) -> Found
+) -> Swept
     requires main { at.now.main ≡ true }
     requires direction { at.now.direction ≡ Backwards }
     requires live { (is_live p.now (pauses_of pauses.now) || is_live q.now (pauses_of pauses.now))
@@ -431,7 +431,7 @@ fn resume_par_back(
 }
 
 /// Sweeps a trap.
-#[cycle(resume)]
+#[cycle(sweep_resumed)]
 fn resume_trap(
     net: &mut Net,
     at: &Place,
@@ -439,7 +439,7 @@ fn resume_trap(
     pauses: &PauseSet,
     run: Status,
     env: &Env,
-) -> Found
+) -> Swept
     requires main { at.now.main ≡ true }
     requires live { is_live p.now (pauses_of pauses.now) ≡ true }
     requires fits { FitsMasks p.now }
@@ -461,14 +461,14 @@ fn resume_trap(
         cell: at.cell + at.traps + 3,
         traps: at.traps + 1,
     };
-    let body = resume(net, &place, p, pauses, run, env);
+    let body = sweep_resumed(net, &place, p, pauses, run, env);
     let own = cells::out_of_trap(&body.judged);
     cells::leave(net, at, &own, body.past)
 }
 
 /// Sweeps a local signal's binder: its body, and then the cell of its status, by what the body
 /// emits.
-#[cycle(resume)]
+#[cycle(sweep_resumed)]
 fn resume_local(
     net: &mut Net,
     at: &Place,
@@ -477,7 +477,7 @@ fn resume_local(
     pauses: &PauseSet,
     run: Status,
     env: &Env,
-) -> Found
+) -> Swept
     requires main { at.now.main ≡ true }
     requires live { is_live p.now (pauses_of pauses.now) ≡ true }
     requires fits { (s.index < 64) × FitsMasks p.now }
@@ -501,14 +501,14 @@ fn resume_local(
         cell: cell + 1,
         traps: at.traps,
     };
-    let body = resume(net, &place, p, pauses, run, &inside);
+    let body = sweep_resumed(net, &place, p, pauses, run, &inside);
     learn(net, cell, cells::status_of(&body.judged, s));
     let own = cells::hiding(&body.judged, s);
     cells::leave(net, at, &own, body.past)
 }
 
 /// Sweeps the cells of a statement that goes on from its pauses, if it is run, one after another.
-#[cycle(resume)]
+#[cycle(sweep_resumed)]
 fn resume_each(
     net: &mut Net,
     at: &Place,
@@ -516,7 +516,7 @@ fn resume_each(
     pauses: &PauseSet,
     run: Status,
     env: &Env,
-) -> Found
+) -> Swept
     requires main { at.now.main ≡ true }
     requires live { is_live s.now (pauses_of pauses.now) ≡ true }
     requires fits { FitsMasks s.now }
@@ -557,15 +557,15 @@ fn resume_each(
 
 /// Sweeps the cells of a statement that goes on from its pauses, if it is run. Where all
 /// of them are decided, they are only read.
-#[cycle(resume)]
-pub fn resume(
+#[cycle(sweep_resumed)]
+pub fn sweep_resumed(
     net: &mut Net,
     at: &Place,
     s: &Statement,
     pauses: &PauseSet,
     run: Status,
     env: &Env,
-) -> Found
+) -> Swept
     requires main { at.now.main ≡ true }
     requires live { is_live s.now (pauses_of pauses.now) ≡ true }
     requires fits { FitsMasks s.now }

@@ -15,12 +15,13 @@ ghost use Rattle.est_meaning.specs.States.{is_live};
 ghost use Rattle.est_meaning.specs.declared.status.Status.TheVariants.{Absent, Present};
 ghost use Rattle.est_cells.specs.Tables.{sheet_size};
 ghost use Rattle.est_net.specs.Cells.{cell_at};
-ghost use Rattle.est_net.specs.Layout.{cell_count, output_count, sheet_in};
+ghost use Rattle.est_net.specs.Layout.{output_count, sheet_in};
 ghost use Rattle.est_rounds.specs.Views.{env_of};
+ghost use Rattle.est_micro.specs.Engine.{IsNetOf};
 ghost use Rattle.est_micro.specs.Waiting.{AreWaiting, IsWaiting, first_read, first_read_of_joint};
 ghost use Rattle.est_micro.specs.Waiting.{if_unasked, pauses_from, waits_at, waits_for};
 
-use est_kernel::kernel::Kernel;
+use crate::question::Question;
 use est_kernel::mask;
 use est_kernel::pause_set::PauseSet;
 use est_kernel::state::State;
@@ -292,37 +293,29 @@ pub fn look(
 }
 
 /// The first input in the text that is not asked and that an open test waits for.
-pub fn first_waited(
-    net: &Net,
-    kernel: &Kernel,
-    outputs_count: usize,
-    state: &State,
-    unasked: u64,
-    env: &Env,
-) -> Option<u8>
-    requires outputs_count { outputs_count ≡ output_count kernel.now.interface }
-    requires size { length net.now.cells.items ≡ cell_count kernel.now }
-    ensures { result ≡ waits_for (bits unasked) true kernel.now.root (pauses_from state.now) Present
-        (env_of env.now)
-        (sheet_in (cell_at net.now.cells.items) true kernel.now.root
-        (output_count kernel.now.interface) 0) }
+pub fn first_waited(net: &Net, question: &Question<'_>, env: &Env) -> Option<u8>
+    requires net { IsNetOf net.now question.now.kernel.now }
+    ensures { result ≡ waits_for (bits question.now.unasked) true question.now.kernel.now.root
+        (pauses_from question.now.state.now) Present (env_of env.now)
+        (sheet_in (cell_at net.now.cells.items) true question.now.kernel.now.root
+        (output_count question.now.kernel.now.interface) 0) }
 {
     let none = PauseSet::new();
-    let pauses = match state {
+    let pauses = match question.state {
         State::Fresh | State::Done => &none,
         State::Paused(pauses) => pauses,
     };
     let sight = Sight {
         net,
         pauses,
-        unasked,
+        unasked: question.unasked,
     };
     look(
         &sight,
         true,
-        outputs_count,
+        net.outputs(),
         0,
-        kernel.root(),
+        question.kernel.root(),
         Status::Present,
         env,
     )

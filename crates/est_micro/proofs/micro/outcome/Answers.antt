@@ -1,17 +1,17 @@
-use Rattle.std.proofs.Common.{sym, ◌∙◌, arith}
+use Rattle.std.proofs.Common.{sym, ◌∙◌}
 use Rattle.est_kernel.specs.Bits.{bits}
 use Rattle.est_kernel.specs.Pauses.{pauses_of}
 use Rattle.est_micro.proofs.Collecting.{all_collected}
+use Rattle.est_micro.proofs.KernelNets.{root_within}
 use Rattle.est_micro.proofs.Outcomes.{reaction_paused, reaction_ended, values_by_code}
 use Rattle.est_micro.proofs.micro.outcome.Goals as goal
 
 pub collect-requires-clause-within : goal.collect-requires-clause-within
 collect-requires-clause-within c =
-    let n = c.requires.size in
-    rw c.root.ensures (omega (arith, n, c.requires.outputs_count))
+    root_within c.args.net.now c.args.kernel.now _ _ c.requires.net c.root.ensures c.outputs.ensures
 
 pub collect-requires-clause-extents : goal.collect-requires-clause-extents
-collect-requires-clause-extents c = rw c.root.ensures c.requires.extents
+collect-requires-clause-extents c = rw c.root.ensures c.requires.net.extents
 
 pub returns-then-has-clause-some : goal.returns-then-has-clause-some
 returns-then-has-clause-some c =
@@ -19,12 +19,12 @@ returns-then-has-clause-some c =
     let one = sym c.has.ensures ∙ c.if-has.true in
     record {
       reaction = λ i h.
-          reaction_paused k c.args.state.now i _ c.args.found.now
+          reaction_paused k c.args.state.now i _ c.args.swept.now
           (pauses_of c.args.from.now) _ k.distinct k.loop_safe
           c.requires.state c.requires.lives c.requires.from h one
-          (all_collected k _ c.args.outputs_count _ c.args.from.now _ _ c.root.ensures c.requires.outputs_count
-          c.new-next.ensures c.collect.ensures);
-      values = λ i h. values_by_code k c.args.state.now (bits i.signals) _ c.args.found.now k.loop_safe
+          (all_collected k _ _ _ c.args.from.now _ _ c.root.ensures
+          (c.outputs.ensures ∙ c.requires.net.outputs) c.new-next.ensures c.collect.ensures);
+      values = λ i h. values_by_code k c.args.state.now (bits i.signals) _ c.args.swept.now k.loop_safe
           c.requires.state h 1 one;
     }
 
@@ -34,10 +34,10 @@ returns-then-has-2-clause-some c =
     let zero = sym c.has-2.ensures ∙ c.if-has-2.true in
     record {
       reaction = λ i h.
-          reaction_ended k c.args.state.now i _ c.args.found.now
+          reaction_ended k c.args.state.now i _ c.args.swept.now
           (pauses_of c.args.from.now) k.distinct k.loop_safe
           c.requires.state c.requires.lives c.requires.from h zero;
-      values = λ i h. values_by_code k c.args.state.now (bits i.signals) _ c.args.found.now k.loop_safe
+      values = λ i h. values_by_code k c.args.state.now (bits i.signals) _ c.args.swept.now k.loop_safe
           c.requires.state h 0 zero;
     }
 

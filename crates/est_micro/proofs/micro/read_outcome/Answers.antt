@@ -6,8 +6,8 @@ pub returns-in-Done-clause-some : goal.returns-in-Done-clause-some
 returns-in-Done-clause-some c =
     let k = c.args.kernel.now in
     rw c.in-Done.is (record {
-      reaction = λ i h. reaction_done k i _ c.args.found.now k.loop_safe h;
-      values = λ i h. done_values k (bits i.signals) _ c.args.found.now k.loop_safe h;
+      reaction = λ i h. reaction_done k i _ c.args.swept.now k.loop_safe h;
+      values = λ i h. done_values k (bits i.signals) _ c.args.swept.now k.loop_safe h;
     })
 
 pub outcome-requires-clause-lives : goal.outcome-requires-clause-lives

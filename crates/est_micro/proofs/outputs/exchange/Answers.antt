@@ -1,4 +1,4 @@
-use Rattle.std.proofs.Common.{◌≡◌, ◌<◌, ◌≤◌, ℕ, Bool, true, List, length, refl, ap, sym, ◌∙◌, subst}
+use Rattle.std.proofs.Common.{◌≡◌, ◌<◌, ◌≤◌, ℕ, Bool, true, List, length, refl, ap, sym, ◌∙◌, subst, arith}
 use Rattle.est_kernel.specs.Bits.{bits}
 use Rattle.est_kernel.specs.Interfaces.{emittable}
 use Rattle.est_kernel.specs.declared.interface.Declaration.{Declaration}
@@ -10,6 +10,7 @@ use Rattle.est_net.specs.Layout.{output_count}
 use Rattle.est_micro.specs.Outputs.{AreSignalsTold, told_of}
 use Rattle.est_micro.specs.Runs.{IsExchanged}
 use Rattle.est_micro.proofs.Exchanging.{IsKnownBy, emittable_within, known_is}
+use Rattle.est_micro.proofs.KernelNets.{still_net}
 use Rattle.est_micro.proofs.outputs.exchange.Goals as goal
 
 exchanged : (i : List Declaration) (unasked f : ℕ → Bool) (m inputs : ℕ) (j : Judgement) (old new : List Status)
@@ -33,16 +34,24 @@ inside i f m a b n h = subst (λ (z : ℕ). n < z) (sym b) (emittable_within i n
 
 pub exchange_all-read-requires-clause-within : goal.exchange_all-read-requires-clause-within
 exchange_all-read-requires-clause-within c =
-    count_is c.args.kernel.now.interface _ _ _
-    (ap bits c.signals-signals.ensures ∙ c.requires.signals)
-    (c.len.ensures.len ∙ ap length c.interface.ensures) c.requires.room
+    let size = c.requires.net.size in
+    count_is c.args.question.now.kernel.now.interface _ _ _
+    (ap bits c.signals-signals.ensures ∙ c.requires.net.signals)
+    (c.len-places.ensures.len ∙ ap length c.interface.ensures) (omega (arith, size))
 
 pub returns-clause-exchanged : goal.returns-clause-exchanged
 returns-clause-exchanged c =
-    let f = ap bits c.signals-signals.ensures ∙ c.requires.signals in
-    let m = c.len.ensures.len ∙ ap length c.interface.ensures in
+    let i = c.args.question.now.kernel.now.interface in
+    let unasked = bits c.args.question.now.unasked in
+    let f = ap bits c.signals-signals.ensures ∙ c.requires.net.signals in
+    let m = c.len-places.ensures.len ∙ ap length c.interface.ensures in
     let r = c.exchange_all-read.ensures in
-    exchanged c.args.kernel.now.interface (bits c.args.unasked) _ _ c.args.inputs c.args.judged.now _ _ _ f m r.told
-    (known_is (bits c.args.unasked) _ _ (bits c.args.inputs) (bits c.exchange_all-read.result.sure)
-    (bits c.exchange_all-read.result.possible) _ _ _ _ (inside c.args.kernel.now.interface _ _ f m) c.union.ensures
+    exchanged i unasked _ _ c.args.question.now.inputs c.args.judged.now _ _ _ f m r.told
+    (known_is unasked _ _ (bits c.args.question.now.inputs) (bits c.exchange_all-read.result.sure)
+    (bits c.exchange_all-read.result.possible) _ _ _ _ (inside i _ _ f m) c.union.ensures
     c.union-2.ensures c.difference.ensures c.union-3.ensures r.sure r.possible refl refl)
+
+pub returns-clause-net : goal.returns-clause-net
+returns-clause-net c =
+    still_net c.args.question.now.kernel.now _ c.args.net.now _ c.requires.net
+    c.exchange_all-read.ensures.told.changes.size c.exchange_all-read.ensures.kept

@@ -7,4 +7,4 @@ pub returns-clause-passes : goal.returns-clause-passes
 unfolding IsBegun
 returns-clause-passes c =
     sweep_passes c.args.at.now.direction c.args.at.now.main c.args.s.now c.args.at.now.cell c.args.at.now.traps
-    c.args.gate (env_of c.args.env.now) _ _ c.begin.result c.begin.ensures.swept
+    c.args.gate (env_of c.args.env.now) _ _ c.sweep_begun.result c.sweep_begun.ensures.swept

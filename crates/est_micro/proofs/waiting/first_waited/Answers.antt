@@ -1,7 +1,9 @@
-use Rattle.est_kernel.proofs.FitsMasks.{fits_within_limits}
+use Rattle.est_micro.proofs.KernelNets.{root_fits, root_within}
 use Rattle.est_micro.proofs.waiting.first_waited.Goals as goal
 
 pub look-requires-clause-fits : goal.look-requires-clause-fits
-look-requires-clause-fits c =
-    let k = c.args.kernel.now in
-    rw c.root.ensures (fits_within_limits k.interface k.root k.closed k.within_limits)
+look-requires-clause-fits c = root_fits c.args.question.now.kernel.now _ c.root.ensures
+
+pub look-requires-clause-within : goal.look-requires-clause-within
+look-requires-clause-within c =
+    root_within c.args.net.now c.args.question.now.kernel.now _ _ c.requires.net c.root.ensures c.outputs.ensures

@@ -7,13 +7,13 @@ use Rattle.est_micro.proofs.ResumedNodes.{present_resumed, seq_resumed, par_resu
 use Rattle.est_micro.proofs.ResumedNodes.{suspend_resumed, trap_resumed}
 use Rattle.est_micro.proofs.ResumedNodes.{loop_resumed, local_resumed, begun_chosen, resumed_chosen, resumed_one}
 use Rattle.est_micro.proofs.ResumedNodes.{resumed_two, resumed_next, resumed_local, resumed_told}
-use Rattle.est_micro.proofs.sweep_resume.+resume.Goals as goal
+use Rattle.est_micro.proofs.sweep_resume.+sweep_resumed.Goals as goal
 
 pub part-returns-then-is_on-clause-swept : goal.part-returns-then-is_on-clause-swept
 part-returns-then-is_on-clause-swept t c =
     resumed_chosen c.args.at.now c.args.p.now c.args.pauses.now c.args.is_on c.args.gate c.args.run c.args.env.now _ _ _
     c.if-is_on.true
-    c.resume.ensures.swept
+    c.sweep_resumed.ensures.swept
 
 pub part-returns-else-is_on-clause-swept : goal.part-returns-else-is_on-clause-swept
 part-returns-else-is_on-clause-swept t c =
@@ -22,7 +22,7 @@ part-returns-else-is_on-clause-swept t c =
     c.args.pauses.now
     c.args.is_on c.args.gate
     c.args.run
-    c.args.env.now _ _ _ c.requires.main c.if-is_on.false c.begin.ensures.swept
+    c.args.env.now _ _ _ c.requires.main c.if-is_on.false c.sweep_begun.ensures.swept
 
 pub resume_present-returns-clause-swept : goal.resume_present-returns-clause-swept
 resume_present-returns-clause-swept t c = λ q a b asks.
@@ -65,21 +65,21 @@ pub resume_suspend-returns-clause-swept : goal.resume_suspend-returns-clause-swe
 resume_suspend-returns-clause-swept t c = λ q a asks.
     suspend_resumed c.args.at.now q a c.args.p.now c.args.pauses.now c.args.run c.args.asked _ _ _ c.args.env.now
     _ _ _ _ _ _ _ _ asks c.learn.ensures.learns c.opposite.ensures c.and.ensures c.and-2.ensures
-    c.resume-body.ensures.swept
+    c.sweep_resumed-body.ensures.swept
     c.leaf-held.ensures c.with_codes-own.ensures c.leave.ensures.left
 
 pub resume_loop-returns-clause-swept : goal.resume_loop-returns-clause-swept
 resume_loop-returns-clause-swept t c = λ a.
     loop_resumed c.args.at.now a c.args.p.now c.args.pauses.now c.args.run _ c.args.env.now _ _ _ _ _ _ _ _ _ _
-    c.learn.ensures.learns c.ends-later.ensures c.resume-first.ensures.swept c.with_emitted-inside.ensures
-    c.begin-again.ensures.swept
+    c.learn.ensures.learns c.ends-later.ensures c.sweep_resumed-first.ensures.swept c.with_emitted-inside.ensures
+    c.sweep_begun-again.ensures.swept
     c.followed-own.ensures
     c.leave.ensures.left
 
 pub resume_trap-returns-clause-swept : goal.resume_trap-returns-clause-swept
 resume_trap-returns-clause-swept t c = λ a.
     trap_resumed c.args.at.now a c.args.p.now c.args.pauses.now c.args.run c.args.env.now _ _ _ _ _ _ _
-    c.learn.ensures.learns c.resume-body.ensures.swept c.out_of_trap-own.ensures c.leave.ensures.left
+    c.learn.ensures.learns c.sweep_resumed-body.ensures.swept c.out_of_trap-own.ensures c.leave.ensures.left
 
 pub resume_local-returns-clause-swept : goal.resume_local-returns-clause-swept
 resume_local-returns-clause-swept t c = λ a.
@@ -87,42 +87,43 @@ resume_local-returns-clause-swept t c = λ a.
     c.learn.ensures.learns
     (c.set_local-inside.ensures ∙ ap (λ (v : Status). with_local (env_of c.args.env.now) c.args.s.index v)
     c.status.ensures)
-    c.resume-body.ensures.swept c.status_of.ensures c.learn-2.ensures.learns c.hiding-own.ensures c.leave.ensures.left
+    c.sweep_resumed-body.ensures.swept c.status_of.ensures c.learn-2.ensures.learns c.hiding-own.ensures
+    c.leave.ensures.left
 
 pub resume_suspend-leave-requires-clause-within : goal.resume_suspend-leave-requires-clause-within
 resume_suspend-leave-requires-clause-within t c =
     resumed_one _ _ c.args.net.now.cells.items _ _ _ _ _ _ _ _ c.requires.within c.learn.ensures.learns.size
-    c.resume-body.ensures.swept
+    c.sweep_resumed-body.ensures.swept
 
 pub resume_trap-leave-requires-clause-within : goal.resume_trap-leave-requires-clause-within
 resume_trap-leave-requires-clause-within t c =
     resumed_one _ _ c.args.net.now.cells.items _ _ _ _ _ _ _ _ c.requires.within c.learn.ensures.learns.size
-    c.resume-body.ensures.swept
+    c.sweep_resumed-body.ensures.swept
 
 pub resume_loop-leave-requires-clause-within : goal.resume_loop-leave-requires-clause-within
 resume_loop-leave-requires-clause-within t c =
     resumed_two _ _ _ c.args.net.now.cells.items _ _ _ _ _ _ _ _ _ _ _ _ _ _ c.requires.within
     c.learn.ensures.learns.size
-    c.resume-first.ensures.swept c.begin-again.ensures.swept
+    c.sweep_resumed-first.ensures.swept c.sweep_begun-again.ensures.swept
 
-pub resume_loop-begin-again-requires-clause-within : goal.resume_loop-begin-again-requires-clause-within
-resume_loop-begin-again-requires-clause-within t c =
-    resumed_next c.args.net.now.cells.items _ _ _ _ _ _ _ _ _ c.resume-first.ensures.swept c.requires.within
+pub resume_loop-sweep_begun-again-requires-clause-within : goal.resume_loop-sweep_begun-again-requires-clause-within
+resume_loop-sweep_begun-again-requires-clause-within t c =
+    resumed_next c.args.net.now.cells.items _ _ _ _ _ _ _ _ _ c.sweep_resumed-first.ensures.swept c.requires.within
     c.learn.ensures.learns.size
 
 pub resume_local-learn-requires-2 : goal.resume_local-learn-requires-2
 resume_local-learn-requires-2 t c =
     resumed_local (c.args.at.now.cell + c.args.at.now.traps) _ c.args.net.now.cells.items _ _ _ _ _ _ _ _
     c.requires.within
-    c.learn.ensures.learns.size c.resume-body.ensures.swept
+    c.learn.ensures.learns.size c.sweep_resumed-body.ensures.swept
 
 pub resume_local-leave-requires-clause-within : goal.resume_local-leave-requires-clause-within
 resume_local-leave-requires-clause-within t c =
     resumed_told (c.args.at.now.cell + c.args.at.now.traps) _ c.args.net.now.cells.items _ _ _ _ _ _ _ _ _
     c.requires.within
-    c.learn.ensures.learns.size c.resume-body.ensures.swept c.learn-2.ensures.learns.size
+    c.learn.ensures.learns.size c.sweep_resumed-body.ensures.swept c.learn-2.ensures.learns.size
 
-pub resume-returns-then-is_decided-clause-swept : goal.resume-returns-then-is_decided-clause-swept
-resume-returns-then-is_decided-clause-swept t c =
+pub sweep_resumed-returns-then-is_decided-clause-swept : goal.sweep_resumed-returns-then-is_decided-clause-swept
+sweep_resumed-returns-then-is_decided-clause-swept t c =
     read_resumed c.args.s.now c.args.at.now c.args.pauses.now c.args.run c.args.env.now _ _ c.requires.main
     c.read.ensures

@@ -4,13 +4,14 @@ ghost use Rattle.std.specs.Prelude.{◌≡◌, length, IfSome, IfNone, OnSome};
 ghost use Rattle.est_kernel.specs.Bits.{bits};
 ghost use Rattle.est_meaning.specs.States.{IsState};
 ghost use Rattle.est_net.specs.Cells.{decided};
-ghost use Rattle.est_net.specs.Extents.{HasExtents};
-ghost use Rattle.est_net.specs.Layout.{cell_count, output_count};
 ghost use Rattle.est_rounds.specs.Parts.{not_asked};
+ghost use Rattle.est_micro.specs.Engine.{IsNetOf};
 ghost use Rattle.est_micro.specs.Outcomes.{HasNoCode, IsOutcomeOf};
 
-use crate::cells::Found;
+use crate::cells::Swept;
 use crate::micro::{Micro, read_outcome};
+use crate::question::Question;
+use crate::settling::decide_cells;
 use crate::waiting::first_waited;
 use est_kernel::kernel::Kernel;
 use est_kernel::mask;
@@ -19,27 +20,19 @@ use est_net::net::Net;
 use est_rounds::part_engine::{PartEngine, Unsettled};
 
 /// The outcome that the cells tell, where all of them are decided.
-fn told_if_decided(
-    net: &Net,
-    kernel: &Kernel,
-    outputs_count: usize,
-    state: &State,
-    found: &Found,
-) -> Option<Outcome>
+fn told_if_decided(net: &Net, kernel: &Kernel, state: &State, swept: &Swept) -> Option<Outcome>
+    requires net { IsNetOf net.now kernel.now }
     requires state { IsState kernel.now.root state.now }
-    requires outputs_count { outputs_count ≡ output_count kernel.now.interface }
-    requires size { length net.now.cells.items ≡ cell_count kernel.now }
-    requires extents { HasExtents net.now.extents.items 0 0 kernel.now.root }
     ensures some { IfSome result
-        (λ o. IsOutcomeOf kernel.now state.now net.now.cells.items found.now o) }
+        (λ o. IsOutcomeOf kernel.now state.now net.now.cells.items swept.now o) }
     ensures all { OnSome result (decided net.now.cells.items ≡ length net.now.cells.items) }
     ensures none { IfNone result (decided net.now.cells.items ≡ length net.now.cells.items
-        → HasNoCode state.now found.now) }
+        → HasNoCode state.now swept.now) }
 {
     if net.steps() < net.cells() {
         return None;
     }
-    read_outcome(net, kernel, outputs_count, state, found)
+    read_outcome(net, kernel, state, swept)
 }
 
 /// The inputs that are not asked.
@@ -92,19 +85,18 @@ impl PartEngine for Micro {
         ensures once { kept self.new.net ≡ reopened self.old.net }
     {
         let unasked = unasked_inputs(kernel, asked);
-        let settled = self.settle_by(kernel, state, inputs.signals, unasked);
-        let outputs_count = self.net().outputs();
-        match told_if_decided(self.net(), kernel, outputs_count, state, &settled.found) {
+        let question = Question {
+            kernel,
+            state,
+            inputs: inputs.signals,
+            unasked,
+        };
+        let settled = decide_cells(&mut self.net, &question, self.direction);
+        self.direction = settled.direction;
+        match told_if_decided(&self.net, kernel, state, &settled.swept) {
             Some(outcome) => Ok(outcome),
             None => Err(Unsettled {
-                waits_for: first_waited(
-                    self.net(),
-                    kernel,
-                    outputs_count,
-                    state,
-                    unasked,
-                    &settled.env,
-                ),
+                waits_for: first_waited(&self.net, &question, &settled.env),
             }),
         }
     }

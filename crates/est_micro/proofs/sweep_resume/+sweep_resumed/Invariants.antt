@@ -1,9 +1,9 @@
 use Rattle.std.proofs.Common.{◌+◌, ◌*◌, max}
 use Rattle.est_kernel.proofs.statement.Statement.TheLaws.{the_size}
-use Rattle.est_micro.proofs.sweep_resume.+resume.Given as goal
+use Rattle.est_micro.proofs.sweep_resume.+sweep_resumed.Given as goal
 
-abbrev pub decreases-resume : goal.decreases-resume
-decreases-resume l = 4 * the_size l.s.now + 1
+abbrev pub decreases-sweep_resumed : goal.decreases-sweep_resumed
+decreases-sweep_resumed l = 4 * the_size l.s.now + 1
 
 abbrev pub decreases-resume_each : goal.decreases-resume_each
 decreases-resume_each l = 4 * the_size l.s.now

@@ -2,7 +2,7 @@ use Rattle.std.proofs.Common.{◌∙◌, ap}
 use Rattle.est_kernel.specs.Bits.{bits}
 use Rattle.est_kernel.specs.Interfaces.{offerable}
 use Rattle.est_micro.proofs.PartReactions.{unasked_is}
-use Rattle.est_micro.proofs.parts.unasked_inputs.Goals as goal
+use Rattle.est_micro.proofs.part_reactions.unasked_inputs.Goals as goal
 
 pub returns : goal.returns
 returns c =

@@ -1,9 +1,9 @@
 use Rattle.std.proofs.Common.{◌+◌, ◌*◌, max}
 use Rattle.est_kernel.proofs.statement.Statement.TheLaws.{the_size}
-use Rattle.est_micro.proofs.pass_begin.+pass.Given as goal
+use Rattle.est_micro.proofs.pass_begin.+pass_begun.Given as goal
 
-abbrev pub decreases-pass : goal.decreases-pass
-decreases-pass l = 3 * the_size l.s.now + 1
+abbrev pub decreases-pass_begun : goal.decreases-pass_begun
+decreases-pass_begun l = 3 * the_size l.s.now + 1
 
 abbrev pub decreases-pass_parts : goal.decreases-pass_parts
 decreases-pass_parts l = 3 * the_size l.s.now

@@ -1,9 +1,9 @@
 use Rattle.std.proofs.Common.{◌+◌, ◌*◌, max}
 use Rattle.est_kernel.proofs.statement.Statement.TheLaws.{the_size}
-use Rattle.est_micro.proofs.sweep_begin.+begin.Given as goal
+use Rattle.est_micro.proofs.sweep_begin.+sweep_begun.Given as goal
 
-abbrev pub decreases-begin : goal.decreases-begin
-decreases-begin l = 3 * the_size l.s.now + 1
+abbrev pub decreases-sweep_begun : goal.decreases-sweep_begun
+decreases-sweep_begun l = 3 * the_size l.s.now + 1
 
 abbrev pub decreases-begin_present : goal.decreases-begin_present
 decreases-begin_present l = 3 * max (the_size l.p.now) (the_size l.q.now) + 2

@@ -9,7 +9,7 @@ use Rattle.est_micro.proofs.BegunNodes.{loop_begun, local_begun, within_one, wit
 use Rattle.est_micro.proofs.BegunNodes.{within_back, within_told}
 use Rattle.est_micro.proofs.IdleSheets.{idle_begun}
 use Rattle.est_micro.proofs.KeptExtents.{still, still_at}
-use Rattle.est_micro.proofs.sweep_begin.+begin.Goals as goal
+use Rattle.est_micro.proofs.sweep_begin.+sweep_begun.Goals as goal
 
 pub begin_present-returns-clause-swept : goal.begin_present-returns-clause-swept
 begin_present-returns-clause-swept t c = λ q a b asks.
@@ -18,21 +18,21 @@ begin_present-returns-clause-swept t c = λ q a b asks.
     _ _
     _ _ _ asks
     c.learn-go.ensures.learns c.learn-go.ensures.known c.and.ensures c.opposite.ensures c.and-2.ensures
-    c.begin-first.ensures.swept
-    c.begin-second.ensures.swept c.either-own.ensures c.leave.ensures.left
+    c.sweep_begun-first.ensures.swept
+    c.sweep_begun-second.ensures.swept c.either-own.ensures c.leave.ensures.left
 
 pub begin_suspend-returns-clause-swept : goal.begin_suspend-returns-clause-swept
 begin_suspend-returns-clause-swept t c = λ q a.
     suspend_begun c.args.at.now q a c.args.p.now c.args.gate _ c.args.env.now _ _ _ _ _ _ c.learn-go.ensures.learns
-    c.learn-go.ensures.known c.begin-body.ensures.swept c.leave.ensures.left
+    c.learn-go.ensures.known c.sweep_begun-body.ensures.swept c.leave.ensures.left
 
 pub begin_seq-returns-clause-swept : goal.begin_seq-returns-clause-swept
 begin_seq-returns-clause-swept t c = λ a b.
     seq_begun c.number_after.result c.args.at.now a c.args.p.now b c.args.q.now c.args.gate _ _ c.args.env.now _ _ _
     _ _ _ _ _ _ _
     c.learn-go.ensures.learns c.learn-go.ensures.known c.ends-later.ensures c.with_emitted-inside.ensures
-    c.begin-first.ensures.swept
-    c.begin-second.ensures.swept
+    c.sweep_begun-first.ensures.swept
+    c.sweep_begun-second.ensures.swept
     c.followed-own.ensures c.leave.ensures.left
 
 pub begin_par-returns-clause-swept : goal.begin_par-returns-clause-swept
@@ -40,8 +40,8 @@ begin_par-returns-clause-swept t c = λ a b.
     par_begun c.number_after.result c.args.at.now a c.args.p.now b c.args.q.now c.args.gate _ c.args.env.now _ _ _ _
     _ _ _ _ _ _
     c.requires.direction c.learn-go.ensures.learns c.learn-go.ensures.known c.with_emitted-inside.ensures
-    c.begin-first.ensures.swept
-    c.begin-second.ensures.swept
+    c.sweep_begun-first.ensures.swept
+    c.sweep_begun-second.ensures.swept
     c.beside-own.ensures c.leave.ensures.left
 
 pub begin_par_back-returns-clause-swept : goal.begin_par_back-returns-clause-swept
@@ -49,14 +49,14 @@ begin_par_back-returns-clause-swept t c = λ a b.
     par_begun_back c.number_after.result c.args.at.now a c.args.p.now b c.args.q.now c.args.gate _ _ c.args.env.now _
     _ _ _ _ _ _ _ _ _
     c.requires.direction c.learn-go.ensures.learns c.learn-go.ensures.known c.past.ensures c.with_emitted-inside.ensures
-    c.begin-second.ensures.swept
-    c.begin-first.ensures.swept
+    c.sweep_begun-second.ensures.swept
+    c.sweep_begun-first.ensures.swept
     c.beside-own.ensures c.leave.ensures.left
 
 pub begin_trap-returns-clause-swept : goal.begin_trap-returns-clause-swept
 begin_trap-returns-clause-swept t c = λ a.
     trap_begun c.args.at.now a c.args.p.now c.args.gate _ c.args.env.now _ _ _ _ _ _ _ c.learn-go.ensures.learns
-    c.learn-go.ensures.known c.begin-body.ensures.swept c.out_of_trap-own.ensures c.leave.ensures.left
+    c.learn-go.ensures.known c.sweep_begun-body.ensures.swept c.out_of_trap-own.ensures c.leave.ensures.left
 
 pub begin_again-returns-clause-swept : goal.begin_again-returns-clause-swept
 begin_again-returns-clause-swept t c = λ a.
@@ -64,7 +64,8 @@ begin_again-returns-clause-swept t c = λ a.
     c.args.at.now.cell c.args.at.now.traps a c.args.p.now
     c.args.gate _
     c.args.env.now _ _ _ _ _ _
-    c.requires.main c.learn-go.ensures.learns c.learn-go.ensures.known c.begin-body.ensures.swept c.leave.ensures.left
+    c.requires.main c.learn-go.ensures.learns c.learn-go.ensures.known c.sweep_begun-body.ensures.swept
+    c.leave.ensures.left
 
 pub begin_loop-returns-clause-swept : goal.begin_loop-returns-clause-swept
 begin_loop-returns-clause-swept t c = λ a.
@@ -73,8 +74,8 @@ begin_loop-returns-clause-swept t c = λ a.
     c.args.gate _
     c.args.env.now _ _ _ _ _ _ _ _
     _
-    c.requires.main c.learn-go.ensures.learns c.learn-go.ensures.known c.begin-first.ensures.swept
-    c.begin-again.ensures.swept
+    c.requires.main c.learn-go.ensures.learns c.learn-go.ensures.known c.sweep_begun-first.ensures.swept
+    c.sweep_begun-again.ensures.swept
     c.emitting-own.ensures c.leave.ensures.left
 
 pub begin_local-returns-clause-swept : goal.begin_local-returns-clause-swept
@@ -83,46 +84,46 @@ begin_local-returns-clause-swept t c = λ a.
     c.learn-go.ensures.learns c.learn-go.ensures.known
     (c.set_local-inside.ensures ∙ ap (λ (v : Status). with_local (env_of c.args.env.now) c.args.s.index v)
     c.status.ensures)
-    c.begin-body.ensures.swept c.status_of.ensures c.learn.ensures.learns
+    c.sweep_begun-body.ensures.swept c.status_of.ensures c.learn.ensures.learns
     c.hiding-own.ensures c.leave.ensures.left
 
 pub begin_again-leave-requires-clause-within : goal.begin_again-leave-requires-clause-within
 begin_again-leave-requires-clause-within t c =
     within_one _ _ c.args.net.now.cells.items _ _ _ _ _ _ _ c.requires.within c.learn-go.ensures.learns.size
-    c.begin-body.ensures.swept
+    c.sweep_begun-body.ensures.swept
 
 pub begin_suspend-leave-requires-clause-within : goal.begin_suspend-leave-requires-clause-within
 begin_suspend-leave-requires-clause-within t c =
     within_one _ _ c.args.net.now.cells.items _ _ _ _ _ _ _ c.requires.within c.learn-go.ensures.learns.size
-    c.begin-body.ensures.swept
+    c.sweep_begun-body.ensures.swept
 
 pub begin_trap-leave-requires-clause-within : goal.begin_trap-leave-requires-clause-within
 begin_trap-leave-requires-clause-within t c =
     within_one _ _ c.args.net.now.cells.items _ _ _ _ _ _ _ c.requires.within c.learn-go.ensures.learns.size
-    c.begin-body.ensures.swept
+    c.sweep_begun-body.ensures.swept
 
 pub begin_loop-leave-requires-clause-within : goal.begin_loop-leave-requires-clause-within
 begin_loop-leave-requires-clause-within t c =
     within_two _ _ _ c.args.net.now.cells.items _ _ _ _ _ _ _ _ _ _ _ _ _ c.requires.within
-    c.learn-go.ensures.learns.size c.begin-first.ensures.swept
-    c.begin-again.ensures.swept
+    c.learn-go.ensures.learns.size c.sweep_begun-first.ensures.swept
+    c.sweep_begun-again.ensures.swept
 
 pub begin_seq-leave-requires-clause-within : goal.begin_seq-leave-requires-clause-within
 begin_seq-leave-requires-clause-within t c =
     within_two _ _ _ c.args.net.now.cells.items _ _ _ _ _ _ _ _ _ _ _ _ _ c.requires.within
-    c.learn-go.ensures.learns.size c.begin-first.ensures.swept
-    c.begin-second.ensures.swept
+    c.learn-go.ensures.learns.size c.sweep_begun-first.ensures.swept
+    c.sweep_begun-second.ensures.swept
 
-pub begin_seq-begin-second-requires : goal.begin_seq-begin-second-requires
-begin_seq-begin-second-requires t c = (
+pub begin_seq-sweep_begun-second-requires : goal.begin_seq-sweep_begun-second-requires
+begin_seq-sweep_begun-second-requires t c = (
   search (rules, the_lemmas),
   (
     c.requires.fits.1,
     (
-      still_at _ _ _ _ _ _ c.number_after.ensures (c.begin-first.ensures.kept ∙ c.learn-go.ensures.kept)
+      still_at _ _ _ _ _ _ c.number_after.ensures (c.sweep_begun-first.ensures.kept ∙ c.learn-go.ensures.kept)
           c.requires.second_extents,
       (
-        within_next c.args.net.now.cells.items _ _ _ _ _ _ _ _ c.begin-first.ensures.swept c.requires.within
+        within_next c.args.net.now.cells.items _ _ _ _ _ _ _ _ c.sweep_begun-first.ensures.swept c.requires.within
             c.learn-go.ensures.learns.size,
         c.requires.second_traps,
       ),
@@ -133,19 +134,19 @@ begin_seq-begin-second-requires t c = (
 pub begin_par-leave-requires-clause-within : goal.begin_par-leave-requires-clause-within
 begin_par-leave-requires-clause-within t c =
     within_two _ _ _ c.args.net.now.cells.items _ _ _ _ _ _ _ _ _ _ _ _ _ c.requires.within
-    c.learn-go.ensures.learns.size c.begin-first.ensures.swept
-    c.begin-second.ensures.swept
+    c.learn-go.ensures.learns.size c.sweep_begun-first.ensures.swept
+    c.sweep_begun-second.ensures.swept
 
-pub begin_par-begin-second-requires : goal.begin_par-begin-second-requires
-begin_par-begin-second-requires t c = (
+pub begin_par-sweep_begun-second-requires : goal.begin_par-sweep_begun-second-requires
+begin_par-sweep_begun-second-requires t c = (
   search (rules, the_lemmas),
   (
     c.requires.fits.1,
     (
-      still_at _ _ _ _ _ _ c.number_after.ensures (c.begin-first.ensures.kept ∙ c.learn-go.ensures.kept)
+      still_at _ _ _ _ _ _ c.number_after.ensures (c.sweep_begun-first.ensures.kept ∙ c.learn-go.ensures.kept)
           c.requires.second_extents,
       (
-        within_next c.args.net.now.cells.items _ _ _ _ _ _ _ _ c.begin-first.ensures.swept c.requires.within
+        within_next c.args.net.now.cells.items _ _ _ _ _ _ _ _ c.sweep_begun-first.ensures.swept c.requires.within
             c.learn-go.ensures.learns.size,
         c.requires.second_traps,
       ),
@@ -156,11 +157,11 @@ begin_par-begin-second-requires t c = (
 pub begin_par_back-leave-requires-clause-within : goal.begin_par_back-leave-requires-clause-within
 begin_par_back-leave-requires-clause-within t c =
     within_two _ _ _ c.args.net.now.cells.items _ _ _ _ _ _ _ _ _ _ _ _ _ c.requires.within
-    c.learn-go.ensures.learns.size c.begin-second.ensures.swept
-    c.begin-first.ensures.swept
+    c.learn-go.ensures.learns.size c.sweep_begun-second.ensures.swept
+    c.sweep_begun-first.ensures.swept
 
-pub begin_par_back-begin-second-requires : goal.begin_par_back-begin-second-requires
-begin_par_back-begin-second-requires t c = (
+pub begin_par_back-sweep_begun-second-requires : goal.begin_par_back-sweep_begun-second-requires
+begin_par_back-sweep_begun-second-requires t c = (
   search (rules, the_lemmas),
   (
     c.requires.fits.1,
@@ -175,16 +176,16 @@ begin_par_back-begin-second-requires t c = (
   ),
 )
 
-pub begin_par_back-begin-first-requires : goal.begin_par_back-begin-first-requires
-begin_par_back-begin-first-requires t c = (
+pub begin_par_back-sweep_begun-first-requires : goal.begin_par_back-sweep_begun-first-requires
+begin_par_back-sweep_begun-first-requires t c = (
   search (rules, the_lemmas),
   (
     c.requires.fits.0,
     (
-      still _ _ _ _ _ (c.begin-second.ensures.kept ∙ c.learn-go.ensures.kept) c.requires.first_extents,
+      still _ _ _ _ _ (c.sweep_begun-second.ensures.kept ∙ c.learn-go.ensures.kept) c.requires.first_extents,
       (
         within_one _ _ c.args.net.now.cells.items _ _ _ _ _ _ _ c.requires.within c.learn-go.ensures.learns.size
-            c.begin-second.ensures.swept,
+            c.sweep_begun-second.ensures.swept,
         c.requires.first_traps,
       ),
     ),
@@ -194,19 +195,19 @@ begin_par_back-begin-first-requires t c = (
 pub begin_present-leave-requires-clause-within : goal.begin_present-leave-requires-clause-within
 begin_present-leave-requires-clause-within t c =
     within_two _ _ _ c.args.net.now.cells.items _ _ _ _ _ _ _ _ _ _ _ _ _ c.requires.within
-    c.learn-go.ensures.learns.size c.begin-first.ensures.swept
-    c.begin-second.ensures.swept
+    c.learn-go.ensures.learns.size c.sweep_begun-first.ensures.swept
+    c.sweep_begun-second.ensures.swept
 
-pub begin_present-begin-second-requires : goal.begin_present-begin-second-requires
-begin_present-begin-second-requires t c = (
+pub begin_present-sweep_begun-second-requires : goal.begin_present-sweep_begun-second-requires
+begin_present-sweep_begun-second-requires t c = (
   search (rules, the_lemmas),
   (
     c.requires.fits.1,
     (
-      still_at _ _ _ _ _ _ c.number_after.ensures (c.begin-first.ensures.kept ∙ c.learn-go.ensures.kept)
+      still_at _ _ _ _ _ _ c.number_after.ensures (c.sweep_begun-first.ensures.kept ∙ c.learn-go.ensures.kept)
           c.requires.second_extents,
       (
-        within_next c.args.net.now.cells.items _ _ _ _ _ _ _ _ c.begin-first.ensures.swept c.requires.within
+        within_next c.args.net.now.cells.items _ _ _ _ _ _ _ _ c.sweep_begun-first.ensures.swept c.requires.within
             c.learn-go.ensures.learns.size,
         c.requires.second_traps,
       ),
@@ -214,15 +215,15 @@ begin_present-begin-second-requires t c = (
   ),
 )
 
-pub begin_loop-begin-again-requires : goal.begin_loop-begin-again-requires
-begin_loop-begin-again-requires t c = (
+pub begin_loop-sweep_begun-again-requires : goal.begin_loop-sweep_begun-again-requires
+begin_loop-sweep_begun-again-requires t c = (
   search (rules, the_lemmas),
   (
     c.requires.fits,
     (
-      still _ _ _ _ _ (c.begin-first.ensures.kept ∙ c.learn-go.ensures.kept) c.requires.extents,
+      still _ _ _ _ _ (c.sweep_begun-first.ensures.kept ∙ c.learn-go.ensures.kept) c.requires.extents,
       (
-        within_next c.args.net.now.cells.items _ _ _ _ _ _ _ _ c.begin-first.ensures.swept
+        within_next c.args.net.now.cells.items _ _ _ _ _ _ _ _ c.sweep_begun-first.ensures.swept
             (rw c.requires.main c.requires.within) c.learn-go.ensures.learns.size,
         c.requires.traps,
       ),
@@ -234,15 +235,15 @@ pub begin_local-learn-requires : goal.begin_local-learn-requires
 begin_local-learn-requires t c =
     within_local (c.args.at.now.cell + c.args.at.now.traps) _ c.args.net.now.cells.items _ _ _ _ _ _ _
     c.requires.within
-    c.learn-go.ensures.learns.size c.begin-body.ensures.swept
+    c.learn-go.ensures.learns.size c.sweep_begun-body.ensures.swept
 
 pub begin_local-leave-requires-clause-within : goal.begin_local-leave-requires-clause-within
 begin_local-leave-requires-clause-within t c =
     within_told (c.args.at.now.cell + c.args.at.now.traps) _ c.args.net.now.cells.items _ _ _ _ _ _ _ _
     c.requires.within
-    c.learn-go.ensures.learns.size c.begin-body.ensures.swept c.learn.ensures.learns.size
+    c.learn-go.ensures.learns.size c.sweep_begun-body.ensures.swept c.learn.ensures.learns.size
 
-pub begin-returns-in-Some-clause-swept : goal.begin-returns-in-Some-clause-swept
-begin-returns-in-Some-clause-swept t c =
+pub sweep_begun-returns-in-Some-clause-swept : goal.sweep_begun-returns-in-Some-clause-swept
+sweep_begun-returns-in-Some-clause-swept t c =
     idle_begun c.args.s.now c.args.at.now c.args.gate c.args.env.now c.args.net.now.cells.items _ _ _
     (rw c.in-Some.is at c.past_idle.ensures) c.make_false.ensures.cells c.nothing.ensures.judged c.nothing.ensures.past
