@@ -39,7 +39,8 @@ impl<'a, R: Reactive> TransitionSystem for AllLawful<'a, R> {
         next };
 
     ghost covers = { λ s x steps.
-        HaveAllInputs (may_offer (R.signals s.reactive.now) (bits s.allowed)) s.relations.now steps };
+        HaveAllInputs (may_offer (R.signals s.reactive.now) (bits s.allowed)) s.relations.now
+        steps };
 
     ghost apart = { λ s a b. a.inputs ≢ b.inputs };
 

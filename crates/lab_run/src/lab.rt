@@ -175,7 +175,8 @@ fn compare_both(
 ) -> Result<Value, AllocError>
     requires { other.now.kernel.interface ≡ one.now.kernel.interface }
     ensures { IfOk result (λ v. IsComparison (module_of one.now.kernel one.now.relations allowed)
-        (module_of other.now.kernel one.now.relations allowed) limits.states limits.steps (view v)) }
+        (module_of other.now.kernel one.now.relations allowed) limits.states limits.steps
+        (view v)) }
 {
     let mut engines = EnginePair {
         first: engine_of(alloc, one)?,

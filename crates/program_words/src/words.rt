@@ -143,7 +143,7 @@ fn service_of<'a>(matches: &ArgMatches<'a>) -> ServeOptions<'a>
 }
 
 /// The invocation that the matches name.
-fn order_of<'a>(matches: &ArgMatches<'a>) -> Invocation<'a>
+fn invocation_of<'a>(matches: &ArgMatches<'a>) -> Invocation<'a>
     requires { IsNamed (subcommand_rows_of matches.now) }
     ensures { Gives (subcommand_rows_of matches.now) result }
 {
@@ -161,12 +161,12 @@ fn order_of<'a>(matches: &ArgMatches<'a>) -> Invocation<'a>
 
 /// The invocation that the words give, of which the first is the program's own name.
 fn parse<'a, S: AsStr>(alloc: Global, words: &'a [S]) -> Result<Invocation<'a>, Error>
-    ensures ok { IfOk result (λ invocation. IsInvocation (map S.text words.entry.now) invocation) }
+    ensures ok { IfOk result (IsInvocation (map S.text words.entry.now)) }
     ensures err { IfErr result (HasKind (fault_of command_line (map S.text words.entry.now))) }
 {
     let command = program_words(alloc)?;
     let matches = command.try_get_matches_from(words)?;
-    Ok(order_of(&matches))
+    Ok(invocation_of(&matches))
 }
 
 impl<'a> Invocation<'a> {
@@ -177,7 +177,7 @@ impl<'a> Invocation<'a> {
     /// - Words, where they are no invocation, or ask for help;
     /// - Memory, where memory was refused.
     pub fn from_words<S: AsStr>(alloc: Global, words: &'a [S]) -> Result<Invocation<'a>, WordFault>
-        ensures invocation { IfOk result (λ invocation. IsInvocation (map S.text words.entry.now) invocation) }
+        ensures ok { IfOk result (IsInvocation (map S.text words.entry.now)) }
         ensures refused { IfErr result (IsRefused (map S.text words.entry.now)) }
     {
         match parse(alloc, words) {

@@ -19,8 +19,8 @@ known a words m line faults matches = record {
   named = (matches (ap is_simple line ∙ has_known_matches)).1 ∙ ap (λ b. subcommand_of b words) line;
 }
 
-pub order_of-requires : goal.order_of-requires
-order_of-requires g c =
+pub invocation_of-requires : goal.invocation_of-requires
+invocation_of-requires g c =
     let words = map g.S.AsStr.text c.args.words.now in
     let after = c.in_ok-matches.ensures in
     let is = known _ words c.in_ok-matches.matches c.in_ok-command.ensures after.kinds after.matches in
@@ -31,4 +31,4 @@ returns-clause-ok g c =
     let words = map g.S.AsStr.text c.args.words.now in
     let after = c.in_ok-matches.ensures in
     let is = known _ words c.in_ok-matches.matches c.in_ok-command.ensures after.kinds after.matches in
-    (is.no_fault, subst (λ given. Gives given c.order_of.result) is.named c.order_of.ensures)
+    (is.no_fault, subst (λ given. Gives given c.invocation_of.result) is.named c.invocation_of.ensures)

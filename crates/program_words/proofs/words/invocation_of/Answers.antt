@@ -1,7 +1,7 @@
 use Rattle.std.proofs.Common.{◌∙◌, refl, codes}
 use Rattle.clap.specs.Words.{found_of, rows_of, subcommand_rows_of}
 use Rattle.program_words.proofs.CommandLines.{both_parts, first_names}
-use Rattle.program_words.proofs.words.order_of.Goals as goal
+use Rattle.program_words.proofs.words.invocation_of.Goals as goal
 
 pub returns-in-Some : goal.returns-in-Some
 returns-in-Some c =
