@@ -9,7 +9,7 @@ ghost use Rattle.est_host.specs.Faults.{fault_of};
 use crate::running::HostedMachine;
 use est_machine::machine::Machine;
 use est_text::place::Place;
-use reactor_core::module::Module;
+use reactor_core::kernel_module::Module;
 use reactor_core::reading::read_module;
 use reactor_core::refusal::{ModuleRefusal, ReactorRefusal};
 use sha2::{Digest, Sha256};

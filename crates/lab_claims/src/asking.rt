@@ -19,7 +19,7 @@ use est_text::place::Place;
 use est_text::token::{Located, Symbol, Token};
 use lab_lines::asked_test::AskedTest;
 use lab_lines::comparing::are_same;
-use reactor_core::module::Module;
+use reactor_core::kernel_module::Module;
 use reactor_core::reading::read_module;
 use reactor_core::refusal::{ModuleRefusal, ReactorRefusal};
 use std::alloc::{AllocError, Global};

@@ -11,7 +11,7 @@ use lab_claims::claims;
 use lab_claims::claims::BadClaim;
 use lab_lines::asked_test::AskedTest;
 use lab_run::lab;
-use reactor_core::module::Module;
+use reactor_core::kernel_module::Module;
 use reactor_core::refusal::ReactorRefusal;
 use serde_json::Value;
 use state_search::search::Limits;

@@ -16,7 +16,7 @@ use std::alloc::{AllocError, Global};
 ///
 /// `AllocError` where memory is refused.
 pub fn obey(lab: &mut Lab, alloc: Global, request: &Request<'_>) -> Result<LabReply, AllocError>
-    ensures done { IfOk result (λ told. Obeys lab.old.loaded request.now told lab.new.loaded) }
+    ensures done { IfOk result (λ told. Obeys lab.old.stepped request.now told lab.new.stepped) }
     ensures kept { IfErr result (λ _. lab.new ≡ lab.old) }
 {
     lab.obey(alloc, request)

@@ -17,7 +17,7 @@ use Rattle.lab_instant.specs.Instants.{IsInstant}
 use Rattle.lab_instant.specs.declared.seen.Instant.{Instant}
 use Rattle.lab_instant.specs.declared.seen.Instant.TheVariants.{Reaction, Stuck}
 use Rattle.lab_instant.specs.declared.instant.InstantReader.{InstantReader}
-use Rattle.reactor_core.specs.declared.module.Module.{Module}
+use Rattle.reactor_core.specs.declared.kernel_module.Module.{Module}
 use Rattle.lab_run.specs.Walking.{AreLoaded, AreOffered, IsInstantOf, NameAnswer, Standing, states_after}
 
 -- a text that is given as an identifier is that

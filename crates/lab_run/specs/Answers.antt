@@ -10,7 +10,7 @@ use Rattle.est_explore.specs.Views.{module_of}
 use Rattle.est_relations.specs.declared.refusal.PendingRefusal.{PendingRefusal}
 use Rattle.reactor_core.specs.Loading.{Gives, IsLoadFault}
 use Rattle.reactor_core.specs.Standing.{given_by}
-use Rattle.reactor_core.specs.declared.module.Module.{Module}
+use Rattle.reactor_core.specs.declared.kernel_module.Module.{Module}
 use Rattle.reactor_core.specs.declared.refusal.ReactorRefusal.{ReactorRefusal}
 use Rattle.reactor_core.specs.declared.refusal.ModuleRefusal.TheVariants as of_module
 use Rattle.access_core.specs.Refusals.{of_reactor}

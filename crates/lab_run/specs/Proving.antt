@@ -6,7 +6,7 @@ use Rattle.est_kernel.specs.Interfaces.{offerable}
 use Rattle.est_kernel.specs.declared.interface.Declaration.{Declaration}
 use Rattle.reactor_core.specs.Loading.{Gives}
 use Rattle.reactor_core.specs.Standing.{given_by}
-use Rattle.reactor_core.specs.declared.module.Module.{Module}
+use Rattle.reactor_core.specs.declared.kernel_module.Module.{Module}
 use Rattle.access_core.specs.declared.refusal.Refusal.{Refusal}
 use Rattle.lab_lines.specs.Offers.{AreNamed}
 use Rattle.lab_run.specs.Answers.{IsNotLoaded, IsNotOffered, TellsAmong}

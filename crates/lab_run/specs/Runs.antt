@@ -25,17 +25,17 @@ status_of_end Memory = 3
 
 -- the text is the answer to the line, over what is loaded
 abbrev pub Tells : (before : LineAnswerer × Lab) → (line text : List ℕ) → (after : LineAnswerer × Lab) → Type 0
-Tells before line text after = IsAnswer before.1.loaded line text after.1.loaded
+Tells before line text after = IsAnswer before.1.stepped line text after.1.stepped
 
 -- memory was refused for the text of the answer
 abbrev pub TellsNothing : (before : LineAnswerer × Lab) → (line : List ℕ) → (after : LineAnswerer × Lab) → Type 0
-TellsNothing before line after = HasNoText before.1.loaded line after.1.loaded
+TellsNothing before line after = HasNoText before.1.stepped line after.1.stepped
 
 -- the lines are answered, first of a lab in which nothing is loaded
 pub record ServesLines (ahead : Option (List ℕ)) (status : ℕ) (written after : Option (List ℕ)) : Type 0 where
   pub why : EndReason
   pub opened : LineAnswerer × Lab
-  pub empty : opened.1.loaded ≡ None
+  pub empty : opened.1.stepped ≡ None
   pub closed : LineAnswerer × Lab
   pub serves : ServesBy Tells TellsNothing (line_of (reply.Refused refusal.TooLong)) (between ahead opened) why closed
       written after [] []

@@ -11,7 +11,7 @@ use Rattle.est_meaning.specs.declared.status.Status.{Status}
 use Rattle.est_relations.specs.Offers.{PendingInputs, OfferAnswer, ReadyAnswer, pending_inputs}
 use Rattle.est_relations.specs.declared.refusal.PendingRefusal.{PendingRefusal}
 use Rattle.est_relations.specs.declared.refusal.PendingRefusal.TheVariants.{UnknownSignal}
-use Rattle.reactor_core.specs.declared.module.Module.{Module}
+use Rattle.reactor_core.specs.declared.kernel_module.Module.{Module}
 use Rattle.reactor_core.specs.declared.refusal.ModuleRefusal.TheVariants as of_module
 use Rattle.access_core.specs.declared.refusal.Refusal.{Refusal}
 use Rattle.access_core.specs.declared.refusal.Refusal.TheVariants as refusal

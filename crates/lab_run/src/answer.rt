@@ -30,8 +30,8 @@ fn value_of(alloc: Global, line: &[u8]) -> Result<Value, Refusal>
 
 /// What a value is told.
 fn answer_value(alloc: Global, lab: &mut Lab, value: &Value) -> Result<LabReply, AllocError>
-    ensures done { IfOk result (λ told. IsValueTold lab.old.loaded (view value.now) told
-        lab.new.loaded) }
+    ensures done { IfOk result (λ told. IsValueTold lab.old.stepped (view value.now) told
+        lab.new.stepped) }
     ensures kept { IfErr result (λ _. lab.new ≡ lab.old) }
 {
     match request_of(alloc, value)? {
@@ -45,7 +45,7 @@ fn answer_value(alloc: Global, lab: &mut Lab, value: &Value) -> Result<LabReply,
 
 /// What a line is told.
 fn answer_line(alloc: Global, lab: &mut Lab, line: &[u8]) -> LabReply
-    ensures { IsTold lab.old.loaded line.now result lab.new.loaded }
+    ensures { IsTold lab.old.stepped line.now result lab.new.stepped }
 {
     match value_of(alloc, line) {
         Ok(value) => match answer_value(alloc, lab, &value) {
@@ -81,9 +81,9 @@ pub fn line_of(alloc: Global, told: LabReply) -> Result<AnswerText, AllocError>
 pub struct LineAnswerer;
 
 impl Answerer<Lab> for LineAnswerer {
-    ghost tells = { λ before line text after. IsAnswer before.1.loaded line text after.1.loaded };
+    ghost tells = { λ before line text after. IsAnswer before.1.stepped line text after.1.stepped };
 
-    ghost fails = { λ before line after. HasNoText before.1.loaded line after.1.loaded };
+    ghost fails = { λ before line after. HasNoText before.1.stepped line after.1.stepped };
 
     fn answer(
         &mut self,

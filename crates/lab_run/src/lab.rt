@@ -34,7 +34,7 @@ use lab_lines::refusal::{CLAIM_CODE, INTERFACE_CODE};
 use lab_lines::request::{Request, SearchBounds};
 use lab_lines::statements::kernel_json;
 use lab_lines::table_json::find_table;
-use reactor_core::module::Module;
+use reactor_core::kernel_module::Module;
 use reactor_core::reading::read_module;
 use serde_json::{Value, json};
 use state_search::search::Limits;
@@ -56,23 +56,23 @@ pub enum LabReply {
 /// What is loaded.
 #[derive(Drop)]
 pub struct Lab {
-    loaded: Option<SteppedModule>,
+    stepped: Option<SteppedModule>,
 }
 
 /// The engine of a module.
-fn engine_of(alloc: Global, module: &Module) -> Result<Micro, AllocError>
-    ensures { IfOk result (λ m. IsNetOf m.net module.now.kernel) }
+fn engine_of(alloc: Global, loaded: &Module) -> Result<Micro, AllocError>
+    ensures { IfOk result (λ m. IsNetOf m.net loaded.now.kernel) }
 {
-    let net = Net::build(alloc, &module.kernel)?;
+    let net = Net::build(alloc, &loaded.kernel)?;
     Ok(Micro::new(net))
 }
 
 /// A module as a search sees it.
-fn one_module(module: &Module) -> OneModule<'_, Micro>
-    ensures { result.kernel.now ≡ module.now.kernel }
+fn one_module(loaded: &Module) -> OneModule<'_, Micro>
+    ensures { result.kernel.now ≡ loaded.now.kernel }
 {
     OneModule {
-        kernel: &module.kernel,
+        kernel: &loaded.kernel,
         engine: PhantomData,
     }
 }
@@ -112,19 +112,19 @@ fn bad_claim_json(alloc: Global, bad: BadClaim) -> Result<Value, AllocError>
 /// The verdicts on tests of a module that is offered these inputs alone.
 fn judge_tests(
     alloc: Global,
-    module: &Module,
+    loaded: &Module,
     allowed: u64,
     tests: &[AskedTest],
     limits: Limits,
 ) -> Result<Value, AllocError>
-    ensures { IfOk result (λ v. IsExploration (module_of module.now.kernel module.now.relations
+    ensures { IfOk result (λ v. IsExploration (module_of loaded.now.kernel loaded.now.relations
         allowed) (map test_of tests.now) limits.states limits.steps (view v)) }
 {
-    let mut engine = engine_of(alloc, module)?;
-    let reactive = one_module(module);
+    let mut engine = engine_of(alloc, loaded)?;
+    let reactive = one_module(loaded);
     let subject = AllLawful {
         reactive: &reactive,
-        relations: &module.relations,
+        relations: &loaded.relations,
         allowed,
         watched: 0,
     };
@@ -134,16 +134,16 @@ fn judge_tests(
 /// Judges claims of a module that is offered these inputs alone.
 pub fn explore_among(
     alloc: Global,
-    module: &Module,
+    loaded: &Module,
     claims: &[&str],
     allowed: u64,
     limits: Limits,
 ) -> Result<Value, AllocError>
-    ensures { IfOk result (λ v. TellsAmong module.now (map (λ t. t.now) claims.now) allowed
+    ensures { IfOk result (λ v. TellsAmong loaded.now (map (λ t. t.now) claims.now) allowed
         limits.states limits.steps (view v)) }
 {
-    match read_claims(alloc, module.kernel.interface(), claims)? {
-        Ok(tests) => judge_tests(alloc, module, allowed, tests.as_slice(), limits),
+    match read_claims(alloc, loaded.kernel.interface(), claims)? {
+        Ok(tests) => judge_tests(alloc, loaded, allowed, tests.as_slice(), limits),
         Err(bad) => bad_claim_json(alloc, bad),
     }
 }
@@ -151,17 +151,17 @@ pub fn explore_among(
 /// Judges claims of a module.
 fn explore_claims(
     alloc: Global,
-    module: &Module,
+    loaded: &Module,
     claims: &[&str],
     bounds: &SearchBounds<'_>,
 ) -> Result<LabReply, AllocError>
-    ensures { IfOk result (TellsOfClaims module.now (map (λ t. t.now) claims.now) bounds.now) }
+    ensures { IfOk result (TellsOfClaims loaded.now (map (λ t. t.now) claims.now) bounds.now) }
 {
-    let allowed = match signals_of_names(module.kernel.interface(), bounds.inputs.as_slice()) {
+    let allowed = match signals_of_names(loaded.kernel.interface(), bounds.inputs.as_slice()) {
         Ok(allowed) => allowed,
         Err(refused) => return Ok(LabReply::Refused(refusal_of(refused))),
     };
-    let value = explore_among(alloc, module, claims, allowed, limits(bounds.most))?;
+    let value = explore_among(alloc, loaded, claims, allowed, limits(bounds.most))?;
     Ok(LabReply::Json(value))
 }
 
@@ -196,9 +196,9 @@ fn compare_both(
 }
 
 /// That the module of a text has another interface.
-fn other_interface(alloc: Global, module: &Module, other: &Module) -> Result<Value, AllocError>
-    requires { other.now.kernel.interface ≢ module.now.kernel.interface }
-    ensures { IfOk result (λ v. IsOtherInterface module.now other.now (view v)) }
+fn other_interface(alloc: Global, loaded: &Module, other: &Module) -> Result<Value, AllocError>
+    requires { other.now.kernel.interface ≢ loaded.now.kernel.interface }
+    ensures { IfOk result (λ v. IsOtherInterface loaded.now other.now (view v)) }
 {
     json!(in alloc; {"code": INTERFACE_CODE, "fault": "Interface"})
 }
@@ -206,32 +206,32 @@ fn other_interface(alloc: Global, module: &Module, other: &Module) -> Result<Val
 /// Compares a module with another, which are offered these inputs alone.
 fn compare_modules_of(
     alloc: Global,
-    module: &Module,
+    loaded: &Module,
     other: &Module,
     allowed: u64,
     limits: Limits,
 ) -> Result<Value, AllocError>
-    ensures { IfOk result (λ v. TellsOfTwo module.now other.now allowed limits.states limits.steps
+    ensures { IfOk result (λ v. TellsOfTwo loaded.now other.now allowed limits.states limits.steps
         (view v)) }
 {
-    if are_same(other.kernel.interface(), module.kernel.interface()) {
-        compare_both(alloc, module, other, allowed, limits)
+    if are_same(other.kernel.interface(), loaded.kernel.interface()) {
+        compare_both(alloc, loaded, other, allowed, limits)
     } else {
-        other_interface(alloc, module, other)
+        other_interface(alloc, loaded, other)
     }
 }
 
 /// Compares a module with that of a text.
 fn compare_text(
     alloc: Global,
-    module: &Module,
+    loaded: &Module,
     main: &str,
     text: &str,
     bounds: &SearchBounds<'_>,
 ) -> Result<LabReply, AllocError>
-    ensures { IfOk result (TellsOfBoth module.now main.now text.now bounds.now) }
+    ensures { IfOk result (TellsOfBoth loaded.now main.now text.now bounds.now) }
 {
-    let allowed = match signals_of_names(module.kernel.interface(), bounds.inputs.as_slice()) {
+    let allowed = match signals_of_names(loaded.kernel.interface(), bounds.inputs.as_slice()) {
         Ok(allowed) => allowed,
         Err(refused) => return Ok(LabReply::Refused(refusal_of(refused))),
     };
@@ -239,27 +239,27 @@ fn compare_text(
         Ok(other) => other,
         Err(refusal) => return Ok(LabReply::Refused(Refusal::from(refusal))),
     };
-    let value = compare_modules_of(alloc, module, &other, allowed, limits(bounds.most))?;
+    let value = compare_modules_of(alloc, loaded, &other, allowed, limits(bounds.most))?;
     Ok(LabReply::Json(value))
 }
 
 /// The table of a module that is offered these inputs alone.
 fn table_among(
     alloc: Global,
-    module: &Module,
+    loaded: &Module,
     allowed: u64,
     limits: Limits,
 ) -> Result<Value, AllocError>
     ensures { IfOk result (λ v.
-        IsTableTold (module_of module.now.kernel module.now.relations allowed) (view v)
-        ⊎ IsTooLarge (module_of module.now.kernel module.now.relations allowed) limits.states
+        IsTableTold (module_of loaded.now.kernel loaded.now.relations allowed) (view v)
+        ⊎ IsTooLarge (module_of loaded.now.kernel loaded.now.relations allowed) limits.states
         limits.steps (view v)) }
 {
-    let mut engine = engine_of(alloc, module)?;
-    let reactive = one_module(module);
+    let mut engine = engine_of(alloc, loaded)?;
+    let reactive = one_module(loaded);
     let subject = AllLawful {
         reactive: &reactive,
-        relations: &module.relations,
+        relations: &loaded.relations,
         allowed,
         watched: 0,
     };
@@ -269,64 +269,64 @@ fn table_among(
 /// The table of a module.
 fn table_of(
     alloc: Global,
-    module: &Module,
+    loaded: &Module,
     bounds: &SearchBounds<'_>,
 ) -> Result<LabReply, AllocError>
-    ensures { IfOk result (TellsOfTable module.now bounds.now) }
+    ensures { IfOk result (TellsOfTable loaded.now bounds.now) }
 {
-    let allowed = match signals_of_names(module.kernel.interface(), bounds.inputs.as_slice()) {
+    let allowed = match signals_of_names(loaded.kernel.interface(), bounds.inputs.as_slice()) {
         Ok(allowed) => allowed,
         Err(refused) => return Ok(LabReply::Refused(refusal_of(refused))),
     };
-    let value = table_among(alloc, module, allowed, limits(bounds.most))?;
+    let value = table_among(alloc, loaded, allowed, limits(bounds.most))?;
     Ok(LabReply::Json(value))
 }
 
 /// What is told of a module that was loaded.
-fn module_json(alloc: Global, module: &Module) -> Result<Value, AllocError>
-    ensures { IfOk result (λ v. IsLoadedTold module.now (view v)) }
+fn module_json(alloc: Global, loaded: &Module) -> Result<Value, AllocError>
+    ensures { IfOk result (λ v. IsLoadedTold loaded.now (view v)) }
 {
-    let interface = module.kernel.interface();
+    let interface = loaded.kernel.interface();
     let inputs = names_json(alloc, interface, interface.offerable())?;
     let outputs = names_json(alloc, interface, interface.emittable())?;
     json!(in alloc; {"inputs": inputs, "ok": "load", "outputs": outputs})
 }
 
 /// The statements of a module.
-fn kernel_of(alloc: Global, module: &Module) -> Result<LabReply, AllocError>
-    ensures { IfOk result (TellsOfKernel module.now) }
+fn kernel_of(alloc: Global, loaded: &Module) -> Result<LabReply, AllocError>
+    ensures { IfOk result (TellsOfKernel loaded.now) }
 {
-    Ok(LabReply::Json(kernel_json(alloc, &module.kernel)?))
+    Ok(LabReply::Json(kernel_json(alloc, &loaded.kernel)?))
 }
 
 impl Lab {
     /// A lab in which nothing is loaded.
     pub fn new() -> Lab
-        ensures { result.loaded ≡ None }
+        ensures { result.stepped ≡ None }
     {
-        Lab { loaded: None }
+        Lab { stepped: None }
     }
 
     /// Loads the module `main` of a text.
     fn load(&mut self, alloc: Global, main: &str, text: &str) -> Result<LabReply, AllocError>
-        ensures done { IfOk result (λ told. Loads main.now text.now self.old.loaded told
-            self.new.loaded) }
+        ensures done { IfOk result (λ told. Loads main.now text.now self.old.stepped told
+            self.new.stepped) }
         ensures kept { IfErr result (λ _. self.new ≡ self.old) }
     {
-        let module = match read_module(alloc, main, text) {
-            Ok(module) => module,
+        let loaded = match read_module(alloc, main, text) {
+            Ok(loaded) => loaded,
             Err(refusal) => return Ok(LabReply::Refused(Refusal::from(refusal))),
         };
-        let value = module_json(alloc, &module)?;
-        self.loaded = Some(SteppedModule::begin(alloc, module)?);
+        let value = module_json(alloc, &loaded)?;
+        self.stepped = Some(SteppedModule::begin(alloc, loaded)?);
         Ok(LabReply::Json(value))
     }
 
     /// Tells the statements of the module that is loaded.
     fn tell_kernel(&self, alloc: Global) -> Result<LabReply, AllocError>
-        ensures { IfOk result (TellsIf self.now.loaded TellsOfKernel) }
+        ensures { IfOk result (TellsIf self.now.stepped TellsOfKernel) }
     {
-        match &self.loaded {
+        match &self.stepped {
             Some(walk) => kernel_of(alloc, walk.module()),
             None => Ok(LabReply::Refused(Refusal::Empty)),
         }
@@ -339,10 +339,10 @@ impl Lab {
         claims: &[&str],
         bounds: &SearchBounds<'_>,
     ) -> Result<LabReply, AllocError>
-        ensures { IfOk result (TellsIf self.now.loaded (λ m. TellsOfClaims m
+        ensures { IfOk result (TellsIf self.now.stepped (λ m. TellsOfClaims m
             (map (λ t. t.now) claims.now) bounds.now)) }
     {
-        match &self.loaded {
+        match &self.stepped {
             Some(walk) => explore_claims(alloc, walk.module(), claims, bounds),
             None => Ok(LabReply::Refused(Refusal::Empty)),
         }
@@ -356,10 +356,10 @@ impl Lab {
         text: &str,
         bounds: &SearchBounds<'_>,
     ) -> Result<LabReply, AllocError>
-        ensures { IfOk result (TellsIf self.now.loaded (λ m. TellsOfBoth m main.now text.now
+        ensures { IfOk result (TellsIf self.now.stepped (λ m. TellsOfBoth m main.now text.now
             bounds.now)) }
     {
-        match &self.loaded {
+        match &self.stepped {
             Some(walk) => compare_text(alloc, walk.module(), main, text, bounds),
             None => Ok(LabReply::Refused(Refusal::Empty)),
         }
@@ -367,9 +367,9 @@ impl Lab {
 
     /// Tells the table of the module that is loaded.
     fn tabulate(&self, alloc: Global, bounds: &SearchBounds<'_>) -> Result<LabReply, AllocError>
-        ensures { IfOk result (TellsIf self.now.loaded (λ m. TellsOfTable m bounds.now)) }
+        ensures { IfOk result (TellsIf self.now.stepped (λ m. TellsOfTable m bounds.now)) }
     {
-        match &self.loaded {
+        match &self.stepped {
             Some(walk) => table_of(alloc, walk.module(), bounds),
             None => Ok(LabReply::Refused(Refusal::Empty)),
         }
@@ -377,11 +377,11 @@ impl Lab {
 
     /// Makes the next instant of the module that is loaded.
     fn make_instant(&mut self, alloc: Global, names: &[&str]) -> Result<LabReply, AllocError>
-        ensures done { IfOk result (λ told. MakesIf self.old.loaded (map (λ t. t.now) names.now)
-            told self.new.loaded) }
+        ensures done { IfOk result (λ told. MakesIf self.old.stepped (map (λ t. t.now) names.now)
+            told self.new.stepped) }
         ensures kept { IfErr result (λ _. self.new ≡ self.old) }
     {
-        match &mut self.loaded {
+        match &mut self.stepped {
             Some(walk) => {
                 let told = walk.make(alloc, names)?;
                 Ok(told)
@@ -392,11 +392,11 @@ impl Lab {
 
     /// Tries the next instant of the module that is loaded.
     fn try_instant(&mut self, alloc: Global, names: &[&str]) -> Result<LabReply, AllocError>
-        ensures done { IfOk result (λ told. TriesIf self.old.loaded (map (λ t. t.now) names.now)
-            told self.new.loaded) }
+        ensures done { IfOk result (λ told. TriesIf self.old.stepped (map (λ t. t.now) names.now)
+            told self.new.stepped) }
         ensures kept { IfErr result (λ _. self.new ≡ self.old) }
     {
-        match &mut self.loaded {
+        match &mut self.stepped {
             Some(walk) => {
                 let told = walk.try_instant(alloc, names)?;
                 Ok(told)
@@ -407,10 +407,10 @@ impl Lab {
 
     /// Goes back with the module that is loaded.
     fn go_back(&mut self, alloc: Global, to: u64) -> Result<LabReply, AllocError>
-        ensures done { IfOk result (λ told. GoesBackIf self.old.loaded to told self.new.loaded) }
+        ensures done { IfOk result (λ told. GoesBackIf self.old.stepped to told self.new.stepped) }
         ensures kept { IfErr result (λ _. self.new ≡ self.old) }
     {
-        match &mut self.loaded {
+        match &mut self.stepped {
             Some(walk) => {
                 let told = walk.go_back(alloc, to)?;
                 Ok(told)
@@ -421,8 +421,8 @@ impl Lab {
 
     /// Does what is asked.
     pub fn obey(&mut self, alloc: Global, request: &Request<'_>) -> Result<LabReply, AllocError>
-        ensures done { IfOk result (λ told. Obeys self.old.loaded request.now told
-            self.new.loaded) }
+        ensures done { IfOk result (λ told. Obeys self.old.stepped request.now told
+            self.new.stepped) }
         ensures kept { IfErr result (λ _. self.new ≡ self.old) }
     {
         match request {

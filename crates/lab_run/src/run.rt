@@ -16,7 +16,7 @@ use access_core::refusal::Refusal;
 use est_kernel::interface::Interface;
 use est_relations::refusal::PendingRefusal;
 use lab_lines::offers::signals_of_names;
-use reactor_core::module::Module;
+use reactor_core::kernel_module::Module;
 use reactor_core::reading::read_module;
 use std::alloc::{AllocError, Global};
 use std::fs;
@@ -90,18 +90,18 @@ fn offered_of(interface: &Interface, names: &[&str]) -> Result<u64, PendingRefus
 fn prove_module(
     alloc: Global,
     proof: &ProveOptions<'_>,
-    module: &Module,
+    loaded: &Module,
 ) -> Result<LabReply, AllocError>
-    ensures { IfOk result (TellsOfModule module.now proof.now) }
+    ensures { IfOk result (TellsOfModule loaded.now proof.now) }
 {
-    let allowed = match offered_of(module.kernel.interface(), proof.inputs.as_slice()) {
+    let allowed = match offered_of(loaded.kernel.interface(), proof.inputs.as_slice()) {
         Ok(allowed) => allowed,
         Err(refused) => return Ok(LabReply::Refused(refusal_of(refused))),
     };
     let claims = texts_of(alloc, proof.claims.as_slice())?;
     let value = explore_among(
         alloc,
-        module,
+        loaded,
         claims.as_slice(),
         allowed,
         limits(proof.most),
@@ -114,8 +114,8 @@ fn prove_text(alloc: Global, proof: &ProveOptions<'_>, text: &str) -> Result<Lab
     ensures { IfOk result (TellsOfText proof.now text.now) }
 {
     match read_module(alloc, proof.main, text) {
-        Ok(module) => {
-            let told = prove_module(alloc, proof, &module)?;
+        Ok(loaded) => {
+            let told = prove_module(alloc, proof, &loaded)?;
             Ok(told)
         }
         Err(refusal) => Ok(LabReply::Refused(Refusal::from(refusal))),

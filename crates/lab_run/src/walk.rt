@@ -21,7 +21,7 @@ use lab_instant::instant::InstantReader;
 use lab_instant::seen::Instant;
 use lab_lines::inside::{back_line, instant_line};
 use lab_ties::stuck::ties_after;
-use reactor_core::module::Module;
+use reactor_core::kernel_module::Module;
 use reactor_core::refusal::ModuleRefusal;
 use std::alloc::{AllocError, Global};
 use std::marker::Model;
@@ -37,7 +37,7 @@ pub struct SteppedModule {
 
 impl Model for SteppedModule {
     ghost use Rattle.std.specs.Coded.{codes};
-    ghost use Rattle.reactor_core.specs.contracts.module.Module as held;
+    ghost use Rattle.reactor_core.specs.contracts.kernel_module.Module as held;
     ghost use Rattle.lab_run.specs.Walking.{AreLoaded, Standing};
 
     ghost Value = { Standing };

@@ -12,7 +12,7 @@ use Rattle.refusal_rules.proofs.RuleLemmas.{refuse, pass, answered}
 use Rattle.reactor_core.specs.declared.entry.Stamp.{Stamp}
 use Rattle.reactor_core.specs.declared.entry.Move.TheVariants.{Offer}
 use Rattle.reactor_core.specs.declared.entry.SlotEntry.{SlotEntry}
-use Rattle.reactor_core.specs.declared.module.Module.{Module}
+use Rattle.reactor_core.specs.declared.kernel_module.Module.{Module}
 use Rattle.reactor_core.specs.declared.refusal.ReactorRefusal.{ReactorRefusal}
 use Rattle.reactor_core.specs.declared.refusal.ReactorRefusal.TheVariants.{Module as OfModule, JournalFull, Memory}
 use Rattle.reactor_core.specs.Answers.{

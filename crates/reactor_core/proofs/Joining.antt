@@ -8,7 +8,7 @@ use Rattle.est_relations.specs.Offers.{offer_rules}
 use Rattle.est_relations.specs.declared.refusal.PendingRefusal.{PendingRefusal}
 use Rattle.est_relations.proofs.OffersKeep.{no_fault}
 use Rattle.refusal_rules.proofs.RuleLemmas.{all_passed, answered}
-use Rattle.reactor_core.specs.declared.module.Module.{Module}
+use Rattle.reactor_core.specs.declared.kernel_module.Module.{Module}
 use Rattle.reactor_core.specs.Faults.{refusal_of_pending}
 use Rattle.reactor_core.specs.Standing.{pending_inputs, JoinsAs, RefusesJoining, RefusesInstant}
 

@@ -22,7 +22,7 @@ use Rattle.reactor_core.specs.declared.entry.Load.{Load as LoadEntry}
 use Rattle.reactor_core.specs.Meaning.{PastMove}
 use Rattle.reactor_core.specs.declared.entry.Move.TheVariants.{Load, Offer, Discard, Step, Unload}
 use Rattle.reactor_core.specs.declared.entry.SlotEntry.{SlotEntry}
-use Rattle.reactor_core.specs.declared.module.Module.{Module}
+use Rattle.reactor_core.specs.declared.kernel_module.Module.{Module}
 use Rattle.reactor_core.specs.declared.refusal.ReactorRefusal.TheVariants.{Module as OfModule}
 use Rattle.reactor_core.specs.declared.refusal.ModuleRefusal.TheVariants.{NoInstant}
 use Rattle.reactor_core.specs.Meaning.{entry, instant, after_all, load_after, instants_after, offers_after, offers_of}

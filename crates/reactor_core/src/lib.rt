@@ -11,8 +11,8 @@
 
 pub mod entry;
 pub mod journal;
+pub mod kernel_module;
 pub mod laws;
-pub mod module;
 pub mod nesting;
 pub mod reactor;
 pub mod reading;

@@ -17,7 +17,7 @@ ghost use Rattle.reactor_core.specs.Answers.{ShownAnswer, HasRoom, RefusesEntry}
 
 use crate::entry::{Load, Move, PastInstant, SlotEntry, Stamp};
 use crate::journal::Journal;
-use crate::module::Module;
+use crate::kernel_module::Module;
 use crate::reactor::instant::Instant;
 use crate::reactor::parts::{Parts, check_relations, join};
 use crate::reading::read_module;

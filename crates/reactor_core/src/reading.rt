@@ -3,7 +3,7 @@ ghost use Rattle.std.specs.Prelude.{IfOk, IfErr};
 ghost use Rattle.reactor_core.specs.Loading.{Gives, IsLoadFault};
 ghost use Rattle.reactor_core.specs.Standing.{given_by};
 
-use crate::module::Module;
+use crate::kernel_module::Module;
 use crate::refusal::ReactorRefusal;
 use est_link::link::link;
 use est_reduce::reduce::reduce;

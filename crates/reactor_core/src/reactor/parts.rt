@@ -11,7 +11,7 @@ ghost use Rattle.reactor_core.specs.Answers.{HasRoom, RefusesEntry};
 
 use crate::entry::{Move, PastInstant, SlotEntry, Stamp};
 use crate::journal::Journal;
-use crate::module::Module;
+use crate::kernel_module::Module;
 use crate::refusal::ReactorRefusal;
 use est_kernel::state::{Outcome, State};
 use est_micro::micro::Micro;

@@ -5,7 +5,7 @@ use Rattle.lab_run.proofs.lab.compare_text.Goals as goal
 pub returns : goal.returns
 returns c =
     let named
-    : AreNamed c.args.module.now.kernel.interface (map (λ t. t.now) c.args.bounds.now.inputs.items) c.in-Ok.allowed =
+    : AreNamed c.args.loaded.now.kernel.interface (map (λ t. t.now) c.args.bounds.now.inputs.items) c.in-Ok.allowed =
     search rules in
     record {
       other = c.in-Ok-read_module.other;
