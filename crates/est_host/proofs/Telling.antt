@@ -1,13 +1,13 @@
 -- A question that ends no machine.
 use Rattle.std.proofs.Common.{◌≢◌, ℕ, refl, Some}
 use Rattle.est_host.specs.Answers.{Does, IsAnswered}
-use Rattle.est_host.specs.declared.question.Question.{Question}
-use Rattle.est_host.specs.declared.question.Question.TheVariants.{React, Given, Reset, Inputs, Outputs, Letter, End}
-use Rattle.est_host.specs.declared.question.Question.TheVariants.{Saved, Restore, Put}
+use Rattle.est_host.specs.declared.question.HostQuestion.{HostQuestion}
+use Rattle.est_host.specs.declared.question.HostQuestion.TheVariants.{React, Given, Reset, Inputs, Outputs, Letter, End}
+use Rattle.est_host.specs.declared.question.HostQuestion.TheVariants.{Saved, Restore, Put}
 use Rattle.est_host.specs.declared.running.HostedMachine.{HostedMachine}
 use Rattle.est_machine.specs.Machines.{MachineState}
 
-pub is_told : (q : Question) → q ≢ End → (m : MachineState) (before : HostedMachine) (argument result : ℕ)
+pub is_told : (q : HostQuestion) → q ≢ End → (m : MachineState) (before : HostedMachine) (argument result : ℕ)
     (after : HostedMachine)
     → IsAnswered q m before argument result after → Does (Some q) (Some m) before argument result after
 is_told React d m before argument result after h = h

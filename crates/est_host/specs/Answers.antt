@@ -9,24 +9,24 @@ use Rattle.est_kernel.specs.declared.state.State.TheVariants.{Fresh}
 use Rattle.est_meaning.specs.States.{IsState}
 use Rattle.est_machine.specs.Machines.{IsRefused, Reacts, MachineState, in_state}
 use Rattle.est_machine.specs.Saved.{AreSaved, IsSavedWord}
-use Rattle.est_host.specs.declared.question.Question.{Question}
-use Rattle.est_host.specs.declared.question.Question.TheVariants.{React, Given, Reset, Inputs, Outputs, Letter, End}
-use Rattle.est_host.specs.declared.question.Question.TheVariants.{Saved, Restore, Put}
+use Rattle.est_host.specs.declared.question.HostQuestion.{HostQuestion}
+use Rattle.est_host.specs.declared.question.HostQuestion.TheVariants.{React, Given, Reset, Inputs, Outputs, Letter, End}
+use Rattle.est_host.specs.declared.question.HostQuestion.TheVariants.{Saved, Restore, Put}
 use Rattle.est_host.specs.declared.question.TheConstants.{NOTHING}
 use Rattle.est_machine.specs.declared.refusal.MachineRefusal.{MachineRefusal}
 use Rattle.est_machine.specs.declared.refusal.MachineRefusal.TheVariants.{Broken, NotInputs, Stuck}
 use Rattle.est_host.specs.declared.running.HostedMachine.{HostedMachine}
 
 -- the questions, in the order of their numbers
-abbrev pub the_questions : List Question
+abbrev pub the_questions : List HostQuestion
 the_questions = React ∷ Given ∷ Reset ∷ Inputs ∷ Outputs ∷ Letter ∷ End ∷ Saved ∷ Restore ∷ []
 
 -- the question of a number below 64
-abbrev pub named : ℕ → Option Question
+abbrev pub named : ℕ → Option HostQuestion
 named n = slice_get the_questions n
 
 -- the question of a number: from 64 on, one for each word that is put
-abbrev pub question_of : ℕ → Option Question
+abbrev pub question_of : ℕ → Option HostQuestion
 question_of n = cond (ltb n 64) (named n) (Some (Put (n - 64)))
 
 -- the status of a refusal
@@ -67,7 +67,7 @@ abbrev pub BesideMachine : Type 0
 BesideMachine = ℕ × List ℕ
 
 -- a question about a machine is answered, and this is what it is afterwards, with what is kept beside it
-abbrev pub Tells : Question → MachineState → BesideMachine → (argument result : ℕ) → MachineState → BesideMachine
+abbrev pub Tells : HostQuestion → MachineState → BesideMachine → (argument result : ℕ) → MachineState → BesideMachine
     → Type 0
 Tells React m k argument result after kept = ReactsAs m argument result kept.0 after × (kept.1 ≡ k.1)
 Tells Given m k argument result after kept = (result ≡ k.0) × (after ≡ m) × (kept ≡ k)
@@ -91,7 +91,7 @@ abbrev pub kept_by : HostedMachine → BesideMachine
 kept_by r = (r.given, r.words)
 
 -- a question about a machine is answered, and it stays one
-pub record IsAnswered (question : Question) (m : MachineState) (before : HostedMachine) (argument result : ℕ)
+pub record IsAnswered (question : HostQuestion) (m : MachineState) (before : HostedMachine) (argument result : ℕ)
     (after : HostedMachine)
     : Type 0 where
   pub machine : MachineState
@@ -99,7 +99,7 @@ pub record IsAnswered (question : Question) (m : MachineState) (before : HostedM
   pub tells : Tells question m (kept_by before) argument result machine (kept_by after)
 
 -- a question is answered: there is a machine until it is ended, and then nothing more is answered
-abbrev pub Does : Option Question → Option MachineState → HostedMachine → (argument result : ℕ) → HostedMachine → Type 0
+abbrev pub Does : Option HostQuestion → Option MachineState → HostedMachine → (argument result : ℕ) → HostedMachine → Type 0
 Does (Some End) (Some m) before argument result after =
     (result ≡ 0) × (after.machine ≡ None) × (kept_by after ≡ kept_by before)
 Does (Some question) (Some m) before argument result after = IsAnswered question m before argument result after

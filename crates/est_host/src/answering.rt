@@ -5,7 +5,7 @@ ghost use Rattle.est_host.specs.Answers.{Answered, PutsAs, ReactsAs, RestoresAs,
 ghost use Rattle.est_host.specs.Answers.{letter_of};
 ghost use Rattle.est_machine.specs.Saved.{IsSavedWord};
 
-use crate::question::{NOTHING, Question, question_of, status_of, told_of};
+use crate::question::{HostQuestion, NOTHING, question_of, status_of, told_of};
 use crate::running::HostedMachine;
 use est_kernel::interface::Interface;
 use est_machine::machine::Machine;
@@ -73,27 +73,27 @@ fn tell(
     machine: &mut Machine,
     given: &mut u64,
     words: &mut [u64; 65],
-    question: Question,
+    question: HostQuestion,
     argument: u64,
 ) -> u64
-    requires { question ≢ Question.End }
+    requires { question ≢ HostQuestion.End }
     ensures { Tells question machine.old (given.old, words.old) argument result machine.new
         (given.new, words.new) }
 {
     match question {
-        Question::React => react(machine, given, argument),
-        Question::Given => *given,
-        Question::Reset => {
+        HostQuestion::React => react(machine, given, argument),
+        HostQuestion::Given => *given,
+        HostQuestion::Reset => {
             machine.reset();
             0
         }
-        Question::Inputs => machine.interface().offerable(),
-        Question::Outputs => machine.interface().emittable(),
-        Question::Letter => letter_of(machine.interface(), argument),
-        Question::Saved => saved(machine, argument),
-        Question::Restore => restore(machine, words),
-        Question::Put(place) => put(words, place, argument),
-        Question::End => NOTHING,
+        HostQuestion::Inputs => machine.interface().offerable(),
+        HostQuestion::Outputs => machine.interface().emittable(),
+        HostQuestion::Letter => letter_of(machine.interface(), argument),
+        HostQuestion::Saved => saved(machine, argument),
+        HostQuestion::Restore => restore(machine, words),
+        HostQuestion::Put(place) => put(words, place, argument),
+        HostQuestion::End => NOTHING,
     }
 }
 
@@ -107,7 +107,7 @@ pub fn answer(running: &mut HostedMachine, question: u64, argument: u64) -> u64
     let Some(machine) = &mut running.machine else {
         return NOTHING;
     };
-    if let Question::End = question {
+    if let HostQuestion::End = question {
         running.machine = None;
         return 0;
     }

@@ -8,9 +8,9 @@ use est_machine::refusal::MachineRefusal;
 /// The machine was ended, or there is no such question.
 pub const NOTHING: u64 = u64::MAX;
 
-/// A question.
+/// A question that a program in C asks of a machine.
 #[derive(Clone, Copy, PartialEq, Eq)]
-pub enum Question {
+pub enum HostQuestion {
     /// React to the inputs of this mask.
     React,
     /// What the last reaction gave.
@@ -34,29 +34,29 @@ pub enum Question {
 }
 
 /// The question of this number.
-pub fn question_of(number: u64) -> Option<Question>
+pub fn question_of(number: u64) -> Option<HostQuestion>
     ensures { result ≡ question_of number }
 {
     if number >= 64 {
-        return Some(Question::Put(number - 64));
+        return Some(HostQuestion::Put(number - 64));
     }
     named(number)
 }
 
 /// The question of a number below 64.
-fn named(number: u64) -> Option<Question>
+fn named(number: u64) -> Option<HostQuestion>
     ensures { result ≡ named number }
 {
     match number {
-        0 => Some(Question::React),
-        1 => Some(Question::Given),
-        2 => Some(Question::Reset),
-        3 => Some(Question::Inputs),
-        4 => Some(Question::Outputs),
-        5 => Some(Question::Letter),
-        6 => Some(Question::End),
-        7 => Some(Question::Saved),
-        8 => Some(Question::Restore),
+        0 => Some(HostQuestion::React),
+        1 => Some(HostQuestion::Given),
+        2 => Some(HostQuestion::Reset),
+        3 => Some(HostQuestion::Inputs),
+        4 => Some(HostQuestion::Outputs),
+        5 => Some(HostQuestion::Letter),
+        6 => Some(HostQuestion::End),
+        7 => Some(HostQuestion::Saved),
+        8 => Some(HostQuestion::Restore),
         _ => None,
     }
 }
