@@ -99,7 +99,8 @@ pub record IsAnswered (question : HostQuestion) (m : MachineState) (before : Hos
   pub tells : Tells question m (kept_by before) argument result machine (kept_by after)
 
 -- a question is answered: there is a machine until it is ended, and then nothing more is answered
-abbrev pub Does : Option HostQuestion → Option MachineState → HostedMachine → (argument result : ℕ) → HostedMachine → Type 0
+abbrev pub Does : Option HostQuestion → Option MachineState → HostedMachine → (argument result : ℕ) → HostedMachine
+    → Type 0
 Does (Some End) (Some m) before argument result after =
     (result ≡ 0) × (after.machine ≡ None) × (kept_by after ≡ kept_by before)
 Does (Some question) (Some m) before argument result after = IsAnswered question m before argument result after
