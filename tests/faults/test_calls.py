@@ -12,12 +12,12 @@ from refusing import Growths, tests_of
 
 # of a test, the words with which its runs may end, and how many have to, at least; `went on` is the end as always
 CALLS = {
-    "slot_tests": {
+    "server_tests": {
         "events::runs::a_version_behind_or_ahead": {"room": 1, "went on": 20},
         "events::runs::a_discard_and_an_unload_take_what_was_offered": {"room": 1, "went on": 20},
         "audit::memory::audits_without_memory": {"room": 1, "refused a check": 1, "refused a report": 1},
+        "board::receipts::receipts_without_memory": {"a board": 5, "went on": 1},
     },
-    "policy_tests": {"board::receipts::receipts_without_memory": {"a board": 5, "went on": 1}},
 }
 TEST_SECONDS = 60
 

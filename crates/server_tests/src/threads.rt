@@ -1,7 +1,6 @@
 mod asking;
 mod clients;
 mod lending;
-mod many;
 mod meeting;
 mod revocation;
 mod server;

@@ -1,0 +1,6 @@
+mod claims;
+mod labs;
+mod lines;
+mod modules;
+mod searching;
+mod texts;

@@ -1,5 +1,0 @@
-use Rattle.slot_tests.proofs.table.commands.refusals_on_the_table.Given as goal
-
--- the list that was just begun
-abbrev pub ghosts-play : goal.ghosts-play
-ghosts-play g a = record { book = a.fresh.seen.book }
