@@ -22,7 +22,7 @@ loop-place-preserved c = λ L st.
           (let same : w.in-Some.role ≡ name = same_Some w.in-Some.role name
           (sym w.in-Some.is ∙ c.get.ensures ∙ there) in
           let Known : NameText → Type 0 = λ name. IsRole L name in
-          no (subst Known same (is_so (w.is_role.ensures L st) w.if-not-has_role.false)))
+          no (subst Known same (is_so (w.has_role.ensures L st) w.if-not-has_role.false)))
       | in_default w ↦ (let e = w.in_default.is in let g = c.get.ensures in cc)
     ])
 
