@@ -17,7 +17,7 @@ use wire_reader::meter::{MeteredMemory, MeteredReader, MeteredWriter};
 
 /// Logs out the login that a connection left, if it left one. It asks again for as long as memory
 /// is refused.
-pub fn log_out_left<R: Wait, D: Desk>(rt: &R, desk: &mut D, left: Option<Login>)
+pub fn finish_logout<R: Wait, D: Desk>(rt: &R, desk: &mut D, left: Option<Login>)
     ensures { LogsOutLeft D.answers (session_of left) desk.old desk.new }
 {
     match left {
@@ -52,7 +52,7 @@ pub fn serve_connection<R: Wait, I: Read + Drop, O: Write + Drop, D: Desk, G: Ga
     let mut input = MeteredReader::new(reader);
     let mut output = MeteredWriter::new(writer);
     let End { why, left } = serve_gated(&mut memory, &mut input, &mut output, desk, gate, worker);
-    log_out_left(rt, desk, left);
+    finish_logout(rt, desk, left);
     Served {
         why,
         input,

@@ -6,7 +6,7 @@ use Rattle.serde_json.specs.View.{items_of}
 use Rattle.lab_lines.specs.declared.request.Request.{Request}
 use Rattle.lab_lines.specs.declared.request.Request.TheVariants.{Load, Kernel, Explore, Same, Table}
 use Rattle.lab_lines.specs.declared.request.Request.TheVariants.{Instant, Try, Back}
-use Rattle.lab_lines.specs.declared.request.SearchBounds.{SearchBounds}
+use Rattle.lab_lines.specs.declared.request.SearchScope.{SearchScope}
 
 -- how many members
 abbrev pub member_count : Members → ℕ
@@ -30,17 +30,17 @@ abbrev pub HasNumber : Data → (key : List ℕ) → ℕ → Type 0
 HasNumber d key n = get key d ≡ Some (number (unsigned n))
 
 -- the value says that this is looked at
-pub record HasBounds (d : Data) (bounds : SearchBounds) : Type 0 where
-  pub inputs : HasTexts d (codes "inputs") (map (λ t. t.now) bounds.inputs.items)
-  pub most : HasNumber d (codes "most") bounds.most
+pub record HasScope (d : Data) (scope : SearchScope) : Type 0 where
+  pub inputs : HasTexts d (codes "inputs") (map (λ t. t.now) scope.inputs.items)
+  pub most : HasNumber d (codes "most") scope.most
 
 -- the word of a request
 abbrev pub word_of : Request → List ℕ
 word_of (Load main text) = codes "load"
 word_of Kernel = codes "kernel"
-word_of (Explore claims bounds) = codes "explore"
-word_of (Same main text bounds) = codes "same"
-word_of (Table bounds) = codes "table"
+word_of (Explore claims scope) = codes "explore"
+word_of (Same main text scope) = codes "same"
+word_of (Table scope) = codes "table"
 word_of (Instant names) = codes "instant"
 word_of (Try names) = codes "try"
 word_of (Back to) = codes "back"
@@ -49,9 +49,9 @@ word_of (Back to) = codes "back"
 abbrev pub count_of : Request → ℕ
 count_of (Load main text) = 3
 count_of Kernel = 1
-count_of (Explore claims bounds) = 4
-count_of (Same main text bounds) = 5
-count_of (Table bounds) = 3
+count_of (Explore claims scope) = 4
+count_of (Same main text scope) = 5
+count_of (Table scope) = 3
 count_of (Instant names) = 2
 count_of (Try names) = 2
 count_of (Back to) = 2
@@ -60,10 +60,10 @@ count_of (Back to) = 2
 abbrev pub HasParts : Data → Request → Type 0
 HasParts d (Load main text) = HasText d (codes "main") main.now × HasText d (codes "text") text.now
 HasParts d Kernel = Unit {0}
-HasParts d (Explore claims bounds) = HasTexts d (codes "claims") (map (λ t. t.now) claims.items) × HasBounds d bounds
-HasParts d (Same main text bounds) =
-    HasText d (codes "main") main.now × HasText d (codes "text") text.now × HasBounds d bounds
-HasParts d (Table bounds) = HasBounds d bounds
+HasParts d (Explore claims scope) = HasTexts d (codes "claims") (map (λ t. t.now) claims.items) × HasScope d scope
+HasParts d (Same main text scope) =
+    HasText d (codes "main") main.now × HasText d (codes "text") text.now × HasScope d scope
+HasParts d (Table scope) = HasScope d scope
 HasParts d (Instant names) = HasTexts d (codes "inputs") (map (λ t. t.now) names.items)
 HasParts d (Try names) = HasTexts d (codes "inputs") (map (λ t. t.now) names.items)
 HasParts d (Back to) = HasNumber d (codes "to") to

@@ -4,11 +4,11 @@ ghost use Rattle.std.specs.Prelude.{◌≡◌, ◌↔◌, ℕ, List, IfOk, IsTru
 ghost use Rattle.std.specs.Option.{MatchOption};
 ghost use Rattle.serde_json.specs.Data.{string};
 ghost use Rattle.serde_json.specs.View.{view};
-ghost use Rattle.lab_lines.specs.declared.request.SearchBounds.{SearchBounds as BoundsValue};
-ghost use Rattle.lab_lines.specs.Requests.{HasMembers, HasNumber, HasBounds, HasText, HasTexts};
+ghost use Rattle.lab_lines.specs.declared.request.SearchScope.{SearchScope as ScopeValue};
+ghost use Rattle.lab_lines.specs.Requests.{HasMembers, HasNumber, HasScope, HasText, HasTexts};
 ghost use Rattle.lab_lines.specs.Requests.{Says, SaysNothing};
 
-use crate::request::{Request, SearchBounds};
+use crate::request::{Request, SearchScope};
 use serde_json::Value;
 use std::alloc::{AllocError, Global};
 
@@ -80,16 +80,16 @@ fn texts_at<'v>(
 }
 
 /// What a search looks at.
-fn bounds_of<'v>(alloc: Global, value: &'v Value) -> Result<Option<SearchBounds<'v>>, AllocError>
+fn scope_of<'v>(alloc: Global, value: &'v Value) -> Result<Option<SearchScope<'v>>, AllocError>
     ensures { IfOk result (λ read. MatchOption read
-        ((bounds : BoundsValue) → HasBounds (view value.now) bounds → ⊥)
-        (HasBounds (view value.now))) }
+        ((scope : ScopeValue) → HasScope (view value.now) scope → ⊥)
+        (HasScope (view value.now))) }
 {
     let Some(inputs) = texts_at(alloc, value, "inputs")? else {
         return Ok(None);
     };
     match number_at(value, "most") {
-        Some(most) => Ok(Some(SearchBounds { inputs, most })),
+        Some(most) => Ok(Some(SearchScope { inputs, most })),
         None => Ok(None),
     }
 }
@@ -131,8 +131,8 @@ fn explore_of<'v>(alloc: Global, value: &'v Value) -> Result<Option<Request<'v>>
     let Some(claims) = texts_at(alloc, value, "claims")? else {
         return Ok(None);
     };
-    match bounds_of(alloc, value)? {
-        Some(bounds) => Ok(Some(Request::Explore { claims, bounds })),
+    match scope_of(alloc, value)? {
+        Some(scope) => Ok(Some(Request::Explore { claims, scope })),
         None => Ok(None),
     }
 }
@@ -152,8 +152,8 @@ fn same_of<'v>(alloc: Global, value: &'v Value) -> Result<Option<Request<'v>>, A
     let Some(text) = text_at(value, "text") else {
         return Ok(None);
     };
-    match bounds_of(alloc, value)? {
-        Some(bounds) => Ok(Some(Request::Same { main, text, bounds })),
+    match scope_of(alloc, value)? {
+        Some(scope) => Ok(Some(Request::Same { main, text, scope })),
         None => Ok(None),
     }
 }
@@ -167,8 +167,8 @@ fn table_of<'v>(alloc: Global, value: &'v Value) -> Result<Option<Request<'v>>, 
     if !has_members(value, 3) {
         return Ok(None);
     }
-    match bounds_of(alloc, value)? {
-        Some(bounds) => Ok(Some(Request::Table(bounds))),
+    match scope_of(alloc, value)? {
+        Some(scope) => Ok(Some(Request::Table(scope))),
         None => Ok(None),
     }
 }

@@ -15,17 +15,17 @@ pub enum Request<'v> {
         /// Each is `never T` or `always T`.
         claims: Vec<&'v str>,
         /// What is looked at.
-        bounds: SearchBounds<'v>,
+        scope: SearchScope<'v>,
     },
     /// Whether the module `main` of a text does the same.
     Same {
         main: &'v str,
         text: &'v str,
         /// What is looked at.
-        bounds: SearchBounds<'v>,
+        scope: SearchScope<'v>,
     },
     /// All its states, and what it does at each.
-    Table(SearchBounds<'v>),
+    Table(SearchScope<'v>),
     /// Its next instant, with the inputs of these names.
     Instant(Vec<&'v str>),
     /// The same, and it stays where it stands.
@@ -36,7 +36,7 @@ pub enum Request<'v> {
 
 /// What a search looks at.
 #[derive(Drop)]
-pub struct SearchBounds<'v> {
+pub struct SearchScope<'v> {
     /// The names of the signals that somebody may offer.
     pub inputs: Vec<&'v str>,
     /// With more states than this, or more reactions, the search ends.

@@ -7,7 +7,7 @@ ghost use Rattle.lab_run.specs.Walking.{GoesBack, Tries};
 use lab_lines::request::Request;
 use lab_run::lab::{Lab, LabReply};
 use lab_run::status;
-use lab_run::walk::SteppedModule;
+use lab_run::stepped_module::SteppedModule;
 use std::alloc::{AllocError, Global};
 
 /// Does what is asked of a lab.
@@ -28,15 +28,15 @@ pub fn obey(lab: &mut Lab, alloc: Global, request: &Request<'_>) -> Result<LabRe
 ///
 /// `AllocError` where memory is refused.
 pub fn try_instant(
-    walk: &mut SteppedModule,
+    stepped: &mut SteppedModule,
     alloc: Global,
     names: &[&str],
 ) -> Result<LabReply, AllocError>
-    ensures done { IfOk result (λ told. Tries walk.old (map (λ t. t.now) names.now) told
-        walk.new) }
-    ensures kept { IfErr result (λ _. walk.new ≡ walk.old) }
+    ensures done { IfOk result (λ told. Tries stepped.old (map (λ t. t.now) names.now) told
+        stepped.new) }
+    ensures kept { IfErr result (λ _. stepped.new ≡ stepped.old) }
 {
-    walk.try_instant(alloc, names)
+    stepped.try_instant(alloc, names)
 }
 
 /// Goes back with a walk to where it stood after so many instants.
@@ -44,11 +44,11 @@ pub fn try_instant(
 /// # Errors
 ///
 /// `AllocError` where memory is refused.
-pub fn go_back(walk: &mut SteppedModule, alloc: Global, to: u64) -> Result<LabReply, AllocError>
-    ensures done { IfOk result (λ told. GoesBack walk.old to told walk.new) }
-    ensures kept { IfErr result (λ _. walk.new ≡ walk.old) }
+pub fn go_back(stepped: &mut SteppedModule, alloc: Global, to: u64) -> Result<LabReply, AllocError>
+    ensures done { IfOk result (λ told. GoesBack stepped.old to told stepped.new) }
+    ensures kept { IfErr result (λ _. stepped.new ≡ stepped.old) }
 {
-    walk.go_back(alloc, to)
+    stepped.go_back(alloc, to)
 }
 
 /// The status of what is told: 0 where each claim holds, 1 where one fails, 3 where it is not

@@ -18,7 +18,7 @@ use Rattle.lab_instant.specs.declared.seen.Instant.{Instant}
 use Rattle.lab_instant.specs.declared.seen.Instant.TheVariants.{Reaction, Stuck}
 use Rattle.lab_instant.specs.declared.instant.InstantReader.{InstantReader}
 use Rattle.reactor_core.specs.declared.kernel_module.Module.{Module}
-use Rattle.lab_run.specs.Walking.{AreLoaded, AreOffered, IsInstantOf, NameAnswer, Standing, states_after}
+use Rattle.lab_run.specs.Walking.{AreLoaded, AreOffered, IsInstantOf, NameAnswer, SteppedState, states_after}
 
 -- a text that is given as an identifier is that
 pub given_name : (b : Bool) (text name : List ℕ) → (if b then Some text else None) ≡ Some name → text ≡ name
@@ -58,14 +58,14 @@ some_after states (Reaction o seen) some = let l = length-append states (o.next 
 some_after states (Stuck s seen) some = some
 
 -- what is loaded after an instant
-pub loaded_after : (before : Standing) (m : Module) (inside : InstantReader) (states new : List State) (signals : ℕ)
-    (instant : Instant) (line : List ℕ) → before ≡ record { walked = m; states = states }
+pub loaded_after : (before : SteppedState) (m : Module) (inside : InstantReader) (states new : List State) (signals : ℕ)
+    (instant : Instant) (line : List ℕ) → before ≡ record { loaded = m; states = states }
     → IsInstantOf before signals instant line → AreLoaded m inside states → new ≡ states_after states instant
     → AreLoaded m inside new
 loaded_after before m inside states new signals instant line same told are grown =
-    let there : Standing = record { walked = m; states = states } in
+    let there : SteppedState = record { loaded = m; states = states } in
     let t : IsInstantOf there signals instant line = subst
-    (λ (z : Standing). IsInstantOf z signals instant line) same told in
+    (λ (z : SteppedState). IsInstantOf z signals instant line) same told in
     rw grown
     (record {
       engine = are.engine;

@@ -28,13 +28,13 @@ use Rattle.lab_lines.specs.FoundJson.{names_json}
 use Rattle.lab_lines.specs.declared.request.Request.{Request}
 use Rattle.lab_lines.specs.declared.request.Request.TheVariants.{Load, Kernel, Explore, Same, Table}
 use Rattle.lab_lines.specs.declared.request.Request.TheVariants.{Instant, Try, Back}
-use Rattle.lab_lines.specs.declared.request.SearchBounds.{SearchBounds}
+use Rattle.lab_lines.specs.declared.request.SearchScope.{SearchScope}
 use Rattle.lab_claims.specs.Claims.{AreClaimTexts}
 use Rattle.lab_claims.specs.Refused.{IsFirstBad}
 use Rattle.lab_claims.specs.declared.claims.BadClaim.{BadClaim}
 use Rattle.lab_run.specs.declared.lab.LabReply.{LabReply}
 use Rattle.lab_run.specs.declared.lab.LabReply.TheVariants.{Refused, Json, Line}
-use Rattle.lab_run.specs.Walking.{Standing, at_start, GoesBackIf, MakesIf, TriesIf}
+use Rattle.lab_run.specs.Walking.{SteppedState, at_start, GoesBackIf, MakesIf, TriesIf}
 
 -- ---- what is loaded
 
@@ -55,14 +55,15 @@ pub record IsNotLoaded (main text : List ℕ) (given : Refusal) : Type 0 where
   pub right : IsLoadFault main text fault
 
 -- the module that the text and the name of its main module give is loaded, and stands at its start
-pub record IsLoaded (main text : List ℕ) (d : Data) (after : Option Standing) : Type 0 where
+pub record IsLoaded (main text : List ℕ) (d : Data) (after : Option SteppedState) : Type 0 where
   pub loaded : Module
   pub is : after ≡ Some (at_start loaded)
   pub gives : Gives main text (given_by loaded)
   pub said : IsLoadedTold loaded d
 
 -- a module is loaded; or it is told why there is none, and what was loaded stays
-abbrev pub Loads : (main text : List ℕ) → (before : Option Standing) → LabReply → (after : Option Standing) → Type 0
+abbrev pub Loads : (main text : List ℕ) → (before : Option SteppedState) → LabReply → (after : Option SteppedState)
+    → Type 0
 Loads main text before (Refused given) after = IsNotLoaded main text given × (after ≡ before)
 Loads main text before (Json v) after = IsLoaded main text (view v) after
 Loads main text before (Line line) after = ⊥
@@ -76,8 +77,8 @@ pub record IsNotOffered (interface : List Declaration) (names : List (List ℕ))
   pub first : AreNotNamed interface names fault
 
 -- the same of what is looked at
-abbrev pub IsNoScope : Module → SearchBounds → (given : Refusal) → Type 0
-IsNoScope m bounds given = IsNotOffered m.kernel.interface (map (λ t. t.now) bounds.inputs.items) given
+abbrev pub IsNoScope : Module → SearchScope → (given : Refusal) → Type 0
+IsNoScope m scope given = IsNotOffered m.kernel.interface (map (λ t. t.now) scope.inputs.items) given
 
 -- what is told of a claim that can't be read: its number, and the server's refusal
 pub record IsBadClaimTold (bad : BadClaim) (d : Data) : Type 0 where
@@ -106,16 +107,16 @@ TellsAmong m claims allowed states steps d =
     IsExplorationAmong m claims allowed states steps d ⊎ IsBadClaim m.kernel.interface claims d
 
 -- the same, where only the inputs of these names are offered
-pub record IsExplorationOf (m : Module) (claims : List (List ℕ)) (bounds : SearchBounds) (d : Data) : Type 0 where
+pub record IsExplorationOf (m : Module) (claims : List (List ℕ)) (scope : SearchScope) (d : Data) : Type 0 where
   pub allowed : ℕ
-  pub named : AreNamed m.kernel.interface (map (λ t. t.now) bounds.inputs.items) allowed
-  pub right : TellsAmong m claims allowed bounds.most bounds.most d
+  pub named : AreNamed m.kernel.interface (map (λ t. t.now) scope.inputs.items) allowed
+  pub right : TellsAmong m claims allowed scope.most scope.most d
 
 -- what is answered to claims of the module
-abbrev pub TellsOfClaims : Module → (claims : List (List ℕ)) → SearchBounds → LabReply → Type 0
-TellsOfClaims m claims bounds (Refused given) = IsNoScope m bounds given
-TellsOfClaims m claims bounds (Json v) = IsExplorationOf m claims bounds (view v)
-TellsOfClaims m claims bounds (Line line) = ⊥
+abbrev pub TellsOfClaims : Module → (claims : List (List ℕ)) → SearchScope → LabReply → Type 0
+TellsOfClaims m claims scope (Refused given) = IsNoScope m scope given
+TellsOfClaims m claims scope (Json v) = IsExplorationOf m claims scope (view v)
+TellsOfClaims m claims scope (Line line) = ⊥
 
 -- the two have one interface, and it is told whether they do the same
 pub record IsComparisonAmong (m other : Module) (allowed states steps : ℕ) (d : Data) : Type 0 where
@@ -135,31 +136,31 @@ TellsOfTwo m other allowed states steps d = IsComparisonAmong m other allowed st
     ⊎ IsOtherInterface m other d
 
 -- the same of the module and that of a text, where only the inputs of these names are offered
-pub record IsComparisonOf (m : Module) (main text : List ℕ) (bounds : SearchBounds) (d : Data) : Type 0 where
+pub record IsComparisonOf (m : Module) (main text : List ℕ) (scope : SearchScope) (d : Data) : Type 0 where
   pub other : Module
   pub gives : Gives main text (given_by other)
   pub allowed : ℕ
-  pub named : AreNamed m.kernel.interface (map (λ t. t.now) bounds.inputs.items) allowed
-  pub right : TellsOfTwo m other allowed bounds.most bounds.most d
+  pub named : AreNamed m.kernel.interface (map (λ t. t.now) scope.inputs.items) allowed
+  pub right : TellsOfTwo m other allowed scope.most scope.most d
 
 -- what is answered to the question whether the module and that of a text do the same
-abbrev pub TellsOfBoth : Module → (main text : List ℕ) → SearchBounds → LabReply → Type 0
-TellsOfBoth m main text bounds (Refused given) = IsNoScope m bounds given ⊎ IsNotLoaded main text given
-TellsOfBoth m main text bounds (Json v) = IsComparisonOf m main text bounds (view v)
-TellsOfBoth m main text bounds (Line line) = ⊥
+abbrev pub TellsOfBoth : Module → (main text : List ℕ) → SearchScope → LabReply → Type 0
+TellsOfBoth m main text scope (Refused given) = IsNoScope m scope given ⊎ IsNotLoaded main text given
+TellsOfBoth m main text scope (Json v) = IsComparisonOf m main text scope (view v)
+TellsOfBoth m main text scope (Line line) = ⊥
 
 -- the table of the module in which only those inputs are offered, or that it is too large
-pub record IsTableOf (m : Module) (bounds : SearchBounds) (d : Data) : Type 0 where
+pub record IsTableOf (m : Module) (scope : SearchScope) (d : Data) : Type 0 where
   pub allowed : ℕ
-  pub named : AreNamed m.kernel.interface (map (λ t. t.now) bounds.inputs.items) allowed
+  pub named : AreNamed m.kernel.interface (map (λ t. t.now) scope.inputs.items) allowed
   pub right : IsTableTold (module_of m.kernel m.relations allowed) d
-      ⊎ IsTooLarge (module_of m.kernel m.relations allowed) bounds.most bounds.most d
+      ⊎ IsTooLarge (module_of m.kernel m.relations allowed) scope.most scope.most d
 
 -- what is answered to the question for the table
-abbrev pub TellsOfTable : Module → SearchBounds → LabReply → Type 0
-TellsOfTable m bounds (Refused given) = IsNoScope m bounds given
-TellsOfTable m bounds (Json v) = IsTableOf m bounds (view v)
-TellsOfTable m bounds (Line line) = ⊥
+abbrev pub TellsOfTable : Module → SearchScope → LabReply → Type 0
+TellsOfTable m scope (Refused given) = IsNoScope m scope given
+TellsOfTable m scope (Json v) = IsTableOf m scope (view v)
+TellsOfTable m scope (Line line) = ⊥
 
 -- ---- what a request does
 
@@ -170,19 +171,19 @@ TellsOfKernel m (Json v) = IsKernelTold m.kernel (view v)
 TellsOfKernel m (Line line) = ⊥
 
 -- what is told of the module that is loaded, where one is
-abbrev pub TellsIf : Option Standing → (Module → LabReply → Type 0) → LabReply → Type 0
+abbrev pub TellsIf : Option SteppedState → (Module → LabReply → Type 0) → LabReply → Type 0
 TellsIf None tells told = told ≡ Refused refusal.Empty
-TellsIf (Some s) tells told = tells s.walked told
+TellsIf (Some s) tells told = tells s.loaded told
 
 -- a request is done: what is loaded before it, what is told, and what is loaded afterwards
-abbrev pub Obeys : (before : Option Standing) → Request → LabReply → (after : Option Standing) → Type 0
+abbrev pub Obeys : (before : Option SteppedState) → Request → LabReply → (after : Option SteppedState) → Type 0
 Obeys before (Load main text) told after = Loads main.now text.now before told after
 Obeys before Kernel told after = TellsIf before TellsOfKernel told × (after ≡ before)
-Obeys before (Explore claims bounds) told after =
-    TellsIf before (λ m. TellsOfClaims m (map (λ t. t.now) claims.items) bounds) told × (after ≡ before)
-Obeys before (Same main text bounds) told after =
-    TellsIf before (λ m. TellsOfBoth m main.now text.now bounds) told × (after ≡ before)
-Obeys before (Table bounds) told after = TellsIf before (λ m. TellsOfTable m bounds) told × (after ≡ before)
+Obeys before (Explore claims scope) told after =
+    TellsIf before (λ m. TellsOfClaims m (map (λ t. t.now) claims.items) scope) told × (after ≡ before)
+Obeys before (Same main text scope) told after =
+    TellsIf before (λ m. TellsOfBoth m main.now text.now scope) told × (after ≡ before)
+Obeys before (Table scope) told after = TellsIf before (λ m. TellsOfTable m scope) told × (after ≡ before)
 Obeys before (Instant names) told after = MakesIf before (map (λ t. t.now) names.items) told after
 Obeys before (Try names) told after = TriesIf before (map (λ t. t.now) names.items) told after
 Obeys before (Back to) told after = GoesBackIf before to told after

@@ -12,7 +12,7 @@ use Rattle.wire_lines.specs.Requests.{IsValue}
 use Rattle.lab_lines.specs.Requests.{Says as SaysRequest, SaysNothing}
 use Rattle.lab_lines.specs.declared.request.Request.{Request}
 use Rattle.lab_run.specs.Answers.{Obeys}
-use Rattle.lab_run.specs.Walking.{Standing}
+use Rattle.lab_run.specs.Walking.{SteppedState}
 use Rattle.lab_run.specs.declared.lab.LabReply.{LabReply}
 use Rattle.lab_run.specs.declared.lab.LabReply.TheVariants.{Refused, Json, Line}
 
@@ -40,51 +40,56 @@ IsReadAs line (Err refusal.Memory) = Unit {0}
 IsReadAs line (Err _) = ⊥
 
 -- the value asks for something, and that is done
-pub record IsDone (before : Option Standing) (value : Data) (told : LabReply) (after : Option Standing) : Type 0 where
+pub record IsDone (before : Option SteppedState) (value : Data) (told : LabReply)
+    (after : Option SteppedState) : Type 0 where
   pub request : Request
   pub says : SaysRequest value request
   pub obeyed : Obeys before request told after
 
 -- it is told this, and what was loaded stays
-abbrev pub IsLeft : (before : Option Standing) → (given : Refusal) → LabReply → (after : Option Standing) → Type 0
+abbrev pub IsLeft : (before : Option SteppedState) → (given : Refusal) → LabReply → (after : Option SteppedState)
+    → Type 0
 IsLeft before given told after = (told ≡ Refused given) × (after ≡ before)
 
 -- the value asks for nothing, and is refused as no request
-pub record IsNoRequest (before : Option Standing) (value : Data) (told : LabReply) (after : Option Standing) : Type
+pub record IsNoRequest (before : Option SteppedState) (value : Data) (told : LabReply)
+    (after : Option SteppedState) : Type
     0 where
   pub right : SaysNothing value
   pub left : IsLeft before refusal.NotARequest told after
 
 -- what a value is told: what it asks for is done, or it asks for nothing
-abbrev pub IsValueTold : (before : Option Standing) → (value : Data) → LabReply → (after : Option Standing) → Type 0
+abbrev pub IsValueTold : (before : Option SteppedState) → (value : Data) → LabReply → (after : Option SteppedState)
+    → Type 0
 IsValueTold before value told after =
     IsDone before value told after ⊎ IsNoRequest before value told after
 
 -- the line has a value, and what that is told
-pub record IsToldOfValue (before : Option Standing) (line : List ℕ) (told : LabReply)
-    (after : Option Standing) : Type 0 where
+pub record IsToldOfValue (before : Option SteppedState) (line : List ℕ) (told : LabReply)
+    (after : Option SteppedState) : Type 0 where
   pub value : Data
   pub is : IsValue line value
   pub right : IsValueTold before value told after
 
 -- the line has no value
-pub record IsNoJson (before : Option Standing) (line : List ℕ) (told : LabReply) (after : Option Standing) : Type 0
+pub record IsNoJson (before : Option SteppedState) (line : List ℕ) (told : LabReply)
+    (after : Option SteppedState) : Type 0
   where
     pub right : HasNoValue line
     pub left : IsLeft before refusal.NotJson told after
 
 -- what a line is told: what its value is, or that it has none, or that memory was refused
-abbrev pub IsTold : (before : Option Standing) → (line : List ℕ) → LabReply → (after : Option Standing) → Type 0
+abbrev pub IsTold : (before : Option SteppedState) → (line : List ℕ) → LabReply → (after : Option SteppedState) → Type 0
 IsTold before line told after = IsToldOfValue before line told after
     ⊎ (IsNoJson before line told after ⊎ IsLeft before refusal.Memory told after)
 
 -- the text is that of what a line is told
-pub record IsAnswer (before : Option Standing) (line text : List ℕ) (after : Option Standing) : Type 0 where
+pub record IsAnswer (before : Option SteppedState) (line text : List ℕ) (after : Option SteppedState) : Type 0 where
   pub told : LabReply
   pub right : IsTold before line told after
   pub written : IsTextOf told text
 
 -- a line is told something, and memory was refused for its text
-pub record HasNoText (before : Option Standing) (line : List ℕ) (after : Option Standing) : Type 0 where
+pub record HasNoText (before : Option SteppedState) (line : List ℕ) (after : Option SteppedState) : Type 0 where
   pub told : LabReply
   pub right : IsTold before line told after

@@ -26,17 +26,17 @@ use Rattle.lab_run.specs.declared.lab.LabReply.TheVariants.{Refused, Json, Line}
 
 -- what is loaded: a module, and where it stood at the start and after each instant, of which the last is where it
 -- stands
-pub record Standing : Type 0 where
-  pub walked : Module
+pub record SteppedState : Type 0 where
+  pub loaded : Module
   pub states : List State
 
 -- a module that stands at its start
-abbrev pub at_start : Module → Standing
-at_start m = record { walked = m; states = Fresh ∷ [] }
+abbrev pub at_start : Module → SteppedState
+at_start m = record { loaded = m; states = Fresh ∷ [] }
 
 -- the same module, where it stood so and so
-abbrev pub standing_at : Standing → List State → Standing
-standing_at s states = record { walked = s.walked; states = states }
+abbrev pub standing_at : SteppedState → List State → SteppedState
+standing_at s states = record { loaded = s.loaded; states = states }
 
 -- it stands there: this is the last of the states
 abbrev pub StandsAt : List State → State → Type 0
@@ -92,16 +92,16 @@ pub record IsInstantAt (m : Module) (state : State) (inputs : ℕ) (instant : In
       ≡ compact_text (inside_json m.kernel.interface instant (instant_ties m.kernel cells instant)) ++ 10 ∷ []
 
 -- the same of the state where the module stands
-pub record IsInstantOf (s : Standing) (inputs : ℕ) (instant : Instant) (line : List ℕ) : Type 0 where
+pub record IsInstantOf (s : SteppedState) (inputs : ℕ) (instant : Instant) (line : List ℕ) : Type 0 where
   pub state : State
   pub stands : StandsAt s.states state
-  pub is : IsInstantAt s.walked state inputs instant line
+  pub is : IsInstantAt s.loaded state inputs instant line
 
 -- the same, with the inputs of these names
-pub record IsInstantTold (s : Standing) (names : List (List ℕ)) (instant : Instant) (line : List ℕ)
+pub record IsInstantTold (s : SteppedState) (names : List (List ℕ)) (instant : Instant) (line : List ℕ)
     : Type 0 where
   pub inputs : ℕ
-  pub taken : MayTake s.walked names inputs
+  pub taken : MayTake s.loaded names inputs
   pub is : IsInstantOf s inputs instant line
 
 -- where the module stands after the instant: at its next state, or if it is stuck where it stood
@@ -110,15 +110,15 @@ states_after states (Reaction o seen) = states ++ o.next ∷ []
 states_after states (Stuck undecided seen) = states
 
 -- the instant is made
-abbrev pub Makes : (before : Standing) → (names : List (List ℕ)) → LabReply → (after : Standing) → Type 0
-Makes before names (Refused given) after = MayNotTake before.walked names given × (after ≡ before)
+abbrev pub Makes : (before : SteppedState) → (names : List (List ℕ)) → LabReply → (after : SteppedState) → Type 0
+Makes before names (Refused given) after = MayNotTake before.loaded names given × (after ≡ before)
 Makes before names (Json v) after = ⊥
 Makes before names (Line line) after = (instant : Instant) × IsInstantTold before names instant line.items
     × (after ≡ standing_at before (states_after before.states instant))
 
 -- the instant is told, and the module stays where it stands
-abbrev pub Tries : (before : Standing) → (names : List (List ℕ)) → LabReply → (after : Standing) → Type 0
-Tries before names (Refused given) after = MayNotTake before.walked names given × (after ≡ before)
+abbrev pub Tries : (before : SteppedState) → (names : List (List ℕ)) → LabReply → (after : SteppedState) → Type 0
+Tries before names (Refused given) after = MayNotTake before.loaded names given × (after ≡ before)
 Tries before names (Json v) after = ⊥
 Tries before names (Line line) after =
     ((instant : Instant) × IsInstantTold before names instant line.items) × (after ≡ before)
@@ -126,14 +126,14 @@ Tries before names (Line line) after =
 -- ---- the way back
 
 -- the module stands where it stood after so many instants, and what came later is gone
-pub record IsBack (before : Standing) (to : ℕ) (line : List ℕ) (after : Standing) : Type 0 where
+pub record IsBack (before : SteppedState) (to : ℕ) (line : List ℕ) (after : SteppedState) : Type 0 where
   pub state : State
   pub there : slice_get before.states to ≡ Some state
   pub is : after ≡ standing_at before (take (to + 1) before.states)
   pub said : line ≡ compact_text (back_json state) ++ 10 ∷ []
 
 -- the same, or there were not so many
-abbrev pub GoesBack : (before : Standing) → (to : ℕ) → LabReply → (after : Standing) → Type 0
+abbrev pub GoesBack : (before : SteppedState) → (to : ℕ) → LabReply → (after : SteppedState) → Type 0
 GoesBack before to (Refused given) after =
     (given ≡ refusal.Module of_module.NoInstant) × (length before.states ≤ to) × (after ≡ before)
 GoesBack before to (Json v) after = ⊥
@@ -142,23 +142,23 @@ GoesBack before to (Line line) after = IsBack before to line.items after
 -- ---- where nothing may be loaded
 
 -- nothing is loaded, and that is told
-abbrev pub IsEmpty : LabReply → (after : Option Standing) → Type 0
+abbrev pub IsEmpty : LabReply → (after : Option SteppedState) → Type 0
 IsEmpty told after = (told ≡ Refused refusal.Empty) × (after ≡ None)
 
 -- the same, or what is done with what is loaded, which is loaded afterwards too
-abbrev pub MakesIf : (before : Option Standing) → (names : List (List ℕ)) → LabReply → (after : Option Standing)
+abbrev pub MakesIf : (before : Option SteppedState) → (names : List (List ℕ)) → LabReply → (after : Option SteppedState)
     → Type 0
 MakesIf None names told after = IsEmpty told after
 MakesIf (Some s) names told None = ⊥
 MakesIf (Some s) names told (Some t) = Makes s names told t
 
-abbrev pub TriesIf : (before : Option Standing) → (names : List (List ℕ)) → LabReply → (after : Option Standing)
+abbrev pub TriesIf : (before : Option SteppedState) → (names : List (List ℕ)) → LabReply → (after : Option SteppedState)
     → Type 0
 TriesIf None names told after = IsEmpty told after
 TriesIf (Some s) names told None = ⊥
 TriesIf (Some s) names told (Some t) = Tries s names told t
 
-abbrev pub GoesBackIf : (before : Option Standing) → (to : ℕ) → LabReply → (after : Option Standing) → Type 0
+abbrev pub GoesBackIf : (before : Option SteppedState) → (to : ℕ) → LabReply → (after : Option SteppedState) → Type 0
 GoesBackIf None to told after = IsEmpty told after
 GoesBackIf (Some s) to told None = ⊥
 GoesBackIf (Some s) to told (Some t) = GoesBack s to told t

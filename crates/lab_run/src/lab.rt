@@ -16,7 +16,7 @@ ghost use Rattle.lab_run.specs.Answers.{TellsOfKernel, TellsOfTable, TellsOfTwo}
 ghost use Rattle.wire_lines.specs.Replies.{line_of};
 ghost use Rattle.wire_lines.specs.Requests.{IsValue};
 
-use crate::walk::{SteppedModule, refusal_of};
+use crate::stepped_module::{SteppedModule, refusal_of};
 use access_core::refusal::Refusal;
 use access_core::reply::Reply;
 use est_cover::all_lawful::AllLawful;
@@ -31,7 +31,7 @@ use lab_lines::exploring::judge_module;
 use lab_lines::found_json::names_json;
 use lab_lines::offers::signals_of_names;
 use lab_lines::refusal::{CLAIM_CODE, INTERFACE_CODE};
-use lab_lines::request::{Request, SearchBounds};
+use lab_lines::request::{Request, SearchScope};
 use lab_lines::statements::kernel_json;
 use lab_lines::table_json::find_table;
 use reactor_core::kernel_module::Module;
@@ -153,20 +153,20 @@ fn explore_claims(
     alloc: Global,
     loaded: &Module,
     claims: &[&str],
-    bounds: &SearchBounds<'_>,
+    scope: &SearchScope<'_>,
 ) -> Result<LabReply, AllocError>
-    ensures { IfOk result (TellsOfClaims loaded.now (map (λ t. t.now) claims.now) bounds.now) }
+    ensures { IfOk result (TellsOfClaims loaded.now (map (λ t. t.now) claims.now) scope.now) }
 {
-    let allowed = match signals_of_names(loaded.kernel.interface(), bounds.inputs.as_slice()) {
+    let allowed = match signals_of_names(loaded.kernel.interface(), scope.inputs.as_slice()) {
         Ok(allowed) => allowed,
         Err(refused) => return Ok(LabReply::Refused(refusal_of(refused))),
     };
-    let value = explore_among(alloc, loaded, claims, allowed, limits(bounds.most))?;
+    let value = explore_among(alloc, loaded, claims, allowed, limits(scope.most))?;
     Ok(LabReply::Json(value))
 }
 
 /// Compares two modules of one interface, which are offered these inputs alone.
-fn compare_both(
+fn compare_among(
     alloc: Global,
     one: &Module,
     other: &Module,
@@ -204,7 +204,7 @@ fn other_interface(alloc: Global, loaded: &Module, other: &Module) -> Result<Val
 }
 
 /// Compares a module with another, which are offered these inputs alone.
-fn compare_modules_of(
+fn compare_if_alike(
     alloc: Global,
     loaded: &Module,
     other: &Module,
@@ -215,23 +215,23 @@ fn compare_modules_of(
         (view v)) }
 {
     if are_same(other.kernel.interface(), loaded.kernel.interface()) {
-        compare_both(alloc, loaded, other, allowed, limits)
+        compare_among(alloc, loaded, other, allowed, limits)
     } else {
         other_interface(alloc, loaded, other)
     }
 }
 
 /// Compares a module with that of a text.
-fn compare_text(
+fn compare_with_text(
     alloc: Global,
     loaded: &Module,
     main: &str,
     text: &str,
-    bounds: &SearchBounds<'_>,
+    scope: &SearchScope<'_>,
 ) -> Result<LabReply, AllocError>
-    ensures { IfOk result (TellsOfBoth loaded.now main.now text.now bounds.now) }
+    ensures { IfOk result (TellsOfBoth loaded.now main.now text.now scope.now) }
 {
-    let allowed = match signals_of_names(loaded.kernel.interface(), bounds.inputs.as_slice()) {
+    let allowed = match signals_of_names(loaded.kernel.interface(), scope.inputs.as_slice()) {
         Ok(allowed) => allowed,
         Err(refused) => return Ok(LabReply::Refused(refusal_of(refused))),
     };
@@ -239,7 +239,7 @@ fn compare_text(
         Ok(other) => other,
         Err(refusal) => return Ok(LabReply::Refused(Refusal::from(refusal))),
     };
-    let value = compare_modules_of(alloc, loaded, &other, allowed, limits(bounds.most))?;
+    let value = compare_if_alike(alloc, loaded, &other, allowed, limits(scope.most))?;
     Ok(LabReply::Json(value))
 }
 
@@ -267,18 +267,14 @@ fn table_among(
 }
 
 /// The table of a module.
-fn table_of(
-    alloc: Global,
-    loaded: &Module,
-    bounds: &SearchBounds<'_>,
-) -> Result<LabReply, AllocError>
-    ensures { IfOk result (TellsOfTable loaded.now bounds.now) }
+fn table_of(alloc: Global, loaded: &Module, scope: &SearchScope<'_>) -> Result<LabReply, AllocError>
+    ensures { IfOk result (TellsOfTable loaded.now scope.now) }
 {
-    let allowed = match signals_of_names(loaded.kernel.interface(), bounds.inputs.as_slice()) {
+    let allowed = match signals_of_names(loaded.kernel.interface(), scope.inputs.as_slice()) {
         Ok(allowed) => allowed,
         Err(refused) => return Ok(LabReply::Refused(refusal_of(refused))),
     };
-    let value = table_among(alloc, loaded, allowed, limits(bounds.most))?;
+    let value = table_among(alloc, loaded, allowed, limits(scope.most))?;
     Ok(LabReply::Json(value))
 }
 
@@ -327,7 +323,7 @@ impl Lab {
         ensures { IfOk result (TellsIf self.now.stepped TellsOfKernel) }
     {
         match &self.stepped {
-            Some(walk) => kernel_of(alloc, walk.module()),
+            Some(stepped) => kernel_of(alloc, stepped.module()),
             None => Ok(LabReply::Refused(Refusal::Empty)),
         }
     }
@@ -337,13 +333,13 @@ impl Lab {
         &self,
         alloc: Global,
         claims: &[&str],
-        bounds: &SearchBounds<'_>,
+        scope: &SearchScope<'_>,
     ) -> Result<LabReply, AllocError>
         ensures { IfOk result (TellsIf self.now.stepped (λ m. TellsOfClaims m
-            (map (λ t. t.now) claims.now) bounds.now)) }
+            (map (λ t. t.now) claims.now) scope.now)) }
     {
         match &self.stepped {
-            Some(walk) => explore_claims(alloc, walk.module(), claims, bounds),
+            Some(stepped) => explore_claims(alloc, stepped.module(), claims, scope),
             None => Ok(LabReply::Refused(Refusal::Empty)),
         }
     }
@@ -354,23 +350,23 @@ impl Lab {
         alloc: Global,
         main: &str,
         text: &str,
-        bounds: &SearchBounds<'_>,
+        scope: &SearchScope<'_>,
     ) -> Result<LabReply, AllocError>
         ensures { IfOk result (TellsIf self.now.stepped (λ m. TellsOfBoth m main.now text.now
-            bounds.now)) }
+            scope.now)) }
     {
         match &self.stepped {
-            Some(walk) => compare_text(alloc, walk.module(), main, text, bounds),
+            Some(stepped) => compare_with_text(alloc, stepped.module(), main, text, scope),
             None => Ok(LabReply::Refused(Refusal::Empty)),
         }
     }
 
     /// Tells the table of the module that is loaded.
-    fn tabulate(&self, alloc: Global, bounds: &SearchBounds<'_>) -> Result<LabReply, AllocError>
-        ensures { IfOk result (TellsIf self.now.stepped (λ m. TellsOfTable m bounds.now)) }
+    fn tabulate(&self, alloc: Global, scope: &SearchScope<'_>) -> Result<LabReply, AllocError>
+        ensures { IfOk result (TellsIf self.now.stepped (λ m. TellsOfTable m scope.now)) }
     {
         match &self.stepped {
-            Some(walk) => table_of(alloc, walk.module(), bounds),
+            Some(stepped) => table_of(alloc, stepped.module(), scope),
             None => Ok(LabReply::Refused(Refusal::Empty)),
         }
     }
@@ -382,8 +378,8 @@ impl Lab {
         ensures kept { IfErr result (λ _. self.new ≡ self.old) }
     {
         match &mut self.stepped {
-            Some(walk) => {
-                let told = walk.make(alloc, names)?;
+            Some(stepped) => {
+                let told = stepped.make(alloc, names)?;
                 Ok(told)
             }
             None => Ok(LabReply::Refused(Refusal::Empty)),
@@ -397,8 +393,8 @@ impl Lab {
         ensures kept { IfErr result (λ _. self.new ≡ self.old) }
     {
         match &mut self.stepped {
-            Some(walk) => {
-                let told = walk.try_instant(alloc, names)?;
+            Some(stepped) => {
+                let told = stepped.try_instant(alloc, names)?;
                 Ok(told)
             }
             None => Ok(LabReply::Refused(Refusal::Empty)),
@@ -411,8 +407,8 @@ impl Lab {
         ensures kept { IfErr result (λ _. self.new ≡ self.old) }
     {
         match &mut self.stepped {
-            Some(walk) => {
-                let told = walk.go_back(alloc, to)?;
+            Some(stepped) => {
+                let told = stepped.go_back(alloc, to)?;
                 Ok(told)
             }
             None => Ok(LabReply::Refused(Refusal::Empty)),
@@ -428,9 +424,9 @@ impl Lab {
         match request {
             Request::Load { main, text } => self.load(alloc, *main, *text),
             Request::Kernel => self.tell_kernel(alloc),
-            Request::Explore { claims, bounds } => self.explore(alloc, claims.as_slice(), bounds),
-            Request::Same { main, text, bounds } => self.compare(alloc, *main, *text, bounds),
-            Request::Table(bounds) => self.tabulate(alloc, bounds),
+            Request::Explore { claims, scope } => self.explore(alloc, claims.as_slice(), scope),
+            Request::Same { main, text, scope } => self.compare(alloc, *main, *text, scope),
+            Request::Table(scope) => self.tabulate(alloc, scope),
             Request::Instant(names) => self.make_instant(alloc, names.as_slice()),
             Request::Try(names) => self.try_instant(alloc, names.as_slice()),
             Request::Back(to) => self.go_back(alloc, *to),

@@ -11,7 +11,7 @@ use crate::answer::{LineAnswerer, line_of};
 use crate::invocation::{Invocation, ProveOptions, WordFault};
 use crate::lab::{Lab, LabReply, explore_among, limits};
 use crate::status::{FAILS, UNKNOWN, UNREAD, status_of};
-use crate::walk::refusal_of;
+use crate::stepped_module::refusal_of;
 use access_core::refusal::Refusal;
 use est_kernel::interface::Interface;
 use est_relations::refusal::PendingRefusal;

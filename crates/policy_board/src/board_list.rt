@@ -269,7 +269,7 @@ impl<B: BoardName> Front<B> {
     }
 
     /// For the proof: a front that is no longer than another is a beginning of it.
-    pub(crate) fn compare(&self, other: &Front<B>)
+    pub(crate) fn assert_begins(&self, other: &Front<B>)
         requires { length self.now ≤ length other.now }
         ensures { Begins self.now other.now }
     {
@@ -280,10 +280,10 @@ impl<B: BoardName> Front<B> {
 
     /// Whether the list has no more entries than were seen. Then the other front begins this one.
     /// It waits for nobody.
-    pub(crate) fn is_whole(&self, head: &Head<B>, other: &Front<B>) -> bool
+    pub(crate) fn is_all_published(&self, head: &Head<B>, other: &Front<B>) -> bool
         ensures { IsTrue result → Begins other.now self.now }
     {
-        is_whole(&self.trace, &head.head, &other.trace)
+        is_all_published(&self.trace, &head.head, &other.trace)
     }
 
     /// Adds an entry if the list is as long as was seen. Otherwise it answers no, and the front
@@ -320,7 +320,7 @@ fn begins(one: &Trace, other: &Trace) -> bool
 
 /// Looks how long the list is. Both traces begin it. Where it has as many entries as `one`, that
 /// trace is all of it.
-fn is_whole(one: &Trace, head: &Word<Entry, u64, GrowthRule>, other: &Trace) -> bool
+fn is_all_published(one: &Trace, head: &Word<Entry, u64, GrowthRule>, other: &Trace) -> bool
     requires head { head.now ≡ head_of one.now.book }
     requires book { other.now.book ≡ one.now.book }
     ensures { IsTrue result → Begins other.now.list one.now.list }

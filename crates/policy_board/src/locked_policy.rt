@@ -171,7 +171,7 @@ impl<B: BoardName> LockedPolicy<B> {
         ensures seat { SeatAfter seat.old result self.new seat.new }
     {
         let publisher = self.publisher.as_ref().unwrap();
-        publisher.wait_whole(rt, seat.known());
+        publisher.confirm_all_published(rt, seat.known());
         seat.note_known(&publisher.front());
         let answer = self.decide_and_append(rt, seat, session, command);
         if let Ok(acceptance) = &answer {

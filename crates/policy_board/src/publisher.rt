@@ -148,12 +148,12 @@ impl<B: BoardName> Publisher<B> {
     /// Checks that nothing is unpublished: then what `known` has seen is a beginning of the
     /// published list. That is always so at the first look, since each entry is published as soon
     /// as it is added, and no other thread adds any. The check is there for the proof.
-    pub fn wait_whole<R: Wait>(&self, rt: &R, known: &Front<B>)
+    pub fn confirm_all_published<R: Wait>(&self, rt: &R, known: &Front<B>)
         ensures { Begins known.now self.now }
     {
         let front = self.front();
         for _ in rt.forever() {
-            if front.is_whole(&self.head, known) {
+            if front.is_all_published(&self.head, known) {
                 return;
             }
         }

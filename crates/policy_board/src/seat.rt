@@ -113,7 +113,7 @@ fn read_newer<B: BoardName>(
         let refusal = BoardRefusal::Behind { found, seen: *seen };
         return Err((refusal, reading.leave()));
     }
-    known.compare(&front);
+    known.assert_begins(&front);
     *known = front;
     *seen = found;
     Ok(reading)
@@ -195,7 +195,7 @@ impl<B: BoardName> Seat<B> {
         ensures seat { self.new ≡ seat_after self.old list.now }
     {
         let version = list.version();
-        self.known.compare(list);
+        self.known.assert_begins(list);
         self.known = list.again();
         self.seen = version;
     }

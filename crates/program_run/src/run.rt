@@ -10,7 +10,7 @@ use crate::fault::{Fault, outcome, tell};
 use crate::reports::write_report;
 use crate::server::serve as serve_socket;
 use access_core::single::Single;
-use client_loop::connections::log_out_left;
+use client_loop::connections::finish_logout;
 use client_loop::serving::{End, serve};
 use log::sink::Writer;
 use log::{Level, Logged, info};
@@ -77,7 +77,7 @@ fn script<R: Wait, I: Read, O: Write, E: Write>(
         return Err(Fault::Memory);
     };
     let End { why, left } = serve(memory, input, output, &mut desk);
-    log_out_left(rt, &mut desk, left);
+    finish_logout(rt, &mut desk, left);
     if log {
         log_end(errors, why);
     }

@@ -4,7 +4,7 @@
 //!
 //! `names`, `objects` and `commands` are plain data of fixed size, and `texts` reads and writes
 //! them. `policy` takes entries into the tables, without memory; `tables` has the steps on single
-//! tables. `readers` answers what has to be asked of a policy before a policy command is accepted,
+//! tables. `queries` answers what has to be asked of a policy before a policy command is accepted,
 //! and `separation` finds the separation set that is violated first. `journal` is the list of
 //! entries, `opening` its first four, and `laws` is for proofs about lists.
 #![tactic(auto)]

@@ -5,7 +5,7 @@ use lab_mistakes::obeying::{go_back, obey, status_of, try_instant};
 use lab_mistakes::telling::request_of;
 use lab_run::answer::line_of;
 use lab_run::lab::{Lab, LabReply};
-use lab_run::walk::SteppedModule;
+use lab_run::stepped_module::SteppedModule;
 use reactor_core::reading::read_module;
 use serde_json::Value;
 use std::alloc::Global;

@@ -2,7 +2,7 @@
 //! session is left living.
 use crate::protocol::devices::{AMPLE, Calls, Input, Output, STEP};
 use access_core::single::Single;
-use client_loop::connections::log_out_left;
+use client_loop::connections::finish_logout;
 use client_loop::serving::{End, serve};
 use rbac_policy::commands::SessionId;
 use rbac_policy::objects::{Object, Operation};
@@ -59,7 +59,7 @@ fn end_of<R: Abort + Wait>(
     let mut desk = Single::new(memory.allocator()).ok().expect(rt, "a desk");
     let End { why, left } = serve(memory, reader, writer, &mut desk);
     let is_left = left.is_some();
-    log_out_left(rt, &mut desk, left);
+    finish_logout(rt, &mut desk, left);
     assert!(rt; !is_left);
     assert!(rt; !lives(&desk));
     why

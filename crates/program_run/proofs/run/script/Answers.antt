@@ -8,12 +8,12 @@ returns-clause-runs g c = inr (record {
   why = c.serve-why.result.why;
   answers = g.O.Write.contents c.serve-why.new.writer.device;
   one = record {
-    desk = c.log_out_left.new.desk;
+    desk = c.finish_logout.new.desk;
     one = record {
       desk = c.serve-why.new.desk;
       left = session_of c.serve-why.result.left;
       served = rw c.in-Ok.ensures at c.serve-why.ensures.serves;
-      logged_out = c.log_out_left.ensures;
+      logged_out = c.finish_logout.ensures;
     };
   };
   ends = c.finish.ensures.ends;

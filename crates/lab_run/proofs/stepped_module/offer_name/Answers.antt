@@ -1,7 +1,7 @@
 use Rattle.std.proofs.Common.{◌∙◌, List, ℕ, inl, subst, sym}
 use Rattle.est_relations.specs.Offers.{OfferAnswer}
 use Rattle.lab_run.proofs.Walks.{given_name}
-use Rattle.lab_run.proofs.walk.offer_name.Goals as goal
+use Rattle.lab_run.proofs.stepped_module.offer_name.Goals as goal
 
 pub returns-in-Some : goal.returns-in-Some
 returns-in-Some c =

@@ -1,6 +1,6 @@
 use Rattle.std.proofs.lemmas.Result.{err_from_is_err_and}
 use Rattle.lab_run.proofs.Walks.{one_refused, one_taken}
-use Rattle.lab_run.proofs.walk.inputs_of.Goals as goal
+use Rattle.lab_run.proofs.stepped_module.inputs_of.Goals as goal
 
 pub returns-in_err-offer_name : goal.returns-in_err-offer_name
 returns-in_err-offer_name c =

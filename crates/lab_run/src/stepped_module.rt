@@ -30,7 +30,7 @@ use std::marker::Model;
 /// sees these two.
 #[derive(Drop)]
 pub struct SteppedModule {
-    walked: Module,
+    loaded: Module,
     inside: InstantReader,
     states: Vec<State>,
 }
@@ -38,15 +38,15 @@ pub struct SteppedModule {
 impl Model for SteppedModule {
     ghost use Rattle.std.specs.Coded.{codes};
     ghost use Rattle.reactor_core.specs.contracts.kernel_module.Module as held;
-    ghost use Rattle.lab_run.specs.Walking.{AreLoaded, Standing};
+    ghost use Rattle.lab_run.specs.Walking.{AreLoaded, SteppedState};
 
-    ghost Value = { Standing };
+    ghost Value = { SteppedState };
 
     ghost coded = { Prim.hlevel (codes, held.the_row.coded) };
 
-    ghost view = { λ l. record { walked = l.walked; states = l.states.items } };
+    ghost view = { λ l. record { loaded = l.loaded; states = l.states.items } };
 
-    ghost invariant = { λ l. AreLoaded l.walked l.inside l.states.items };
+    ghost invariant = { λ l. AreLoaded l.loaded l.inside l.states.items };
 }
 
 /// Why inputs may not be offered.
@@ -75,12 +75,12 @@ fn offer_name(pending: &mut Pending<'_>, name: &str) -> Result<(), PendingRefusa
 }
 
 /// The inputs of these names, where an instant of the module may take them.
-fn inputs_of(walked: &Module, names: &[&str]) -> Result<u64, PendingRefusal>
-    ensures { MatchResult result (MayTake walked.now (map (λ t. t.now) names.now))
-        (λ refused. AreOffered (pending_of walked.now 0) (map (λ t. t.now) names.now)
+fn inputs_of(loaded: &Module, names: &[&str]) -> Result<u64, PendingRefusal>
+    ensures { MatchResult result (MayTake loaded.now (map (λ t. t.now) names.now))
+        (λ refused. AreOffered (pending_of loaded.now 0) (map (λ t. t.now) names.now)
         (Err refused)) }
 {
-    let mut pending = Pending::new(walked.kernel.interface(), &walked.relations);
+    let mut pending = Pending::new(loaded.kernel.interface(), &loaded.relations);
     for place in 0..names.len() {
         offer_name(&mut pending, name_at(names, place))?;
     }
@@ -101,20 +101,20 @@ fn last_of(states: &[State]) -> State
 fn look_inside(
     alloc: Global,
     inside: &mut InstantReader,
-    walked: &Module,
+    loaded: &Module,
     state: &State,
     signals: u64,
 ) -> Result<(Instant, Vec<u8>), AllocError>
-    requires is_for { IsFor inside.old walked.now.kernel }
-    requires state { IsState walked.now.kernel.root state.now }
-    ensures is_for { IsFor inside.new walked.now.kernel }
-    ensures told { IfOk result (λ told. IsInstantAt walked.now state.now signals told.0
+    requires is_for { IsFor inside.old loaded.now.kernel }
+    requires state { IsState loaded.now.kernel.root state.now }
+    ensures is_for { IsFor inside.new loaded.now.kernel }
+    ensures told { IfOk result (λ told. IsInstantAt loaded.now state.now signals told.0
         told.1.items) }
 {
     let inputs = Inputs { signals };
-    let instant = inside.look(alloc, &walked.kernel, state, &inputs)?;
-    let ties = ties_after(alloc, inside, &walked.kernel, &instant)?;
-    let interface = walked.kernel.interface();
+    let instant = inside.look(alloc, &loaded.kernel, state, &inputs)?;
+    let ties = ties_after(alloc, inside, &loaded.kernel, &instant)?;
+    let interface = loaded.kernel.interface();
     let line = instant_line(alloc, interface, &instant, ties.as_slice())?;
     Ok((instant, line))
 }
@@ -136,13 +136,13 @@ fn advance(states: &mut Vec<State>, instant: &Instant) -> Result<(), AllocError>
 
 impl SteppedModule {
     /// A module at its start.
-    pub fn begin(alloc: Global, walked: Module) -> Result<SteppedModule, AllocError>
-        ensures { IfOk result (λ begun. begun ≡ at_start walked) }
+    pub fn begin(alloc: Global, loaded: Module) -> Result<SteppedModule, AllocError>
+        ensures { IfOk result (λ begun. begun ≡ at_start loaded) }
     {
-        let inside = InstantReader::new(alloc, &walked.kernel)?;
+        let inside = InstantReader::new(alloc, &loaded.kernel)?;
         let states = vec![in alloc; State::Fresh]?;
         Ok(SteppedModule {
-            walked,
+            loaded,
             inside,
             states,
         })
@@ -150,9 +150,9 @@ impl SteppedModule {
 
     /// The module.
     pub fn module(&self) -> &Module
-        ensures { result.now ≡ self.now.walked }
+        ensures { result.now ≡ self.now.loaded }
     {
-        &self.walked
+        &self.loaded
     }
 
     /// Its next instant from inside, with these inputs, and the line that tells it.
@@ -161,7 +161,7 @@ impl SteppedModule {
         ensures kept { self.new ≡ self.old }
     {
         let state = last_of(self.states.as_slice());
-        look_inside(alloc, &mut self.inside, &self.walked, &state, signals)
+        look_inside(alloc, &mut self.inside, &self.loaded, &state, signals)
     }
 
     /// Makes the next instant, with the inputs of these names.
@@ -170,7 +170,7 @@ impl SteppedModule {
             self.new) }
         ensures kept { IfErr result (λ _. self.new ≡ self.old) }
     {
-        let signals = match inputs_of(&self.walked, names) {
+        let signals = match inputs_of(&self.loaded, names) {
             Ok(signals) => signals,
             Err(refused) => return Ok(LabReply::Refused(refusal_of(refused))),
         };
@@ -185,7 +185,7 @@ impl SteppedModule {
             self.new) }
         ensures kept { IfErr result (λ _. self.new ≡ self.old) }
     {
-        let signals = match inputs_of(&self.walked, names) {
+        let signals = match inputs_of(&self.loaded, names) {
             Ok(signals) => signals,
             Err(refused) => return Ok(LabReply::Refused(refusal_of(refused))),
         };

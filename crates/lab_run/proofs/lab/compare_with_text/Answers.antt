@@ -1,11 +1,11 @@
 use Rattle.std.proofs.Common.{map, rules}
 use Rattle.lab_lines.specs.Offers.{AreNamed}
-use Rattle.lab_run.proofs.lab.compare_text.Goals as goal
+use Rattle.lab_run.proofs.lab.compare_with_text.Goals as goal
 
 pub returns : goal.returns
 returns c =
     let named
-    : AreNamed c.args.loaded.now.kernel.interface (map (λ t. t.now) c.args.bounds.now.inputs.items) c.in-Ok.allowed =
+    : AreNamed c.args.loaded.now.kernel.interface (map (λ t. t.now) c.args.scope.now.inputs.items) c.in-Ok.allowed =
     search rules in
     record {
       other = c.in-Ok-read_module.other;
