@@ -12,7 +12,7 @@ returns-in-Ok c =
       (
         state_term parts.loaded.kernel.root c.in-Ok.outcome.next,
         outcome c.reactor.invariant.running c.in-Ok.outcome.outputs c.in-Ok.outcome.next
-        (record { fits = ok.next; reacts = ok.reacts }),
+            (record { fits = ok.next; reacts = ok.reacts }),
       ),
     )
 
