@@ -1,22 +1,16 @@
-use Rattle.std.proofs.Common.{◌≡◌, ◌∙◌, List, ℕ, Option, Some, None, Result, Ok, Err, IfOk, IfSome, IsUtf8, sym, ap}
+use Rattle.std.proofs.Common.{◌≡◌, Some, subst}
 use Rattle.json.specs.Lex.{tokens}
-use Rattle.wire_lines.specs.Requests.{IsRequest}
 use Rattle.wire_lines.specs.Inner.Commands.{request_at}
-use Rattle.wire_lines.specs.declared.request.Request.{Request}
 use Rattle.wire_lines.proofs.CommandLemmas.{read_is}
 use Rattle.wire_lines.proofs.reading.RequestReader.read.Goals as goal
 
--- what was read of the line, if anything was, is its request
-asked : {E : Type 0} (line text : List ℕ) (found : Result (Option Request) E) → text ≡ line → IsUtf8 line
-    → IfOk found (λ request. request ≡ request_at (tokens text))
-    → IfOk found (λ request. IfSome request (IsRequest line))
-asked line text (Err e) same utf8 h = tt
-asked line text (Ok None) same utf8 h = tt
-asked line text (Ok (Some request)) same utf8 h =
-    let p = read_is line request (ap (λ (s : List ℕ). request_at (tokens s)) (sym same) ∙ sym h) in
-    record { value = record { text = utf8; reads = p.0 }; fits = p.1 }
-
-pub returns-in-Ok : goal.returns-in-Ok
-returns-in-Ok c =
+pub returns-in-Ok-Some : goal.returns-in-Ok-Some
+returns-in-Ok-Some c =
     let cases = c.in-Ok.ensures.cases in
-    asked c.args.line.now c.in-Ok.text.now c.request_at.result cases.0 cases.1 c.request_at.ensures
+    let text = c.in-Ok.text.now in
+    let found = c.in-Ok-Some.ensures in
+    let some = c.in-Ok-Some.field-0-is in
+    let is : request_at (tokens text) ≡ Some c.in-Ok-Some.request = cc in
+    let p = read_is c.args.line.now c.in-Ok-Some.request
+    (subst (λ s. request_at (tokens s) ≡ Some c.in-Ok-Some.request) cases.0 is) in
+    record { value = record { text = cases.1; reads = p.0 }; fits = p.1 }
