@@ -31,10 +31,10 @@ use Rattle.access_core.specs.Answering.{IsRefused}
 use Rattle.access_core.specs.Refusals.{of_reactor}
 use Rattle.access_core.specs.Shown.{Observes, name_at, status_at, names_of, shown_of}
 use Rattle.access_core.specs.SlotStep.{SlotStep, slot_rules, Does, Loads, Offers, Steps, Looks, NamesUndecided}
-use Rattle.access_core.specs.SlotStep.{stamp_of, no_reaction, implied, tells_added}
+use Rattle.access_core.specs.SlotStep.{stamp_of, no_reaction, implied_refusal, tells_added}
 use Rattle.reactor_core.specs.Instants.{not_ready}
 use Rattle.access_core.proofs.OneNaming.{one_excluded, one_lacking, one_undecided, same_mask, same_sight, same_kept}
-use Rattle.access_core.proofs.Settling.{IsSettled, AllSettled, settled_unless, settled_says, settled_apart}
+use Rattle.access_core.proofs.Settling.{IsDefiniteApart, AllDefiniteApart, settled_unless, settled_says, settled_apart}
 use Rattle.access_core.proofs.Settling.{settled_converted, both_answers}
 
 -- a text and a name have one first fault at most, and none where they give a module, except that memory may be refused
@@ -134,7 +134,7 @@ offer_by_rules stamp signal before reply after h = by_answer h.answer h.given.ru
 module _ (modules : OneModule) (one_load : OneLoad) (entries : List Entry) (slot session : ℕ)
     (before : List SlotEntry) where
   -- the rules of a load, of an offer, and of a step are settled
-  load_settled : (main text : List ℕ) → AllSettled IsReactorWant (load_rules before main text)
+  load_settled : (main text : List ℕ) → AllDefiniteApart IsReactorWant (load_rules before main text)
   load_settled main text = (
     record {
       exclusive = λ refusal here fault given. here (one_load.never_both main text given.0 refusal given.1 fault);
@@ -145,7 +145,7 @@ module _ (modules : OneModule) (one_load : OneLoad) (entries : List Entry) (slot
     (settled_unless, (settled_apart, record {})),
   )
 
-  offer_settled : (r : Running) (signal : List ℕ) → AllSettled IsReactorWant (reactor_offer_rules before r signal)
+  offer_settled : (r : Running) (signal : List ℕ) → AllDefiniteApart IsReactorWant (reactor_offer_rules before r signal)
   offer_settled r signal = (
     settled_converted unless,
     (
@@ -166,12 +166,12 @@ module _ (modules : OneModule) (one_load : OneLoad) (entries : List Entry) (slot
         let same = one_excluded (pending_of r) signal one.0 other.0 one.1 other.1 x y in
         ap (λ (n : ℕ). (n, one.1)) same.0 ∙ ap (λ (name : List ℕ). (other.0, name)) same.1
 
-  lacking_settled : IsSettled IsWant (not_ready implied before)
+  lacking_settled : IsDefiniteApart IsWant (not_ready implied_refusal before)
   lacking_settled = record {
     exclusive = λ refusal _ lacks keeps. ready_or_lacking modules before lacks.0 lacks.1 lacks.3 keeps;
     one = λ a b _ _ x y.
         let same = one_lacking modules before x.0 y.0 x.1 y.1 x.3 y.3 in
-        x.2 ∙ ap (λ n. implied n x.1) same.0 ∙ ap (λ name. implied y.0 name) same.1 ∙ sym y.2;
+        x.2 ∙ ap (λ n. implied_refusal n x.1) same.0 ∙ ap (λ name. implied_refusal y.0 name) same.1 ∙ sym y.2;
   }
 
   -- the names of the undecided outputs that the session sees
@@ -198,14 +198,14 @@ module _ (modules : OneModule) (one_load : OneLoad) (entries : List Entry) (slot
       ∙ ap (λ (r : Running). Stuck (names_of r.interface y.sees y.undecided)) runs
       ∙ sym y.named
 
-  reaction_settled : IsSettled IsWant (no_reaction entries slot session before)
+  reaction_settled : IsDefiniteApart IsWant (no_reaction entries slot session before)
   reaction_settled = record {
     exclusive = λ refusal _ stuck reacts. not_both modules before reacts.0 reacts.1 stuck.undecided reacts.2 stuck.none;
     one = λ a b _ _ x y. same_undecided a b x y;
   }
 
   -- the rules of each command are settled
-  slot_settled : (command : SlotCommand) → AllSettled IsWant (slot_rules entries slot session command before)
+  slot_settled : (command : SlotCommand) → AllDefiniteApart IsWant (slot_rules entries slot session command before)
   slot_settled (Move (Load l)) = (settled_unless, (settled_unless, (settled_says, record {})))
   slot_settled (Move (Offer signal)) = (settled_unless, (settled_unless, (settled_unless, record {})))
   slot_settled (Move Discard) =

@@ -28,7 +28,7 @@ use Rattle.access_core.specs.declared.reply.Reply.TheVariants.{Refused}
 use Rattle.access_core.specs.Refusals.{of_reactor}
 use Rattle.access_core.specs.Answering.{ByRules, no_memory}
 use Rattle.access_core.specs.SlotStep.{SlotStep, no_permission, empty, NamesUndecided, no_reaction, journal_full}
-use Rattle.access_core.specs.SlotStep.{settle_rules, step_rules, implied, Steps, stamp_of, tells_added}
+use Rattle.access_core.specs.SlotStep.{settle_rules, step_rules, implied_refusal, Steps, stamp_of, tells_added}
 use Rattle.access_core.specs.StuckSteps.{ReachesReactor, IsStuckExactly}
 use Rattle.est_relations.proofs.OffersKeep.{no_fault}
 

@@ -2,7 +2,7 @@
 use Rattle.std.specs.Prelude.{◌≡◌, ℕ, ◌+◌, ◌<◌, List, [], ◌∷◌, ◌++◌, Option, Some, None, length, take, map, slice_get}
 use Rattle.std.specs.Prelude.{slice_set}
 use Rattle.std.specs.List.{range_with_len}
-use Rattle.refusal_rules.specs.Rules.{Rule, Unless, accept, ◌▸◌}
+use Rattle.refusal_rules.specs.Rules.{Rule, RefuseUnless, accept, ◌▸◌}
 use Rattle.rbac_policy.specs.declared.commands.AdminCommand.{AdminCommand}
 use Rattle.rbac_policy.specs.declared.commands.AdminCommand.TheVariants.{AddUser, DeleteUser, AddRole, DeleteRole}
 use Rattle.rbac_policy.specs.declared.commands.AdminCommand.TheVariants.{AssignUser, DeassignUser, GrantPermission}
@@ -101,7 +101,7 @@ AdminStep session command before reply after =
 
 -- refuses where there is no slot of this number
 abbrev pub no_slot : ℕ → Rule Refusal
-no_slot number = Unless (number < SLOTS) NoSlot
+no_slot number = RefuseUnless (number < SLOTS) NoSlot
 
 -- the slot of this number answers by the slot step, and nothing but its journal is changed
 pub record InSlot (number session : ℕ) (command : SlotCommand) (before : DeskState) (reply : Reply)

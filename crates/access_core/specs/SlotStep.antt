@@ -2,7 +2,7 @@
 -- afterwards (this project's own form).
 use Rattle.std.specs.Prelude.{◌≡◌, ℕ, Bool, true, List, [], ◌∷◌, ◌++◌, Option, Some, None, Result, MatchResult, length}
 use Rattle.std.specs.Prelude.{if◌then◌else◌}
-use Rattle.refusal_rules.specs.Rules.{Rule, Rules, Says, Unless, AllPass, FirstRefuses, accept, ◌▸◌, ◌▸▸◌}
+use Rattle.refusal_rules.specs.Rules.{Rule, Rules, RefuseIf, RefuseUnless, AllPass, FirstRefuses, accept, ◌▸◌, ◌▸▸◌}
 use Rattle.est_kernel.specs.Term.{Term}
 use Rattle.est_relations.specs.declared.refusal.PendingRefusal.TheVariants.{Implied}
 use Rattle.rbac_policy.specs.declared.commands.Entry.{Entry}
@@ -37,28 +37,28 @@ use Rattle.access_core.specs.Shown.{Observes, shown_of, names_of}
 
 -- refuses a session that doesn't live
 abbrev pub no_session : List Entry → (session : ℕ) → Rule Refusal
-no_session entries session = Unless (IsLive entries session) (Policy policy.NoSession)
+no_session entries session = RefuseUnless (IsLive entries session) (Policy policy.NoSession)
 
 -- refuses a session that may not do the operation on the object
 abbrev pub no_permission : List Entry → (session : ℕ) → Operation → Object → Rule Refusal
-no_permission entries session operation object = Unless (May entries session operation object)
+no_permission entries session operation object = RefuseUnless (May entries session operation object)
     (Policy (policy.Permission operation object))
 
 -- refuses where a module runs in the slot
 abbrev pub occupied : List SlotEntry → Rule Refusal
-occupied journal = Says Occupied (is_loaded journal ≡ true)
+occupied journal = RefuseIf Occupied (is_loaded journal ≡ true)
 
 -- refuses where no module runs in the slot
 abbrev pub empty : List SlotEntry → Rule Refusal
-empty journal = Unless (is_loaded journal ≡ true) Empty
+empty journal = RefuseUnless (is_loaded journal ≡ true) Empty
 
 -- refuses where the module that runs had no instant of this number since its load
 abbrev pub no_instant : List SlotEntry → (n : ℕ) → Rule Refusal
-no_instant journal n = Says (Module NoInstant) (HasNoInstant journal n)
+no_instant journal n = RefuseIf (Module NoInstant) (HasNoInstant journal n)
 
 -- the refusal of a step whose pending inputs lack one that a relation implies
-abbrev pub implied : (relation : ℕ) → (missing : List ℕ) → Refusal
-implied relation missing = Module (Pending (Implied relation missing))
+abbrev pub implied_refusal : (relation : ℕ) → (missing : List ℕ) → Refusal
+implied_refusal relation missing = Module (Pending (Implied relation missing))
 
 -- what an entry bears: the version at which its command was judged, and the session that gave the command
 abbrev pub stamp_of : List Entry → (session : ℕ) → Stamp
@@ -120,7 +120,7 @@ no_reaction entries slot session journal = record {
 
 -- refuses where the journal has as many entries as it may have
 abbrev pub journal_full : List SlotEntry → Rule Refusal
-journal_full journal = Unless (HasRoom journal) JournalFull
+journal_full journal = RefuseUnless (HasRoom journal) JournalFull
 
 -- the instant of the outcome is added with its entry, and the reply tells its number
 pub record Steps (stamp : Stamp) (before : List SlotEntry) (reply : Reply) (after : List SlotEntry) : Type 0 where
@@ -179,7 +179,7 @@ settle_rules entries slot session journal = no_memory ▸ no_reaction entries sl
 
 -- the rules of a step where a module runs: its relations hold of the pending inputs, and then those of the instant
 abbrev pub step_rules : List Entry → (slot session : ℕ) → List SlotEntry → Rules Refusal
-step_rules entries slot session journal = not_ready implied journal ▸ settle_rules entries slot session journal
+step_rules entries slot session journal = not_ready implied_refusal journal ▸ settle_rules entries slot session journal
 
 -- the rules of what the command asks of the slot
 abbrev pub journal_rules : List Entry → (slot session : ℕ) → SlotCommand → List SlotEntry → Rules Refusal

@@ -10,6 +10,7 @@
 //! may not observe. A `Refusal` has a number, a name and what decided it.
 #![tactic(auto)]
 
+pub mod admission;
 pub mod command;
 pub mod laws;
 pub mod refusal;

@@ -1,6 +1,6 @@
 //! Replies, and the lists of signals that they and refusals carry.
 ghost use Rattle.std.specs.Prelude.{◌≡◌, ◌++◌, ◌∷◌, [], IfOk, OnErr};
-ghost use Rattle.access_core.specs.Replies.{word_of};
+ghost use Rattle.access_core.specs.Replies.{word_text};
 
 use crate::refusal::Refusal;
 use est_text::identifier::Identifier;
@@ -122,8 +122,8 @@ pub enum PolicyWord {
 
 impl PolicyWord {
     /// The word by which a line asks for the command, and by which its reply names it.
-    pub fn word(&self) -> &'static str
-        ensures { result.now ≡ word_of self.now }
+    pub fn text(&self) -> &'static str
+        ensures { result.now ≡ word_text self.now }
     {
         match self {
             PolicyWord::AddUser => "adduser",

@@ -2,26 +2,25 @@
 ghost use Rattle.std.specs.Prelude.{◌≡◌, ◌⊎◌, ℕ, List, true, false, MatchOption};
 ghost use Rattle.rbac_policy.specs.declared.commands.Entry.{Entry};
 ghost use Rattle.rbac_policy.specs.StandsFor.{StandsFor};
-ghost use Rattle.refusal_rules.specs.Rules.{accept, ◌▸◌, TestsAll};
+ghost use Rattle.refusal_rules.specs.Rules.{accept, ◌▸◌};
 ghost use Rattle.access_core.specs.Answering.{ByRules, no_memory};
-ghost use Rattle.access_core.specs.SlotStep.{SlotStep, access_rules, IsAdmitted, no_instant};
+ghost use Rattle.access_core.specs.SlotStep.{SlotStep, IsAdmitted, no_instant};
 ghost use Rattle.access_core.specs.SlotStep.{NamesUndecided, step_rules, slot_entry_rules};
 ghost use Rattle.access_core.specs.SlotStep.{stamp_of, Offers, AddsEntry, Steps};
 ghost use Rattle.access_core.specs.SlotStep.{Looks, Audits, Loads, tells_added};
 ghost use Rattle.reactor_core.specs.Meaning.{is_loaded};
 ghost use Rattle.reactor_core.specs.Instants.{HasNoOutcome};
-ghost use Rattle.access_core.specs.Needs.{permission_of};
 ghost use Rattle.access_core.specs.Holding.{journal_of, IsHeldRight};
 
+use crate::admission::{admit_command, permission_of, stamp};
 use crate::command::SlotCommand;
 use crate::refusal::Refusal;
 use crate::reply::{Added, Reply};
 use crate::shown::{find_observed, keep_observed, list_names, list_statuses};
 use est_kernel::state::Stuck;
 use est_text::identifier::Identifier;
-use rbac_admin::refusal::PolicyRefusal;
 use rbac_policy::commands::SessionId;
-use rbac_policy::objects::{Object, Operation, SlotNumber};
+use rbac_policy::objects::SlotNumber;
 use rbac_policy::policy::Policy;
 use reactor_core::entry::{Load, Move, SlotWord, Stamp};
 use reactor_core::journal::Journal;
@@ -62,17 +61,6 @@ impl Model for Slot {
     ghost view = { λ s. record { number = s.number; journal = journal_of s.content } };
 
     ghost invariant = { λ s. IsHeldRight s.content };
-}
-
-/// The version and the session that an entry bears.
-fn stamp(policy: &Policy, session: SessionId) -> Stamp
-    ensures { (entries : List Entry) → StandsFor policy.now entries
-        → result ≡ stamp_of entries session }
-{
-    Stamp {
-        version: policy.version(),
-        session: session.number(),
-    }
 }
 
 /// What the session is shown of an instant of the reactor.
@@ -435,61 +423,6 @@ impl Slot {
             ),
         }
     }
-}
-
-/// The permission that a command on the slot needs; a look needs none.
-fn permission_of(slot: SlotNumber, command: &SlotCommand) -> Option<(Operation, Object)>
-    ensures { result ≡ permission_of slot command.now }
-{
-    match command {
-        SlotCommand::Move(Move::Load(_)) => Some((Operation::Load, Object::Slot(slot))),
-        SlotCommand::Move(Move::Offer(signal)) => {
-            Some((Operation::Offer, Object::Signal(slot, *signal)))
-        }
-        SlotCommand::Move(Move::Discard) => Some((Operation::Step, Object::Slot(slot))),
-        SlotCommand::Move(Move::Step(())) => Some((Operation::Step, Object::Slot(slot))),
-        SlotCommand::Move(Move::Unload) => Some((Operation::Load, Object::Slot(slot))),
-        SlotCommand::Look { .. } => None,
-        SlotCommand::Audit => Some((Operation::Audit, Object::Policy)),
-    }
-}
-
-/// Whether the session lives and has the permission that is needed, if any, and else why not.
-fn admit_command(
-    policy: &Policy,
-    session: SessionId,
-    needed: Option<(Operation, Object)>,
-) -> Result<(), Refusal>
-    ensures { (entries : List Entry) → StandsFor policy.now entries
-        → TestsAll (access_rules entries session needed) result }
-{
-    if !policy.lives(session) {
-        return Err(Refusal::Policy(PolicyRefusal::NoSession));
-    }
-    let Some((operation, object)) = needed else {
-        return Ok(());
-    };
-    if policy.may(session, &operation, &object) {
-        return Ok(());
-    }
-    Err(Refusal::Policy(PolicyRefusal::Permission { operation, object }))
-}
-
-/// Asks whether this session may load the slot, at the policy as it is. Answers the stamp that the
-/// load's entry gets.
-///
-/// What a load does afterwards needs no policy: `load_admitted` does it, however long its text
-/// takes.
-///
-/// # Errors
-///
-/// NoSession where the session does not live, Permission where it lacks `load` on the slot.
-pub fn admit_load(policy: &Policy, slot: SlotNumber, session: SessionId) -> Result<Stamp, Refusal>
-    ensures { (entries : List Entry) → StandsFor policy.now entries
-        → IsAdmitted entries slot session result }
-{
-    admit_command(policy, session, Some((Operation::Load, Object::Slot(slot))))?;
-    Ok(stamp(policy, session))
 }
 
 /// Answers a load of the slot, given what `admit_load` answered: as `decide_slot` answers it at

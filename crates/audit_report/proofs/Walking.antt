@@ -4,8 +4,8 @@ use Rattle.std.specs.Prelude.{Some, slice_get}
 use Rattle.std.proofs.lemmas.Option.{same_Some}
 use Rattle.rbac_policy.specs.declared.commands.Entry.{Entry}
 use Rattle.reactor_core.specs.declared.entry.SlotEntry.{SlotEntry}
-use Rattle.audit_report.specs.declared.slot_audit.Fault.{Fault}
-use Rattle.audit_report.specs.declared.slot_audit.Fault.TheVariants.{Refused, Reaction, Memory}
+use Rattle.audit_report.specs.declared.slot_audit.EntryFault.{EntryFault}
+use Rattle.audit_report.specs.declared.slot_audit.EntryFault.TheVariants.{Refused, Reaction, Memory}
 use Rattle.audit_report.specs.Findings.{IsFirstAt, IsFirstOfSlot, AreSlotsLegal}
 use Rattle.audit_report.specs.Inner.Faults.{IsFaultOf, finding_of}
 use Rattle.access_core.specs.Journals.{HasRightVersion, AreLegal, IsLegal}
@@ -29,7 +29,8 @@ first_at entries slot journal at e Finds before there finds =
     record { at = at; counted = refl; before = before; entry = e; there = there; finds = finds }
 
 -- the finding of a fault is the first one of the journal
-pub fault_first : (entries : List Entry) (slot : ℕ) (journal : List SlotEntry) (at : ℕ) (e : SlotEntry) (fault : Fault)
+pub fault_first : (entries : List Entry) (slot : ℕ) (journal : List SlotEntry) (at : ℕ) (e : SlotEntry)
+    (fault : EntryFault)
     → AreLegal entries slot journal at
     → slice_get journal at ≡ Some e → HasRightVersion entries (take at journal) e
     → IsFaultOf (take e.stamp.version entries) slot (take at journal) e fault

@@ -26,7 +26,7 @@ use std::alloc::Global;
 
 /// Why an entry of a slot is not the one that the slot step adds at its version.
 #[derive(Drop)]
-enum Fault {
+enum EntryFault {
     /// The command is refused, with this number.
     Refused(u8),
     /// The inputs or outputs of the step are others.
@@ -56,7 +56,7 @@ fn keeps_instant(entries: &[SlotEntry], done: &Move<PastInstant>) -> bool
 }
 
 /// The fault of an entry whose command is refused so.
-fn fault_of(refusal: &Refusal) -> Fault
+fn fault_of(refusal: &Refusal) -> EntryFault
     ensures { result ≡ fault_of refusal.now }
 {
     match refusal {
@@ -71,8 +71,8 @@ fn fault_of(refusal: &Refusal) -> Fault
         | Refusal::Occupied
         | Refusal::Empty
         | Refusal::JournalFull
-        | Refusal::Behind { .. } => Fault::Refused(refusal.code()),
-        Refusal::Memory => Fault::Memory,
+        | Refusal::Behind { .. } => EntryFault::Refused(refusal.code()),
+        Refusal::Memory => EntryFault::Memory,
     }
 }
 
@@ -84,7 +84,7 @@ fn replay_entry<E: Engine>(
     slot: &mut Slot,
     entry: &SlotEntry,
     engine: &mut E,
-) -> Result<(), Fault>
+) -> Result<(), EntryFault>
     requires { (e : E) (kernel : KernelValue) → E.is_for e kernel }
     ensures number { slot.new.number ≡ slot.old.number }
     ensures step { (judged : List Entry) → StandsFor policy.now judged
@@ -92,7 +92,7 @@ fn replay_entry<E: Engine>(
         → Replays judged slot.old.number slot.old.journal entry.now result slot.new.journal }
 {
     let Ok(asked) = entry.done.asked(alloc) else {
-        return Err(Fault::Memory);
+        return Err(EntryFault::Memory);
     };
     let session = SessionId::new(entry.stamp.session);
     one_module();
@@ -104,7 +104,7 @@ fn replay_entry<E: Engine>(
             if holds && keeps_instant(slot.journal().entries(), &entry.done) {
                 Ok(())
             } else {
-                Err(Fault::Reaction)
+                Err(EntryFault::Reaction)
             }
         }
     }
@@ -123,13 +123,13 @@ fn absorb_up_to(policy: &mut Policy, entries: &[Entry], from: usize, version: us
 }
 
 /// The finding of the fault at this place of the slot's journal.
-fn finding_of(fault: Fault, slot: SlotNumber, place: u64) -> Finding
+fn finding_of(fault: EntryFault, slot: SlotNumber, place: u64) -> Finding
     ensures { result ≡ finding_of fault slot place }
 {
     match fault {
-        Fault::Refused(code) => Finding::Refused { slot, place, code },
-        Fault::Reaction => Finding::Reaction { slot, place },
-        Fault::Memory => Finding::Memory,
+        EntryFault::Refused(code) => Finding::Refused { slot, place, code },
+        EntryFault::Reaction => Finding::Reaction { slot, place },
+        EntryFault::Memory => Finding::Memory,
     }
 }
 

@@ -33,7 +33,7 @@ use Rattle.policy_board.specs.PolicyCommands as board_step
 use Rattle.policy_board.specs.PolicyCommands.{IsPublished, session_made}
 use Rattle.policy_board.specs.SeatState.{SeatState}
 use Rattle.history_receipts.specs.declared.receipt.Kept.TheVariants.{Admin}
-use Rattle.slot_table.specs.Conversions.{of_board}
+use Rattle.slot_table.specs.Conversions.{refusal_of_board}
 use Rattle.client_loop.specs.SharedAnswers.{KeepsAdded, desk_with}
 
 -- only a login makes no change
@@ -164,11 +164,11 @@ module _ {B : Type 0} where
 
   module _ (slots : List SlotState) (old new : List Entry) (answer : Result (Acceptance B) BoardRefusal)
       (given : Reply) where
-    refused_same : (refusal : BoardRefusal) → given ≡ Refused (of_board refusal) → new ≡ old
-        → IsRefused (of_board refusal) (desk_with old slots) given (desk_with new slots)
+    refused_same : (refusal : BoardRefusal) → given ≡ Refused (refusal_of_board refusal) → new ≡ old
+        → IsRefused (refusal_of_board refusal) (desk_with old slots) given (desk_with new slots)
     refused_same refusal replied stays = record { replied = replied; stays = ap (λ l. desk_with l slots) stays }
 
-    decided_same : ((refusal : BoardRefusal) → answer ≡ Err refusal → given ≡ Refused (of_board refusal))
+    decided_same : ((refusal : BoardRefusal) → answer ≡ Err refusal → given ≡ Refused (refusal_of_board refusal))
         → ((entry : Entry) → IsPublished entry old answer new → given ≡ accepted_reply old entry.command)
         → (decided : Result Entry PolicyRefusal)
         → MatchResult decided
@@ -183,7 +183,7 @@ module _ {B : Type 0} where
         (refused (board.Policy refusal) h.answered) h.stays
     decided_same refused accepted (Ok entry) (inl r) =
         let replied : given ≡ Refused JournalFull = refused r.refusal r.answered.answered
-        ∙ ap (λ (x : BoardRefusal). Refused (of_board x)) r.given.0 in
+        ∙ ap (λ (x : BoardRefusal). Refused (refusal_of_board x)) r.given.0 in
         inl (record {
           refusal = JournalFull;
           given = (refl, λ room. r.given.1 (room));
@@ -195,22 +195,22 @@ module _ {B : Type 0} where
           → ByRules (no_memory ▸ accept) (Appends entry) (desk_with old slots) given (desk_with new slots)
       later (inl m) =
           let replied : given ≡ Refused Memory = refused m.refusal m.answered.answered
-          ∙ ap (λ (x : BoardRefusal). Refused (of_board x)) m.given in
+          ∙ ap (λ (x : BoardRefusal). Refused (refusal_of_board x)) m.given in
           inl (record { refusal = Memory; given = refl; answered = refused_same board.Memory replied m.answered.stays })
       later (inr q) = inr (record {
         passed = tt;
         next = record { replied = accepted entry q.next; appended = ap (λ l. desk_with l slots) q.next.appended };
       })
 
-    refused_at : IfErr answer (λ refusal. given ≡ Refused (of_board refusal)) → (refusal : BoardRefusal)
-        → answer ≡ Err refusal → given ≡ Refused (of_board refusal)
+    refused_at : IfErr answer (λ refusal. given ≡ Refused (refusal_of_board refusal)) → (refusal : BoardRefusal)
+        → answer ≡ Err refusal → given ≡ Refused (refusal_of_board refusal)
     refused_at h refusal is = subst (λ (a : Result (Acceptance B) BoardRefusal). IfErr a
-        (λ r. given ≡ Refused (of_board r))) is
+        (λ r. given ≡ Refused (refusal_of_board r))) is
         h
 
     -- the board's answer to a policy command is a desk's, where the reply is made so of it
     pub step_same : (session : Option ℕ) (command : AdminCommand)
-        → IfErr answer (λ refusal. given ≡ Refused (of_board refusal))
+        → IfErr answer (λ refusal. given ≡ Refused (refusal_of_board refusal))
         → ((entry : Entry) → IsPublished entry old answer new → given ≡ accepted_reply old entry.command)
         → board_step.BoardStep old session command answer new
         → AdminStep session command (desk_with old slots) given (desk_with new slots)

@@ -11,9 +11,9 @@ use Rattle.est_kernel.proofs.statement.Test.TheLaws.TheKnot as test
 use Rattle.reactor_core.specs.contracts.journal.Journal as journal
 use Rattle.reactor_core.specs.contracts.reactor.Reactor as reactor
 use Rattle.access_core.specs.contracts.slot.Slot as slot
-use Rattle.policy_board.specs.declared.board_list.BoardName.{Ghosts}
+use Rattle.policy_board.specs.declared.board_name.BoardName.{Ghosts}
 use Rattle.policy_board.proofs.SharedBoards.{option_sends}
-use Rattle.policy_board.specs.contracts.reader.SlotReader as reader
+use Rattle.policy_board.specs.contracts.reader.IdleReader as reader
 use Rattle.slot_table.specs.contracts.slot.LockedSlot as locked
 use Rattle.slot_table.specs.contracts.slot.LockedSlot.TheInside as inside
 use Rattle.slot_table.specs.contracts.table.SlotTable as table

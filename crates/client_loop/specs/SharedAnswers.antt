@@ -16,7 +16,7 @@ use Rattle.policy_board.specs.declared.refusal.BoardRefusal.{BoardRefusal}
 use Rattle.policy_board.specs.Reads.{AnswersFor}
 use Rattle.policy_board.specs.SeatState.{SeatState}
 use Rattle.history_receipts.specs.declared.receipt.Kept.TheVariants.{Admin}
-use Rattle.slot_table.specs.Conversions.{of_board}
+use Rattle.slot_table.specs.Conversions.{refusal_of_board}
 use Rattle.slot_table.specs.SlotCommands.{TableCommand}
 use Rattle.client_loop.specs.Asking.{Ask, to_policy, to_slot, to_check}
 
@@ -49,7 +49,7 @@ pub record IsAdministered (session : Option ℕ) (command : AdminCommand) (seat 
 -- the reply to a check that the board answered so
 abbrev pub check_reply : Result Bool BoardRefusal → Reply
 check_reply (Ok allowed) = Check allowed
-check_reply (Err refusal) = Refused (of_board refusal)
+check_reply (Err refusal) = Refused (refusal_of_board refusal)
 
 -- whether the session may is answered for a policy list that the seat has read, or the read is refused
 pub record IsCheckedAt (session : ℕ) (operation : Operation) (object : Object) (seat : SeatState) (given : Reply)

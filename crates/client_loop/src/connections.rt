@@ -5,10 +5,10 @@ ghost use Rattle.wire_reader.specs.declared.serving.EndReason.TheVariants as why
 ghost use Rattle.client_loop.specs.Connections.{LogsOutLeft, ServesConnection};
 ghost use Rattle.client_loop.specs.Logins.{session_of};
 
+use crate::answer_hook::AnswerHook;
 use crate::desk::Desk;
-use crate::gate::Gate;
 use crate::login::Login;
-use crate::serving::{End, serve_gated};
+use crate::serving::{ServedEnd, serve_hooked};
 use crate::source::{Connection, Served};
 use std::alloc::Global;
 use std::io::{Read, Write};
@@ -28,15 +28,15 @@ pub fn finish_logout<R: Wait, D: Desk>(rt: &R, desk: &mut D, left: Option<Login>
     }
 }
 
-/// Serves a connection to its end over this desk, and has this worker go through the gate around
+/// Serves a connection to its end over this desk, and has this worker go through the hook around
 /// each answer. If memory is refused for the logout at the end, the logout is asked again until it
 /// is done.
-pub fn serve_connection<R: Wait, I: Read + Drop, O: Write + Drop, D: Desk, G: Gate>(
+pub fn serve_connection<R: Wait, I: Read + Drop, O: Write + Drop, D: Desk, G: AnswerHook>(
     rt: &R,
     alloc: Global,
     connection: Connection<I, O>,
     desk: &mut D,
-    gate: &G,
+    hook: &G,
     worker: usize,
 ) -> Served<I, O>
     ensures serves { ServesConnection D.answers (has_failed 0 result.memory.refusals)
@@ -51,7 +51,14 @@ pub fn serve_connection<R: Wait, I: Read + Drop, O: Write + Drop, D: Desk, G: Ga
     let mut memory = MeteredMemory::new(alloc);
     let mut input = MeteredReader::new(reader);
     let mut output = MeteredWriter::new(writer);
-    let End { why, left } = serve_gated(&mut memory, &mut input, &mut output, desk, gate, worker);
+    let ServedEnd { why, left } = serve_hooked(
+        &mut memory,
+        &mut input,
+        &mut output,
+        desk,
+        hook,
+        worker,
+    );
     finish_logout(rt, desk, left);
     Served {
         why,

@@ -3,8 +3,8 @@ ghost use Rattle.client_loop.specs.LineSteps.{Tells, TellsNothing};
 ghost use Rattle.client_loop.specs.Inner.Clients.{seen_of};
 
 use crate::answer::{LineAnswer, respond};
+use crate::answer_hook::AnswerHook;
 use crate::desk::Desk;
-use crate::gate::Gate;
 use crate::login::{Login, hold};
 use std::alloc::{AllocError, Global};
 use wire_lines::reading::RequestReader;
@@ -12,15 +12,15 @@ use wire_lines::reply::reply_text;
 use wire_reader::serving::{AnswerText, Answerer};
 
 /// The server's side of one connection: its login, if it holds one, what reads its lines, and the
-/// worker that answers them through a gate.
+/// worker that answers them through a hook.
 pub(crate) struct LineAnswerer<'g, G> {
     pub(crate) login: Option<Login>,
     pub(crate) requests: RequestReader,
-    pub(crate) gate: &'g G,
+    pub(crate) hook: &'g G,
     pub(crate) worker: usize,
 }
 
-impl<'g, D: Desk, G: Gate> Answerer<D> for LineAnswerer<'g, G> {
+impl<'g, D: Desk, G: AnswerHook> Answerer<D> for LineAnswerer<'g, G> {
     ghost tells = { λ before line text after.
         Tells D.answers line (seen_of before) text (seen_of after) };
 
@@ -33,11 +33,11 @@ impl<'g, D: Desk, G: Gate> Answerer<D> for LineAnswerer<'g, G> {
         desk: &mut D,
         line: &[u8],
     ) -> Result<AnswerText, AllocError> {
-        self.gate.before(self.worker);
+        self.hook.before(self.worker);
         let held = self.login.take();
         let LineAnswer { reply, login } = respond(alloc, &mut self.requests, desk, held, line);
         hold(&mut self.login, login);
-        self.gate.after(self.worker);
+        self.hook.after(self.worker);
         reply_text(alloc, &reply)
     }
 }

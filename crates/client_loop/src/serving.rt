@@ -6,8 +6,8 @@ ghost use Rattle.client_loop.specs.LineSteps.{with_login};
 ghost use Rattle.client_loop.specs.Logins.{session_of, LogsOutHeld};
 ghost use Rattle.client_loop.specs.Serving.{too_long_text, ServesLines, ServesDesk};
 
+use crate::answer_hook::{AnswerHook, NoHook};
 use crate::desk::Desk;
-use crate::gate::{Gate, OpenGate};
 use crate::line_answerer::LineAnswerer;
 use crate::login::Login;
 use std::io::{Read, Write};
@@ -20,7 +20,7 @@ use wire_reader::serving::EndReason;
 const TOO_LONG: &str = "{\"code\":1,\"fault\":\"TooLong\"}\n";
 
 /// How a connection ended. Whoever gets it has to spend the login that is left.
-pub struct End {
+pub struct ServedEnd {
     /// Why it ended.
     pub why: EndReason,
     /// The login that the connection held at its end, where memory was refused for its logout.
@@ -35,12 +35,12 @@ fn too_long_line() -> &'static [u8]
 }
 
 /// Answers the lines of a connection to its end, and gives the login that it holds then.
-fn answer_lines<R: Read, W: Write, D: Desk, G: Gate>(
+fn answer_lines<R: Read, W: Write, D: Desk, G: AnswerHook>(
     memory: &mut MeteredMemory,
     reader: &mut MeteredReader<R>,
     writer: &mut MeteredWriter<W>,
     desk: &mut D,
-    gate: &G,
+    hook: &G,
     worker: usize,
 ) -> (EndReason, Option<Login>)
     ensures serves { ServesLines D.answers (has_failed memory.old.refusals memory.new.refusals)
@@ -57,7 +57,7 @@ fn answer_lines<R: Read, W: Write, D: Desk, G: Gate>(
     let mut answerer = LineAnswerer {
         login: None,
         requests: RequestReader::new(memory.allocator()),
-        gate,
+        hook,
         worker,
     };
     let why = serving::answer_connection(
@@ -71,7 +71,7 @@ fn answer_lines<R: Read, W: Write, D: Desk, G: Gate>(
     let LineAnswerer {
         login,
         requests: _,
-        gate: _,
+        hook: _,
         worker: _,
     } = answerer;
     (why, login)
@@ -91,15 +91,15 @@ fn leave<D: Desk>(desk: &mut D, held: Option<Login>) -> Option<Login>
 }
 
 /// Serves a connection to its end over this desk, as `serve` does, and has this worker go through
-/// the gate around each answer.
-pub fn serve_gated<R: Read, W: Write, D: Desk, G: Gate>(
+/// the hook around each answer.
+pub fn serve_hooked<R: Read, W: Write, D: Desk, G: AnswerHook>(
     memory: &mut MeteredMemory,
     reader: &mut MeteredReader<R>,
     writer: &mut MeteredWriter<W>,
     desk: &mut D,
-    gate: &G,
+    hook: &G,
     worker: usize,
-) -> End
+) -> ServedEnd
     ensures serves { ServesDesk D.answers (has_failed memory.old.refusals memory.new.refusals)
         (R.remaining reader.old.device) desk.old result.why desk.new (session_of result.left)
         (W.contents writer.old.device) (W.contents writer.new.device) }
@@ -110,9 +110,9 @@ pub fn serve_gated<R: Read, W: Write, D: Desk, G: Gate>(
     ensures unfailed_writer { (result.why ≡ why.WriteFault → ⊥) →
         writer.new.faults ≡ writer.old.faults }
 {
-    let (why, held) = answer_lines(memory, reader, writer, desk, gate, worker);
+    let (why, held) = answer_lines(memory, reader, writer, desk, hook, worker);
     let left = leave(desk, held);
-    End { why, left }
+    ServedEnd { why, left }
 }
 
 /// Serves a connection to its end over this desk, and logs out the login that it holds then. Each
@@ -124,7 +124,7 @@ pub fn serve<R: Read, W: Write, D: Desk>(
     reader: &mut MeteredReader<R>,
     writer: &mut MeteredWriter<W>,
     desk: &mut D,
-) -> End
+) -> ServedEnd
     ensures serves { ServesDesk D.answers (has_failed memory.old.refusals memory.new.refusals)
         (R.remaining reader.old.device) desk.old result.why desk.new (session_of result.left)
         (W.contents writer.old.device) (W.contents writer.new.device) }
@@ -135,5 +135,5 @@ pub fn serve<R: Read, W: Write, D: Desk>(
     ensures unfailed_writer { (result.why ≡ why.WriteFault → ⊥) →
         writer.new.faults ≡ writer.old.faults }
 {
-    serve_gated(memory, reader, writer, desk, &OpenGate, 0)
+    serve_hooked(memory, reader, writer, desk, &NoHook, 0)
 }

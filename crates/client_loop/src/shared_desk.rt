@@ -1,7 +1,7 @@
 //! The desk of a seat at a board and a table that many share.
 ghost use Rattle.std.specs.Prelude.{◌≡◌, List, Ok, IfOk, IfErr};
 ghost use Rattle.access_core.specs.declared.reply.Reply.TheVariants.{Refused};
-ghost use Rattle.slot_table.specs.Conversions.{of_board};
+ghost use Rattle.slot_table.specs.Conversions.{refusal_of_board};
 ghost use Rattle.rbac_policy.specs.declared.commands.Entry.{Entry};
 ghost use Rattle.policy_board.specs.PolicyCommands.{IsPublished};
 ghost use Rattle.access_core.specs.Desk.{accepted_reply};
@@ -12,12 +12,12 @@ use access_core::command::SlotCommand;
 use access_core::reply::Reply;
 use access_core::single::change_of;
 use policy_board::board::Board;
-use policy_board::board_list::BoardName;
+use policy_board::board_name::BoardName;
 use policy_board::refusal::BoardRefusal;
 use policy_board::seat::{Acceptance, Seat};
 use rbac_policy::commands::{AdminCommand, SessionId};
 use rbac_policy::objects::{Object, Operation};
-use slot_table::conversions::of_board;
+use slot_table::conversions::refusal_of_board;
 use slot_table::table::SlotTable;
 use std::marker::Model;
 use std::sync::Wait;
@@ -62,11 +62,11 @@ fn reply_of<B: BoardName>(answer: Result<Acceptance<B>, BoardRefusal>) -> Reply
         × IsPublished entry old (Ok acceptance) new) }
     ensures accepted { (entry : Entry) (old new : List Entry) → IsPublished entry old answer new
         → result ≡ accepted_reply old entry.command }
-    ensures refused { IfErr answer (λ refusal. result ≡ Refused (of_board refusal)) }
+    ensures refused { IfErr answer (λ refusal. result ≡ Refused (refusal_of_board refusal)) }
 {
     match answer {
         Ok(acceptance) => reply_to(&acceptance),
-        Err(refusal) => Reply::Refused(of_board(refusal)),
+        Err(refusal) => Reply::Refused(refusal_of_board(refusal)),
     }
 }
 
@@ -107,7 +107,7 @@ impl<'a, B: BoardName, R: Wait> Desk for SharedDesk<'a, B, R> {
             .check_access(&mut self.seat, session, operation, object)
         {
             Ok(allowed) => Reply::Check { allowed },
-            Err(refusal) => Reply::Refused(of_board(refusal)),
+            Err(refusal) => Reply::Refused(refusal_of_board(refusal)),
         }
     }
 }

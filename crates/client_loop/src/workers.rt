@@ -6,14 +6,14 @@ ghost use Rattle.access_core.specs.declared.refusal.Refusal.TheVariants.{Memory}
 ghost use Rattle.server_threads.specs.Turns.{AreBack};
 ghost use Rattle.client_loop.specs.Workers.{ServesNext};
 
+use crate::answer_hook::AnswerHook;
 use crate::connections::serve_connection;
-use crate::gate::Gate;
 use crate::shared_desk::SharedDesk;
 use crate::source::Source;
 use access_core::refusal::Refusal;
 use policy_board::board::Board;
-use policy_board::board_list::BoardName;
-use policy_board::reader::SlotReader;
+use policy_board::board_name::BoardName;
+use policy_board::reader::IdleReader;
 use policy_board::seat::Seat;
 use policy_board::sharing::boards_are_shared;
 use server_threads::workers::{ReturnedSeats, Turn, Work, run_each};
@@ -24,8 +24,8 @@ use std::sync::Wait;
 use std::thread::Threads;
 
 /// Lends workers a value of type T. By itself the prover doesn't find that threads may share a
-/// board, or a table of sixteen slots. So `ConnectionServer` and `run_over` are generic over what
-/// lends it, with the bound `Sync`, which is proved once: where `run_workers` calls `run_over`
+/// board, or a table of sixteen slots. So `ConnectionServer` and `run_server` are generic over what
+/// lends it, with the bound `Sync`, which is proved once: where `run_workers` calls `run_server`
 /// (`boards_are_shared` and proofs/Sharing).
 trait Lends<T> {
     /// The value.
@@ -50,12 +50,18 @@ struct ConnectionServer<'a, B: BoardName, L, T, S, G> {
     board: &'a L,
     table: &'a T,
     source: &'a S,
-    gate: &'a G,
+    hook: &'a G,
     of: PhantomData<B>,
 }
 
-impl<'a, B: BoardName + Send, L: Lends<Board<B>>, T: Lends<SlotTable<B>>, S: Source, G: Gate> Work
-    for ConnectionServer<'a, B, L, T, S, G> {
+impl<
+    'a,
+    B: BoardName + Send,
+    L: Lends<Board<B>>,
+    T: Lends<SlotTable<B>>,
+    S: Source,
+    G: AnswerHook,
+> Work for ConnectionServer<'a, B, L, T, S, G> {
     type Seat = Seat<B>;
 
     ghost turn = { λ worker number before after. ServesNext S.Reader.remaining S.Writer.contents
@@ -78,7 +84,7 @@ impl<'a, B: BoardName + Send, L: Lends<Board<B>>, T: Lends<SlotTable<B>>, S: Sou
             seat,
         };
         // Whatever the reason for which it ended, the worker goes on with the next one.
-        let served = serve_connection(rt, self.alloc, connection, &mut desk, self.gate, worker);
+        let served = serve_connection(rt, self.alloc, connection, &mut desk, self.hook, worker);
         self.source.take_back(worker, number, served);
         let SharedDesk {
             rt: _,
@@ -92,18 +98,18 @@ impl<'a, B: BoardName + Send, L: Lends<Board<B>>, T: Lends<SlotTable<B>>, S: Sou
 
 /// Does nothing. By its bound the proof of `run_workers` learns that values of this type may cross
 /// threads: a table of slots may be shared if the slots' readers may.
-fn may_cross<T: Send>()
+fn assert_send<T: Send>()
     ensures { IsSend (param 0 T.row) }
 {}
 
 /// Has workers serve over a board and a table that threads may share, as `run_workers` does.
-fn run_over<
+fn run_server<
     B: BoardName + Send + Sync,
     L: Lends<Board<B>> + Sync,
     T: Lends<SlotTable<B>> + Sync,
     R: Threads + Wait + Sync,
     S: Source + Sync,
-    G: Gate + Sync,
+    G: AnswerHook + Sync,
 >(
     rt: &R,
     server: &ConnectionServer<'_, B, L, T, S, G>,
@@ -131,7 +137,7 @@ pub fn run_workers<
     B: BoardName + Send + Sync,
     R: Threads + Wait + Sync,
     S: Source + Sync,
-    G: Gate + Sync,
+    G: AnswerHook + Sync,
 >(
     rt: &R,
     alloc: Global,
@@ -139,7 +145,7 @@ pub fn run_workers<
     board: &Board<B>,
     seats: Vec<Seat<B>>,
     source: &S,
-    gate: &G,
+    hook: &G,
     connections: u64,
 ) -> Result<ReturnedSeats<Seat<B>>, Refusal>
     ensures { MatchResult result
@@ -153,18 +159,18 @@ pub fn run_workers<
         board,
         table,
         source,
-        gate,
+        hook,
         of: PhantomData,
     };
     boards_are_shared::<B>();
-    may_cross::<SlotReader<B>>();
-    let back = run_over(rt, &server, seats, connections);
+    assert_send::<IdleReader<B>>();
+    let back = run_server(rt, &server, seats, connections);
     let ConnectionServer {
         alloc: _,
         board: _,
         table: _,
         source: _,
-        gate: _,
+        hook: _,
         of: _,
     } = server;
     match back {

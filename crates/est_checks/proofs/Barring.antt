@@ -11,7 +11,7 @@ use Rattle.est_modules.specs.Modules.{Program, is_declared, is_input}
 use Rattle.est_modules.specs.Occurrences.{Binder}
 use Rattle.est_modules.specs.Renamings.{is_renamed, renamed, callers_name}
 use Rattle.est_modules.specs.Visible.{is_local, is_tick, stands_in}
-use Rattle.est_modules.specs.declared.head.Declared.{Declared}
+use Rattle.est_modules.specs.declared.interface.Declared.{Declared}
 use Rattle.est_modules.proofs.Lists.{any_map}
 use Rattle.est_modules.proofs.Testing.{found_passes, none_found, other_fails, same_bytes}
 use Rattle.est_checks.specs.Emissions.{is_refused, is_refused_in_run, refused_in_run}

@@ -15,7 +15,7 @@ use Rattle.est_modules.specs.declared.names.set.NumberSet.{NumberSet}
 use Rattle.est_modules.specs.Renamings.{renamed}
 use Rattle.est_modules.specs.NameSets.{has}
 use Rattle.est_modules.specs.declared.names.set.NameSet.{NameSet}
-use Rattle.est_modules.specs.declared.head.Declared.{Declared}
+use Rattle.est_modules.specs.declared.interface.Declared.{Declared}
 use Rattle.est_modules.proofs.Lists.{any_map}
 use Rattle.est_modules.proofs.TellingNumbers.{passes_none, passes_same}
 use Rattle.est_modules.proofs.Testing.{same_bytes, some_same}

@@ -19,7 +19,7 @@ use Rattle.est_modules.specs.Modules.{Program, program_named}
 use Rattle.est_modules.specs.Occurrences.{Act, emits, tests, exits, binds, runs, Occurrence, occurrences}
 use Rattle.est_modules.specs.ModuleOrders.{IsOrderOf, run_rows, places_run, place_named}
 use Rattle.est_modules.specs.Visible.{is_local}
-use Rattle.est_modules.specs.declared.head.Declared.{Declared}
+use Rattle.est_modules.specs.declared.interface.Declared.{Declared}
 use Rattle.est_modules.specs.Renamings.{renamed}
 use Rattle.est_checks.proofs.OneName.{first_of_name, not_seen}
 use Rattle.est_modules.proofs.Standing.{found_place}

@@ -7,14 +7,14 @@ use Rattle.std.proofs.lemmas.Option.{none-some, slice_get_within, get_or_from_sl
 use Rattle.std.specs.List.{slice_get}
 use Rattle.std.specs.Option.{option_or}
 use Rattle.std.specs.Prelude.{IsTrue}
-use Rattle.refusal_rules.specs.Rules.{AllPass, Unless, Refuses, Passes}
+use Rattle.refusal_rules.specs.Rules.{AllPass, RefuseUnless, Refuses, Passes}
 use Rattle.refusal_rules.proofs.RuleLemmas.{refuse, pass, all_passed}
 use Rattle.est_text.specs.Identifiers.{is_identifier}
 use Rattle.est_checks.specs.BadRenamings.{bad_renaming_at}
 use Rattle.est_checks.specs.Duplicates.{first_duplicate}
 use Rattle.est_checks.specs.Emissions.{AreEmissions, first_refused}
 use Rattle.est_checks.specs.FirstFaults.{Check, Finds, IsFirstFault, IsFirstOf, IsFirstRefused}
-use Rattle.est_checks.specs.FirstFaults.{IsLimitPassed, checks, limit_passed_by}
+use Rattle.est_checks.specs.FirstFaults.{IsLimitPassed, checks, module_limit_passed_by}
 use Rattle.est_checks.specs.Inner.Recursion.{IsOrderFault}
 use Rattle.est_checks.specs.Inner.Stages.{IsLimitFault, emission_checks, fault_of_emissions, fault_of_names}
 use Rattle.est_checks.specs.Inner.Stages.{limit_checks, name_checks, run_checks}
@@ -69,8 +69,8 @@ last fault Is (Some x) is r found e told next = refuse (fault x) (x, refl, is) (
 named : (identifier : Bool) {Next : Type 0} (more r found : Option LinkFault)
     → option_or (if identifier then None else Some MisnamedMain) more ≡ r
     → ((f : LinkFault) → r ≡ Some f → found ≡ Some f) → (more ≡ r → Next)
-    → Refuses (Unless (IsTrue identifier) MisnamedMain) (λ f. found ≡ Some f)
-    ⊎ Passes (Unless (IsTrue identifier) MisnamedMain) Next
+    → Refuses (RefuseUnless (IsTrue identifier) MisnamedMain) (λ f. found ≡ Some f)
+    ⊎ Passes (RefuseUnless (IsTrue identifier) MisnamedMain) Next
 named true more r found e told next = pass refl (next e)
 named false more r found e told next = refuse MisnamedMain (refl, λ never. cc) (told MisnamedMain (sym e))
 
@@ -80,7 +80,7 @@ named false more r found e told next = refuse MisnamedMain (refl, λ never. cc) 
 pub limits : (ps : List Program) (main : List ℕ) (found : Option LinkFault) → IsLimitFault ps main found
     → IsFirstOf (limit_checks ps main) found
 limits ps main found h =
-    last TooLarge (IsLimitPassed ps main) (limit_passed_by (program_named ps main) (h.counts main))
+    last TooLarge (IsLimitPassed ps main) (module_limit_passed_by (program_named ps main) (h.counts main))
     (record { counts = h.counts; are = h.are; is = refl }) found found (sym h.is) (λ f e. e) (λ e. e)
 
 emissions : (ps : List Program) (main : List ℕ) (em : List ℕ → List ℕ → Bool) → AreEmissions ps em

@@ -5,7 +5,7 @@ use Rattle.std.specs.Option.{option_or}
 use Rattle.std.specs.List.{fold}
 use Rattle.est_modules.specs.Modules.{Program, program_of, first_in_bodies}
 use Rattle.est_modules.specs.Occurrences.{Occurrence, occurrences, first_of}
-use Rattle.est_modules.specs.declared.head.Head.{Head}
+use Rattle.est_modules.specs.declared.library_modules.LibraryModule.{LibraryModule}
 
 kept : {X A : Type 0} (f : X → Option A) (a : A) (xs : List X) → fold (λ k x. option_or k (f x)) (Some a) xs ≡ Some a
 kept f a [] = refl
@@ -23,7 +23,8 @@ pub fold_first : {X A : Type 0} (f : X → Option A) (xs : List X)
 fold_first f xs = begun f None xs
 
 -- the first in the bodies of modules, from that of the module at a place
-pub next_home : (f : Program → Occurrence → Option (List ℕ)) (hs : List Head) (i : ℕ) (d : Head) → i < length hs
+pub next_home : (f : Program → Occurrence → Option (List ℕ)) (hs : List LibraryModule) (i : ℕ) (d : LibraryModule)
+    → i < length hs
     → first_in_bodies f (map program_of (drop i hs)) ≡ option_or
     (first_of (f (program_of (get_or hs i d))) (occurrences [] (program_of (get_or hs i d)).body))
     (first_in_bodies f (map program_of (drop (suc i) hs)))

@@ -6,7 +6,7 @@ use Rattle.std.specs.Str.{bytes_eq}
 use Rattle.est_modules.specs.Visible.{stands_in}
 use Rattle.est_checks.specs.Emissions.{emits_in_run}
 use Rattle.est_modules.specs.Modules.{Program, is_declared}
-use Rattle.est_modules.specs.declared.head.Declared.{Declared}
+use Rattle.est_modules.specs.declared.interface.Declared.{Declared}
 use Rattle.est_modules.proofs.Testing.{same_bytes}
 
 pub and_false : (b : Bool) → (b && false) ≡ false

@@ -9,7 +9,7 @@ use Rattle.est_syntax.specs.declared.tree.Relation.{Relation}
 use Rattle.est_checks.specs.Inner.Offers.{is_over_outputs}
 use Rattle.est_checks.specs.LawlessRelations.{is_lawless}
 use Rattle.std.specs.Option.{option_or}
-use Rattle.est_modules.specs.declared.head.Declared.{Declared}
+use Rattle.est_modules.specs.declared.interface.Declared.{Declared}
 use Rattle.est_modules.specs.Occurrences.{Binder}
 use Rattle.est_modules.specs.Modules.{Program, is_offerable}
 use Rattle.est_modules.specs.Visible.{is_visible}

@@ -19,7 +19,7 @@ use Rattle.est_modules.specs.Occurrences.{Act, Binder, Occurrence}
 use Rattle.est_modules.specs.Renamings.{is_renamed, renamed, callers_name}
 use Rattle.est_modules.specs.Scopes.{act_of}
 use Rattle.est_modules.specs.Visible.{is_local, is_tick}
-use Rattle.est_modules.specs.declared.head.Declared.{Declared}
+use Rattle.est_modules.specs.declared.interface.Declared.{Declared}
 use Rattle.est_modules.specs.declared.scope.Act.{Act as ActValue}
 use Rattle.est_modules.specs.declared.names.table.NameTable.{NameTable}
 use Rattle.est_modules.specs.declared.names.set.NumberSet.{NumberSet}

@@ -11,8 +11,8 @@ use Rattle.est_modules.specs.Modules.{Program, program_named, program_of, is_dec
 use Rattle.est_modules.specs.Occurrences.{Binder, Act, emits, tests, exits, binds, runs, Occurrence, first_of}
 use Rattle.est_modules.specs.Renamings.{is_renamed, renamed, callers_name}
 use Rattle.est_modules.specs.Visible.{is_local, is_tick, is_visible}
-use Rattle.est_modules.specs.declared.head.Declared.{Declared}
-use Rattle.est_modules.specs.declared.head.Head.{Head}
+use Rattle.est_modules.specs.declared.interface.Declared.{Declared}
+use Rattle.est_modules.specs.declared.library_modules.LibraryModule.{LibraryModule}
 use Rattle.est_modules.proofs.Standing.{first_none}
 use Rattle.est_modules.proofs.Testing.{or_other, or_none_parts, map_none, none_found, none_at, other_fails}
 use Rattle.est_modules.proofs.Testing.{same_bytes}
@@ -104,13 +104,14 @@ seen_along ps em p os s none emitted =
 
 -- ---- the module at a place
 
--- a head of the code
-pub head_at : (hs found : List Head) (i : ℕ) (h : Head) → found ≡ hs → i < length hs → h ≡ get_or found i h
+-- a module of the code
+pub module_at : (hs found : List LibraryModule) (i : ℕ) (h : LibraryModule) → found ≡ hs → i < length hs
+    → h ≡ get_or found i h
     → slice_get (map program_of hs) i ≡ Some (program_of h)
-head_at hs found i h same room at =
+module_at hs found i h same room at =
     slice_get-map program_of hs i
     ∙ ap (option_map program_of)
-    (slice_get_read hs (length hs) i h refl room (at ∙ ap (λ (xs : List Head). get_or xs i h) same))
+    (slice_get_read hs (length hs) i h refl room (at ∙ ap (λ (xs : List LibraryModule). get_or xs i h) same))
 
 -- a name that it declares has a number, where all that are declared have one
 pub numbered_here : (ps : List Program) (i : ℕ) (p : Program) (s : List ℕ) (numbered : Bool)

@@ -9,7 +9,7 @@ use Rattle.est_syntax.specs.declared.tree.Renaming.{Renaming}
 use Rattle.est_modules.specs.Modules.{Program}
 use Rattle.est_modules.specs.Occurrences.{Binder}
 use Rattle.est_modules.specs.Visible.{is_visible, stands_in}
-use Rattle.est_modules.specs.declared.head.Declared.{Declared}
+use Rattle.est_modules.specs.declared.interface.Declared.{Declared}
 use Rattle.est_modules.proofs.Testing.{equal_bytes}
 use Rattle.est_checks.specs.Inner.InterfaceNames.{names_in}
 use Rattle.est_checks.specs.UnknownNames.{is_unbound, unknown_in_run}

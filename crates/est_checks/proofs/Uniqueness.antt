@@ -7,7 +7,7 @@ use Rattle.std.proofs.lemmas.Bool.{cases_lt}
 use Rattle.std.proofs.lemmas.Option.{none-some, slice_get-get_or}
 use Rattle.std.specs.List.{find, slice_get}
 use Rattle.std.specs.Str.{bytes_eq}
-use Rattle.refusal_rules.specs.Rules.{Unless, Refuses, Passes}
+use Rattle.refusal_rules.specs.Rules.{RefuseUnless, Refuses, Passes}
 use Rattle.est_syntax.specs.Tree.{RenamingTree}
 use Rattle.est_checks.specs.BadRenamings.{bad_renaming_at}
 use Rattle.est_checks.specs.Counting.{AreCounts}
@@ -15,7 +15,7 @@ use Rattle.est_checks.specs.Duplicates.{first_duplicate}
 use Rattle.est_checks.specs.Emissions.{AreEmissions, emits_here, first_refused, is_refused, is_refused_in_run}
 use Rattle.est_checks.specs.Emissions.{refused_act, refused_in_run}
 use Rattle.est_checks.specs.FirstFaults.{Check, IsFirstFault, IsFirstRefused, IsLimitPassed}
-use Rattle.est_checks.specs.FirstFaults.{limit_passed_by}
+use Rattle.est_checks.specs.FirstFaults.{module_limit_passed_by}
 use Rattle.est_modules.specs.Modules.{Program, program_named, first_in_bodies}
 use Rattle.est_modules.specs.Occurrences.{Binder, Act, emits, tests, exits, binds, runs, Occurrence, occurrences}
 use Rattle.est_modules.specs.Occurrences.{first_of}
@@ -25,11 +25,11 @@ use Rattle.est_checks.specs.MissingModules.{first_missing, missing_at}
 use Rattle.est_checks.specs.LinkFaults.{number_over_outputs}
 use Rattle.est_checks.specs.UnknownNames.{unknown_at}
 use Rattle.est_checks.specs.RecursiveRuns.{IsFirstRecursion, RunsItself}
-use Rattle.est_checks.specs.declared.fault.Limit.{Limit}
+use Rattle.est_checks.specs.declared.fault.ModuleLimit.{ModuleLimit}
 use Rattle.est_checks.specs.declared.fault.LinkFault.{LinkFault}
 use Rattle.est_checks.specs.declared.fault.LinkFault.TheVariants.{DuplicateName, UnknownModule, RecursiveRun, BadRename}
 use Rattle.est_checks.specs.declared.fault.LinkFault.TheVariants.{UnknownName, EmitInput, Semantics, TooLarge}
-use Rattle.est_modules.specs.declared.head.Declared.{Declared}
+use Rattle.est_modules.specs.declared.interface.Declared.{Declared}
 use Rattle.est_checks.proofs.Chains.{none_placed}
 use Rattle.est_checks.proofs.Finding.{all_pass}
 use Rattle.est_checks.proofs.Filling.{counted_same}
@@ -137,13 +137,13 @@ one_count ps f g none there f_is g_is = by_modules ps (λ m p. f m ≡ g m) none
 
 same_limits : (ps : List Program) (main : List ℕ) (f g : List ℕ → ℕ) → NoneIsRecursive (run_rows ps)
     → first_in_bodies (missing_at ps) ps ≡ None → AreCounts ps f → AreCounts ps g → (o : Option Program)
-    → program_named ps main ≡ o → limit_passed_by o (f main) ≡ limit_passed_by o (g main)
+    → program_named ps main ≡ o → module_limit_passed_by o (f main) ≡ module_limit_passed_by o (g main)
 same_limits ps main f g none there f_is g_is None found = refl
 same_limits ps main f g none there f_is g_is (Some p) found =
-    ap (limit_passed_by (Some p)) (one_count ps f g none there f_is g_is main p found)
+    ap (module_limit_passed_by (Some p)) (one_count ps f g none there f_is g_is main p found)
 
 one_limit : (ps : List Program) (main : List ℕ) → NoneIsRecursive (run_rows ps) → first_missing ps main ≡ None
-    → (x y : Option Limit) → IsLimitPassed ps main x → IsLimitPassed ps main y → x ≡ y
+    → (x y : Option ModuleLimit) → IsLimitPassed ps main x → IsLimitPassed ps main y → x ≡ y
 one_limit ps main none there x y h k =
     sym h.is
     ∙ same_limits ps main h.counts k.counts none (none_missing ps main there) h.are k.are (program_named ps main) refl
@@ -178,8 +178,8 @@ one_test fault o a b next = one_check fault (λ found. o ≡ found) (λ x y h k.
 -- the same of a check that asks for a fact
 one_fact : {fault : LinkFault} {Fact : Type 0} {Next After : Type 0} (a b : Option LinkFault)
     → (Next → After → a ≡ b)
-    → Refuses (Unless Fact fault) (λ f. a ≡ Some f) ⊎ Passes (Unless Fact fault) Next
-    → Refuses (Unless Fact fault) (λ f. b ≡ Some f) ⊎ Passes (Unless Fact fault) After → a ≡ b
+    → Refuses (RefuseUnless Fact fault) (λ f. a ≡ Some f) ⊎ Passes (RefuseUnless Fact fault) Next
+    → Refuses (RefuseUnless Fact fault) (λ f. b ≡ Some f) ⊎ Passes (RefuseUnless Fact fault) After → a ≡ b
 one_fact a b next (inl x) (inl y) = x.answered ∙ ap Some (x.given.0 ∙ sym y.given.0) ∙ sym y.answered
 one_fact a b next (inl x) (inr y) = absurd (x.given.1 y.passed)
 one_fact a b next (inr x) (inl y) = absurd (y.given.1 x.passed)

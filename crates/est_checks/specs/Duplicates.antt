@@ -5,7 +5,7 @@ use Rattle.std.specs.Option.{option_or}
 use Rattle.est_modules.specs.Occurrences.{Act, emits, tests, exits, binds, runs, Occurrence, occurrences, first_of}
 use Rattle.est_modules.specs.Modules.{Program}
 use Rattle.est_modules.specs.Visible.{is_tick}
-use Rattle.est_modules.specs.declared.head.Declared.{Declared}
+use Rattle.est_modules.specs.declared.interface.Declared.{Declared}
 use Rattle.est_modules.specs.Visible.{stands_in}
 
 -- the first of some signals that is `tick`, or stands before it in the list or among those seen before

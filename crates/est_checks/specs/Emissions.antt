@@ -13,7 +13,7 @@ use Rattle.est_modules.specs.Modules.{Program, program_named, first_in_bodies}
 use Rattle.est_modules.specs.Visible.{is_local, is_tick}
 use Rattle.est_modules.specs.Renamings.{renamed}
 use Rattle.est_modules.specs.Modules.{is_input}
-use Rattle.est_modules.specs.declared.head.Declared.{Declared}
+use Rattle.est_modules.specs.declared.interface.Declared.{Declared}
 use Rattle.est_modules.specs.NameSets.{has}
 use Rattle.est_modules.specs.declared.names.set.NameSet.{NameSet}
 use Rattle.est_checks.specs.declared.emission.Emissions.{Emissions}

@@ -1,7 +1,7 @@
 -- The first fault of a library: its checks in their order, and the answer by them (this project's own form).
 use Rattle.std.specs.Prelude.{◌≡◌, ℕ, nat_lt, Bool, List, length, if◌then◌else◌, Option, Some, None, Result}
 use Rattle.std.specs.Prelude.{Ok, Err, ◌⊎◌, IsTrue}
-use Rattle.refusal_rules.specs.Rules.{Rule, Rules, Unless, accept, ◌▸◌, Answers}
+use Rattle.refusal_rules.specs.Rules.{Rule, Rules, RefuseUnless, accept, ◌▸◌, Answers}
 use Rattle.est_text.specs.Identifiers.{is_identifier}
 use Rattle.est_checks.specs.BadRenamings.{bad_renaming_at}
 use Rattle.est_checks.specs.Counting.{AreCounts}
@@ -13,8 +13,8 @@ use Rattle.est_checks.specs.RecursiveRuns.{IsFirstRecursion}
 use Rattle.est_checks.specs.UnknownNames.{unknown_at}
 use Rattle.est_modules.specs.Modules.{Program, program_named, first_in_bodies}
 use Rattle.est_kernel.specs.declared.limits.TheConstants.{MOST_STATEMENTS}
-use Rattle.est_checks.specs.declared.fault.Limit.{Limit}
-use Rattle.est_checks.specs.declared.fault.Limit.TheVariants.{Signals, Relations, Statements}
+use Rattle.est_checks.specs.declared.fault.ModuleLimit.{ModuleLimit}
+use Rattle.est_checks.specs.declared.fault.ModuleLimit.TheVariants.{Signals, Relations, Statements}
 use Rattle.est_checks.specs.declared.fault.LinkFault.{LinkFault}
 use Rattle.est_checks.specs.declared.fault.LinkFault.TheVariants.{DuplicateName, MisnamedMain, UnknownModule}
 use Rattle.est_checks.specs.declared.fault.LinkFault.TheVariants.{RecursiveRun, BadRename, UnknownName, EmitInput}
@@ -31,22 +31,22 @@ pub record IsFirstRefused (ps : List Program) (name : Option (List ℕ)) : Type 
   pub is : first_refused ps emitted ≡ name
 
 -- the first limit that a main module with these numbers of signals, relations and statements passes
-abbrev pub limit_passed : (signals relations statements : ℕ) → Option Limit
-limit_passed signals relations statements =
+abbrev pub module_limit_passed : (signals relations statements : ℕ) → Option ModuleLimit
+module_limit_passed signals relations statements =
     if nat_lt MOST_SIGNALS signals then Some Signals else (
     if nat_lt MOST_RELATIONS relations then Some Relations else (
     if nat_lt MOST_STATEMENTS statements then Some Statements else None))
 
 -- the same of the main module, if it is there
-abbrev pub limit_passed_by : Option Program → ℕ → Option Limit
-limit_passed_by None statements = None
-limit_passed_by (Some p) statements = limit_passed (length p.interface) (length p.relations) statements
+abbrev pub module_limit_passed_by : Option Program → ℕ → Option ModuleLimit
+module_limit_passed_by None statements = None
+module_limit_passed_by (Some p) statements = module_limit_passed (length p.interface) (length p.relations) statements
 
 -- that limit, by the numbers of statements that the modules have, or that it passes none
-pub record IsLimitPassed (ps : List Program) (main : List ℕ) (limit : Option Limit) : Type 0 where
+pub record IsLimitPassed (ps : List Program) (main : List ℕ) (limit : Option ModuleLimit) : Type 0 where
   pub counts : List ℕ → ℕ
   pub are : AreCounts ps counts
-  pub is : limit_passed_by (program_named ps main) (counts main) ≡ limit
+  pub is : module_limit_passed_by (program_named ps main) (counts main) ≡ limit
 
 -- ---- the checks
 
@@ -61,7 +61,7 @@ Check {Found = Found} fault Finding = record {
 abbrev pub checks : List Program → (main : List ℕ) → Rules LinkFault
 checks ps main =
     Check DuplicateName (λ name. first_duplicate ps ≡ name)
-    ▸ Unless (IsTrue (is_identifier main)) MisnamedMain
+    ▸ RefuseUnless (IsTrue (is_identifier main)) MisnamedMain
     ▸ Check UnknownModule (λ name. first_missing ps main ≡ name)
     ▸ Check RecursiveRun (IsFirstRecursion ps)
     ▸ Check BadRename (λ name. first_in_bodies (bad_renaming_at ps) ps ≡ name)

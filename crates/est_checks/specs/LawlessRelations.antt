@@ -3,7 +3,7 @@ use Rattle.std.specs.Prelude.{ℕ, ◌+◌, List, [], ◌∷◌, Bool, not, Opti
 use Rattle.std.specs.List.{list_any, position}
 use Rattle.est_syntax.specs.Tree.{RelationTree, excludes, implies}
 use Rattle.est_modules.specs.Modules.{Program}
-use Rattle.est_modules.specs.declared.head.Declared.{Declared}
+use Rattle.est_modules.specs.declared.interface.Declared.{Declared}
 use Rattle.est_modules.specs.Modules.{is_offerable}
 
 -- one of the names is neither an input nor an inputoutput

@@ -6,7 +6,7 @@ use Rattle.est_syntax.specs.Tree.{RenamingTree}
 use Rattle.est_modules.specs.Occurrences.{Binder, Act, emits, tests, exits, binds, runs, Occurrence}
 use Rattle.est_modules.specs.Modules.{Program, program_named}
 use Rattle.est_modules.specs.Renamings.{is_renamed}
-use Rattle.est_modules.specs.declared.head.Declared.{Declared}
+use Rattle.est_modules.specs.declared.interface.Declared.{Declared}
 use Rattle.est_modules.specs.Visible.{is_visible, is_trap}
 
 -- the name unless the test holds

@@ -6,7 +6,8 @@ ghost use Rattle.est_modules.specs.NameSets.{has};
 ghost use Rattle.est_modules.specs.NameTables.{IsTable};
 ghost use Rattle.est_modules.specs.Visible.{is_tick};
 
-use est_modules::head::{Declared, Head};
+use est_modules::interface::Declared;
+use est_modules::library_modules::LibraryModule;
 use est_modules::names::set::{NameSet, NumberSet, numbers_among};
 use est_modules::names::table::NameTable;
 use est_modules::relations::is_input_kind;
@@ -66,7 +67,7 @@ pub fn allowed_names(
     alloc: Global,
     table: &NameTable<'_>,
     inputs: &NameSet<'_>,
-    home: &Head<'_>,
+    home: &LibraryModule<'_>,
 ) -> Result<NumberSet, AllocError>
     requires inputs { (s : List ℕ) → has inputs.now s ≡ is_input (program_of home.now).interface s }
     requires table { IsTable table.now }

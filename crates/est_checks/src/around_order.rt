@@ -16,8 +16,7 @@ use crate::lawless_relations::first_over_outputs;
 use crate::missing_modules::first_missing;
 use crate::place_check::first_in_bodies;
 use crate::unknown_names::first_unknown;
-use est_modules::head::Head;
-use est_modules::head_tree::Heads;
+use est_modules::library_modules::{LibraryModule, LibraryModules};
 use est_modules::names::kept::KeptNames;
 use est_modules::names::table::NameTable;
 use est_text::identifier::Identifier;
@@ -32,27 +31,31 @@ use std::alloc::{AllocError, Global};
 /// The first fault; or memory was refused for the names that were met.
 pub fn check_before_order(
     alloc: Global,
-    heads: &Heads<'_>,
+    modules: &LibraryModules<'_>,
     main: &str,
 ) -> Result<Identifier, LinkFault>
     ensures name { IfOk result (λ name. name ≡ main.now) }
-    ensures found { Finds (λ found. found ≡ fault_before_order (map program_of heads.now) main.now)
+    ensures found
+        { Finds (λ found. found ≡ fault_before_order (map program_of modules.now) main.now)
         result }
 {
-    if let Some(name) = first_duplicate(alloc, &*heads)? {
+    if let Some(name) = first_duplicate(alloc, &*modules)? {
         return Err(LinkFault::DuplicateName(name));
     }
     let Some(main) = Identifier::from_text(main) else {
         return Err(LinkFault::MisnamedMain);
     };
-    match first_missing(alloc, &*heads, &main)? {
+    match first_missing(alloc, &*modules, &main)? {
         Some(name) => Err(LinkFault::UnknownModule(name)),
         None => Ok(main),
     }
 }
 
 /// The number of the first lawless relation of the main module.
-fn main_lawless_number(alloc: Global, main: Option<&Head<'_>>) -> Result<Option<usize>, AllocError>
+fn main_lawless_number(
+    alloc: Global,
+    main: Option<&LibraryModule<'_>>,
+) -> Result<Option<usize>, AllocError>
     ensures { IfOk result
         (λ number. number ≡ number_over_outputs (option_map (λ h. program_of h.now)
         main.entry)) }
@@ -72,21 +75,21 @@ fn main_lawless_number(alloc: Global, main: Option<&Head<'_>>) -> Result<Option<
 pub fn fault_of_names(
     alloc: Global,
     names: &NameTable<'_>,
-    heads: &Heads<'_>,
+    modules: &LibraryModules<'_>,
 ) -> Result<Option<LinkFault>, AllocError>
     requires { IsTable names.now }
-    ensures { IfOk result (λ fault. fault ≡ fault_of_names (map program_of heads.now)) }
+    ensures { IfOk result (λ fault. fault ≡ fault_of_names (map program_of modules.now)) }
 {
     let no_names = NameTable::new(alloc);
     let none = KeptNames::none(alloc);
     let check = BadRename {
         alloc,
-        heads: &*heads,
+        modules: &*modules,
     };
-    if let Some(name) = first_in_bodies(alloc, &no_names, &none, &check, &*heads)? {
+    if let Some(name) = first_in_bodies(alloc, &no_names, &none, &check, &*modules)? {
         return Ok(Some(LinkFault::BadRename(name)));
     }
-    match first_unknown(alloc, names, &*heads)? {
+    match first_unknown(alloc, names, &*modules)? {
         Some(name) => Ok(Some(LinkFault::UnknownName(name))),
         None => Ok(None),
     }
@@ -101,18 +104,18 @@ pub fn fault_of_names(
 pub fn fault_of_emissions<'a>(
     alloc: Global,
     names: &NameTable<'_>,
-    heads: &'a Heads<'_>,
+    modules: &'a LibraryModules<'_>,
     main: &Identifier,
     table: &'a Emissions<'_>,
 ) -> Result<Option<LinkFault>, AllocError>
     requires { IsTable names.now }
-    ensures { IfOk result (λ fault. fault ≡ fault_of_emissions (map program_of heads.now) main.now
+    ensures { IfOk result (λ fault. fault ≡ fault_of_emissions (map program_of modules.now) main.now
         (emitted_of table.now)) }
 {
-    if let Some(name) = first_refused(alloc, names, &*heads, &*table)? {
+    if let Some(name) = first_refused(alloc, names, &*modules, &*table)? {
         return Ok(Some(LinkFault::EmitInput(name)));
     }
-    match main_lawless_number(alloc, heads.named(main))? {
+    match main_lawless_number(alloc, modules.named(main))? {
         Some(number) => Ok(Some(LinkFault::Semantics(number))),
         None => Ok(None),
     }

@@ -7,8 +7,7 @@ ghost use Rattle.est_modules.specs.NameSets.{has};
 ghost use Rattle.est_checks.specs.BadRenamings.{is_renamed_twice, is_misnamed, bad_in_run};
 
 use crate::place_check::PlaceCheck;
-use est_modules::head::Head;
-use est_modules::head_tree::Heads;
+use est_modules::library_modules::{LibraryModule, LibraryModules};
 use est_modules::names::open::OpenNames;
 use est_modules::names::set::NameSet;
 use est_modules::scope::{Act, Scope};
@@ -33,7 +32,7 @@ fn renamed_twice<'a>(alloc: Global, renamings: &'a [Renaming]) -> Result<NameSet
 
 #[tactic(auto, unfolding(crate::specs::BadRenamings::is_misnamed))]
 fn is_misnamed(
-    run: &Head<'_>,
+    run: &LibraryModule<'_>,
     twice: &NameSet<'_>,
     renamings: &[Renaming],
     signal: &Identifier,
@@ -47,7 +46,11 @@ fn is_misnamed(
 }
 
 /// The right name of the first of these renamings that is bad.
-fn misnamed(run: &Head<'_>, twice: &NameSet<'_>, renamings: &[Renaming]) -> Option<Identifier>
+fn misnamed(
+    run: &LibraryModule<'_>,
+    twice: &NameSet<'_>,
+    renamings: &[Renaming],
+) -> Option<Identifier>
     requires { (s : List ℕ) → has twice.now s
         ≡ is_renamed_twice (map renaming_view renamings.now) s }
     ensures { result ≡ option_map (λ r. r.inner) (find (λ r. is_misnamed (program_of run.now)
@@ -64,7 +67,7 @@ fn misnamed(run: &Head<'_>, twice: &NameSet<'_>, renamings: &[Renaming]) -> Opti
 fn bad_in_run(
     alloc: Global,
     renamings: &[Renaming],
-    run: Option<&Head<'_>>,
+    run: Option<&LibraryModule<'_>>,
 ) -> Result<Option<Identifier>, AllocError>
     ensures { IfOk result (λ name. name ≡ bad_in_run (map renaming_view renamings.now)
         (option_map (λ h. program_of h.now) run.entry)) }
@@ -83,7 +86,7 @@ pub struct BadRename<'a, 'b> {
     /// Where memory for names is taken.
     pub alloc: Global,
     /// The modules of the library.
-    pub heads: &'a Heads<'b>,
+    pub modules: &'a LibraryModules<'b>,
 }
 
 impl PlaceCheck for BadRename<'_, '_> {
@@ -93,11 +96,11 @@ impl PlaceCheck for BadRename<'_, '_> {
 
     ghost fits = { λ c t ks. ⊤ };
 
-    ghost fault = { λ c. bad_renaming_at (map program_of c.heads.now) };
+    ghost fault = { λ c. bad_renaming_at (map program_of c.modules.now) };
 
     fn fault(
         &self,
-        _home: &Head<'_>,
+        _home: &LibraryModule<'_>,
         _kept: &OpenNames<'_, '_, '_>,
         act: &Act<'_>,
         _scope: &Scope<'_>,
@@ -105,7 +108,7 @@ impl PlaceCheck for BadRename<'_, '_> {
         match act {
             Act::Emits(_) | Act::Tests(_) | Act::Exits(_) | Act::Binds(_) => Ok(None),
             Act::Runs(name, renamings) => {
-                bad_in_run(self.alloc, renamings, self.heads.named(name))
+                bad_in_run(self.alloc, renamings, self.modules.named(name))
             }
         }
     }

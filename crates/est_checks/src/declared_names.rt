@@ -1,7 +1,7 @@
 //! The names that an interface declares.
 ghost use Rattle.std.specs.Prelude.{◌≡◌, map, IfOk};
 
-use est_modules::head::Declared;
+use est_modules::interface::Declared;
 use est_text::identifier::Identifier;
 use std::alloc::{AllocError, Global};
 

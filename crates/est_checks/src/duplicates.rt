@@ -10,8 +10,8 @@ ghost use Rattle.est_checks.specs.Duplicates.{first_duplicate};
 
 use crate::declared_names::declared_names;
 use crate::place_check::{PlaceCheck, first_in_body};
-use est_modules::head::{Declared, Head};
-use est_modules::head_tree::Heads;
+use est_modules::interface::Declared;
+use est_modules::library_modules::{LibraryModule, LibraryModules};
 use est_modules::names::kept::KeptNames;
 use est_modules::names::open::OpenNames;
 use est_modules::names::set::NameSet;
@@ -71,7 +71,7 @@ impl PlaceCheck for DuplicateLocal {
 
     fn fault(
         &self,
-        _home: &Head<'_>,
+        _home: &LibraryModule<'_>,
         _kept: &OpenNames<'_, '_, '_>,
         act: &Act<'_>,
         _scope: &Scope<'_>,
@@ -84,7 +84,7 @@ impl PlaceCheck for DuplicateLocal {
 }
 
 /// The first signal of a module that is declared a second time, or is `tick`.
-fn redeclared_in(alloc: Global, home: &Head<'_>) -> Result<Option<Identifier>, AllocError>
+fn redeclared_in(alloc: Global, home: &LibraryModule<'_>) -> Result<Option<Identifier>, AllocError>
     ensures { IfOk result (λ name. name ≡ redeclared_in (program_of home.now)) }
 {
     if let Some(name) = redeclared_signal(alloc, home.interface.signals())? {
@@ -100,7 +100,7 @@ fn redeclared_in(alloc: Global, home: &Head<'_>) -> Result<Option<Identifier>, A
 fn duplicate_of<'a>(
     alloc: Global,
     met: &mut NameSet<'a>,
-    home: &'a Head<'_>,
+    home: &'a LibraryModule<'_>,
 ) -> Result<Option<Identifier>, AllocError>
     ensures found { IfOk result (λ name. (seen : List (List ℕ))
         → ((s : List ℕ) → has met.old s ≡ stands_in seen s)
@@ -120,13 +120,16 @@ fn duplicate_of<'a>(
 /// # Errors
 ///
 /// `AllocError` where memory is refused for the names that were met.
-pub fn first_duplicate(alloc: Global, heads: &Heads<'_>) -> Result<Option<Identifier>, AllocError>
-    ensures { IfOk result (λ name. name ≡ first_duplicate (map program_of heads.now)) }
+pub fn first_duplicate(
+    alloc: Global,
+    modules: &LibraryModules<'_>,
+) -> Result<Option<Identifier>, AllocError>
+    ensures { IfOk result (λ name. name ≡ first_duplicate (map program_of modules.now)) }
 {
-    let modules = heads.modules();
+    let all = modules.as_slice();
     let mut met = NameSet::new(alloc);
-    for index in 0..modules.len() {
-        if let Some(name) = duplicate_of(alloc, &mut met, &modules[index])? {
+    for index in 0..all.len() {
+        if let Some(name) = duplicate_of(alloc, &mut met, &all[index])? {
             return Ok(Some(name));
         }
     }

@@ -4,7 +4,7 @@ use std::alloc::AllocError;
 
 /// What a main module has too many of.
 #[derive(Clone, Copy, PartialEq, Eq, Debug)]
-pub enum Limit {
+pub enum ModuleLimit {
     /// Interface signals, over 64.
     Signals,
     /// Relations, over 32.
@@ -36,7 +36,7 @@ pub enum LinkFault {
     /// an input nor an inputoutput of the main module.
     Semantics(usize),
     /// The main module passes this limit, the first of those that it passes.
-    TooLarge(Limit),
+    TooLarge(ModuleLimit),
     /// Memory was refused.
     Memory,
 }

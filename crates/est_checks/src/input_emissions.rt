@@ -17,8 +17,7 @@ use crate::allowed_names::{allowed_names, inputs_of};
 use crate::emission::Emissions;
 use crate::place_check::{PlaceCheck, first_in_body};
 use crate::run_emissions::emitted_names;
-use est_modules::head::Head;
-use est_modules::head_tree::Heads;
+use est_modules::library_modules::{LibraryModule, LibraryModules};
 use est_modules::names::kept::KeptNames;
 use est_modules::names::open::OpenNames;
 use est_modules::names::set::{NameSet, NumberSet};
@@ -70,7 +69,7 @@ fn refused_name(
     scope: &Scope<'_>,
     renamings: &RunRenamings<'_>,
     name: &Identifier,
-    run: &Head<'_>,
+    run: &LibraryModule<'_>,
 ) -> Option<Identifier>
     requires { IsOpen (Bars check.now) (binders_of scope.now) kept.now }
     ensures { result ≡ refused_in_run (emitted_of check.now.table.now)
@@ -135,7 +134,7 @@ fn are_allowed(
 ) -> Result<bool, AllocError>
     requires { IsOpen (Bars check.now) (binders_of scope.now) kept.now }
     ensures { IfOk result (λ allowed. IsTrue allowed → (s : List ℕ)
-        → stands_in (names_emitted_by (map program_of check.now.heads.now)
+        → stands_in (names_emitted_by (map program_of check.now.modules.now)
         (emitted_of check.now.table.now) name.now) s ≡ true
         → is_refused_in_run (emitted_of check.now.table.now) (program_of check.now.home.now)
         (binders_of scope.now) (map renaming_view renamings.now) name.now s ≡ false) }
@@ -156,9 +155,9 @@ fn refused_of(
     scope: &Scope<'_>,
     renamings: &[Renaming],
     name: &Identifier,
-    run: &Head<'_>,
+    run: &LibraryModule<'_>,
 ) -> Result<Option<Identifier>, AllocError>
-    requires named { program_named (map program_of check.now.heads.now) name.now
+    requires named { program_named (map program_of check.now.modules.now) name.now
         ≡ Some (program_of run.now) }
     requires open { IsOpen (Bars check.now) (binders_of scope.now) kept.now }
     ensures { IfOk result (λ found. found ≡ refused_in_run (emitted_of check.now.table.now)
@@ -183,9 +182,9 @@ fn refused_in_run(
     requires { IsOpen (Bars check.now) (binders_of scope.now) kept.now }
     ensures { IfOk result (λ found. found ≡ refused_in_run (emitted_of check.now.table.now)
         (program_of check.now.home.now) (binders_of scope.now) (map renaming_view renamings.now)
-        name.now (program_named (map program_of check.now.heads.now) name.now)) }
+        name.now (program_named (map program_of check.now.modules.now) name.now)) }
 {
-    match check.heads.named(name) {
+    match check.modules.named(name) {
         Some(run) => refused_of(check, kept, scope, renamings, name, run),
         None => Ok(None),
     }
@@ -198,9 +197,9 @@ pub struct EmitInput<'a, 'b, 'c, 'd> {
     /// Where memory for names is taken.
     pub alloc: Global,
     /// The modules of the library.
-    pub heads: &'a Heads<'b>,
+    pub modules: &'a LibraryModules<'b>,
     /// The module.
-    pub home: &'a Head<'b>,
+    pub home: &'a LibraryModule<'b>,
     /// The inputs of the module.
     pub inputs: &'a NameSet<'c>,
     /// What each module emits.
@@ -217,12 +216,12 @@ impl PlaceCheck for EmitInput<'_, '_, '_, '_> {
 
     ghost fits = { λ c. Bars c };
 
-    ghost fault = { λ c p. refused_at (map program_of c.heads.now)
+    ghost fault = { λ c p. refused_at (map program_of c.modules.now)
         (emitted_of c.table.now) (program_of c.home.now) };
 
     fn fault(
         &self,
-        _home: &Head<'_>,
+        _home: &LibraryModule<'_>,
         kept: &OpenNames<'_, '_, '_>,
         act: &Act<'_>,
         scope: &Scope<'_>,
@@ -246,21 +245,21 @@ fn refused_in<'a, 'b>(
     alloc: Global,
     names: &NameTable<'_>,
     kept: &KeptNames<'_>,
-    heads: &'a Heads<'b>,
-    home: &'a Head<'b>,
+    modules: &'a LibraryModules<'b>,
+    home: &'a LibraryModule<'b>,
     table: &'a Emissions<'_>,
 ) -> Result<Option<Identifier>, AllocError>
     requires names { IsTable names.now }
-    requires kept { AreKept names.now (names_emitted_by (map program_of heads.now)
+    requires kept { AreKept names.now (names_emitted_by (map program_of modules.now)
         (emitted_of table.now)) kept.now }
-    ensures { IfOk result (λ name. name ≡ first_of (refused_at (map program_of heads.now)
+    ensures { IfOk result (λ name. name ≡ first_of (refused_at (map program_of modules.now)
         (emitted_of table.now) (program_of home.now)) (occurrences [] (program_of home.now).body)) }
 {
     let inputs = inputs_of(alloc, home.interface.signals())?;
     let allowed = allowed_names(alloc, names, &inputs, &*home)?;
     let check = EmitInput {
         alloc,
-        heads: &*heads,
+        modules: &*modules,
         home: &*home,
         inputs: &inputs,
         table: &*table,
@@ -278,16 +277,16 @@ fn refused_in<'a, 'b>(
 pub fn first_refused<'a>(
     alloc: Global,
     names: &NameTable<'_>,
-    heads: &'a Heads<'_>,
+    modules: &'a LibraryModules<'_>,
     table: &'a Emissions<'_>,
 ) -> Result<Option<Identifier>, AllocError>
     requires { IsTable names.now }
-    ensures { IfOk result (λ name. name ≡ first_in_bodies (refused_at (map program_of heads.now)
-        (emitted_of table.now)) (map program_of heads.now)) }
+    ensures { IfOk result (λ name. name ≡ first_in_bodies (refused_at (map program_of modules.now)
+        (emitted_of table.now)) (map program_of modules.now)) }
 {
-    let kept = emitted_names(alloc, names, &*heads, &*table)?;
-    for home in heads.modules() {
-        if let Some(name) = refused_in(alloc, names, &kept, &*heads, &*home, &*table)? {
+    let kept = emitted_names(alloc, names, &*modules, &*table)?;
+    for home in modules.as_slice() {
+        if let Some(name) = refused_in(alloc, names, &kept, &*modules, &*home, &*table)? {
             return Ok(Some(name));
         }
     }

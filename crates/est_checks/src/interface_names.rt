@@ -9,8 +9,7 @@ ghost use Rattle.est_checks.specs.Inner.InterfaceNames.{names_of};
 
 use crate::declared_names::declared_names;
 use crate::run_names::{Choice, kept_of};
-use est_modules::head::Head;
-use est_modules::head_tree::Heads;
+use est_modules::library_modules::{LibraryModule, LibraryModules};
 use est_modules::names::kept::KeptNames;
 use est_modules::names::set::{NumberSet, put_name, put_names};
 use est_modules::names::table::NameTable;
@@ -22,7 +21,7 @@ use std::alloc::{AllocError, Global};
 #[derive(Clone, Copy)]
 struct InterfaceNames<'a, 'b> {
     /// The modules of the library.
-    heads: &'a Heads<'b>,
+    modules: &'a LibraryModules<'b>,
 }
 
 impl Choice for InterfaceNames<'_, '_> {
@@ -30,10 +29,10 @@ impl Choice for InterfaceNames<'_, '_> {
     ghost use Rattle.est_modules.specs.Modules.{program_of};
     ghost use Rattle.est_checks.specs.Inner.InterfaceNames.{names_of};
 
-    ghost chosen = { λ c. names_of (map program_of c.heads.now) };
+    ghost chosen = { λ c. names_of (map program_of c.modules.now) };
 
     fn choose(&self, alloc: Global, name: &Identifier) -> Result<Vec<Identifier>, AllocError> {
-        match self.heads.named(name) {
+        match self.modules.named(name) {
             Some(run) => declared_names(alloc, run.interface.signals()),
             None => Ok(Vec::new(alloc)),
         }
@@ -49,13 +48,13 @@ impl Choice for InterfaceNames<'_, '_> {
 pub fn interfaces_of<'a>(
     alloc: Global,
     table: &NameTable<'_>,
-    heads: &'a Heads<'_>,
+    modules: &'a LibraryModules<'_>,
 ) -> Result<KeptNames<'a>, AllocError>
     requires { IsTable table.now }
-    ensures { IfOk result (λ kept. AreKept table.now (names_of (map program_of heads.now)) kept) }
+    ensures { IfOk result (λ kept. AreKept table.now (names_of (map program_of modules.now)) kept) }
 {
-    let choice = InterfaceNames { heads: &*heads };
-    kept_of(&choice, alloc, table, &*heads)
+    let choice = InterfaceNames { modules: &*modules };
+    kept_of(&choice, alloc, table, &*modules)
 }
 
 /// The names that are visible outermost in a module: those that it declares, and `tick`.
@@ -66,7 +65,7 @@ pub fn interfaces_of<'a>(
 pub fn own_names(
     alloc: Global,
     table: &NameTable<'_>,
-    home: &Head<'_>,
+    home: &LibraryModule<'_>,
 ) -> Result<NumberSet, AllocError>
     requires { IsTable table.now }
     ensures { IfOk result (λ own. Tells table.now (λ s. is_declared (program_of home.now).interface

@@ -7,7 +7,8 @@ ghost use Rattle.est_modules.specs.NameSets.{has};
 ghost use Rattle.est_checks.specs.Inner.Offers.{is_over_outputs};
 ghost use Rattle.est_checks.specs.LawlessRelations.{first_over_outputs};
 
-use est_modules::head::{Declared, Head};
+use est_modules::interface::Declared;
+use est_modules::library_modules::LibraryModule;
 use est_modules::names::set::NameSet;
 use est_modules::relations::{is_offered_kind, relations_of};
 use est_syntax::tree::Relation;
@@ -73,7 +74,10 @@ fn number_over_outputs(offered: &NameSet<'_>, relations: &[&Relation]) -> Option
 /// # Errors
 ///
 /// `AllocError` where memory is refused for its relations or the names that may be offered.
-pub fn first_over_outputs(alloc: Global, home: &Head<'_>) -> Result<Option<usize>, AllocError>
+pub fn first_over_outputs(
+    alloc: Global,
+    home: &LibraryModule<'_>,
+) -> Result<Option<usize>, AllocError>
     ensures { IfOk result (λ number. number ≡ first_over_outputs (program_of home.now)) }
 {
     let relations = relations_of(alloc, home.declarations)?;

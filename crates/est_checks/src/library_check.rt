@@ -14,8 +14,8 @@ use crate::around_order::{check_before_order, fault_of_emissions, fault_of_names
 use crate::fault::LinkFault;
 use crate::limits::check_limits;
 use crate::module_emissions::emissions_along;
-use est_modules::head_tree::Heads;
-use est_modules::module_order::order_heads;
+use est_modules::library_modules::LibraryModules;
+use est_modules::module_order::order_modules;
 use est_modules::names::table::{NameTable, further_names, numbered};
 use est_order::order_fault::OrderFault;
 use est_order::place_order::Order;
@@ -23,14 +23,14 @@ use est_text::identifier::Identifier;
 use std::alloc::Global;
 
 /// The order of the modules. A module that is recursive is at fault.
-fn order_of(alloc: Global, heads: &Heads<'_>) -> Result<Order, LinkFault>
-    ensures order { IfOk result (λ order. IsOrderOf (map program_of heads.now) order) }
-    ensures ok { OnOk result (NoneIsRecursive (run_rows (map program_of heads.now))) }
-    ensures err { IfErr result (IsOrderFault (map program_of heads.now)) }
+fn order_of(alloc: Global, modules: &LibraryModules<'_>) -> Result<Order, LinkFault>
+    ensures order { IfOk result (λ order. IsOrderOf (map program_of modules.now) order) }
+    ensures ok { OnOk result (NoneIsRecursive (run_rows (map program_of modules.now))) }
+    ensures err { IfErr result (IsOrderFault (map program_of modules.now)) }
 {
-    match order_heads(alloc, &*heads) {
+    match order_modules(alloc, &*modules) {
         Ok(order) => Ok(order),
-        Err(OrderFault::Recursive(place)) => Err(LinkFault::RecursiveRun(heads.name_at(place))),
+        Err(OrderFault::Recursive(place)) => Err(LinkFault::RecursiveRun(modules.name_at(place))),
         Err(OrderFault::Memory) => Err(LinkFault::Memory),
     }
 }
@@ -39,52 +39,56 @@ fn order_of(alloc: Global, heads: &Heads<'_>) -> Result<Order, LinkFault>
 fn check_from_emissions<'a>(
     alloc: Global,
     names: &'a NameTable<'_>,
-    heads: &'a Heads<'_>,
+    modules: &'a LibraryModules<'_>,
     order: &Order,
     main: &Identifier,
 ) -> Result<(), LinkFault>
     requires table { IsTable names.now }
-    requires numbered { AreNumbered names.now (map program_of heads.now) }
-    requires known { first_in_bodies (unknown_at (map program_of heads.now))
-        (map program_of heads.now) ≡ None }
-    requires order { IsOrderOf (map program_of heads.now) order.now }
-    requires distinct { first_duplicate (map program_of heads.now) ≡ None }
-    ensures { Finds (IsFirstOf (emission_checks (map program_of heads.now) main.now)) result }
+    requires numbered { AreNumbered names.now (map program_of modules.now) }
+    requires known { first_in_bodies (unknown_at (map program_of modules.now))
+        (map program_of modules.now) ≡ None }
+    requires order { IsOrderOf (map program_of modules.now) order.now }
+    requires distinct { first_duplicate (map program_of modules.now) ≡ None }
+    ensures { Finds (IsFirstOf (emission_checks (map program_of modules.now) main.now)) result }
 {
-    let table = emissions_along(alloc, names, &*heads, order.places())?;
-    match fault_of_emissions(alloc, names, &*heads, main, &table)? {
+    let table = emissions_along(alloc, names, &*modules, order.places())?;
+    match fault_of_emissions(alloc, names, &*modules, main, &table)? {
         Some(fault) => Err(fault),
-        None => check_limits(alloc, heads, order, main),
+        None => check_limits(alloc, modules, order, main),
     }
 }
 
 /// The checks from that of renamings on.
 fn check_from_names(
     alloc: Global,
-    heads: &Heads<'_>,
+    modules: &LibraryModules<'_>,
     order: &Order,
     main: &Identifier,
 ) -> Result<(), LinkFault>
-    requires order { IsOrderOf (map program_of heads.now) order.now }
-    requires distinct { first_duplicate (map program_of heads.now) ≡ None }
-    ensures { Finds (IsFirstOf (name_checks (map program_of heads.now) main.now)) result }
+    requires order { IsOrderOf (map program_of modules.now) order.now }
+    requires distinct { first_duplicate (map program_of modules.now) ≡ None }
+    ensures { Finds (IsFirstOf (name_checks (map program_of modules.now) main.now)) result }
 {
-    let further = further_names(alloc, heads)?;
-    let names = numbered(alloc, &*heads, &further)?;
-    match fault_of_names(alloc, &names, &*heads)? {
+    let further = further_names(alloc, modules)?;
+    let names = numbered(alloc, &*modules, &further)?;
+    match fault_of_names(alloc, &names, &*modules)? {
         Some(fault) => Err(fault),
-        None => check_from_emissions(alloc, &names, &*heads, order, main),
+        None => check_from_emissions(alloc, &names, &*modules, order, main),
     }
 }
 
 /// The checks from that of recursive runs on.
-fn check_from_runs(alloc: Global, heads: &Heads<'_>, main: &Identifier) -> Result<Order, LinkFault>
-    requires { first_duplicate (map program_of heads.now) ≡ None }
-    ensures order { IfOk result (λ order. IsOrderOf (map program_of heads.now) order) }
-    ensures found { Finds (IsFirstOf (run_checks (map program_of heads.now) main.now)) result }
+fn check_from_runs(
+    alloc: Global,
+    modules: &LibraryModules<'_>,
+    main: &Identifier,
+) -> Result<Order, LinkFault>
+    requires { first_duplicate (map program_of modules.now) ≡ None }
+    ensures order { IfOk result (λ order. IsOrderOf (map program_of modules.now) order) }
+    ensures found { Finds (IsFirstOf (run_checks (map program_of modules.now) main.now)) result }
 {
-    let order = order_of(alloc, &*heads)?;
-    check_from_names(alloc, &*heads, &order, main)?;
+    let order = order_of(alloc, &*modules)?;
+    check_from_names(alloc, &*modules, &order, main)?;
     Ok(order)
 }
 
@@ -96,14 +100,14 @@ fn check_from_runs(alloc: Global, heads: &Heads<'_>, main: &Identifier) -> Resul
 /// The first fault, or `Memory`.
 pub fn check_library(
     alloc: Global,
-    heads: &Heads<'_>,
+    modules: &LibraryModules<'_>,
     main: &str,
 ) -> Result<(Identifier, Order), LinkFault>
     ensures name { IfOk result (λ checked. checked.0 ≡ main.now) }
-    ensures order { IfOk result (λ checked. IsOrderOf (map program_of heads.now) checked.1) }
-    ensures found { Finds (IsFirstFault (map program_of heads.now) main.now) result }
+    ensures order { IfOk result (λ checked. IsOrderOf (map program_of modules.now) checked.1) }
+    ensures found { Finds (IsFirstFault (map program_of modules.now) main.now) result }
 {
-    let main = check_before_order(alloc, &*heads, main)?;
-    let order = check_from_runs(alloc, &*heads, &main)?;
+    let main = check_before_order(alloc, &*modules, main)?;
+    let order = check_from_runs(alloc, &*modules, &main)?;
     Ok((main, order))
 }

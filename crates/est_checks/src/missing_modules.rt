@@ -4,8 +4,7 @@ ghost use Rattle.est_modules.specs.Modules.{program_of};
 ghost use Rattle.est_checks.specs.MissingModules.{first_missing};
 
 use crate::place_check::{PlaceCheck, first_in_bodies};
-use est_modules::head::Head;
-use est_modules::head_tree::Heads;
+use est_modules::library_modules::{LibraryModule, LibraryModules};
 use est_modules::names::kept::KeptNames;
 use est_modules::names::open::OpenNames;
 use est_modules::names::table::NameTable;
@@ -16,7 +15,7 @@ use std::alloc::{AllocError, Global};
 /// The check for runs of modules that aren't there.
 #[derive(Clone, Copy)]
 struct UnknownModule<'a, 'b> {
-    heads: &'a Heads<'b>,
+    modules: &'a LibraryModules<'b>,
 }
 
 impl PlaceCheck for UnknownModule<'_, '_> {
@@ -26,18 +25,18 @@ impl PlaceCheck for UnknownModule<'_, '_> {
 
     ghost fits = { λ c t ks. ⊤ };
 
-    ghost fault = { λ c. missing_at (map program_of c.heads.now) };
+    ghost fault = { λ c. missing_at (map program_of c.modules.now) };
 
     fn fault(
         &self,
-        _home: &Head<'_>,
+        _home: &LibraryModule<'_>,
         _kept: &OpenNames<'_, '_, '_>,
         act: &Act<'_>,
         _scope: &Scope<'_>,
     ) -> Result<Option<Identifier>, AllocError> {
         match act {
             Act::Emits(_) | Act::Tests(_) | Act::Exits(_) | Act::Binds(_) => Ok(None),
-            Act::Runs(name, _) => match self.heads.named(name) {
+            Act::Runs(name, _) => match self.modules.named(name) {
                 Some(_) => Ok(None),
                 None => Ok(Some(*name)),
             },
@@ -52,17 +51,17 @@ impl PlaceCheck for UnknownModule<'_, '_> {
 /// `AllocError`, as a check answers it.
 pub fn first_missing(
     alloc: Global,
-    heads: &Heads<'_>,
+    modules: &LibraryModules<'_>,
     main: &Identifier,
 ) -> Result<Option<Identifier>, AllocError>
-    ensures { IfOk result (λ name. name ≡ first_missing (map program_of heads.now) main.now) }
+    ensures { IfOk result (λ name. name ≡ first_missing (map program_of modules.now) main.now) }
 {
-    match heads.named(main) {
+    match modules.named(main) {
         Some(_) => {
             let table = NameTable::new(alloc);
             let none = KeptNames::none(alloc);
-            let check = UnknownModule { heads: &*heads };
-            first_in_bodies(alloc, &table, &none, &check, &*heads)
+            let check = UnknownModule { modules: &*modules };
+            first_in_bodies(alloc, &table, &none, &check, &*modules)
         }
         None => Ok(Some(*main)),
     }

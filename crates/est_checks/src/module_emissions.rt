@@ -25,8 +25,8 @@ ghost use Rattle.est_checks.specs.UnknownNames.{unknown_at};
 use crate::emission::Emissions;
 use crate::emitted_numbers::EmittedNumbers;
 use crate::run_emissions::names_in;
-use est_modules::head::{Declared, Head};
-use est_modules::head_tree::Heads;
+use est_modules::interface::Declared;
+use est_modules::library_modules::{LibraryModule, LibraryModules};
 use est_modules::names::kept::KeptNames;
 use est_modules::names::open::OpenNames;
 use est_modules::names::set::{NameSet, NumberSet, numbers_among};
@@ -69,7 +69,7 @@ fn note_own(
     name: &Identifier,
 ) -> Result<(), AllocError>
     requires { IsOpen (Keeps visitor.now) (binders_of scope.now) kept.now }
-    ensures { OnOk result ((q : Program) → program_named (map program_of visitor.now.heads.now)
+    ensures { OnOk result ((q : Program) → program_named (map program_of visitor.now.modules.now)
         name.now ≡ Some q → Adds kept.now.table.now
         (λ s. (emitted_of visitor.now.table.now name.now s && is_declared q.interface s)
         && not (is_local (binders_of scope.now) s
@@ -89,7 +89,7 @@ fn note_renamed(
     kept: &OpenNames<'_, '_, '_>,
     renamings: &[Renaming],
     renamed: &RunRenamings<'_>,
-    run: &Head<'_>,
+    run: &LibraryModule<'_>,
 ) -> Result<(), AllocError>
     requires { renamed.now ≡ renamings.now }
     ensures { OnOk result ((bs : List Binder) → IsTable kept.now.table.now
@@ -118,9 +118,9 @@ fn note_run(
     requires { IsOpen (Keeps visitor.now) (binders_of scope.now) kept.now }
     ensures { OnOk result (Adds kept.now.table.now (λ s. not (is_local (binders_of scope.now) s)
         && emits_in_run (emitted_of visitor.now.table.now) s (map renaming_view renamings.now)
-        (program_named (map program_of visitor.now.heads.now) name.now)) noted.old noted.new) }
+        (program_named (map program_of visitor.now.modules.now) name.now)) noted.old noted.new) }
 {
-    if let Some(run) = visitor.heads.named(name) {
+    if let Some(run) = visitor.modules.named(name) {
         let renamed = RunRenamings::of(visitor.alloc, renamings)?;
         note_own(noted, visitor, kept, scope, renamings, name)?;
         note_renamed(noted, visitor.table, kept, renamings, &renamed, run)?;
@@ -132,7 +132,7 @@ fn note_run(
 #[derive(Clone, Copy)]
 struct EmissionNotes<'a, 'b, 'c, 'd, 'e, 'f> {
     alloc: Global,
-    heads: &'a Heads<'b>,
+    modules: &'a LibraryModules<'b>,
     table: &'a Emissions<'c>,
     numbers: &'a EmittedNumbers<'f>,
     names: &'d NameTable<'e>,
@@ -154,7 +154,7 @@ impl Visitor for EmissionNotes<'_, '_, '_, '_, '_, '_> {
 
     ghost fits = { λ v. Keeps v };
 
-    ghost after = { λ v. noted_after (map program_of v.heads.now) (emitted_of v.table.now)
+    ghost after = { λ v. noted_after (map program_of v.modules.now) (emitted_of v.table.now)
         v.names.now };
 
     fn visit(
@@ -220,27 +220,28 @@ fn add_signals<'a>(
 fn emissions_of<'a, 'b>(
     alloc: Global,
     names: &'a NameTable<'_>,
-    heads: &'b Heads<'_>,
+    modules: &'b LibraryModules<'_>,
     table: &'b Emissions<'_>,
     numbers: &'b EmittedNumbers<'_>,
-    home: &Head<'_>,
+    home: &LibraryModule<'_>,
 ) -> Result<NameSet<'a>, AllocError>
     requires table { IsTable names.now }
     requires numbered { (s : List ℕ) → (is_declared (program_of home.now).interface s || is_tick s)
         ≡ true → is_numbered names.now s ≡ true }
-    requires known { first_of (unknown_at (map program_of heads.now) (program_of home.now))
+    requires known { first_of (unknown_at (map program_of modules.now) (program_of home.now))
         (occurrences [] (program_of home.now).body) ≡ None }
-    requires numbers { AreEmittedNumbers names.now (map program_of heads.now) (emitted_of table.now)
+    requires numbers
+        { AreEmittedNumbers names.now (map program_of modules.now) (emitted_of table.now)
         numbers.now }
     ensures { IfOk result (λ set. (s : List ℕ)
-        → has set s ≡ list_any (emits_here (map program_of heads.now)
+        → has set s ≡ list_any (emits_here (map program_of modules.now)
         (emitted_of table.now) s) (occurrences [] (program_of home.now).body)) }
 {
     let none = KeptNames::none(alloc);
     let mut noted = NumberSet::new(alloc);
     let visitor = EmissionNotes {
         alloc,
-        heads: &*heads,
+        modules: &*modules,
         table: &*table,
         numbers: &*numbers,
         names: &*names,
@@ -256,29 +257,30 @@ fn emissions_of<'a, 'b>(
 fn add_module<'a>(
     alloc: Global,
     names: &'a NameTable<'_>,
-    heads: &'a Heads<'_>,
+    modules: &'a LibraryModules<'_>,
     table: &mut Emissions<'a>,
     numbers: &mut EmittedNumbers<'a>,
     place: usize,
 ) -> Result<(), AllocError>
-    requires place { place < length heads.now }
+    requires place { place < length modules.now }
     requires table { IsTable names.now }
-    requires numbered { AreNumbered names.now (map program_of heads.now) }
-    requires known { first_in_bodies (unknown_at (map program_of heads.now))
-        (map program_of heads.now) ≡ None }
-    requires distinct { first_duplicate (map program_of heads.now) ≡ None }
-    requires numbers { AreEmittedNumbers names.now (map program_of heads.now) (emitted_of table.old)
+    requires numbered { AreNumbered names.now (map program_of modules.now) }
+    requires known { first_in_bodies (unknown_at (map program_of modules.now))
+        (map program_of modules.now) ≡ None }
+    requires distinct { first_duplicate (map program_of modules.now) ≡ None }
+    requires numbers
+        { AreEmittedNumbers names.now (map program_of modules.now) (emitted_of table.old)
         numbers.old }
-    ensures numbers { OnOk result (AreEmittedNumbers names.now (map program_of heads.now)
+    ensures numbers { OnOk result (AreEmittedNumbers names.now (map program_of modules.now)
         (emitted_of table.new) numbers.new) }
     ensures emitted { OnOk result ((p : Program)
-        → slice_get (map program_of heads.now) place ≡ Some p
+        → slice_get (map program_of modules.now) place ≡ Some p
         → (m s : List ℕ) → emitted_of table.new m s ≡ (if bytes_eq p.name m then list_any
-        (emits_here (map program_of heads.now) (emitted_of table.old) s) (occurrences [] p.body)
+        (emits_here (map program_of modules.now) (emitted_of table.old) s) (occurrences [] p.body)
         else emitted_of table.old m s)) }
 {
-    let home = &heads.modules()[place];
-    let signals = emissions_of(alloc, names, &*heads, &*table, &*numbers, home)?;
+    let home = &modules.as_slice()[place];
+    let signals = emissions_of(alloc, names, &*modules, &*table, &*numbers, home)?;
     let own = names_in(alloc, &signals, home.interface.signals())?;
     let own_numbers = numbers_among(alloc, names, &own)?;
     numbers.add(&home.name, own_numbers)?;
@@ -295,21 +297,21 @@ fn add_module<'a>(
 pub fn emissions_along<'a>(
     alloc: Global,
     names: &'a NameTable<'_>,
-    heads: &'a Heads<'_>,
+    modules: &'a LibraryModules<'_>,
     order: &[usize],
 ) -> Result<Emissions<'a>, AllocError>
     requires table { IsTable names.now }
-    requires numbered { AreNumbered names.now (map program_of heads.now) }
-    requires known { first_in_bodies (unknown_at (map program_of heads.now))
-        (map program_of heads.now) ≡ None }
-    requires order { IsOrderOf (map program_of heads.now) order.now }
-    requires distinct { first_duplicate (map program_of heads.now) ≡ None }
-    ensures { IfOk result (λ table. AreEmissions (map program_of heads.now) (emitted_of table)) }
+    requires numbered { AreNumbered names.now (map program_of modules.now) }
+    requires known { first_in_bodies (unknown_at (map program_of modules.now))
+        (map program_of modules.now) ≡ None }
+    requires order { IsOrderOf (map program_of modules.now) order.now }
+    requires distinct { first_duplicate (map program_of modules.now) ≡ None }
+    ensures { IfOk result (λ table. AreEmissions (map program_of modules.now) (emitted_of table)) }
 {
     let mut table = Emissions::new(alloc);
     let mut numbers = EmittedNumbers::new(alloc);
     for place in order {
-        add_module(alloc, names, &*heads, &mut table, &mut numbers, *place)?;
+        add_module(alloc, names, &*modules, &mut table, &mut numbers, *place)?;
     }
     Ok(table)
 }

@@ -4,8 +4,7 @@ ghost use Rattle.est_modules.specs.Modules.{program_of, first_in_bodies};
 ghost use Rattle.est_modules.specs.Occurrences.{first_of, occurrences};
 ghost use Rattle.est_modules.specs.NameTables.{IsTable};
 
-use est_modules::head::Head;
-use est_modules::head_tree::Heads;
+use est_modules::library_modules::{LibraryModule, LibraryModules};
 use est_modules::names::kept::KeptNames;
 use est_modules::names::open::OpenNames;
 use est_modules::names::table::NameTable;
@@ -38,7 +37,7 @@ pub trait PlaceCheck {
     /// `AllocError` where memory is refused for what is looked up.
     fn fault(
         &self,
-        home: &Head<'_>,
+        home: &LibraryModule<'_>,
         kept: &OpenNames<'_, '_, '_>,
         act: &Act<'_>,
         scope: &Scope<'_>,
@@ -52,7 +51,7 @@ pub trait PlaceCheck {
 #[derive(Drop)]
 struct FirstFaultFinder<'a, 'b, C> {
     check: &'a C,
-    home: &'a Head<'b>,
+    home: &'a LibraryModule<'b>,
 }
 
 impl<C: PlaceCheck> Visitor for FirstFaultFinder<'_, '_, C> {
@@ -94,7 +93,7 @@ pub fn first_in_body<'a, C: PlaceCheck>(
     alloc: Global,
     table: &NameTable<'_>,
     kept: &KeptNames<'_>,
-    home: &'a Head<'_>,
+    home: &'a LibraryModule<'_>,
 ) -> Result<Option<Identifier>, AllocError>
     requires fits { C.fits check.now table.now kept.now }
     requires table { IsTable table.now }
@@ -120,14 +119,14 @@ pub fn first_in_bodies<'a, C: PlaceCheck>(
     table: &NameTable<'_>,
     kept: &KeptNames<'_>,
     check: &'a C,
-    heads: &'a Heads<'_>,
+    modules: &'a LibraryModules<'_>,
 ) -> Result<Option<Identifier>, AllocError>
     requires fits { C.fits check.now table.now kept.now }
     requires table { IsTable table.now }
     ensures { IfOk result (λ name. name ≡ first_in_bodies (C.fault check.now) (map program_of
-        heads.now)) }
+        modules.now)) }
 {
-    for home in heads.modules() {
+    for home in modules.as_slice() {
         if let Some(name) = first_in_body(&*check, alloc, table, kept, &*home)? {
             return Ok(Some(name));
         }

@@ -9,8 +9,8 @@ ghost use Rattle.est_modules.specs.OpenNames.{AreKept};
 
 use crate::emission::Emissions;
 use crate::run_names::{Choice, kept_of};
-use est_modules::head::Declared;
-use est_modules::head_tree::Heads;
+use est_modules::interface::Declared;
+use est_modules::library_modules::LibraryModules;
 use est_modules::names::kept::KeptNames;
 use est_modules::names::set::NameSet;
 use est_modules::names::table::NameTable;
@@ -59,7 +59,7 @@ fn emitted_in(
 #[derive(Clone, Copy)]
 struct Emitted<'a, 'b, 'c> {
     /// The modules of the library.
-    heads: &'a Heads<'b>,
+    modules: &'a LibraryModules<'b>,
     /// What each emits.
     table: &'a Emissions<'c>,
 }
@@ -70,10 +70,11 @@ impl Choice for Emitted<'_, '_, '_> {
     ghost use Rattle.est_checks.specs.Emissions.{emitted_of};
     ghost use Rattle.est_checks.specs.Inner.Emitted.{names_emitted_by};
 
-    ghost chosen = { λ c. names_emitted_by (map program_of c.heads.now) (emitted_of c.table.now) };
+    ghost chosen =
+        { λ c. names_emitted_by (map program_of c.modules.now) (emitted_of c.table.now) };
 
     fn choose(&self, alloc: Global, name: &Identifier) -> Result<Vec<Identifier>, AllocError> {
-        match self.heads.named(name) {
+        match self.modules.named(name) {
             Some(run) => emitted_in(alloc, self.table, name, run.interface.signals()),
             None => Ok(Vec::new(alloc)),
         }
@@ -88,16 +89,16 @@ impl Choice for Emitted<'_, '_, '_> {
 pub fn emitted_names<'a>(
     alloc: Global,
     names: &NameTable<'_>,
-    heads: &'a Heads<'_>,
+    modules: &'a LibraryModules<'_>,
     table: &'a Emissions<'_>,
 ) -> Result<KeptNames<'a>, AllocError>
     requires { IsTable names.now }
-    ensures { IfOk result (λ kept. AreKept names.now (names_emitted_by (map program_of heads.now)
+    ensures { IfOk result (λ kept. AreKept names.now (names_emitted_by (map program_of modules.now)
         (emitted_of table.now)) kept) }
 {
     let choice = Emitted {
-        heads: &*heads,
+        modules: &*modules,
         table: &*table,
     };
-    kept_of(&choice, alloc, names, &*heads)
+    kept_of(&choice, alloc, names, &*modules)
 }

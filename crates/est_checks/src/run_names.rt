@@ -4,7 +4,7 @@ ghost use Rattle.est_modules.specs.FirstPlaces.{AreFirstPlaces};
 ghost use Rattle.est_modules.specs.NameTables.{IsTable};
 ghost use Rattle.est_modules.specs.OpenNames.{AreKept};
 
-use est_modules::head_tree::Heads;
+use est_modules::library_modules::LibraryModules;
 use est_modules::names::kept::{Kept, KeptNames, keep};
 use est_modules::names::table::{FirstPlaces, NameTable};
 use est_text::identifier::Identifier;
@@ -55,21 +55,21 @@ pub fn kept_of<'a, C: Choice>(
     choice: &C,
     alloc: Global,
     table: &NameTable<'_>,
-    heads: &'a Heads<'_>,
+    modules: &'a LibraryModules<'_>,
 ) -> Result<KeptNames<'a>, AllocError>
     requires { IsTable table.now }
     ensures { IfOk result (λ kept. AreKept table.now (C.chosen choice.now) kept) }
 {
     let mut kept = Vec::new(alloc);
     let mut kept_places = FirstPlaces::new(alloc);
-    for head in heads.modules() {
+    for home in modules.as_slice() {
         keep_chosen(
             choice,
             alloc,
             table,
             &mut kept,
             &mut kept_places,
-            &head.name,
+            &home.name,
         )?;
     }
     Ok(KeptNames::of(kept, kept_places))

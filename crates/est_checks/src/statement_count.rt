@@ -18,7 +18,7 @@ ghost use Rattle.est_checks.specs.Inner.Numbers.{number_of, numbers_of, IsFilled
 
 use crate::word_count::test_words;
 use est_kernel::limits::MOST_STATEMENTS;
-use est_modules::head_tree::Heads;
+use est_modules::library_modules::LibraryModules;
 use est_order::place_order::Order;
 use est_syntax::tree::{Branches, Sequence, Statement, Test, Unit};
 use est_text::identifier::Identifier;
@@ -32,7 +32,7 @@ pub const TOO_MANY: u16 = MOST_STATEMENTS + 1;
 /// place.
 #[derive(Clone, Copy)]
 struct Numbers<'a, 'b> {
-    heads: &'a Heads<'b>,
+    modules: &'a LibraryModules<'b>,
     numbers: &'a [u16],
 }
 
@@ -43,17 +43,17 @@ struct Numbers<'a, 'b> {
 /// Memory was refused.
 pub fn count_statements(
     alloc: Global,
-    heads: &Heads<'_>,
+    modules: &LibraryModules<'_>,
     order: &Order,
     main: &Identifier,
 ) -> Result<Option<u16>, AllocError>
-    requires { IsOrderOf (map program_of heads.now) order.now }
-    ensures { IfOk result (λ answer. IsCountOf (map program_of heads.now) main.now answer) }
+    requires { IsOrderOf (map program_of modules.now) order.now }
+    ensures { IfOk result (λ answer. IsCountOf (map program_of modules.now) main.now answer) }
 {
-    let numbers = count_modules(alloc, heads, order.places())?;
+    let numbers = count_modules(alloc, modules, order.places())?;
     let number = number_of_module(
         &Numbers {
-            heads: &*heads,
+            modules: &*modules,
             numbers: &numbers,
         },
         main,
@@ -66,27 +66,32 @@ pub fn count_statements(
 }
 
 /// The numbers of all modules, each worked out after those of the modules that it runs.
-fn count_modules(alloc: Global, heads: &Heads<'_>, order: &[usize]) -> Result<Vec<u16>, AllocError>
-    requires { IsOrderOf (map program_of heads.now) order.now }
-    ensures { IfOk result (λ numbers. IsFilled (map program_of heads.now) order.now numbers.items) }
+fn count_modules(
+    alloc: Global,
+    modules: &LibraryModules<'_>,
+    order: &[usize],
+) -> Result<Vec<u16>, AllocError>
+    requires { IsOrderOf (map program_of modules.now) order.now }
+    ensures { IfOk result (λ numbers. IsFilled (map program_of modules.now) order.now numbers.items)
+        }
 {
-    let mut numbers = vec![in alloc; 0; heads.modules().len()]?;
+    let mut numbers = vec![in alloc; 0; modules.as_slice().len()]?;
     for place in order {
-        let number = count_body(&*heads, &numbers, *place);
+        let number = count_body(&*modules, &numbers, *place);
         numbers[*place] = number;
     }
     Ok(numbers)
 }
 
 /// The number of the module at a place.
-fn count_body<'a>(heads: &'a Heads<'_>, numbers: &'a [u16], place: usize) -> u16
-    requires { place < length heads.now }
-    ensures { (p : Program) → slice_get (map program_of heads.now) place ≡ Some p
-        → result ≡ min TOO_MANY (counted (number_of (map program_of heads.now) numbers.now)
+fn count_body<'a>(modules: &'a LibraryModules<'_>, numbers: &'a [u16], place: usize) -> u16
+    requires { place < length modules.now }
+    ensures { (p : Program) → slice_get (map program_of modules.now) place ≡ Some p
+        → result ≡ min TOO_MANY (counted (number_of (map program_of modules.now) numbers.now)
         p.body) }
 {
-    let head = &heads.modules()[place];
-    count_statement(&Numbers { heads, numbers }, head.body)
+    let home = &modules.as_slice()[place];
+    count_statement(&Numbers { modules, numbers }, home.body)
 }
 
 /// A sum, cut.
@@ -103,7 +108,7 @@ pub fn sum(first: u16, second: u16) -> u16
 fn number_of_module(numbers: &Numbers<'_, '_>, name: &Identifier) -> u16
     ensures { result ≡ min TOO_MANY (numbers_of numbers.now name.now) }
 {
-    match numbers.heads.place(name) {
+    match numbers.modules.place(name) {
         Some(place) => match numbers.numbers.get(place) {
             Some(number) => (*number).min(TOO_MANY),
             None => 0,

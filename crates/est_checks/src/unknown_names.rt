@@ -16,8 +16,8 @@ ghost use Rattle.est_checks.specs.UnknownNames.{is_unbound, unknown_in_run, unkn
 
 use crate::interface_names::{interfaces_of, own_names};
 use crate::place_check::{PlaceCheck, first_in_body};
-use est_modules::head::{Declared, Head};
-use est_modules::head_tree::Heads;
+use est_modules::interface::Declared;
+use est_modules::library_modules::{LibraryModule, LibraryModules};
 use est_modules::names::kept::KeptNames;
 use est_modules::names::open::OpenNames;
 use est_modules::names::set::NumberSet;
@@ -95,7 +95,7 @@ fn are_bound(
 ) -> Result<bool, AllocError>
     requires { IsOpen (LooksFor check.now) (binders_of scope.now) kept.now }
     ensures { IfOk result (λ bound. IsTrue bound → (s : List ℕ) → stands_in (names_of (map
-        program_of check.now.heads.now) name.now) s ≡ true → is_unbound (program_of
+        program_of check.now.modules.now) name.now) s ≡ true → is_unbound (program_of
         check.now.home.now) (binders_of scope.now) (map renaming_view renamings.now) s ≡ false) }
 {
     match kept.named(name) {
@@ -114,12 +114,12 @@ fn unknown_in_run(
     requires { IsOpen (LooksFor check.now) (binders_of scope.now) kept.now }
     ensures { IfOk result (λ found. found ≡ unknown_in_run (program_of check.now.home.now)
         (binders_of scope.now) (map renaming_view renamings.now)
-        (program_named (map program_of check.now.heads.now) name.now)) }
+        (program_named (map program_of check.now.modules.now) name.now)) }
 {
     if let Some(unknown) = unknown_renaming(check, kept, scope, renamings) {
         return Ok(Some(unknown));
     }
-    let Some(run) = check.heads.named(name) else {
+    let Some(run) = check.modules.named(name) else {
         return Ok(None);
     };
     let bound = are_bound(check, kept, scope, renamings, name)?;
@@ -138,9 +138,9 @@ pub struct UnknownName<'a, 'b> {
     /// Where memory for names is taken.
     pub alloc: Global,
     /// The modules of the library.
-    pub heads: &'a Heads<'b>,
+    pub modules: &'a LibraryModules<'b>,
     /// The module.
-    pub home: &'a Head<'b>,
+    pub home: &'a LibraryModule<'b>,
     /// The names that it declares, and `tick`.
     pub own: &'a NumberSet,
 }
@@ -153,12 +153,12 @@ impl PlaceCheck for UnknownName<'_, '_> {
 
     ghost fits = { λ c. LooksFor c };
 
-    ghost fault = { λ c p. unknown_at (map program_of c.heads.now)
+    ghost fault = { λ c p. unknown_at (map program_of c.modules.now)
         (program_of c.home.now) };
 
     fn fault(
         &self,
-        _home: &Head<'_>,
+        _home: &LibraryModule<'_>,
         kept: &OpenNames<'_, '_, '_>,
         act: &Act<'_>,
         scope: &Scope<'_>,
@@ -187,18 +187,18 @@ fn unknown_in<'a, 'b>(
     alloc: Global,
     table: &NameTable<'_>,
     kept: &KeptNames<'_>,
-    heads: &'a Heads<'b>,
-    home: &'a Head<'b>,
+    modules: &'a LibraryModules<'b>,
+    home: &'a LibraryModule<'b>,
 ) -> Result<Option<Identifier>, AllocError>
     requires table { IsTable table.now }
-    requires kept { AreKept table.now (names_of (map program_of heads.now)) kept.now }
-    ensures { IfOk result (λ name. name ≡ first_of (unknown_at (map program_of heads.now)
+    requires kept { AreKept table.now (names_of (map program_of modules.now)) kept.now }
+    ensures { IfOk result (λ name. name ≡ first_of (unknown_at (map program_of modules.now)
         (program_of home.now)) (occurrences [] (program_of home.now).body)) }
 {
     let own = own_names(alloc, table, home)?;
     let check = UnknownName {
         alloc,
-        heads,
+        modules,
         home,
         own: &own,
     };
@@ -213,15 +213,15 @@ fn unknown_in<'a, 'b>(
 pub fn first_unknown(
     alloc: Global,
     table: &NameTable<'_>,
-    heads: &Heads<'_>,
+    modules: &LibraryModules<'_>,
 ) -> Result<Option<Identifier>, AllocError>
     requires { IsTable table.now }
-    ensures { IfOk result (λ name. name ≡ first_in_bodies (unknown_at (map program_of heads.now))
-        (map program_of heads.now)) }
+    ensures { IfOk result (λ name. name ≡ first_in_bodies (unknown_at (map program_of modules.now))
+        (map program_of modules.now)) }
 {
-    let kept = interfaces_of(alloc, table, &*heads)?;
-    for home in heads.modules() {
-        if let Some(name) = unknown_in(alloc, table, &kept, &*heads, &*home)? {
+    let kept = interfaces_of(alloc, table, &*modules)?;
+    for home in modules.as_slice() {
+        if let Some(name) = unknown_in(alloc, table, &kept, &*modules, &*home)? {
             return Ok(Some(name));
         }
     }

@@ -14,7 +14,7 @@ use std::alloc::AllocError;
 
 /// What something does with the sets of inputs that somebody may offer and that keep the relations.
 #[derive(Drop)]
-pub struct AllLawful<'a, R> {
+pub struct LawfulInputs<'a, R> {
     pub reactive: &'a R,
     pub relations: &'a Relations,
     /// The signals that somebody may offer.
@@ -23,12 +23,12 @@ pub struct AllLawful<'a, R> {
     pub watched: u64,
 }
 
-impl<'a, R: Reactive> TransitionSystem for AllLawful<'a, R> {
+impl<'a, R: Reactive> TransitionSystem for LawfulInputs<'a, R> {
     type State = R::State;
 
     type Label = AnsweredInputs<R::Answer>;
 
-    type Scratch = R::Scratch;
+    type Engine = R::Engine;
 
     ghost fits = { λ s x. R.fits s.reactive.now x };
 
@@ -46,7 +46,7 @@ impl<'a, R: Reactive> TransitionSystem for AllLawful<'a, R> {
 
     fn steps(
         &self,
-        scratch: &mut R::Scratch,
+        engine: &mut R::Engine,
         state: &R::State,
         most: usize,
         steps: &mut Vec<Step<R::State, AnsweredInputs<R::Answer>>>,
@@ -64,6 +64,6 @@ impl<'a, R: Reactive> TransitionSystem for AllLawful<'a, R> {
             unasked: may,
             inputs: 0,
         };
-        cover(self.reactive, &sets, scratch, state, most, all, steps)
+        cover(self.reactive, &sets, engine, state, most, all, steps)
     }
 }

@@ -62,17 +62,17 @@ fn step_of<S: Copy + Drop, A: Copy + Drop>(
 fn react<R: Reactive>(
     reactive: &R,
     sets: &InputSets<'_>,
-    scratch: &mut R::Scratch,
+    engine: &mut R::Engine,
     state: &R::State,
     part: Part,
 ) -> Next<R::State, R::Answer>
-    requires fits { R.fits reactive.now scratch.old }
+    requires fits { R.fits reactive.now engine.old }
     requires state { R.is_state reactive.now state.now }
     requires sets { AreWatched (R.signals reactive.now) sets.now.offerable sets.now.may
         sets.now.watched }
     requires part { IsPart (bits sets.now.may) part.unasked part.inputs }
     requires lawful { AreLawful sets.now.relations.now (bits part.inputs) }
-    ensures fits { R.fits reactive.now scratch.new }
+    ensures fits { R.fits reactive.now engine.new }
     ensures next { IsNext (R.answers reactive.now state.now) (R.is_state reactive.now)
         (bits sets.now.may) sets.now.relations.now (bits sets.now.watched) part.unasked part.inputs
         result }
@@ -81,11 +81,11 @@ fn react<R: Reactive>(
         return Next::Split(place);
     }
     let Some(first) = first_in(part.unasked) else {
-        let step = reactive.react(scratch, state, part.inputs);
+        let step = reactive.react(engine, state, part.inputs);
         return Next::Step(step_of(sets.may, part, step));
     };
     let asked = mask::difference(sets.offerable, part.unasked);
-    match reactive.react_to_part(scratch, state, asked, part.inputs) {
+    match reactive.react_to_part(engine, state, asked, part.inputs) {
         Ok(step) => Next::Step(step_of(sets.may, part, step)),
         Err(unsettled) => match unsettled.waits_for {
             Some(place) => Next::Split(place),
@@ -112,18 +112,18 @@ fn add_step<S: Copy + Drop, A: Copy + Drop>(
 pub fn cover<R: Reactive>(
     reactive: &R,
     sets: &InputSets<'_>,
-    scratch: &mut R::Scratch,
+    engine: &mut R::Engine,
     state: &R::State,
     most: usize,
     part: Part,
     steps: &mut Vec<Step<R::State, AnsweredInputs<R::Answer>>>,
 ) -> Result<bool, AllocError>
-    requires fits { R.fits reactive.now scratch.old }
+    requires fits { R.fits reactive.now engine.old }
     requires state { R.is_state reactive.now state.now }
     requires sets { AreWatched (R.signals reactive.now) sets.now.offerable sets.now.may
         sets.now.watched }
     requires part { IsPart (bits sets.now.may) part.unasked part.inputs }
-    ensures fits { R.fits reactive.now scratch.new }
+    ensures fits { R.fits reactive.now engine.new }
     ensures covered { IfOk result (λ whole. IsCovered (R.answers reactive.now state.now)
         (R.is_state reactive.now)
         (bits sets.now.may) sets.now.relations.now (bits sets.now.watched) part.unasked part.inputs
@@ -133,21 +133,21 @@ pub fn cover<R: Reactive>(
         Some(Forced::Broken) => Ok(true),
         Some(Forced::Present(place)) => {
             let part = with(part.unasked, part.inputs, place);
-            cover(reactive, sets, scratch, state, most, part, steps)
+            cover(reactive, sets, engine, state, most, part, steps)
         }
         Some(Forced::Absent(place)) => {
             let part = without(part.unasked, part.inputs, place);
-            cover(reactive, sets, scratch, state, most, part, steps)
+            cover(reactive, sets, engine, state, most, part, steps)
         }
-        None => match react(reactive, sets, scratch, state, part) {
+        None => match react(reactive, sets, engine, state, part) {
             Next::Step(step) => add_step(most, step, steps),
             Next::Split(place) => {
                 let low = without(part.unasked, part.inputs, place);
-                if !cover(reactive, sets, scratch, state, most, low, steps)? {
+                if !cover(reactive, sets, engine, state, most, low, steps)? {
                     return Ok(false);
                 }
                 let high = with(part.unasked, part.inputs, place);
-                cover(reactive, sets, scratch, state, most, high, steps)
+                cover(reactive, sets, engine, state, most, high, steps)
             }
         },
     }

@@ -17,11 +17,11 @@ pub trait Reactive {
     type State: SearchState;
     /// What it answers.
     type Answer: Copy + Drop;
-    /// What it works with.
-    type Scratch;
+    /// What works out its reactions: an engine that may change meanwhile.
+    type Engine;
 
-    /// It can work with this.
-    ghost fits: { Self → Self.Scratch → Type 0 };
+    /// The engine is right for it.
+    ghost fits: { Self → Self.Engine → Type 0 };
 
     /// It can stand there.
     ghost is_state: { Self → Self.State → Type 0 };
@@ -39,14 +39,14 @@ pub trait Reactive {
     /// Reacts to inputs that may be offered.
     fn react(
         &self,
-        scratch: &mut Self::Scratch,
+        engine: &mut Self::Engine,
         state: &Self::State,
         inputs: u64,
     ) -> Step<Self::State, Self::Answer>
-        requires fits { fits self.now scratch.old }
+        requires fits { fits self.now engine.old }
         requires state { is_state self.now state.now }
         requires inputs { IsIn (bits inputs) (offerable (signals self.now)) }
-        ensures fits { fits self.now scratch.new }
+        ensures fits { fits self.now engine.new }
         ensures state { (y : Self.State) → result.next ≡ Some y → is_state self.now y }
         ensures answer { answers self.now state.now (bits inputs) result.label result.next };
 
@@ -54,16 +54,16 @@ pub trait Reactive {
     /// same where it is asked. No step says nothing of them.
     fn react_to_part(
         &self,
-        scratch: &mut Self::Scratch,
+        engine: &mut Self::Engine,
         state: &Self::State,
         asked: u64,
         inputs: u64,
     ) -> Result<Step<Self::State, Self::Answer>, Unsettled>
-        requires fits { fits self.now scratch.old }
+        requires fits { fits self.now engine.old }
         requires state { is_state self.now state.now }
         requires inputs { IsIn (bits inputs) (offerable (signals self.now)) }
         requires asked { AreInputOutputsAsked (signals self.now) (bits asked) }
-        ensures fits { fits self.now scratch.new }
+        ensures fits { fits self.now engine.new }
         ensures state { IfOk result (λ s. (y : Self.State) → s.next ≡ Some y → is_state self.now
             y) }
         ensures answer { IfOk result (λ s. (set : InputSet)

@@ -10,7 +10,7 @@ use Rattle.reactor_core.specs.declared.refusal.ModuleRefusal.TheVariants.{BadRen
 use Rattle.reactor_core.specs.declared.refusal.ReactorRefusal.{ReactorRefusal}
 use Rattle.reactor_core.specs.declared.refusal.ReactorRefusal.TheVariants as refusal
 use Rattle.est_host.specs.Faults.{IsLoadFaultTold, fault_in_text, fault_of, not_text, refused, no_memory}
-use Rattle.est_host.specs.declared.loading.Fault.{Fault}
+use Rattle.est_host.specs.declared.loading.HostFault.{HostFault}
 
 in_text : (why : ModuleRefusal) → (fault_in_text why).code ≢ 0
 in_text (Pending (Excluded relation signal)) e = omega (arith, e)
@@ -37,7 +37,7 @@ of_refusal (refusal.Module why) e = in_text why e
 of_refusal refusal.JournalFull e = omega (arith, e)
 of_refusal refusal.Memory e = omega (arith, e)
 
-pub told : {main text : List ℕ} {f : Fault} → IsLoadFaultTold main text f → f.code ≢ 0
+pub told : {main text : List ℕ} {f : HostFault} → IsLoadFaultTold main text f → f.code ≢ 0
 told (not_text isnt) e = omega (arith, e)
 told (refused why is) e = of_refusal why e
 told no_memory e = omega (arith, e)

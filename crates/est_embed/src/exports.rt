@@ -10,7 +10,7 @@ ghost use Rattle.est_host.specs.contracts.running.HostedMachine as running;
 
 use crate::handed::Handed;
 use est_host::answering::answer;
-use est_host::loading::{Fault, start};
+use est_host::loading::{HostFault, start};
 use est_host::running::HostedMachine;
 use std::alloc::Global;
 
@@ -21,7 +21,7 @@ fn hand_out(
     main: &[u8],
     text: &[u8],
     machine: &mut *mut u8,
-    fault: &mut Fault,
+    fault: &mut HostFault,
 ) -> Handed<HostedMachine>
     ensures handed { IsHanded main.now text.now result.status result.value }
     ensures at { result.at ≡ machine.new }
@@ -50,7 +50,7 @@ pub extern "C" fn est_load_module(
     main: &[u8],
     text: &[u8],
     machine: &mut *mut u8,
-    fault: &mut Fault,
+    fault: &mut HostFault,
 ) -> u64
     ensures* lies { ∃ₛ (λ (m : Option running.the_row.Denot).
         sem 𝓛 (lies_there running.the_row m machine.new)

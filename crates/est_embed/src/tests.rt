@@ -1,12 +1,12 @@
 //! What a load tells that is refused.
 
 use crate::exports::est_load_module;
-use est_host::loading::Fault;
+use est_host::loading::HostFault;
 
 #[test]
 fn a_refused_load_tells_its_fault(rt: HostRuntime) {
     let mut machine: *mut u8 = std::ptr::null_mut();
-    let mut fault = Fault {
+    let mut fault = HostFault {
         code: 0,
         line: 0,
         column: 0,

@@ -5,8 +5,8 @@ use Rattle.est_kernel.specs.Bits.{bits}
 use Rattle.est_meaning.specs.States.{state_term}
 use Rattle.est_explore.specs.Runs.{Module, IsLawful, Instant, Runs, start}
 use Rattle.est_explore.specs.Same.{Same, DifferBy}
-use Rattle.est_explore.specs.declared.same.Comparison.{Comparison}
-use Rattle.est_explore.specs.declared.same.Comparison.TheVariants.{Same as AreSame, Differ, TooMany}
+use Rattle.est_explore.specs.declared.comparison.Comparison.{Comparison}
+use Rattle.est_explore.specs.declared.comparison.Comparison.TheVariants.{Same as AreSame, Differ, TooMany}
 use Rattle.est_explore.specs.declared.two_modules.PositionPair.{PositionPair}
 
 -- one run leads both to these positions

@@ -14,7 +14,7 @@ ghost use Rattle.est_explore.specs.declared.one_module.Answer.{Answer as AnswerV
 use crate::claim::Claim;
 use crate::one_module::{Answer, OneModule, Position};
 use crate::verdict::Verdict;
-use est_cover::all_lawful::AllLawful;
+use est_cover::all_lawful::LawfulInputs;
 use est_cover::answered::AnsweredInputs;
 use est_kernel::state::State;
 use est_rounds::part_engine::PartEngine;
@@ -48,7 +48,7 @@ fn first_failure(rows: &[Row<AnsweredInputs<Answer>>], claim: &Claim<'_>) -> Opt
 /// Searches all that a module does, as far as the limits allow.
 pub fn explore<E: PartEngine>(
     alloc: Global,
-    subject: &AllLawful<'_, OneModule<'_, E>>,
+    subject: &LawfulInputs<'_, OneModule<'_, E>>,
     engine: &mut E,
     limits: Limits,
 ) -> Result<Found<Position, AnsweredInputs<Answer>>, AllocError>
@@ -70,7 +70,7 @@ pub fn explore<E: PartEngine>(
 /// asked of each row.
 pub fn judge<E: PartEngine>(
     alloc: Global,
-    subject: &AllLawful<'_, OneModule<'_, E>>,
+    subject: &LawfulInputs<'_, OneModule<'_, E>>,
     found: &Found<Position, AnsweredInputs<Answer>>,
     claim: &Claim<'_>,
 ) -> Result<Verdict, AllocError>

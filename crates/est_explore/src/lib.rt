@@ -7,16 +7,16 @@
 //! engine.
 //!
 //! `judge` judges claims on one module, `same` compares two. Both are one search of `state_search`
-//! over a machine (`one_module`, `two_modules`); `est_cover` splits the inputs only where a
+//! over a system (`one_module`, `two_modules`); `est_cover` splits the inputs only where a
 //! reaction depends on them. `table` hands out what the search found: each state with its
 //! reactions.
 #![tactic(auto)]
 
 pub mod claim;
+pub mod comparison;
 pub mod judge;
 pub mod one_module;
 pub mod reads;
-pub mod same;
 pub mod table;
 pub mod two_modules;
 pub mod verdict;

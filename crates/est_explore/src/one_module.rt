@@ -43,7 +43,7 @@ impl<'a, E: PartEngine> Reactive for OneModule<'a, E> {
 
     type Answer = Answer;
 
-    type Scratch = E;
+    type Engine = E;
 
     ghost fits = { λ s e. E.is_for e s.kernel.now };
 

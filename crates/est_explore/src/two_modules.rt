@@ -68,7 +68,7 @@ impl<'a, E: PartEngine, F: PartEngine> Reactive for TwoModules<'a, E, F> {
 
     type Answer = AnswerPair;
 
-    type Scratch = EnginePair<E, F>;
+    type Engine = EnginePair<E, F>;
 
     ghost fits = { λ s e. AreFor (E.is_for e.first s.first.kernel.now)
         (F.is_for e.second s.second.kernel.now)

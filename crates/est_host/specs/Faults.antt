@@ -10,28 +10,28 @@ use Rattle.reactor_core.specs.declared.refusal.ReactorRefusal.TheVariants as ref
 use Rattle.reactor_core.specs.Loading.{Gives, IsLoadFault}
 use Rattle.est_machine.specs.Machines.{MachineState}
 use Rattle.est_host.specs.Digests.{digest_of}
-use Rattle.est_host.specs.declared.loading.Fault.{Fault}
+use Rattle.est_host.specs.declared.loading.HostFault.{HostFault}
 use Rattle.est_host.specs.declared.loading.TheConstants.{MEMORY, NOT_TEXT}
 use Rattle.est_host.specs.declared.running.HostedMachine.{HostedMachine}
 
 -- a fault of this number at this place; 0 and 0 where there is none
-abbrev pub fault : (code line column : ℕ) → Fault
+abbrev pub fault : (code line column : ℕ) → HostFault
 fault c l k = record { code = c; line = l; column = k }
 
 -- the number that the server has for the refusal; a fault of the text's words has its place
-abbrev pub fault_in_text : ModuleRefusal → Fault
+abbrev pub fault_in_text : ModuleRefusal → HostFault
 fault_in_text (Lexical place) = fault (code_of (Lexical place)) place.line place.column
 fault_in_text (Syntax place) = fault (code_of (Syntax place)) place.line place.column
 fault_in_text other = fault (code_of other) 0 0
 
 -- what is told of a refusal
-abbrev pub fault_of : ReactorRefusal → Fault
+abbrev pub fault_of : ReactorRefusal → HostFault
 fault_of (refusal.Module why) = fault_in_text why
 fault_of refusal.JournalFull = fault MEMORY 0 0
 fault_of refusal.Memory = fault MEMORY 0 0
 
 -- what is told of a load that is refused: name or text isn't UTF-8, or it is the first fault, or memory was refused
-pub data IsLoadFaultTold (main text : List ℕ) : Fault → Type 0 where
+pub data IsLoadFaultTold (main text : List ℕ) : HostFault → Type 0 where
   not_text : (IsUtf8 main → IsUtf8 text → ⊥) → IsLoadFaultTold main text (fault NOT_TEXT 0 0)
   refused : (why : ReactorRefusal) → IsLoadFault main text why → IsLoadFaultTold main text (fault_of why)
   no_memory : IsLoadFaultTold main text (fault MEMORY 0 0)

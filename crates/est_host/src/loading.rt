@@ -24,17 +24,17 @@ pub const MEMORY: u64 = 90;
 /// words its line and column, counted from 1, else 0.
 #[repr(C)]
 #[derive(Clone, Copy)]
-pub struct Fault {
+pub struct HostFault {
     pub code: u64,
     pub line: u64,
     pub column: u64,
 }
 
 /// A fault that is no place in the text.
-fn without_place(code: u64) -> Fault
+fn without_place(code: u64) -> HostFault
     ensures { result ≡ fault code 0 0 }
 {
-    Fault {
+    HostFault {
         code,
         line: 0,
         column: 0,
@@ -42,10 +42,10 @@ fn without_place(code: u64) -> Fault
 }
 
 /// A fault at a place.
-fn at_place(code: u64, place: Place) -> Fault
+fn at_place(code: u64, place: Place) -> HostFault
     ensures { result ≡ fault code place.line place.column }
 {
-    Fault {
+    HostFault {
         code,
         line: place.line,
         column: place.column,
@@ -53,7 +53,7 @@ fn at_place(code: u64, place: Place) -> Fault
 }
 
 /// What C is told of a module's refusal.
-fn fault_in_text(refusal: &ModuleRefusal) -> Fault
+fn fault_in_text(refusal: &ModuleRefusal) -> HostFault
     ensures { result ≡ fault_in_text refusal.now }
 {
     let code = refusal.label().0 as u64;
@@ -65,7 +65,7 @@ fn fault_in_text(refusal: &ModuleRefusal) -> Fault
 }
 
 /// What C is told of a refusal.
-fn fault_of(refusal: &ReactorRefusal) -> Fault
+fn fault_of(refusal: &ReactorRefusal) -> HostFault
     ensures { result ≡ fault_of refusal.now }
 {
     match refusal {
@@ -97,7 +97,7 @@ fn begin(alloc: Global, main: &str, text: &str) -> Result<Machine, ReactorRefusa
 }
 
 /// The machine of the module `main` of a text, or the fault that is told.
-fn load(alloc: Global, main: &[u8], text: &[u8]) -> Result<Machine, Fault>
+fn load(alloc: Global, main: &[u8], text: &[u8]) -> Result<Machine, HostFault>
     ensures begun { IfOk result (IsBegun main.now text.now) }
     ensures told { IfErr result (IsLoadFaultTold main.now text.now) }
 {
@@ -126,7 +126,7 @@ fn boxed(alloc: Global, machine: Machine) -> Result<Box<HostedMachine>, AllocErr
 }
 
 /// The machine of the module `main` of a text, in memory of its own, or the fault.
-pub fn start(alloc: Global, main: &[u8], text: &[u8]) -> Result<Box<HostedMachine>, Fault>
+pub fn start(alloc: Global, main: &[u8], text: &[u8]) -> Result<Box<HostedMachine>, HostFault>
     ensures started { IfOk result (λ r. IsStarted main.now text.now r.value) }
     ensures told { IfErr result (IsLoadFaultTold main.now text.now) }
 {

@@ -11,16 +11,16 @@ use Rattle.est_checks.specs.Duplicates.{redeclared, redeclared_in, redeclared_at
 use Rattle.est_checks.specs.Duplicates.{first_duplicate}
 use Rattle.est_modules.specs.Visible.{stands_in}
 use Rattle.est_checks.specs.Emissions.{AreEmissions, first_refused, refused_at}
-use Rattle.est_checks.specs.FirstFaults.{IsFirstFault, limit_passed, limit_passed_by}
+use Rattle.est_checks.specs.FirstFaults.{IsFirstFault, limit_passed, module_limit_passed_by}
 use Rattle.est_kernel.specs.declared.limits.TheConstants.{MOST_STATEMENTS}
 use Rattle.est_link.specs.Inner.Checked.{IsChecked, IsSoundMain}
 use Rattle.est_checks.specs.LinkFaults.{number_over_outputs}
 use Rattle.est_modules.specs.Modules.{Program, program_named, first_in_bodies}
 use Rattle.est_modules.specs.Occurrences.{Occurrence, occurrences, first_of}
 use Rattle.est_checks.specs.UnknownNames.{unknown_at}
-use Rattle.est_checks.specs.declared.fault.Limit.{Limit}
-use Rattle.est_checks.specs.declared.fault.Limit.TheVariants.{Signals, Relations, Statements}
-use Rattle.est_modules.specs.declared.head.Declared.{Declared}
+use Rattle.est_checks.specs.declared.fault.ModuleLimit.{ModuleLimit}
+use Rattle.est_checks.specs.declared.fault.ModuleLimit.TheVariants.{Signals, Relations, Statements}
+use Rattle.est_modules.specs.declared.interface.Declared.{Declared}
 use Rattle.est_checks.proofs.Finding.{all_pass}
 use Rattle.est_checks.proofs.Uniqueness.{all_there}
 use Rattle.est_link.proofs.Distinct.{kept_name}
@@ -47,13 +47,14 @@ sound_names ps em are known accepted = record {
 
 -- ---- the main module
 
-kept_limit : (b : Bool) (l : Limit) (o : Option Limit) → (if b then Some l else o) ≡ None → (b ≡ false) × (o ≡ None)
+kept_limit : (b : Bool) (l : ModuleLimit) (o : Option ModuleLimit) → (if b then Some l else o) ≡ None
+    → (b ≡ false) × (o ≡ None)
 kept_limit true l o h = absurd (none-some l (sym h))
 kept_limit false l o h = (refl, h)
 
 within : (s r n : ℕ) → limit_passed s r n ≡ None → (s ≤ MOST_SIGNALS) × (r ≤ MOST_RELATIONS)
 within s r n h =
-    let statements : Option Limit = if nat_lt MOST_STATEMENTS n then Some Statements else None in
+    let statements : Option ModuleLimit = if nat_lt MOST_STATEMENTS n then Some Statements else None in
     let one =
     kept_limit (nat_lt MOST_SIGNALS s) Signals (if nat_lt MOST_RELATIONS r then Some Relations else statements) h in
     let two = kept_limit (nat_lt MOST_RELATIONS r) Relations statements one.1 in
@@ -74,13 +75,13 @@ none_redeclared seen (q ∷ qs) h (suc i) p at =
     (or_none_parts (duplicate_of seen q) (duplicate_after (seen ++ q.name ∷ []) qs) h).1 i p at
 
 sound_main : (ps : List Program) (main : List ℕ) (n : ℕ) → first_duplicate ps ≡ None
-    → number_over_outputs (program_named ps main) ≡ None → limit_passed_by (program_named ps main) n ≡ None
+    → number_over_outputs (program_named ps main) ≡ None → module_limit_passed_by (program_named ps main) n ≡ None
     → (p : Program)
     → program_named ps main ≡ Some p → IsSoundMain p
 sound_main ps main n distinct lawful small p found =
     let place = found_place (λ (q : Program). bytes_eq q.name main) ps p found in
     let limits = within (length p.interface) (length p.relations) n
-    (ap (λ o. limit_passed_by o n) (sym found) ∙ small) in
+    (ap (λ o. module_limit_passed_by o n) (sym found) ∙ small) in
     record {
       signals = limits.0;
       relations = limits.1;

@@ -11,7 +11,7 @@ use Rattle.est_link.specs.MainModule.{declaration_of}
 use Rattle.est_checks.specs.Duplicates.{redeclared}
 use Rattle.est_modules.specs.Visible.{stands_in}
 use Rattle.est_modules.specs.Visible.{is_tick}
-use Rattle.est_modules.specs.declared.head.Declared.{Declared}
+use Rattle.est_modules.specs.declared.interface.Declared.{Declared}
 
 pub kept_name : (b : Bool) (n : List ℕ) (o : Option (List ℕ)) → (if b then Some n else o) ≡ None
     → (b ≡ false) × (o ≡ None)

@@ -12,9 +12,9 @@ use Rattle.est_kernel.specs.Term.{Name, outer, inner, Query}
 use Rattle.est_link.specs.Bodies.{MayEmit, MayAsk, IsThere, IsBody, IsSent}
 use Rattle.est_link.specs.MainModule.{declaration_of, declarations_of, kernel_kind}
 use Rattle.est_modules.specs.Modules.{Program, is_input_kind}
-use Rattle.est_modules.specs.declared.head.Declared.{Declared}
-use Rattle.est_modules.specs.declared.head.Kind.{Kind}
-use Rattle.est_modules.specs.declared.head.Kind.TheVariants.{Input, Output, InputOutput}
+use Rattle.est_modules.specs.declared.interface.Declared.{Declared}
+use Rattle.est_modules.specs.declared.interface.Kind.{Kind}
+use Rattle.est_modules.specs.declared.interface.Kind.TheVariants.{Input, Output, InputOutput}
 use Rattle.est_link.proofs.Naming.{nobody}
 use Rattle.est_modules.proofs.Testing.{some_same}
 use Rattle.est_reduce.specs.Bodies.{Body, nothing, pause, halt, emit, sustain, exit, await, present, suspend, abort}

@@ -15,9 +15,9 @@ use Rattle.est_modules.specs.Modules.{is_offerable}
 use Rattle.est_checks.specs.LawlessRelations.{is_past_offers, is_lawless, first_over_outputs}
 use Rattle.est_modules.specs.Modules.{Program, is_offered_kind}
 use Rattle.est_modules.specs.Visible.{is_tick}
-use Rattle.est_modules.specs.declared.head.Declared.{Declared}
-use Rattle.est_modules.specs.declared.head.Kind.{Kind}
-use Rattle.est_modules.specs.declared.head.Kind.TheVariants.{Input, Output, InputOutput}
+use Rattle.est_modules.specs.declared.interface.Declared.{Declared}
+use Rattle.est_modules.specs.declared.interface.Kind.{Kind}
+use Rattle.est_modules.specs.declared.interface.Kind.TheVariants.{Input, Output, InputOutput}
 use Rattle.est_link.proofs.Distinct.{kept_name}
 use Rattle.est_modules.proofs.Positions.{position_cons}
 use Rattle.est_modules.proofs.Testing.{same_bytes, map_none, no_place}

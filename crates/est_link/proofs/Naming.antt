@@ -22,8 +22,8 @@ use Rattle.est_modules.specs.Modules.{Program, program_named, is_declared, is_in
 use Rattle.est_modules.specs.Occurrences.{Binder, signals, a_trap, runs, Occurrence}
 use Rattle.est_modules.specs.Visible.{is_local, is_trap, is_visible, is_among}
 use Rattle.est_checks.specs.UnknownNames.{is_unbound, unknown_renaming, unknown_in_run, unknown_act}
-use Rattle.est_modules.specs.declared.head.Declared.{Declared}
-use Rattle.est_modules.specs.declared.head.Kind.TheVariants.{Input}
+use Rattle.est_modules.specs.declared.interface.Declared.{Declared}
+use Rattle.est_modules.specs.declared.interface.Kind.TheVariants.{Input}
 use Rattle.est_link.proofs.Binding.{more_asked, more_sent}
 use Rattle.est_modules.proofs.Testing.{or_other, or_first, and_other}
 use Rattle.est_modules.proofs.Testing.{same_bytes, equal_bytes, none_at, found_passes, other_fails, none_found}

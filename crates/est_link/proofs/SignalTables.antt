@@ -24,16 +24,16 @@ Entry = Bor (List ℕ) × Declaration
 abbrev pub same_key : Bor (List ℕ) → Bor (List ℕ) → Bool
 same_key a b = bytes_eq a.now b.now
 
-abbrev head_of : List ℕ → List (List ℕ) → List ℕ
-head_of d [] = d
-head_of d (x ∷ xs) = x
+abbrev library_module : List ℕ → List (List ℕ) → List ℕ
+library_module d [] = d
+library_module d (x ∷ xs) = x
 
 abbrev tail_of : List (List ℕ) → List (List ℕ)
 tail_of [] = []
 tail_of (x ∷ xs) = xs
 
 first_named : (e : Entry) (es : List Entry) → HasNamesAsKeys (e ∷ es) → e.0.now ≡ e.1.name
-first_named e es named = ap (head_of e.1.name) named
+first_named e es named = ap (library_module e.1.name) named
 
 later_named : (e : Entry) (es : List Entry) → HasNamesAsKeys (e ∷ es) → HasNamesAsKeys es
 later_named e es named = ap tail_of named

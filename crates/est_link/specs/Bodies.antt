@@ -8,7 +8,7 @@ use Rattle.est_checks.specs.Emissions.{AreEmissions, refused_at}
 use Rattle.est_link.specs.Linking.{emitted}
 use Rattle.est_modules.specs.Occurrences.{occurrences, first_of}
 use Rattle.est_checks.specs.UnknownNames.{unknown_at}
-use Rattle.est_modules.specs.declared.head.Declared.{Declared}
+use Rattle.est_modules.specs.declared.interface.Declared.{Declared}
 use Rattle.est_reduce.specs.Bodies.{Body, nothing, pause, halt, emit, sustain, exit, await, present, suspend, abort}
 use Rattle.est_reduce.specs.Bodies.{weak_abort, repeat, repeat_each, every, trap, signal, seq, par}
 

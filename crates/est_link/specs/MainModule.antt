@@ -6,9 +6,9 @@ use Rattle.est_kernel.specs.declared.interface.Declaration.{Declaration}
 use Rattle.est_kernel.specs.declared.interface.Kind as kernel
 use Rattle.est_kernel.specs.declared.interface.Kind.TheVariants as variants
 use Rattle.est_modules.specs.Modules.{Program}
-use Rattle.est_modules.specs.declared.head.Declared.{Declared}
-use Rattle.est_modules.specs.declared.head.Kind.{Kind}
-use Rattle.est_modules.specs.declared.head.Kind.TheVariants.{Input, Output, InputOutput}
+use Rattle.est_modules.specs.declared.interface.Declared.{Declared}
+use Rattle.est_modules.specs.declared.interface.Kind.{Kind}
+use Rattle.est_modules.specs.declared.interface.Kind.TheVariants.{Input, Output, InputOutput}
 use Rattle.est_relations.specs.Offers.{place_of}
 use Rattle.est_relations.specs.declared.relations.Relation.{Relation}
 use Rattle.est_relations.specs.declared.relations.Relation.TheVariants.{Exclusion, Implication}

@@ -13,7 +13,8 @@ ghost use Rattle.est_link.specs.Inner.Binds.{binding_of};
 use crate::meaning::{Meaning, Meanings};
 use crate::numbers::{small, sum};
 use crate::scope::NamedScope;
-use est_modules::head::{Declared, Head, Interface};
+use est_modules::interface::{Declared, Interface};
+use est_modules::library_modules::LibraryModule;
 use est_modules::renamings::RunRenamings;
 use est_reduce::body::BoundSignal;
 use est_text::identifier::Identifier;
@@ -25,7 +26,7 @@ pub struct Binding<'a, 'b, 'c> {
     /// Where memory for its meanings is taken.
     pub alloc: Global,
     /// The module in whose body the `run` stands.
-    pub home: &'a Head<'b>,
+    pub home: &'a LibraryModule<'b>,
     /// The binders around it.
     pub scope: &'a NamedScope<'a, 'b>,
     /// How many local signals these binders declare.
@@ -62,7 +63,7 @@ pub fn locals_around(scope: &NamedScope<'_, '_>) -> Result<u32, AllocError>
 /// The signal that a name means. It calls itself once for each binder around the place, of which
 /// there are at most 128.
 pub fn signal_at(
-    home: &Head<'_>,
+    home: &LibraryModule<'_>,
     scope: &NamedScope<'_, '_>,
     name: &Identifier,
 ) -> Result<Meaning, AllocError>

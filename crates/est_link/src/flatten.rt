@@ -31,8 +31,8 @@ use crate::module_bodies::ModuleBodies;
 use crate::open_body::OpenBody;
 use crate::scope::NamedScope;
 use crate::watch::Watch;
-use est_modules::head::{Declared, Head};
-use est_modules::head_tree::Heads;
+use est_modules::interface::Declared;
+use est_modules::library_modules::{LibraryModule, LibraryModules};
 use est_modules::renamings::RunRenamings;
 use est_reduce::body::{BoundSignal, Wait};
 use est_syntax::tree::{Branches, Delay, Names, Renaming, Sequence, Statement, Test, Unit};
@@ -45,19 +45,19 @@ pub struct Linker<'a, 'b, 'c> {
     /// Where memory for the body is taken.
     pub alloc: Global,
     /// The modules.
-    pub heads: &'a Heads<'b>,
+    pub modules: &'a LibraryModules<'b>,
     /// The flat bodies.
     pub bodies: &'a ModuleBodies<'c>,
     /// The module.
-    pub home: &'a Head<'b>,
+    pub home: &'a LibraryModule<'b>,
 }
 
 /// The interface of the module that is run.
-fn interface_run<'a>(heads: &'a Heads<'_>, name: &Identifier) -> &'a [Declared]
-    ensures { result.now ≡ interface_run (program_named (map program_of heads.now) name.now) }
+fn interface_run<'a>(modules: &'a LibraryModules<'_>, name: &Identifier) -> &'a [Declared]
+    ensures { result.now ≡ interface_run (program_named (map program_of modules.now) name.now) }
 {
-    match heads.named(name) {
-        Some(head) => head.interface.signals(),
+    match modules.named(name) {
+        Some(home) => home.interface.signals(),
         None => &[],
     }
 }
@@ -72,10 +72,10 @@ fn flatten_run<'b>(
     ensures { IfOk result (λ f. closed_of f ≡ body_in_run
         (interface_bound (program_of linker.now.home.now) (binders_of scope.now)
         (map renaming_view renamings.now)
-        (interface_run (program_named (map program_of linker.now.heads.now) name.now)))
+        (interface_run (program_named (map program_of linker.now.modules.now) name.now)))
         (locals_around (binders_of scope.now)) (bodies_of linker.now.bodies.now name.now)) }
 {
-    let interface = interface_run(linker.heads, name);
+    let interface = interface_run(linker.modules, name);
     let renamings = RunRenamings::of(linker.alloc, renamings)?;
     let binding = Binding {
         alloc: linker.alloc,
@@ -159,7 +159,7 @@ fn flatten_present(
 /// The flat statement of a unit.
 #[cycle(flat)]
 fn flat_unit<'b>(at: &LinkContext<'_, 'b, '_>, unit: &'b Unit) -> Result<OpenBody, AllocError>
-    ensures { IfOk result (λ f. closed_of f ≡ linked (map program_of at.now.linker.now.heads.now)
+    ensures { IfOk result (λ f. closed_of f ≡ linked (map program_of at.now.linker.now.modules.now)
         (bodies_of at.now.linker.now.bodies.now) (program_of at.now.linker.now.home.now)
         (binders_of at.now.scope.now) (unit_derived (unit_view unit.now))) }
 {
@@ -199,7 +199,7 @@ fn flat_signal<'b>(
     statement: &'b Statement,
 ) -> Result<OpenBody, AllocError>
     ensures { IfOk result (λ f. closed_of f ≡ signal (length (names.now.first ∷
-        names.now.later.items)) (linked (map program_of at.now.linker.now.heads.now)
+        names.now.later.items)) (linked (map program_of at.now.linker.now.modules.now)
         (bodies_of at.now.linker.now.bodies.now) (program_of at.now.linker.now.home.now)
         (signals (names_view names.now) ∷ binders_of at.now.scope.now)
         (statement_derived (statement_view statement.now)))) }
@@ -220,7 +220,7 @@ fn flat_watched<'b>(
 ) -> Result<OpenBody, AllocError>
     ensures { IfOk result (λ f. closed_of f ≡ watched watch delay.now.immediate
         (asked_at (program_of at.now.linker.now.home.now) (binders_of at.now.scope.now)
-        (test_view delay.now.test)) (linked (map program_of at.now.linker.now.heads.now)
+        (test_view delay.now.test)) (linked (map program_of at.now.linker.now.modules.now)
         (bodies_of at.now.linker.now.bodies.now) (program_of at.now.linker.now.home.now)
         (binders_of at.now.scope.now) (statement_derived (statement_view statement.now)))) }
 {
@@ -235,7 +235,7 @@ fn flat_test<'b>(
     test: &Test,
     branches: &'b Branches,
 ) -> Result<OpenBody, AllocError>
-    ensures { IfOk result (λ f. closed_of f ≡ linked (map program_of at.now.linker.now.heads.now)
+    ensures { IfOk result (λ f. closed_of f ≡ linked (map program_of at.now.linker.now.modules.now)
         (bodies_of at.now.linker.now.bodies.now) (program_of at.now.linker.now.home.now)
         (binders_of at.now.scope.now) (branches_derived (test_view test.now)
         (branches_view branches.now))) }
@@ -284,7 +284,7 @@ fn flat_sequence<'b>(
     at: &LinkContext<'_, 'b, '_>,
     sequence: &'b Sequence,
 ) -> Result<OpenBody, AllocError>
-    ensures { IfOk result (λ f. closed_of f ≡ linked (map program_of at.now.linker.now.heads.now)
+    ensures { IfOk result (λ f. closed_of f ≡ linked (map program_of at.now.linker.now.modules.now)
         (bodies_of at.now.linker.now.bodies.now) (program_of at.now.linker.now.home.now)
         (binders_of at.now.scope.now) (sequence_derived (sequence_view sequence.now))) }
 {
@@ -306,7 +306,7 @@ pub fn flat_statement<'b>(
     at: &LinkContext<'_, 'b, '_>,
     statement: &'b Statement,
 ) -> Result<OpenBody, AllocError>
-    ensures { IfOk result (λ f. closed_of f ≡ linked (map program_of at.now.linker.now.heads.now)
+    ensures { IfOk result (λ f. closed_of f ≡ linked (map program_of at.now.linker.now.modules.now)
         (bodies_of at.now.linker.now.bodies.now) (program_of at.now.linker.now.home.now)
         (binders_of at.now.scope.now) (statement_derived (statement_view statement.now))) }
 {
@@ -329,7 +329,7 @@ fn box_body<'b>(
     statement: &'b Statement,
 ) -> Result<Box<OpenBody>, AllocError>
     ensures { IfOk result (λ b. closed_of b.value ≡ linked (map program_of
-        at.now.linker.now.heads.now) (bodies_of at.now.linker.now.bodies.now)
+        at.now.linker.now.modules.now) (bodies_of at.now.linker.now.bodies.now)
         (program_of at.now.linker.now.home.now) (binders_of at.now.scope.now)
         (statement_derived (statement_view statement.now))) }
 {
@@ -344,7 +344,7 @@ fn box_inside<'b>(
     statement: &'b Statement,
 ) -> Result<Box<OpenBody>, AllocError>
     ensures { IfOk result (λ b. closed_of b.value ≡ linked (map program_of
-        at.now.linker.now.heads.now) (bodies_of at.now.linker.now.bodies.now)
+        at.now.linker.now.modules.now) (bodies_of at.now.linker.now.bodies.now)
         (program_of at.now.linker.now.home.now) (binders_of scope.now)
         (statement_derived (statement_view statement.now))) }
 {

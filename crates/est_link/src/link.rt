@@ -11,8 +11,8 @@ use crate::linked_module::linked_body;
 use crate::main_module::main_module;
 use est_checks::fault::LinkFault;
 use est_checks::library_check::check_library;
-use est_modules::head_tree::Heads;
-use est_modules::library_heads::heads_of;
+use est_modules::collecting::collect_modules;
+use est_modules::library_modules::LibraryModules;
 use est_order::place_order::Order;
 use est_reduce::flat::Flat;
 use est_syntax::tree::Library;
@@ -22,28 +22,28 @@ use std::alloc::{AllocError, Global};
 /// The flat main module of modules of which no check has a fault, by an order of them.
 fn flat_module(
     alloc: Global,
-    heads: &Heads<'_>,
+    modules: &LibraryModules<'_>,
     order: &Order,
     main: &Identifier,
 ) -> Result<Flat, AllocError>
-    requires order { IsOrderOf (map program_of heads.now) order.now }
-    requires checked { IsFirstFault (map program_of heads.now) main.now None }
-    ensures { IfOk result (λ f. IsFlatOf (map program_of heads.now) main.now (flat_of f)) }
+    requires order { IsOrderOf (map program_of modules.now) order.now }
+    requires checked { IsFirstFault (map program_of modules.now) main.now None }
+    ensures { IfOk result (λ f. IsFlatOf (map program_of modules.now) main.now (flat_of f)) }
 {
-    let body = linked_body(alloc, &*heads, order, main)?;
-    let Some(home) = heads.named(main) else {
+    let body = linked_body(alloc, &*modules, order, main)?;
+    let Some(home) = modules.named(main) else {
         unreachable!();
     };
     main_module(alloc, home, body)
 }
 
 /// The flat main module of modules, or their first fault.
-fn link_heads(alloc: Global, heads: &Heads<'_>, main: &str) -> Result<Flat, LinkFault>
-    ensures first { Finds (IsFirstFault (map program_of heads.now) main.now) result }
-    ensures flat { IfOk result (λ f. IsFlatOf (map program_of heads.now) main.now (flat_of f)) }
+fn link_modules(alloc: Global, modules: &LibraryModules<'_>, main: &str) -> Result<Flat, LinkFault>
+    ensures first { Finds (IsFirstFault (map program_of modules.now) main.now) result }
+    ensures flat { IfOk result (λ f. IsFlatOf (map program_of modules.now) main.now (flat_of f)) }
 {
-    let (main, order) = check_library(alloc, &*heads, main)?;
-    Ok(flat_module(alloc, &*heads, &order, &main)?)
+    let (main, order) = check_library(alloc, &*modules, main)?;
+    Ok(flat_module(alloc, &*modules, &order, &main)?)
 }
 
 /// Links a library: its main module, each `run` replaced by the body of the module that it runs,
@@ -58,6 +58,6 @@ fn link_heads(alloc: Global, heads: &Heads<'_>, main: &str) -> Result<Flat, Link
 pub fn link(alloc: Global, library: &Library, main: &str) -> Result<Flat, LinkFault>
     ensures { IsLinkOf (library_view library.now) main.now result }
 {
-    let heads = heads_of(alloc, library)?;
-    link_heads(alloc, &heads, main)
+    let modules = collect_modules(alloc, library)?;
+    link_modules(alloc, &modules, main)
 }

@@ -12,7 +12,7 @@ ghost use Rattle.est_reduce.specs.Views.{body_of};
 
 use crate::body_table::bodies_along;
 use crate::needed::needed_places;
-use est_modules::head_tree::Heads;
+use est_modules::library_modules::LibraryModules;
 use est_order::place_order::Order;
 use est_reduce::body::Body;
 use est_text::identifier::Identifier;
@@ -25,23 +25,23 @@ use std::alloc::{AllocError, Global};
 /// `AllocError` where memory is refused.
 pub fn linked_body(
     alloc: Global,
-    heads: &Heads<'_>,
+    modules: &LibraryModules<'_>,
     order: &Order,
     main: &Identifier,
 ) -> Result<Body, AllocError>
-    requires order { IsOrderOf (map program_of heads.now) order.now }
-    requires distinct { first_duplicate (map program_of heads.now) ≡ None }
-    requires there { first_missing (map program_of heads.now) main.now ≡ None }
-    ensures linked { IfOk result (λ b. IsLinked (map program_of heads.now) main.now (body_of b)) }
+    requires order { IsOrderOf (map program_of modules.now) order.now }
+    requires distinct { first_duplicate (map program_of modules.now) ≡ None }
+    requires there { first_missing (map program_of modules.now) main.now ≡ None }
+    ensures linked { IfOk result (λ b. IsLinked (map program_of modules.now) main.now (body_of b)) }
     ensures bound { IfOk result (λ b. (emitted : List ℕ → List ℕ → Bool) (p : Program)
-        → HasSoundNames (map program_of heads.now) emitted
-        → program_named (map program_of heads.now) main.now ≡ Some p
+        → HasSoundNames (map program_of modules.now) emitted
+        → program_named (map program_of modules.now) main.now ≡ Some p
         → IsBound (declarations_of p) 0 0 (body_of b)) }
 {
-    match heads.place(main) {
+    match modules.place(main) {
         Some(place) => {
-            let needed = needed_places(alloc, &*heads, order.places(), place)?;
-            let bodies = bodies_along(alloc, heads, order.places(), &needed)?;
+            let needed = needed_places(alloc, &*modules, order.places(), place)?;
+            let bodies = bodies_along(alloc, modules, order.places(), &needed)?;
             bodies.close(alloc, main)
         }
         None => Ok(Body::Nothing),

@@ -14,7 +14,8 @@ ghost use Rattle.est_checks.specs.Duplicates.{redeclared};
 
 use crate::signal_table::SignalTable;
 use est_kernel::interface::{Declaration, Interface, Kind as KernelKind};
-use est_modules::head::{Declared, Head, Kind};
+use est_modules::interface::{Declared, Kind};
+use est_modules::library_modules::LibraryModule;
 use est_modules::relations::relations_of;
 use est_reduce::body::Body;
 use est_reduce::flat::Flat;
@@ -127,7 +128,10 @@ fn kernel_relations(
 }
 
 /// The interface and the relations of a module, as the kernel has them.
-fn kernel_declarations(alloc: Global, home: &Head<'_>) -> Result<(Interface, Relations), AllocError>
+fn kernel_declarations(
+    alloc: Global,
+    home: &LibraryModule<'_>,
+) -> Result<(Interface, Relations), AllocError>
     requires signals { length (program_of home.now).interface ≤ MOST_SIGNALS }
     requires relations { length (program_of home.now).relations ≤ MOST_RELATIONS }
     requires distinct { redeclared [] (map (λ d. d.name) (program_of home.now).interface) ≡ None }
@@ -146,7 +150,7 @@ fn kernel_declarations(alloc: Global, home: &Head<'_>) -> Result<(Interface, Rel
 /// # Errors
 ///
 /// `AllocError` where memory is refused.
-pub fn main_module(alloc: Global, home: &Head<'_>, body: Body) -> Result<Flat, AllocError>
+pub fn main_module(alloc: Global, home: &LibraryModule<'_>, body: Body) -> Result<Flat, AllocError>
     requires signals { length (program_of home.now).interface ≤ MOST_SIGNALS }
     requires relations { length (program_of home.now).relations ≤ MOST_RELATIONS }
     requires distinct { redeclared [] (map (λ d. d.name) (program_of home.now).interface) ≡ None }

@@ -10,7 +10,7 @@ ghost use Rattle.est_link.specs.Inner.Needs.{IsComplete, with_places};
 ghost use Rattle.est_modules.specs.Modules.{Program, program_of};
 ghost use Rattle.est_modules.specs.ModuleOrders.{IsOrderOf, places_run};
 
-use est_modules::head_tree::Heads;
+use est_modules::library_modules::LibraryModules;
 use est_modules::module_order::places_run;
 use std::alloc::{AllocError, Global};
 
@@ -23,13 +23,17 @@ pub fn is_in(set: &[bool], place: usize) -> bool
 }
 
 /// The places of the modules that the module at a place runs.
-fn places_at(alloc: Global, heads: &Heads<'_>, place: usize) -> Result<Vec<usize>, AllocError>
-    requires { place < length heads.now }
+fn places_at(
+    alloc: Global,
+    modules: &LibraryModules<'_>,
+    place: usize,
+) -> Result<Vec<usize>, AllocError>
+    requires { place < length modules.now }
     ensures { IfOk result (λ places. (p : Program)
-        → slice_get (map program_of heads.now) place ≡ Some p
-        → places.items ≡ places_run (map program_of heads.now) p) }
+        → slice_get (map program_of modules.now) place ≡ Some p
+        → places.items ≡ places_run (map program_of modules.now) p) }
 {
-    places_run(alloc, &*heads, &heads.modules()[place])
+    places_run(alloc, &*modules, &modules.as_slice()[place])
 }
 
 /// Adds places to a set. A number that is no place is passed over.
@@ -50,24 +54,24 @@ fn add_places(set: &mut Vec<bool>, places: &[usize])
 /// `AllocError` where memory is refused.
 pub fn needed_places(
     alloc: Global,
-    heads: &Heads<'_>,
+    modules: &LibraryModules<'_>,
     order: &[usize],
     main: usize,
 ) -> Result<Vec<bool>, AllocError>
-    requires order { IsOrderOf (map program_of heads.now) order.now }
-    requires main { main < length heads.now }
-    ensures size { IfOk result (λ set. length set.items ≡ length heads.now) }
-    ensures complete { IfOk result (λ set. IsComplete (map program_of heads.now) set.items) }
+    requires order { IsOrderOf (map program_of modules.now) order.now }
+    requires main { main < length modules.now }
+    ensures size { IfOk result (λ set. length set.items ≡ length modules.now) }
+    ensures complete { IfOk result (λ set. IsComplete (map program_of modules.now) set.items) }
     ensures main { IfOk result (λ set. IsIn set.items main) }
 {
-    let mut needed = vec![in alloc; false; heads.modules().len()]?;
+    let mut needed = vec![in alloc; false; modules.as_slice().len()]?;
     needed[main] = true;
     let mut left = order.len();
     while left > 0 {
         left -= 1;
         let place = order[left];
         if is_in(&needed, place) {
-            add_places(&mut needed, &places_at(alloc, &*heads, place)?);
+            add_places(&mut needed, &places_at(alloc, &*modules, place)?);
         }
     }
     Ok(needed)

@@ -20,14 +20,14 @@ use Rattle.est_cells.specs.Tables.{Sheet, sheet_size, emits, is_sure}
 use Rattle.est_net.specs.Cells.{cell_at, learned, Learns}
 use Rattle.est_net.specs.Layout.{parts_in, sheet_in}
 use Rattle.est_rounds.specs.Views.{env_of, set_of}
-use Rattle.est_rounds.specs.declared.acts.Judgement.{Judgement}
+use Rattle.est_rounds.specs.declared.acts.MustCan.{MustCan}
 use Rattle.est_rounds.specs.declared.signal_set.Env.{Env as Known}
 use Rattle.est_micro.specs.Sweeps.{swept_parts, swept, told}
 use Rattle.est_micro.specs.declared.direction.Direction.{Direction}
 use Rattle.est_micro.specs.declared.direction.Direction.TheVariants.{Forwards, Backwards}
-use Rattle.est_micro.specs.Views.{Changes, IsJudged, IsLeft, IsPaired, IsSwept, IsBegun}
+use Rattle.est_micro.specs.Inner.Views.{Changes, IsJudged, IsFinished, IsPaired, IsSwept, IsBegun}
 use Rattle.est_micro.specs.declared.cells.Swept.{Swept}
-use Rattle.est_micro.specs.declared.cells.Place.{Place}
+use Rattle.est_micro.specs.declared.cells.StatementPlace.{StatementPlace}
 use Rattle.est_micro.proofs.Frames.{scoped, sheet_same, changes_then, learn_changes}
 use Rattle.est_micro.proofs.Nodes.{JudgedOf, Owned, one_swept, two_swept, two_swept_back, node_is_swept, ends_found}
 use Rattle.est_micro.proofs.Nodes.{is_backwards, is_forwards}
@@ -46,7 +46,7 @@ nothing_changes lo hi a =
     record { before = λ i o. refl; after = λ i o. refl; size = refl; more = omega arith; quiet = λ e. refl }
 
 -- of two parts that are judged
-pub paired : (f : Codes → Codes → Codes) (a b c d : Codes) (s u v w : Signals) (x y j : Judgement) → IsJudged a b s u x
+pub paired : (f : Codes → Codes → Codes) (a b c d : Codes) (s u v w : Signals) (x y j : MustCan) → IsJudged a b s u x
     → IsJudged c d v w y → IsPaired f x y j → IsJudged (f a c) (f b d) (union s v) (union u w) j
 paired f a b c d s u v w x y j h k l = record {
   must = l.must ∙ (ap (λ (z : Codes). f z (codes_of y.must.codes)) h.must ∙ ap (λ (z : Codes). f a z) k.must);
@@ -59,7 +59,8 @@ paired f a b c d s u v w x y j h k l = record {
 }
 
 -- a statement without parts
-pub leaf_begun : (s : Statement) (at : Place) (gate : Status) (e : Known) (old m0 new : List Status) (own : Judgement)
+pub leaf_begun : (s : Statement) (at : StatementPlace) (gate : Status) (e : Known) (old m0 new : List Status)
+    (own : MustCan)
     (r : Swept)
     → sheet_size at.main s at.traps ≡ at.traps + 3
     → parts_in (cell_at m0) at.main s at.cell at.traps
@@ -67,7 +68,7 @@ pub leaf_begun : (s : Statement) (at : Place) (gate : Status) (e : Known) (old m
     (cell_at old) at.main s at.cell at.traps)
     → Owned at.main s (λ U. (gates at.main s gate (env_of e) U).cells)
     (sheet_in (cell_at m0) at.main s at.cell at.traps) own
-    → Learns at.cell gate old m0 → IsLeft at.cell at.traps own (at.cell + at.traps + 3) m0 new r
+    → Learns at.cell gate old m0 → IsFinished at.cell at.traps own (at.cell + at.traps + 3) m0 new r
     → IsBegun s at gate e old new r
 unfolding IsBegun
 leaf_begun s at gate e old m0 new own r size parts owned learns is_left =
@@ -76,11 +77,11 @@ leaf_begun s at gate e old m0 new own r size parts owned learns is_left =
     old m0 m0 new own (at.cell + at.traps + 3) r learns parts (nothing_changes _ _ m0) owned is_left (omega arith)
 
 -- the place of a part
-abbrev pub part_at : Place → (number cell : ℕ) → Place
+abbrev pub part_at : StatementPlace → (number cell : ℕ) → StatementPlace
 part_at at n d = record { number = n; main = at.main; cell = d; traps = at.traps; direction = at.direction }
 
 -- the place of a trap's body
-abbrev pub trapped_at : Place → Place
+abbrev pub trapped_at : StatementPlace → StatementPlace
 trapped_at at = record {
   number = at.number + 1;
   main = at.main;
@@ -89,14 +90,14 @@ trapped_at at = record {
   direction = at.direction;
 }
 
-pub present_begun : (n : ℕ) (at : Place) (t : _) (a : _) (p : Statement) (b : _) (q : Statement)
+pub present_begun : (n : ℕ) (at : StatementPlace) (t : _) (a : _) (p : Statement) (b : _) (q : Statement)
     (gate asked g1 g2 o go : Status) (e : Known)
-    (old m0 m1 m2 new : List Status) (r1 r2 r : Swept) (own : Judgement)
+    (old m0 m1 m2 new : List Status) (r1 r2 r : Swept) (own : MustCan)
     → asked ≡ status_of (env_of e) (query_of t) → Learns at.cell gate old m0 → go ≡ cell_at m0 at.cell
     → g1 ≡ and_status go asked → o ≡ opposite asked → g2 ≡ and_status go o
     → IsBegun p (part_at at (at.number + 1) (at.cell + at.traps + 3)) g1 e m0 m1 r1
     → IsBegun q (part_at at n r1.past) g2 e m1 m2 r2
-    → IsPaired either_code r1.judged r2.judged own → IsLeft at.cell at.traps own r2.past m2 new r
+    → IsPaired either_code r1.judged r2.judged own → IsFinished at.cell at.traps own r2.past m2 new r
     → IsBegun (Present' t a p b q) at gate e old new r
 unfolding IsBegun
 present_begun n at t a p b q gate asked g1 g2 o go e old m0 m1 m2 new r1 r2 r own asks learns go_is g1_is o_is g2_is
@@ -125,20 +126,20 @@ present_begun n at t a p b q gate asked g1 g2 o go e old m0 m1 m2 new r1 r2 r ow
     (let x = w.past in omega arith)
 
 -- what is known where a part surely emits
-pub inside_is : (main : Bool) (p : Statement) (E : Env) (f : Known) (S T : Sheet main p) (j : Judgement)
+pub inside_is : (main : Bool) (p : Statement) (E : Env) (f : Known) (S T : Sheet main p) (j : MustCan)
     → JudgedOf main p S j → S ≡ T → env_of f ≡ told E (set_of j.must.signals)
     → env_of f ≡ told E (emits is_sure main p T)
 inside_is main p E f S T j h s e = e ∙ ap (λ (z : Signals). told E z) (h.emits ∙ ap (emits is_sure main p) s)
 
-pub seq_begun : (n : ℕ) (at : Place) (a : _) (p : Statement) (b : _) (q : Statement) (gate later go : Status)
+pub seq_begun : (n : ℕ) (at : StatementPlace) (a : _) (p : Statement) (b : _) (q : Statement) (gate later go : Status)
     (e f : Known)
-    (old m0 m1 m2 new : List Status) (r1 r2 r : Swept) (own : Judgement)
+    (old m0 m1 m2 new : List Status) (r1 r2 r : Swept) (own : MustCan)
     → Learns at.cell gate old m0 → go ≡ cell_at m0 at.cell
     → later ≡ verdict (codes_of r1.judged.must.codes 0) (codes_of r1.judged.can.codes 0)
     → env_of f ≡ told (env_of e) (set_of r1.judged.must.signals)
     → IsBegun p (part_at at (at.number + 1) (at.cell + at.traps + 3)) go e m0 m1 r1
     → IsBegun q (part_at at n r1.past) later f m1 m2 r2
-    → IsPaired then_codes r1.judged r2.judged own → IsLeft at.cell at.traps own r2.past m2 new r
+    → IsPaired then_codes r1.judged r2.judged own → IsFinished at.cell at.traps own r2.past m2 new r
     → IsBegun (Seq' a p b q) at gate e old new r
 unfolding IsBegun
 seq_begun n at a p b q gate later go e f old m0 m1 m2 new r1 r2 r own learns go_is later_is f_is first second pair
@@ -167,13 +168,14 @@ seq_begun n at a p b q gate later go e f old m0 m1 m2 new r1 r2 r own learns go_
     (paired then_codes _ _ _ _ _ _ _ _ r1.judged r2.judged own w.first_found w.second_found pair) is_left
     (let x = w.past in omega arith)
 
-pub par_begun : (n : ℕ) (at : Place) (a : _) (p : Statement) (b : _) (q : Statement) (gate go : Status) (e f : Known)
-    (old m0 m1 m2 new : List Status) (r1 r2 r : Swept) (own : Judgement)
+pub par_begun : (n : ℕ) (at : StatementPlace) (a : _) (p : Statement) (b : _) (q : Statement) (gate go : Status)
+    (e f : Known)
+    (old m0 m1 m2 new : List Status) (r1 r2 r : Swept) (own : MustCan)
     → at.direction ≡ Forwards → Learns at.cell gate old m0 → go ≡ cell_at m0 at.cell
     → env_of f ≡ told (env_of e) (set_of r1.judged.must.signals)
     → IsBegun p (part_at at (at.number + 1) (at.cell + at.traps + 3)) go e m0 m1 r1
     → IsBegun q (part_at at n r1.past) go f m1 m2 r2
-    → IsPaired max_codes r1.judged r2.judged own → IsLeft at.cell at.traps own r2.past m2 new r
+    → IsPaired max_codes r1.judged r2.judged own → IsFinished at.cell at.traps own r2.past m2 new r
     → IsBegun (Par' a p b q) at gate e old new r
 unfolding IsBegun
 par_begun n at a p b q gate go e f old m0 m1 m2 new r1 r2 r own goes learns go_is f_is first second pair
@@ -200,15 +202,16 @@ par_begun n at a p b q gate go e f old m0 m1 m2 new r1 r2 r own goes learns go_i
     (paired max_codes _ _ _ _ _ _ _ _ r1.judged r2.judged own w.first_found w.second_found pair) is_left
     (let x = w.past in omega arith)
 
-pub par_begun_back : (n : ℕ) (at : Place) (a : _) (p : Statement) (b : _) (q : Statement) (gate go : Status) (k : ℕ)
+pub par_begun_back : (n : ℕ) (at : StatementPlace) (a : _) (p : Statement) (b : _) (q : Statement) (gate go : Status)
+    (k : ℕ)
     (e f : Known)
-    (old m0 m1 m2 new : List Status) (r1 r2 r : Swept) (own : Judgement)
+    (old m0 m1 m2 new : List Status) (r1 r2 r : Swept) (own : MustCan)
     → at.direction ≡ Backwards → Learns at.cell gate old m0 → go ≡ cell_at m0 at.cell
     → k ≡ at.cell + at.traps + 3 + sheet_size at.main p at.traps
     → env_of f ≡ told (env_of e) (set_of r2.judged.must.signals)
     → IsBegun q (part_at at n k) go e m0 m1 r2
     → IsBegun p (part_at at (at.number + 1) (at.cell + at.traps + 3)) go f m1 m2 r1
-    → IsPaired max_codes r1.judged r2.judged own → IsLeft at.cell at.traps own r2.past m2 new r
+    → IsPaired max_codes r1.judged r2.judged own → IsFinished at.cell at.traps own r2.past m2 new r
     → IsBegun (Par' a p b q) at gate e old new r
 unfolding IsBegun
 par_begun_back n at a p b q gate go k e f old m0 m1 m2 new r1 r2 r own goes learns go_is k_is f_is second first pair
@@ -234,10 +237,10 @@ par_begun_back n at a p b q gate go k e f old m0 m1 m2 new r1 r2 r own goes lear
     (paired max_codes _ _ _ _ _ _ _ _ r1.judged r2.judged own w.first_found w.second_found pair) is_left
     (let x = w.past in omega arith)
 
-pub suspend_begun : (at : Place) (t : _) (a : _) (p : Statement) (gate go : Status) (e : Known)
+pub suspend_begun : (at : StatementPlace) (t : _) (a : _) (p : Statement) (gate go : Status) (e : Known)
     (old m0 m1 new : List Status) (r1 r : Swept) → Learns at.cell gate old m0 → go ≡ cell_at m0 at.cell
     → IsBegun p (part_at at (at.number + 1) (at.cell + at.traps + 3)) go e m0 m1 r1
-    → IsLeft at.cell at.traps r1.judged r1.past m1 new r
+    → IsFinished at.cell at.traps r1.judged r1.past m1 new r
     → IsBegun (Suspend' t a p) at gate e old new r
 unfolding IsBegun
 suspend_begun at t a p gate go e old m0 m1 new r1 r learns go_is body is_left =
@@ -253,19 +256,19 @@ suspend_begun at t a p gate go e old m0 m1 new r1 r learns go_is body is_left =
     (widen _ _ _ _ m0 m1 (omega arith) (omega arith) w.changes) w.found is_left (let x = w.past in omega arith)
 
 -- what is judged outside a trap; outside a binder
-abbrev pub IsTrapped : Judgement → Judgement → Type 0
+abbrev pub IsTrapped : MustCan → MustCan → Type 0
 IsTrapped x j = IsJudged (codes_out_of_trap (codes_of x.must.codes)) (codes_out_of_trap (codes_of x.can.codes))
     (set_of x.must.signals) (set_of x.can.signals) j
 
-abbrev pub IsHidden : ℕ → Judgement → Judgement → Type 0
+abbrev pub IsHidden : ℕ → MustCan → MustCan → Type 0
 IsHidden s x j = IsJudged (codes_of x.must.codes) (codes_of x.can.codes) (without s (set_of x.must.signals))
     (without s (set_of x.can.signals)) j
 
-pub trap_begun : (at : Place) (a : _) (p : Statement) (gate go : Status) (e : Known)
-    (old m0 m1 new : List Status) (r1 r : Swept) (own : Judgement) → Learns at.cell gate old m0
+pub trap_begun : (at : StatementPlace) (a : _) (p : Statement) (gate go : Status) (e : Known)
+    (old m0 m1 new : List Status) (r1 r : Swept) (own : MustCan) → Learns at.cell gate old m0
     → go ≡ cell_at m0 at.cell
     → IsBegun p (trapped_at at) go e m0 m1 r1
-    → IsTrapped r1.judged own → IsLeft at.cell at.traps own r1.past m1 new r
+    → IsTrapped r1.judged own → IsFinished at.cell at.traps own r1.past m1 new r
     → IsBegun (Trap' a p) at gate e old new r
 unfolding IsBegun
 trap_begun at a p gate go e old m0 m1 new r1 r own learns go_is body trapped is_left =
@@ -288,12 +291,12 @@ trap_begun at a p gate go e old m0 m1 new r1 r own learns go_is body trapped is_
     is_left (let x = w.past in omega arith)
 
 -- what is judged of a part that gives the codes, and of one that only emits
-abbrev pub IsEmitting : Judgement → Judgement → Judgement → Type 0
+abbrev pub IsEmitting : MustCan → MustCan → MustCan → Type 0
 IsEmitting x y j = IsJudged (codes_of x.must.codes) (codes_of x.can.codes)
     (union (set_of x.must.signals) (set_of y.must.signals))
     (union (set_of x.can.signals) (set_of y.can.signals)) j
 
-pub emitting_found : (a b c d : Codes) (s u v w : Signals) (x y j : Judgement) → IsJudged a b s u x → IsJudged c d v w y
+pub emitting_found : (a b c d : Codes) (s u v w : Signals) (x y j : MustCan) → IsJudged a b s u x → IsJudged c d v w y
     → IsEmitting x y j → IsJudged a b (union s v) (union u w) j
 emitting_found a b c d s u v w x y j h k l = record {
   must = l.must ∙ h.must;
@@ -310,7 +313,7 @@ pub again_begun : (m n : ℕ) (way : Direction) (main : Bool) (c t : ℕ) (a : _
     (e : Known)
     (old m0 m1 new : List Status) (r1 r : Swept) → main ≡ false → Learns c gate old m0 → go ≡ cell_at m0 c
     → IsBegun p (record { number = n; main = main; cell = c + t + 3; traps = t; direction = way }) go e m0 m1 r1
-    → IsLeft c t r1.judged r1.past m1 new r
+    → IsFinished c t r1.judged r1.past m1 new r
     → IsBegun (Loop' a p) (record { number = m; main = main; cell = c; traps = t; direction = way }) gate e old new r
 unfolding IsBegun
 again_begun m n way true c t a p gate go e old m0 m1 new r1 r h learns go_is body is_left = let z : true ≡ false = h
@@ -335,11 +338,11 @@ again_begun m n way false c t a p gate go e old m0 m1 new r1 r h learns go_is bo
 -- a loop that can go on, with its body as the restart begins it
 pub loop_begun : (m n : ℕ) (way : Direction) (main : Bool) (c t : ℕ) (a : _) (p : Statement) (gate go : Status)
     (e : Known)
-    (old m0 m1 m2 new : List Status) (r1 r2 r : Swept) (own : Judgement) → main ≡ true → Learns c gate old m0
+    (old m0 m1 m2 new : List Status) (r1 r2 r : Swept) (own : MustCan) → main ≡ true → Learns c gate old m0
     → go ≡ cell_at m0 c
     → IsBegun p (record { number = n; main = main; cell = c + t + 3; traps = t; direction = way }) go e m0 m1 r1
     → IsBegun p (record { number = n; main = false; cell = r1.past; traps = t; direction = way }) Absent e m1 m2 r2
-    → IsEmitting r1.judged r2.judged own → IsLeft c t own r2.past m2 new r
+    → IsEmitting r1.judged r2.judged own → IsFinished c t own r2.past m2 new r
     → IsBegun (Loop' a p) (record { number = m; main = main; cell = c; traps = t; direction = way }) gate e old new r
 unfolding IsBegun
 loop_begun m n way false c t a p gate go e old m0 m1 m2 new r1 r2 r own h learns go_is body restart pair is_left =
@@ -401,7 +404,7 @@ local_swept main s p c t F gate status old m0 m1 m2 r1 learns body' status_is te
     }
 
 -- what is judged outside a binder
-pub hidden_found : (n : ℕ) (a b : Codes) (s u : Signals) (x j : Judgement) → IsJudged a b s u x → IsHidden n x j
+pub hidden_found : (n : ℕ) (a b : Codes) (s u : Signals) (x j : MustCan) → IsJudged a b s u x → IsHidden n x j
     → IsJudged a b (without n s) (without n u) j
 hidden_found n a b s u x j h l = record {
   must = l.must ∙ h.must;
@@ -410,14 +413,15 @@ hidden_found n a b s u x j h l = record {
   may_emit = l.may_emit ∙ ap (without n) h.may_emit;
 }
 
-pub local_begun : (at : Place) (s : LocalSignal) (a : _) (p : Statement) (gate go status : Status) (e inside : Known)
-    (old m0 m1 m2 new : List Status) (r1 r : Swept) (own : Judgement) → Learns at.cell gate old m0
+pub local_begun : (at : StatementPlace) (s : LocalSignal) (a : _) (p : Statement) (gate go status : Status)
+    (e inside : Known)
+    (old m0 m1 m2 new : List Status) (r1 r : Swept) (own : MustCan) → Learns at.cell gate old m0
     → go ≡ cell_at m0 at.cell
     → env_of inside ≡ with_local (env_of e) s.index (cell_at m0 (at.cell + at.traps + 3))
     → IsBegun p (part_at at (at.number + 1) (at.cell + at.traps + 3 + 1)) go inside m0 m1 r1
     → status ≡ verdict (set_of r1.judged.must.signals (inner s.index)) (set_of r1.judged.can.signals (inner s.index))
     → Learns (at.cell + at.traps + 3) status m1 m2
-    → IsHidden s.index r1.judged own → IsLeft at.cell at.traps own r1.past m2 new r
+    → IsHidden s.index r1.judged own → IsFinished at.cell at.traps own r1.past m2 new r
     → IsBegun (Binder' s a p) at gate e old new r
 unfolding IsBegun
 local_begun at s a p gate go status e inside old m0 m1 m2 new r1 r own learns go_is inside_is body status_is tells
@@ -443,13 +447,14 @@ local_begun at s a p gate go status e inside old m0 m1 m2 new r1 r own learns go
     (hidden_found s.index _ _ _ _ r1.judged own w.found hidden) is_left (let x = w.past in omega arith)
 
 -- places are still within the cells after a part was swept
-pub within_one : (lo k : ℕ) (old m0 m1 : List Status) (s : Statement) (at : Place) (gate : Status) (e : Known)
+pub within_one : (lo k : ℕ) (old m0 m1 : List Status) (s : Statement) (at : StatementPlace) (gate : Status) (e : Known)
     (r : Swept)
     → lo + k ≤ length old → length m0 ≡ length old → IsBegun s at gate e m0 m1 r → lo ≤ length m1
 unfolding IsBegun
 within_one lo k old m0 m1 s at gate e r h m b = let n = b.changes.size in omega arith
 
-pub within_two : (lo k j : ℕ) (old m0 m1 m2 : List Status) (s t : Statement) (at bt : Place) (gate hate : Status)
+pub within_two : (lo k j : ℕ) (old m0 m1 m2 : List Status) (s t : Statement) (at bt : StatementPlace)
+    (gate hate : Status)
     (e f : Known)
     (r q : Swept) → lo + k + j ≤ length old → length m0 ≡ length old → IsBegun s at gate e m0 m1 r
     → IsBegun t bt hate f m1 m2 q
@@ -460,7 +465,8 @@ within_two lo k j old m0 m1 m2 s t at bt gate hate e f r q h m b d =
     let o = d.changes.size in
     omega arith
 
-pub within_next : (old m0 m1 : List Status) (s : Statement) (at : Place) (gate : Status) (e : Known) (r : Swept) (j : ℕ)
+pub within_next : (old m0 m1 : List Status) (s : Statement) (at : StatementPlace) (gate : Status) (e : Known)
+    (r : Swept) (j : ℕ)
     → IsBegun s at gate e m0 m1 r → at.cell + sheet_size at.main s at.traps + j ≤ length old → length m0 ≡ length old
     → r.past + j ≤ length m1
 unfolding IsBegun
@@ -473,13 +479,14 @@ pub within_back : (k a n m : ℕ) (old m0 : List Status) → k ≡ a + n → a +
     → k + m ≤ length m0
 within_back k a n m old m0 e h l = omega arith
 
-pub within_local : (a k : ℕ) (old m0 m1 : List Status) (s : Statement) (at : Place) (gate : Status) (e : Known)
+pub within_local : (a k : ℕ) (old m0 m1 : List Status) (s : Statement) (at : StatementPlace) (gate : Status) (e : Known)
     (r : Swept)
     → a + 4 + k ≤ length old → length m0 ≡ length old → IsBegun s at gate e m0 m1 r → a + 3 < length m1
 unfolding IsBegun
 within_local a k old m0 m1 s at gate e r h m b = let n = b.changes.size in omega arith
 
-pub within_told : (a k : ℕ) (old m0 m1 m2 : List Status) (s : Statement) (at : Place) (gate : Status) (e : Known)
+pub within_told : (a k : ℕ) (old m0 m1 m2 : List Status) (s : Statement) (at : StatementPlace) (gate : Status)
+    (e : Known)
     (r : Swept)
     → a + 4 + k ≤ length old → length m0 ≡ length old → IsBegun s at gate e m0 m1 r → length m2 ≡ length m1
     → a + 3 ≤ length m2

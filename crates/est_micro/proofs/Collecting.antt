@@ -13,7 +13,7 @@ use Rattle.est_cells.specs.Tables.{sheet_size, is_sure}
 use Rattle.est_net.specs.Cells.{cell_at}
 use Rattle.est_net.specs.Layout.{output_count, sheet_in, sure_codes}
 use Rattle.est_net.proofs.Reaching.{or_assoc}
-use Rattle.est_micro.specs.Pausing.{Collects, CollectsIn}
+use Rattle.est_micro.specs.Inner.Pausing.{Collects, CollectsIn}
 use Rattle.est_micro.proofs.Telling.{nat_eq_same, nat_eq_other, same_or_not}
 
 pub or_nothing : (x on : Bool) → x ≡ (x || (on && false))

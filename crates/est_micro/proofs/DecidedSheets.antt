@@ -29,9 +29,9 @@ use Rattle.est_rounds.specs.declared.signal_set.Env.{Env as Known}
 use Rattle.est_rounds.specs.declared.signal_set.SignalSet.{SignalSet}
 use Rattle.est_micro.specs.Sweeps.{live_swept, live_swept_parts, may_told, sure_told, sweep_by, swept, swept_parts}
 use Rattle.est_micro.specs.declared.direction.Direction.{Direction}
-use Rattle.est_micro.specs.Views.{AddsEmitted, IsJudged, IsRead, IsResumed, IsSwept}
+use Rattle.est_micro.specs.Inner.Views.{AddsEmitted, IsJudged, IsRead, IsResumed, IsSwept}
 use Rattle.est_micro.specs.declared.cells.Swept.{Swept}
-use Rattle.est_micro.specs.declared.cells.Place.{Place}
+use Rattle.est_micro.specs.declared.cells.StatementPlace.{StatementPlace}
 use Rattle.est_micro.proofs.BegunNodes.{nothing_changes}
 use Rattle.est_micro.proofs.Frames.{and_same, same_node_of, scoped, size_least}
 use Rattle.est_micro.proofs.Told.{either_way}
@@ -284,7 +284,8 @@ read_swept way true s bits run e c t cells r m d j p = record {
 }
 read_swept way false s bits run e c t cells r m d j p = let z : false ≡ true = m in cc
 
-pub read_resumed : (s : Statement) (at : Place) (pauses : PauseSet) (run : Status) (e : Known) (cells : List Status)
+pub read_resumed : (s : Statement) (at : StatementPlace) (pauses : PauseSet) (run : Status) (e : Known)
+    (cells : List Status)
     (r : Swept) → at.main ≡ true → IsRead s at cells r → IsResumed s at pauses run e cells cells r
 unfolding IsResumed
 read_resumed s at pauses run e cells r m h =
@@ -350,7 +351,7 @@ emits_same main (Binder' s a p) f c t d =
     ap (without s.index) (emits_same main p f (c + t + 4) t (λ i l u. d i (omega arith) (omega arith)))
 
 -- what is found of such a statement, by the codes that its cells give and the signals that they emit
-pub decided_read : (s : Statement) (at : Place) (cells : List Status) (old new : SignalSet) (codes : CodeSet)
+pub decided_read : (s : Statement) (at : StatementPlace) (cells : List Status) (old new : SignalSet) (codes : CodeSet)
     (past : ℕ) (r : Swept) → set_of old ≡ no_signals
     → AddsEmitted at.main s at.cell at.traps cells old new past
     → AllDecided at.cell (at.cell + sheet_size at.main s at.traps) cells

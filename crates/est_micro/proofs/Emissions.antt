@@ -14,7 +14,7 @@ use Rattle.est_net.specs.Layout.{sheet_in}
 use Rattle.est_net.proofs.Reaching.{or_assoc}
 use Rattle.est_rounds.specs.Views.{set_of}
 use Rattle.est_rounds.specs.declared.signal_set.SignalSet.{SignalSet}
-use Rattle.est_micro.specs.Views.{AddsBoth, AddsEmitted}
+use Rattle.est_micro.specs.Inner.Views.{AddsBoth, AddsEmitted}
 
 union_over : (a b c : Signals) → union (union a b) c ≡ union a (union b c)
 unfolding union

@@ -13,7 +13,7 @@ use Rattle.est_cells.specs.Gates.{node}
 use Rattle.est_cells.specs.Tables.{Scoped, sheet_size, make_again, is_sure, is_possible}
 use Rattle.est_net.specs.Cells.{Learns}
 use Rattle.est_net.specs.Layout.{sure_codes, possible_codes, node_in, parts_in, sheet_in}
-use Rattle.est_micro.specs.Views.{Changes}
+use Rattle.est_micro.specs.Inner.Views.{Changes}
 
 -- the cells from place lo on and before place hi are the same
 abbrev pub Same : (lo hi : ℕ) (f g : ℕ → Status) → Type 0

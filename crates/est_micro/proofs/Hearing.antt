@@ -22,7 +22,7 @@ use Rattle.est_net.specs.Cells.{learned}
 use Rattle.est_rounds.specs.Views.{env_of, set_of}
 use Rattle.est_rounds.specs.declared.signal_set.Env.{Env as Known}
 use Rattle.est_rounds.specs.declared.signal_set.SignalSet.{SignalSet}
-use Rattle.est_micro.specs.Hearing.{Heard, Seen}
+use Rattle.est_micro.specs.Inner.Hearing.{Heard, Seen}
 use Rattle.est_micro.specs.Sweeps.{told}
 
 -- the first of two sets, and the second

@@ -28,9 +28,9 @@ use Rattle.est_rounds.specs.Views.{env_of}
 use Rattle.est_rounds.specs.declared.signal_set.Env.{Env as Known}
 use Rattle.est_micro.specs.Sweeps.{entered, sure_told, may_told, sweep_by, swept, swept_parts}
 use Rattle.est_micro.specs.declared.direction.Direction.{Direction}
-use Rattle.est_micro.specs.Views.{IsBegun, IsIdle, IsJudged, IsSwept}
+use Rattle.est_micro.specs.Inner.Views.{IsBegun, IsIdle, IsJudged, IsSwept}
 use Rattle.est_micro.specs.declared.cells.Swept.{Swept}
-use Rattle.est_micro.specs.declared.cells.Place.{Place}
+use Rattle.est_micro.specs.declared.cells.StatementPlace.{StatementPlace}
 use Rattle.est_micro.proofs.Frames.{same_node_of, scoped, sheet_same, size_least}
 use Rattle.est_micro.proofs.Told.{either_way}
 
@@ -339,7 +339,8 @@ false_swept way main s e g c t old new r none a h j past =
       past = past;
     }
 
-pub idle_begun : (s : Statement) (at : Place) (gate : Status) (e : Known) (old new : List Status) (past : ℕ) (r : Swept)
+pub idle_begun : (s : Statement) (at : StatementPlace) (gate : Status) (e : Known) (old new : List Status) (past : ℕ)
+    (r : Swept)
     → IsIdle s at gate old past → AreFalse at.cell past old new
     → IsJudged no_codes no_codes no_signals no_signals r.judged → r.past ≡ past
     → IsBegun s at gate e old new r

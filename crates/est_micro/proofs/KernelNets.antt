@@ -19,7 +19,8 @@ pub root_fits : (k : Kernel) (root : Statement) → root ≡ k.root → FitsMask
 root_fits k root a =
     subst (λ (z : Statement). FitsMasks z) (sym a) (fits_within_limits k.interface k.root k.closed k.within_limits)
 
-pub root_within : (net : Net) (k : Kernel) (root : Statement) (c : ℕ) → IsNetOf net k → root ≡ k.root → c ≡ net.outputs
+pub root_within : (net : Net) (k : Kernel) (root : Statement) (c : ℕ) → IsNetOf net k → root ≡ k.root
+    → c ≡ net.output_count
     → c + sheet_size true root 0 ≤ length net.cells.items
 root_within net k root c h a b =
     let size = h.size in
@@ -31,8 +32,8 @@ root_within net k root c h a b =
 abbrev kept_after : ℕ → Net → Kept
 kept_after n net = record {
   earlier = n;
-  signals = net.signals;
-  outputs = net.outputs;
+  signals = net.emittable;
+  outputs = net.output_count;
   reach = net.reach;
   extents = net.extents.items;
   emissions = net.emissions.items;
@@ -42,8 +43,8 @@ pub still_net : (k : Kernel) (n : ℕ) (old new : Net) → IsNetOf old k → len
     → kept new ≡ kept_after n old → IsNetOf new k
 still_net k n old new h size e = record {
   size = size ∙ h.size;
-  signals = ap (λ (z : Kept). bits z.signals) e ∙ h.signals;
-  outputs = ap (λ (z : Kept). z.outputs) e ∙ h.outputs;
+  signals = ap (λ (z : Kept). bits z.emittable) e ∙ h.signals;
+  outputs = ap (λ (z : Kept). z.output_count) e ∙ h.outputs;
   reach = subst (λ (z : Reach). IsReachOf z k.root) (sym (ap (λ (z : Kept). z.reach) e)) h.reach;
   extents = still (kept new) (kept_after n old) 0 0 k.root e h.extents;
   emissions = ap (λ (z : Kept). z.emissions) e ∙ h.emissions;

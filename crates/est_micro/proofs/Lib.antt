@@ -13,9 +13,8 @@ mod OpenTests
 mod Rounds
 mod DecidedSheets
 mod Emissions
-mod Exchanging
+mod UpdatingSignals
 mod OpenTables
-mod Limits
 mod FullTables
 mod Settles
 mod AllDecided

@@ -12,11 +12,11 @@ use Rattle.est_cells.specs.Gates.{ends}
 use Rattle.est_cells.specs.Tables.{Cells, Parts, Sheet, sheet_size, emits, is_sure, is_possible}
 use Rattle.est_net.specs.Cells.{cell_at, learned, Learns}
 use Rattle.est_net.specs.Layout.{sure_codes, possible_codes, parts_in, sheet_in}
-use Rattle.est_rounds.specs.declared.acts.Judgement.{Judgement}
+use Rattle.est_rounds.specs.declared.acts.MustCan.{MustCan}
 use Rattle.est_micro.specs.Sweeps.{entered, left, one_way, sure_told, may_told}
 use Rattle.est_micro.specs.declared.direction.Direction.{Direction}
 use Rattle.est_micro.specs.declared.direction.Direction.TheVariants.{Forwards, Backwards}
-use Rattle.est_micro.specs.Views.{Changes, IsJudged, IsLeft, IsSwept, node_swept}
+use Rattle.est_micro.specs.Inner.Views.{Changes, IsJudged, IsFinished, IsSwept, node_swept}
 use Rattle.est_micro.specs.declared.cells.Swept.{Swept}
 use Rattle.est_micro.proofs.Frames.{Same, size_least, sure_same, possible_same, same_node_of, parts_same, sheet_same}
 use Rattle.est_micro.proofs.Frames.{changes_then, learn_changes}
@@ -37,21 +37,21 @@ emits_left pick main (Trap' a p) U y = refl
 emits_left pick main (Binder' s a p) U y = refl
 
 -- what is judged of a sheet
-abbrev pub JudgedOf : (main : Bool) (s : Statement) → Sheet main s → Judgement → Type 0
+abbrev pub JudgedOf : (main : Bool) (s : Statement) → Sheet main s → MustCan → Type 0
 JudgedOf main s T j = IsJudged T.cells.must T.cells.may (emits is_sure main s T) (emits is_possible main s T) j
 
 -- what is judged of a node that is left: its gates, and what its parts emit
-abbrev pub Owned : (main : Bool) (s : Statement) → (Sheet main s → Cells) → Sheet main s → Judgement → Type 0
+abbrev pub Owned : (main : Bool) (s : Statement) → (Sheet main s → Cells) → Sheet main s → MustCan → Type 0
 Owned main s G T j = IsJudged (G T).must (G T).may (emits is_sure main s T) (emits is_possible main s T) j
 
 pub node_is_swept : (main : Bool) (s : Statement) (c t : ℕ) (P : Status → Parts main s → Parts main s)
     (G : Sheet main s → Cells)
-    (gate : Status) (old m0 m2 new : List Status) (own : Judgement) (past : ℕ) (r : Swept)
+    (gate : Status) (old m0 m2 new : List Status) (own : MustCan) (past : ℕ) (r : Swept)
     → Learns c gate old m0
     → parts_in (cell_at m2) main s c t ≡ P (cell_at m0 c) (parts_in (cell_at old) main s c t)
     → Changes (c + t + 3) (c + sheet_size main s t) m0 m2
     → Owned main s G (sheet_in (cell_at m2) main s c t) own
-    → IsLeft c t own past m2 new r
+    → IsFinished c t own past m2 new r
     → past ≡ c + sheet_size main s t
     → IsSwept main s c t (node_swept main s P G gate) old new r
 node_is_swept main s c t P G gate old m0 m2 new own past r learns parts changes owned is_left after =
@@ -186,7 +186,7 @@ is_backwards Backwards x y z h e = e
 is_backwards Forwards x y z h e = let c : Forwards ≡ Backwards = h in cc
 
 -- whether a part ends, by what is judged of it
-pub ends_found : (main : Bool) (p : Statement) (T : Sheet main p) (v : Status) (j : Judgement) → JudgedOf main p T j
+pub ends_found : (main : Bool) (p : Statement) (T : Sheet main p) (v : Status) (j : MustCan) → JudgedOf main p T j
     → v ≡ verdict (codes_of j.must.codes 0) (codes_of j.can.codes 0) → v ≡ ends T.cells
 ends_found main p T v j h e = e ∙ (ap (λ (z : Codes). verdict (z 0) (codes_of j.can.codes 0)) h.must
     ∙ ap (λ (z : Codes). verdict (T.cells.must 0) (z 0)) h.can)

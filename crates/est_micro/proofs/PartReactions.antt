@@ -20,12 +20,12 @@ use Rattle.est_net.specs.Layout.{output_count, sheet_in}
 use Rattle.est_rounds.specs.Contract.{AreInputs}
 use Rattle.est_rounds.specs.Parts.{AgreeOn, AreInputOutputsAsked, not_asked}
 use Rattle.est_rounds.specs.Views.{env_of}
-use Rattle.est_micro.specs.Outcomes.{HasNoCode}
+use Rattle.est_micro.specs.Inner.Outcomes.{HasNoCode}
 use Rattle.est_micro.specs.Parts.{AgreeBut, AreInputsAlone, IsClosedBut, known_but}
 use Rattle.est_micro.specs.Runs.{IsSettledBut, output_cells, table_of}
 use Rattle.est_micro.specs.Unsettled.{IsLeftOpen}
 use Rattle.est_micro.specs.Waiting.{pauses_from, table_waits_for, waits_for}
-use Rattle.est_micro.specs.declared.settling.DecidedCells.{DecidedCells}
+use Rattle.est_micro.specs.declared.settling.RunEnd.{RunEnd}
 use Rattle.est_micro.proofs.FullTables.{full_decided}
 use Rattle.est_micro.proofs.OpenTests.{waits_unasked}
 use Rattle.est_micro.proofs.Outcomes.{some_code}
@@ -62,12 +62,12 @@ inputs_alone i u asked e h n o =
 
 -- by each input set for which the part stands
 abbrev pub IsSettledByAll : (u : ℕ → Bool) (k : Kernel) (x : State) (inputs : ℕ → Bool) (cells : List Status)
-    (r : DecidedCells) → Type 0
+    (r : RunEnd) → Type 0
 IsSettledByAll u k x inputs cells r = (others : ℕ → Bool) → AgreeBut u inputs others
     → IsSettledBut u k x others cells r
 
 pub settled_for : (u asked : ℕ → Bool) (k : Kernel) (x : State) (inputs : Inputs) (cells : List Status)
-    (r : DecidedCells)
+    (r : RunEnd)
     → u ≡ not_asked k.interface asked → AreInputs k inputs → IsSettledByAll u k x (bits inputs.signals) cells r
     → (others : Inputs) → AgreeOn k asked (bits inputs.signals) others
     → IsSettledBut u k x (bits others.signals) cells r
@@ -81,7 +81,7 @@ if_named None h = tt
 
 -- where there is no outcome
 pub left_open : (u asked : ℕ → Bool) (k : Kernel) (x : State) (inputs : ℕ → Bool) (cells : List Status)
-    (r : DecidedCells)
+    (r : RunEnd)
     (w : Option ℕ) → u ≡ not_asked k.interface asked → IsState k.root x → IsSettledByAll u k x inputs cells r
     → (decided cells ≡ length cells → HasNoCode x r.swept)
     → w ≡ waits_for u true k.root (pauses_from x) Present (env_of r.env)

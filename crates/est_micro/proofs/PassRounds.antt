@@ -27,20 +27,20 @@ use Rattle.est_net.proofs.EmissionLists.{emitted_listed}
 use Rattle.est_net.specs.Emissions.{emissions, is_of}
 use Rattle.est_net.specs.Layout.{output_count, rank, sheet_in}
 use Rattle.est_net.specs.declared.emissions.Emission.{Emission}
-use Rattle.est_rounds.specs.declared.acts.Judgement.{Judgement}
+use Rattle.est_rounds.specs.declared.acts.MustCan.{MustCan}
 use Rattle.est_rounds.specs.Views.{env_of}
 use Rattle.est_rounds.specs.declared.signal_set.Env.{Env as Known}
-use Rattle.est_micro.specs.Hearing.{Heard}
+use Rattle.est_micro.specs.Inner.Hearing.{Heard}
 use Rattle.est_micro.specs.Parts.{AgreeBut, AreInputsAlone}
-use Rattle.est_micro.specs.Passes.{IsPassRound, SheetPasses}
-use Rattle.est_micro.specs.Runs.{IsExchanged, Ready, output_cells, output_gate, table_of}
-use Rattle.est_micro.specs.Views.{Changes}
+use Rattle.est_micro.specs.Inner.Passes.{IsPassRound, SheetPasses}
+use Rattle.est_micro.specs.Runs.{AreSignalsUpdated, Ready, output_cells, output_gate, table_of}
+use Rattle.est_micro.specs.Inner.Views.{Changes}
 use Rattle.est_micro.proofs.Frames.{sheet_same}
 use Rattle.est_micro.proofs.Passing.{passed}
 use Rattle.est_micro.proofs.PassingOn.{passed_on}
 use Rattle.est_micro.proofs.Rounds.{gate_is, last_heard, may_be, not_input, rank_within}
 use Rattle.est_micro.proofs.Told.{learned_below}
-use Rattle.est_micro.proofs.Unasked.{emitted_there, exchange_by, heard_but, opened_less}
+use Rattle.est_micro.proofs.Unasked.{emitted_there, update_by, heard_but, opened_less}
 
 sheet_passed : (s : Statement) (x : State) (c : ℕ) (e l : Env) (old new : List Status) → KnowsLess l e
     → Heard (emits is_sure true s (sheet_meaning s x e)) e l → SheetPasses s x c l old new
@@ -117,7 +117,7 @@ pub exchange_ready : (unasked : ℕ → Bool) (k : Kernel) (x : State) (inputs s
     → ((n : ℕ) → IsBelow (verdict (sure n) (possible n))
     (verdict (emits is_sure true k.root (sheet_in (cell_at mid) true k.root (output_count k.interface) 0) (outer n))
     (emits is_possible true k.root (sheet_in (cell_at mid) true k.root (output_count k.interface) 0) (outer n))))
-    → IsExchanged k.interface unasked inputs sure possible mid new f
+    → AreSignalsUpdated k.interface unasked inputs sure possible mid new f
     → Ready unasked k x inputs new f
 exchange_ready unasked k x inputs sure possible e f old mid new ready pass judged h =
     let i = k.interface in
@@ -160,7 +160,7 @@ pass_round_ready unasked k x inputs e f old new a h ready =
     (λ n. inr (ap (λ (b : Bool). verdict b (h.possible n)) (h.sure_is n)
     ∙ ap (λ (b : Bool). verdict (emits is_sure true k.root
     (sheet_in (cell_at h.mid) true k.root (output_count k.interface) 0) (outer n)) b) (h.possible_is n)))
-    h.exchange
+    h.update_signals
 
 pub pass_round_by : (i : List Declaration) (unasked inputs : ℕ → Bool) (s : Statement) (x : State) (e f : Known)
     (old new : List Status) → AreInputsAlone i unasked → IsPassRound i unasked inputs s x e f old new
@@ -172,22 +172,22 @@ pass_round_by i unasked inputs s x e f old new a h others agree = record {
   pass = h.pass;
   sure_is = h.sure_is;
   possible_is = h.possible_is;
-  exchange = exchange_by i unasked inputs _ _ _ _ _ a h.exchange others agree;
+  update_signals = update_by i unasked inputs _ _ _ _ _ a h.update_signals others agree;
 }
 
 pub pass_round_more : (i : List Declaration) (unasked inputs : ℕ → Bool) (s : Statement) (x : State) (e f : Known)
     (old new : List Status) → IsPassRound i unasked inputs s x e f old new → decided old ≤ decided new
 pass_round_more i unasked inputs s x e f old new h =
-    let a = h.exchange.changes.more in
+    let a = h.update_signals.changes.more in
     let b = (pass_changes s x (output_count i) (env_of e) old h.mid h.pass).more in
     omega arith
 
 pub pass_round_is : (k : Kernel) (x : State) (inputs unasked : ℕ) (e f : Known) (old mid new : List Status)
-    (j : Judgement) (listed : List Emission) → listed ≡ emissions true k.root (output_count k.interface) 0
+    (j : MustCan) (listed : List Emission) → listed ≡ emissions true k.root (output_count k.interface) 0
     → SheetPasses k.root x (output_count k.interface) (env_of e) old mid
     → ((n : ℕ) → bits j.must.signals.interface n ≡ list_any (is_of is_sure (cell_at mid) n) listed)
     → ((n : ℕ) → bits j.can.signals.interface n ≡ list_any (is_of is_possible (cell_at mid) n) listed)
-    → IsExchanged k.interface (bits unasked) (bits inputs) (bits j.must.signals.interface)
+    → AreSignalsUpdated k.interface (bits unasked) (bits inputs) (bits j.must.signals.interface)
     (bits j.can.signals.interface) mid new f
     → IsPassRound k.interface (bits unasked) (bits inputs) k.root x e f old new
 pass_round_is k x inputs unasked e f old mid new j listed l h sure possible ex = record {
@@ -199,5 +199,5 @@ pass_round_is k x inputs unasked e f old mid new j listed l h sure possible ex =
       ∙ sym (emitted_listed is_sure n true k.root (output_count k.interface) 0 (cell_at mid)));
   possible_is = λ n. possible n ∙ (ap (λ (z : List Emission). list_any (is_of is_possible (cell_at mid) n) z) l
       ∙ sym (emitted_listed is_possible n true k.root (output_count k.interface) 0 (cell_at mid)));
-  exchange = ex;
+  update_signals = ex;
 }

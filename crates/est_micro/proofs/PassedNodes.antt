@@ -12,7 +12,7 @@ use Rattle.est_cells.specs.Gates.{ends}
 use Rattle.est_cells.specs.Tables.{is_possible, is_sure, sheet_size}
 use Rattle.est_net.specs.Cells.{cell_at}
 use Rattle.est_net.specs.Layout.{possible_codes, sheet_in, sure_codes}
-use Rattle.est_micro.specs.Passes.{IsMeantBegun, IsMeantResumed, Passes, PassesOn, SidePasses}
+use Rattle.est_micro.specs.Inner.Passes.{IsMeantBegun, IsMeantResumed, Passes, PassesOn, SidePasses}
 use Rattle.est_micro.proofs.Passing.{again_first, keeps_nothing, keeps_then, loop_first, par_first, par_second}
 use Rattle.est_micro.proofs.Passing.{seq_first, seq_second, suspend_body, trap_body}
 use Rattle.est_micro.proofs.PassingOn.{loop_on_again, loop_on_first, par_on_first, par_on_second, seq_on_first}

@@ -19,11 +19,11 @@ use Rattle.est_cells.specs.Meaning.{begun, begun_parts, cells_at, status_at}
 use Rattle.est_cells.specs.Tables.{Below, Cells, PartsBelow, Sheet, emits, is_sure, sheet_size}
 use Rattle.est_net.specs.Cells.{Learns, cell_at}
 use Rattle.est_net.specs.Layout.{node_in, parts_in, sheet_in}
-use Rattle.est_rounds.specs.declared.acts.Judgement.{Judgement}
-use Rattle.est_micro.specs.Hearing.{Heard}
-use Rattle.est_micro.specs.Passes.{Keeps, Passes}
+use Rattle.est_rounds.specs.declared.acts.MustCan.{MustCan}
+use Rattle.est_micro.specs.Inner.Hearing.{Heard}
+use Rattle.est_micro.specs.Inner.Passes.{Keeps, Passes}
 use Rattle.est_micro.specs.Sweeps.{left, swept}
-use Rattle.est_micro.specs.Views.{Changes, IsSwept}
+use Rattle.est_micro.specs.Inner.Views.{Changes, IsSwept}
 use Rattle.est_micro.specs.declared.cells.Swept.{Swept}
 use Rattle.est_micro.specs.declared.direction.Direction.{Direction}
 use Rattle.est_micro.proofs.BegunNodes.{nothing_changes, widen}
@@ -205,7 +205,7 @@ local_status main s a p c t g now l old new z k =
     })
 
 -- what is judged by the gates is told
-pub record GivenBy (y : Cells) (own : Judgement) : Type 0 where
+pub record GivenBy (y : Cells) (own : MustCan) : Type 0 where
   pub must : codes_of own.must.codes ≡ y.must
   pub can : codes_of own.can.codes ≡ y.may
 

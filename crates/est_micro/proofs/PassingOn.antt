@@ -15,10 +15,10 @@ use Rattle.est_cells.specs.Meaning.{begun, cells_at, resumed, resumed_parts}
 use Rattle.est_cells.specs.Tables.{Below, PartsBelow, Sheet, emits, is_sure, sheet_size}
 use Rattle.est_net.specs.Cells.{cell_at}
 use Rattle.est_net.specs.Layout.{node_in, parts_in, sheet_in}
-use Rattle.est_micro.specs.Hearing.{Heard}
-use Rattle.est_micro.specs.Passes.{Passes, PassesOn}
+use Rattle.est_micro.specs.Inner.Hearing.{Heard}
+use Rattle.est_micro.specs.Inner.Passes.{Passes, PassesOn}
 use Rattle.est_micro.specs.Sweeps.{live_swept}
-use Rattle.est_micro.specs.Views.{Changes, IsSwept}
+use Rattle.est_micro.specs.Inner.Views.{Changes, IsSwept}
 use Rattle.est_micro.specs.declared.cells.Swept.{Swept}
 use Rattle.est_micro.specs.declared.direction.Direction.{Direction}
 use Rattle.est_micro.proofs.BegunNodes.{widen}

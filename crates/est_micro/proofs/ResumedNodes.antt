@@ -22,14 +22,14 @@ use Rattle.est_cells.specs.Tables.{Sheet, emits, is_sure, sheet_size}
 use Rattle.est_net.specs.Cells.{cell_at, learned, Learns}
 use Rattle.est_net.specs.Layout.{sheet_in}
 use Rattle.est_rounds.specs.Views.{env_of, set_of}
-use Rattle.est_rounds.specs.declared.acts.Judgement.{Judgement}
+use Rattle.est_rounds.specs.declared.acts.MustCan.{MustCan}
 use Rattle.est_rounds.specs.declared.signal_set.Env.{Env as Known}
 use Rattle.est_micro.specs.Sweeps.{swept, live_swept_parts, live_swept, told}
 use Rattle.est_micro.specs.declared.direction.Direction.{Direction}
 use Rattle.est_micro.specs.declared.direction.Direction.TheVariants.{Forwards, Backwards}
-use Rattle.est_micro.specs.Views.{IsJudged, IsLeft, IsPaired, IsSwept, IsBegun, IsResumed, IsChosen}
+use Rattle.est_micro.specs.Inner.Views.{IsJudged, IsFinished, IsPaired, IsSwept, IsBegun, IsResumed, IsChosen}
 use Rattle.est_micro.specs.declared.cells.Swept.{Swept}
-use Rattle.est_micro.specs.declared.cells.Place.{Place}
+use Rattle.est_micro.specs.declared.cells.StatementPlace.{StatementPlace}
 use Rattle.est_micro.proofs.Frames.{scoped}
 use Rattle.est_micro.proofs.Nodes.{one_swept, two_swept, two_swept_back, node_is_swept, ends_found, is_backwards}
 use Rattle.est_micro.proofs.Nodes.{is_forwards}
@@ -41,10 +41,11 @@ flip : {A : Type 0} (b : Bool) (x y : A) → cond (not b) x y ≡ cond b y x
 flip true x y = refl
 flip false x y = refl
 
-pub pause_resumed : (n : _) (at : Place) (pauses : PauseSet) (run : Status) (e : Known) (old m0 new : List Status)
-    (own : Judgement)
+pub pause_resumed : (n : _) (at : StatementPlace) (pauses : PauseSet) (run : Status) (e : Known)
+    (old m0 new : List Status)
+    (own : MustCan)
     (r : Swept) → Learns at.cell Absent old m0 → IsJudged (sure_code run 0) (may_code run 0) no_signals no_signals own
-    → IsLeft at.cell at.traps own (at.cell + at.traps + 3) m0 new r → IsResumed (Pause n) at pauses run e old new r
+    → IsFinished at.cell at.traps own (at.cell + at.traps + 3) m0 new r → IsResumed (Pause n) at pauses run e old new r
 unfolding IsResumed
 pause_resumed n at pauses run e old m0 new own r learns owned is_left =
     node_is_swept true (Pause n) at.cell at.traps (live_swept_parts at.direction (Pause n) (pauses_of pauses) run
@@ -53,14 +54,14 @@ pause_resumed n at pauses run e old m0 new own r learns owned is_left =
     (at.cell + at.traps + 3) r
     learns refl (nothing_changes _ _ m0) owned is_left (omega arith)
 
-pub present_resumed : (at : Place) (t : _) (a : _) (p : Statement) (b : _) (q : Statement) (pauses : PauseSet)
+pub present_resumed : (at : StatementPlace) (t : _) (a : _) (p : Statement) (b : _) (q : Statement) (pauses : PauseSet)
     (run asked g1 g2 o go : Status) (on : Bool) (e : Known) (old m0 m1 m2 new : List Status) (r1 r2 r : Swept)
-    (own : Judgement)
+    (own : MustCan)
     → asked ≡ status_of (env_of e) (query_of t) → on ≡ is_live p (pauses_of pauses) → Learns at.cell Absent old m0
     → go ≡ cell_at m0 at.cell → g1 ≡ and_status go asked → o ≡ opposite asked → g2 ≡ and_status go o
     → IsChosen p (part_at at (at.number + 1) (at.cell + at.traps + 3)) pauses on g1 run e m0 m1 r1
     → IsChosen q (part_at at at.number r1.past) pauses (not on) g2 run e m1 m2 r2
-    → IsPaired either_code r1.judged r2.judged own → IsLeft at.cell at.traps own r2.past m2 new r
+    → IsPaired either_code r1.judged r2.judged own → IsFinished at.cell at.traps own r2.past m2 new r
     → IsResumed (Present' t a p b q) at pauses run e old new r
 unfolding IsResumed
 present_resumed at t a p b q pauses run asked g1 g2 o go on e old m0 m1 m2 new r1 r2 r own asks on_is learns go_is g1_is
@@ -92,15 +93,15 @@ present_resumed at t a p b q pauses run asked g1 g2 o go on e old m0 m1 m2 new r
     (paired either_code _ _ _ _ _ _ _ _ r1.judged r2.judged own w.first_found w.second_found pair) is_left
     (let x = w.past in omega arith)
 
-pub seq_resumed : (at : Place) (a : _) (p : Statement) (b : _) (q : Statement) (pauses : PauseSet)
+pub seq_resumed : (at : StatementPlace) (a : _) (p : Statement) (b : _) (q : Statement) (pauses : PauseSet)
     (run later go : Status) (on : Bool) (e f : Known) (old m0 m1 m2 new : List Status) (r1 r2 r : Swept)
-    (own : Judgement)
+    (own : MustCan)
     → on ≡ is_live p (pauses_of pauses) → Learns at.cell Absent old m0 → go ≡ cell_at m0 at.cell
     → later ≡ verdict (codes_of r1.judged.must.codes 0) (codes_of r1.judged.can.codes 0)
     → env_of f ≡ told (env_of e) (set_of r1.judged.must.signals)
     → IsChosen p (part_at at (at.number + 1) (at.cell + at.traps + 3)) pauses on go run e m0 m1 r1
     → IsChosen q (part_at at at.number r1.past) pauses (not on) later run f m1 m2 r2
-    → IsPaired then_codes r1.judged r2.judged own → IsLeft at.cell at.traps own r2.past m2 new r
+    → IsPaired then_codes r1.judged r2.judged own → IsFinished at.cell at.traps own r2.past m2 new r
     → IsResumed (Seq' a p b q) at pauses run e old new r
 unfolding IsResumed
 seq_resumed at a p b q pauses run later go on e f old m0 m1 m2 new r1 r2 r own on_is learns go_is later_is f_is first
@@ -138,12 +139,12 @@ seq_resumed at a p b q pauses run later go on e f old m0 m1 m2 new r1 r2 r own o
     (let x = w.past in omega arith)
 
 -- what counts of a side of a `||`
-abbrev pub IsSide : Bool → Status → Judgement → Judgement → Type 0
+abbrev pub IsSide : Bool → Status → MustCan → MustCan → Type 0
 IsSide on run x j = IsJudged (cond on (codes_of x.must.codes) (sure_code run 0))
     (cond on (codes_of x.can.codes) (may_code run 0))
     (set_of x.must.signals) (set_of x.can.signals) j
 
-side_found : (on live : Bool) (run : Status) (a b : Codes) (s u : Signals) (x j : Judgement) → on ≡ live
+side_found : (on live : Bool) (run : Status) (a b : Codes) (s u : Signals) (x j : MustCan) → on ≡ live
     → IsJudged a b s u x
     → IsSide on run x j → IsJudged (cond live a (sure_code run 0)) (cond live b (may_code run 0)) s u j
 side_found on live run a b s u x j e h l = record {
@@ -154,9 +155,9 @@ side_found on live run a b s u x j e h l = record {
   may_emit = l.may_emit ∙ h.may_emit;
 }
 
-pub par_resumed : (at : Place) (a : _) (p : Statement) (b : _) (q : Statement) (pauses : PauseSet)
+pub par_resumed : (at : StatementPlace) (a : _) (p : Statement) (b : _) (q : Statement) (pauses : PauseSet)
     (run go : Status) (on1 on2 : Bool) (e f : Known) (old m0 m1 m2 new : List Status) (r1 r2 r : Swept)
-    (x y own : Judgement)
+    (x y own : MustCan)
     → at.direction ≡ Forwards → on1 ≡ is_live p (pauses_of pauses) → on2 ≡ is_live q (pauses_of pauses)
     → Learns at.cell Absent old m0
     → go ≡ cell_at m0 at.cell
@@ -164,7 +165,7 @@ pub par_resumed : (at : Place) (a : _) (p : Statement) (b : _) (q : Statement) (
     → env_of f ≡ told (env_of e) (set_of r1.judged.must.signals)
     → IsChosen q (part_at at at.number r1.past) pauses on2 go run f m1 m2 r2
     → IsSide on1 run r1.judged x → IsSide on2 run r2.judged y
-    → IsPaired max_codes x y own → IsLeft at.cell at.traps own r2.past m2 new r
+    → IsPaired max_codes x y own → IsFinished at.cell at.traps own r2.past m2 new r
     → IsResumed (Par' a p b q) at pauses run e old new r
 unfolding IsResumed
 par_resumed at a p b q pauses run go on1 on2 e f old m0 m1 m2 new r1 r2 r x y own goes on1_is on2_is learns go_is
@@ -197,9 +198,9 @@ par_resumed at a p b q pauses run go on1 on2 e f old m0 m1 m2 new r1 r2 r x y ow
     (side_found on2 (is_live q bits) run _ _ _ _ r2.judged y on2_is w.second_found right) pair) is_left
     (let x = w.past in omega arith)
 
-pub par_resumed_back : (at : Place) (a : _) (p : Statement) (b : _) (q : Statement) (pauses : PauseSet)
+pub par_resumed_back : (at : StatementPlace) (a : _) (p : Statement) (b : _) (q : Statement) (pauses : PauseSet)
     (run go : Status) (on1 on2 : Bool) (k : ℕ) (e f : Known) (old m0 m1 m2 new : List Status) (r1 r2 r : Swept)
-    (x y own : Judgement)
+    (x y own : MustCan)
     → at.direction ≡ Backwards → on1 ≡ is_live p (pauses_of pauses) → on2 ≡ is_live q (pauses_of pauses)
     → Learns at.cell Absent old m0 → go ≡ cell_at m0 at.cell
     → k ≡ at.cell + at.traps + 3 + sheet_size true p at.traps
@@ -207,7 +208,7 @@ pub par_resumed_back : (at : Place) (a : _) (p : Statement) (b : _) (q : Stateme
     → env_of f ≡ told (env_of e) (set_of r2.judged.must.signals)
     → IsChosen p (part_at at (at.number + 1) (at.cell + at.traps + 3)) pauses on1 go run f m1 m2 r1
     → IsSide on1 run r1.judged x → IsSide on2 run r2.judged y
-    → IsPaired max_codes x y own → IsLeft at.cell at.traps own r2.past m2 new r
+    → IsPaired max_codes x y own → IsFinished at.cell at.traps own r2.past m2 new r
     → IsResumed (Par' a p b q) at pauses run e old new r
 unfolding IsResumed
 par_resumed_back at a p b q pauses run go on1 on2 k e f old m0 m1 m2 new r1 r2 r x y own goes on1_is on2_is learns go_is
@@ -243,18 +244,18 @@ par_resumed_back at a p b q pauses run go on1 on2 k e f old m0 m1 m2 new r1 r2 r
     (let x = w.past in omega arith)
 
 -- what is judged of a body, with codes of its own
-abbrev pub HasCodes : Judgement → Judgement → Judgement → Type 0
+abbrev pub HasCodes : MustCan → MustCan → MustCan → Type 0
 HasCodes x y j = IsJudged (either_code (codes_of x.must.codes) (codes_of y.must.codes))
     (either_code (codes_of x.can.codes) (codes_of y.can.codes)) (set_of x.must.signals) (set_of x.can.signals) j
 
-pub suspend_resumed : (at : Place) (t : _) (a : _) (p : Statement) (pauses : PauseSet)
+pub suspend_resumed : (at : StatementPlace) (t : _) (a : _) (p : Statement) (pauses : PauseSet)
     (run asked o inside stays : Status) (e : Known)
-    (old m0 m1 new : List Status) (r1 r : Swept) (held own : Judgement)
+    (old m0 m1 new : List Status) (r1 r : Swept) (held own : MustCan)
     → asked ≡ status_of (env_of e) (query_of t) → Learns at.cell Absent old m0
     → o ≡ opposite asked → inside ≡ and_status run o → stays ≡ and_status run asked
     → IsResumed p (part_at at (at.number + 1) (at.cell + at.traps + 3)) pauses inside e m0 m1 r1
     → IsJudged (sure_code stays 1) (may_code stays 1) no_signals no_signals held
-    → HasCodes r1.judged held own → IsLeft at.cell at.traps own r1.past m1 new r
+    → HasCodes r1.judged held own → IsFinished at.cell at.traps own r1.past m1 new r
     → IsResumed (Suspend' t a p) at pauses run e old new r
 unfolding IsResumed
 suspend_resumed at t a p pauses run asked o inside stays e old m0 m1 new r1 r held own asks learns o_is inside_is
@@ -287,15 +288,15 @@ suspend_resumed at t a p pauses run asked o inside stays e old m0 m1 new r1 r he
     })
     is_left (let x = w.past in omega arith)
 
-pub loop_resumed : (at : Place) (a : _) (p : Statement) (pauses : PauseSet) (run later : Status) (e f : Known)
-    (old m0 m1 m2 new : List Status) (r1 r2 r : Swept) (own : Judgement) → Learns at.cell Absent old m0
+pub loop_resumed : (at : StatementPlace) (a : _) (p : Statement) (pauses : PauseSet) (run later : Status) (e f : Known)
+    (old m0 m1 m2 new : List Status) (r1 r2 r : Swept) (own : MustCan) → Learns at.cell Absent old m0
     → later ≡ verdict (codes_of r1.judged.must.codes 0) (codes_of r1.judged.can.codes 0)
     → IsResumed p (part_at at (at.number + 1) (at.cell + at.traps + 3)) pauses run e m0 m1 r1
     → env_of f ≡ told (env_of e) (set_of r1.judged.must.signals)
     → IsBegun p
     (record { number = at.number + 1; main = false; cell = r1.past; traps = at.traps; direction = at.direction })
     later f m1 m2 r2
-    → IsPaired then_codes r1.judged r2.judged own → IsLeft at.cell at.traps own r2.past m2 new r
+    → IsPaired then_codes r1.judged r2.judged own → IsFinished at.cell at.traps own r2.past m2 new r
     → IsResumed (Loop' a p) at pauses run e old new r
 unfolding IsBegun IsResumed
 loop_resumed at a p pauses run later e f old m0 m1 m2 new r1 r2 r own learns later_is body f_is restart pair is_left =
@@ -323,10 +324,10 @@ loop_resumed at a p pauses run later e f old m0 m1 m2 new r1 r2 r own learns lat
     (paired then_codes _ _ _ _ _ _ _ _ r1.judged r2.judged own w.first_found w.second_found pair) is_left
     (let x = w.past in omega arith)
 
-pub trap_resumed : (at : Place) (a : _) (p : Statement) (pauses : PauseSet) (run : Status) (e : Known)
-    (old m0 m1 new : List Status) (r1 r : Swept) (own : Judgement) → Learns at.cell Absent old m0
+pub trap_resumed : (at : StatementPlace) (a : _) (p : Statement) (pauses : PauseSet) (run : Status) (e : Known)
+    (old m0 m1 new : List Status) (r1 r : Swept) (own : MustCan) → Learns at.cell Absent old m0
     → IsResumed p (trapped_at at) pauses run e m0 m1 r1
-    → IsTrapped r1.judged own → IsLeft at.cell at.traps own r1.past m1 new r
+    → IsTrapped r1.judged own → IsFinished at.cell at.traps own r1.past m1 new r
     → IsResumed (Trap' a p) at pauses run e old new r
 unfolding IsResumed
 trap_resumed at a p pauses run e old m0 m1 new r1 r own learns body trapped is_left =
@@ -348,13 +349,14 @@ trap_resumed at a p pauses run e old m0 m1 new r1 r own learns body trapped is_l
     })
     is_left (let x = w.past in omega arith)
 
-pub local_resumed : (at : Place) (s : LocalSignal) (a : _) (p : Statement) (pauses : PauseSet) (run status : Status)
-    (e inside : Known) (old m0 m1 m2 new : List Status) (r1 r : Swept) (own : Judgement) → Learns at.cell Absent old m0
+pub local_resumed : (at : StatementPlace) (s : LocalSignal) (a : _) (p : Statement) (pauses : PauseSet)
+    (run status : Status)
+    (e inside : Known) (old m0 m1 m2 new : List Status) (r1 r : Swept) (own : MustCan) → Learns at.cell Absent old m0
     → env_of inside ≡ with_local (env_of e) s.index (cell_at m0 (at.cell + at.traps + 3))
     → IsResumed p (part_at at (at.number + 1) (at.cell + at.traps + 3 + 1)) pauses run inside m0 m1 r1
     → status ≡ verdict (set_of r1.judged.must.signals (inner s.index)) (set_of r1.judged.can.signals (inner s.index))
     → Learns (at.cell + at.traps + 3) status m1 m2
-    → IsHidden s.index r1.judged own → IsLeft at.cell at.traps own r1.past m2 new r
+    → IsHidden s.index r1.judged own → IsFinished at.cell at.traps own r1.past m2 new r
     → IsResumed (Binder' s a p) at pauses run e old new r
 unfolding IsResumed
 local_resumed at s a p pauses run status e inside old m0 m1 m2 new r1 r own learns inside_is body status_is tells hidden
@@ -393,7 +395,8 @@ begun_chosen n way true c t p pauses is_on gate run e old new r h off b =
 begun_chosen n way false c t p pauses is_on gate run e old new r h off b = let z : false ≡ true = h in cc
 
 -- a part that goes on
-pub resumed_chosen : (at : Place) (p : Statement) (pauses : PauseSet) (is_on : Bool) (gate run : Status) (e : Known)
+pub resumed_chosen : (at : StatementPlace) (p : Statement) (pauses : PauseSet) (is_on : Bool) (gate run : Status)
+    (e : Known)
     (old new : List Status) (r : Swept) → is_on ≡ true → IsResumed p at pauses run e old new r
     → IsChosen p at pauses is_on gate run e old new r
 unfolding IsResumed
@@ -404,13 +407,15 @@ resumed_chosen at p pauses is_on gate run e old new r on b =
     (sym on) b
 
 -- places are still within the cells after a part was swept
-pub resumed_one : (lo k : ℕ) (old m0 m1 : List Status) (s : Statement) (at : Place) (pauses : PauseSet) (run : Status)
+pub resumed_one : (lo k : ℕ) (old m0 m1 : List Status) (s : Statement) (at : StatementPlace) (pauses : PauseSet)
+    (run : Status)
     (e : Known)
     (r : Swept) → lo + k ≤ length old → length m0 ≡ length old → IsResumed s at pauses run e m0 m1 r → lo ≤ length m1
 unfolding IsResumed
 resumed_one lo k old m0 m1 s at pauses run e r h m b = let n = b.changes.size in omega arith
 
-pub resumed_two : (lo k j : ℕ) (old m0 m1 m2 : List Status) (s t : Statement) (at bt : Place) (pauses : PauseSet)
+pub resumed_two : (lo k j : ℕ) (old m0 m1 m2 : List Status) (s t : Statement) (at bt : StatementPlace)
+    (pauses : PauseSet)
     (run gate : Status) (e f : Known) (r q : Swept) → lo + k + j ≤ length old → length m0 ≡ length old
     → IsResumed s at pauses run e m0 m1 r → IsBegun t bt gate f m1 m2 q → lo ≤ length m2
 unfolding IsBegun IsResumed
@@ -419,7 +424,8 @@ resumed_two lo k j old m0 m1 m2 s t at bt pauses run gate e f r q h m b d =
     let o = d.changes.size in
     omega arith
 
-pub resumed_next : (old m0 m1 : List Status) (s : Statement) (at : Place) (pauses : PauseSet) (run : Status) (e : Known)
+pub resumed_next : (old m0 m1 : List Status) (s : Statement) (at : StatementPlace) (pauses : PauseSet) (run : Status)
+    (e : Known)
     (r : Swept)
     (j : ℕ) → IsResumed s at pauses run e m0 m1 r → at.cell + sheet_size true s at.traps + j ≤ length old
     → length m0 ≡ length old → r.past + j ≤ length m1
@@ -429,14 +435,15 @@ resumed_next old m0 m1 s at pauses run e r j b h m =
     let o = b.past in
     omega arith
 
-pub resumed_local : (a k : ℕ) (old m0 m1 : List Status) (s : Statement) (at : Place) (pauses : PauseSet) (run : Status)
+pub resumed_local : (a k : ℕ) (old m0 m1 : List Status) (s : Statement) (at : StatementPlace) (pauses : PauseSet)
+    (run : Status)
     (e : Known)
     (r : Swept) → a + 4 + k ≤ length old → length m0 ≡ length old → IsResumed s at pauses run e m0 m1 r
     → a + 3 < length m1
 unfolding IsResumed
 resumed_local a k old m0 m1 s at pauses run e r h m b = let n = b.changes.size in omega arith
 
-pub resumed_told : (a k : ℕ) (old m0 m1 m2 : List Status) (s : Statement) (at : Place) (pauses : PauseSet)
+pub resumed_told : (a k : ℕ) (old m0 m1 m2 : List Status) (s : Statement) (at : StatementPlace) (pauses : PauseSet)
     (run : Status)
     (e : Known) (r : Swept) → a + 4 + k ≤ length old → length m0 ≡ length old → IsResumed s at pauses run e m0 m1 r
     → length m2 ≡ length m1 → a + 3 ≤ length m2

@@ -30,7 +30,7 @@ use Rattle.est_net.specs.Layout.{output_count, rank, sheet_in}
 use Rattle.est_rounds.specs.Views.{env_of, set_of}
 use Rattle.est_rounds.specs.declared.signal_set.Env.{Env as Known}
 use Rattle.est_rounds.specs.declared.signal_set.SignalSet.{SignalSet}
-use Rattle.est_micro.specs.Hearing.{Heard, Seen}
+use Rattle.est_micro.specs.Inner.Hearing.{Heard, Seen}
 use Rattle.est_micro.specs.declared.direction.Direction.{Direction}
 use Rattle.est_micro.specs.Parts.{AreInputsAlone, IsClosedBut, known_but, opened}
 use Rattle.est_micro.specs.Runs.{sheet_swept, output_cells, output_gate, IsRound, table_of}
@@ -57,7 +57,7 @@ sheet_swept_quiet way s Done e l T k z c q = swept_quiet way true s Absent Absen
 sheet_swept_quiet way s (Paused p) e l T k z c q =
     live_swept_quiet way s (pauses_of p) Present Present e l T (inr refl) k z c q
 
--- what is surely emitted is present in the last round, where the cells leave it open
+-- what is surely emitted is present in the last round, where the cells finish_statement it open
 pub last_heard : (j : JudgedSignals) → IsWithinPlaces j → (inputs : ℕ → Bool) (outputs : ℕ → Status) (s : Statement)
     (x : State)
     → let e = last_env j inputs (state_term s x) in
@@ -136,9 +136,9 @@ pub round_sheet : (way : Direction) (i : List Declaration) (unasked inputs : ℕ
     (r : Swept) → (h : IsRound way i unasked inputs s x e f old new r)
     → sheet_in (cell_at new) true s (output_count i) 0 ≡ sheet_in (cell_at h.mid) true s (output_count i) 0
 round_sheet way i unasked inputs s x e f old new r h =
-    sheet_same (cell_at new) (cell_at h.mid) true s (output_count i) 0 (λ k l u. h.exchange.changes.after k l)
+    sheet_same (cell_at new) (cell_at h.mid) true s (output_count i) 0 (λ k l u. h.update_signals.changes.after k l)
 
--- the signals' cells before the exchange are those before the round
+-- the signals' cells before the update_signals are those before the round
 pub before_round : (way : Direction) (i : List Declaration) (unasked inputs : ℕ → Bool) (s : Statement)
     (x : State) (e f : Known)
     (old new : List Status)
@@ -181,7 +181,7 @@ told_cell way i unasked inputs s x e f old new r h n l j =
     let b = bits r.judged.can.signals.interface in
     let S = sheet_in (cell_at h.mid) true s (output_count i) 0 in
     let found = h.sweep.found in
-    h.exchange.told n l emitted
+    h.update_signals.told n l emitted
     ∙ (ap (λ (v : Status). learned v (output_gate inputs a b n))
     (before_round way i unasked inputs s x e f old new r h n (rank_within (emittable i) (length i) n l emitted))
     ∙ ap (λ (v : Status). learned (output_cells i old n) v)

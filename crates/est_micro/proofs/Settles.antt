@@ -35,11 +35,11 @@ use Rattle.est_rounds.specs.Views.{env_of}
 use Rattle.est_rounds.specs.declared.signal_set.Env.{Env as Known}
 use Rattle.est_micro.specs.declared.direction.Direction.{Direction}
 use Rattle.est_micro.specs.Parts.{AreInputsAlone, IsClosedBut, known_but}
-use Rattle.est_micro.specs.Runs.{AreOfferedTrue, output_cells, output_gate, IsExchanged, IsRound, IsSettled}
+use Rattle.est_micro.specs.Runs.{AreOfferedTrue, output_cells, output_gate, AreSignalsUpdated, IsRound, IsSettled}
 use Rattle.est_micro.specs.Runs.{IsSettledBut, Ready, table_of}
 use Rattle.est_micro.specs.declared.cells.Swept.{Swept}
-use Rattle.est_micro.specs.declared.settling.DecidedCells.{DecidedCells}
-use Rattle.est_micro.proofs.Exchanging.{emittable_within}
+use Rattle.est_micro.specs.declared.settling.RunEnd.{RunEnd}
+use Rattle.est_micro.proofs.UpdatingSignals.{emittable_within}
 use Rattle.est_micro.proofs.Frames.{sheet_same}
 use Rattle.est_micro.proofs.FullTables.{full_closed}
 use Rattle.est_micro.proofs.Nodes.{JudgedOf}
@@ -68,7 +68,7 @@ stay_true : (way : Direction) (i : List Declaration) (unasked inputs : ℕ → B
 stay_true way i unasked inputs s x e f old new r h was n l o p =
     let a = bits r.judged.must.signals.interface in
     let b = bits r.judged.can.signals.interface in
-    h.exchange.told n l o
+    h.update_signals.told n l o
     ∙ ap (λ (v : Status). learned v (output_gate inputs a b n))
     (before_round way i unasked inputs s x e f old new r h n (rank_within (emittable i) (length i) n l o) ∙ was n l o p)
 
@@ -84,15 +84,15 @@ round_made unasked way k x inputs e f old new r before now alone ready h before_
     let j = judged_signals k.interface inputs in
     let w = judged_within k.interface inputs in
     let sweep = h.sweep.changes in
-    let exchange = h.exchange.changes in
+    let update_signals = h.update_signals.changes in
     let p = sweep.more in
-    let q = exchange.more in
+    let q = update_signals.more in
     record {
       ready = record {
-        size = exchange.size ∙ (sweep.size ∙ ready.size);
+        size = update_signals.size ∙ (sweep.size ∙ ready.size);
         sound = round_sound way k.interface unasked inputs k.root x e f old new r w alone k.closed ready.knows h
             ready.sound;
-        knows = h.exchange.knows;
+        knows = h.update_signals.knows;
         offered = stay_true way k.interface unasked inputs k.root x e f old new r h ready.offered;
       };
       counted = now_is;
@@ -101,7 +101,7 @@ round_made unasked way k x inputs e f old new r before now alone ready h before_
           (sym (round_sheet way k.interface unasked inputs k.root x e f old new r h)) h.sweep.found;
       rest = λ same.
           let m : h.mid ≡ old = sweep.quiet (omega arith) in
-          let n : new ≡ h.mid = exchange.quiet (omega arith) in
+          let n : new ≡ h.mid = update_signals.quiet (omega arith) in
           subst (λ (z : List Status). IsClosedBut unasked k.interface inputs k.root x (table_of k.interface k.root z))
           (sym (n ∙ m))
           (round_quiet way k.interface unasked inputs k.root x e f old new r w alone k.closed
@@ -109,7 +109,7 @@ round_made unasked way k x inputs e f old new r before now alone ready h before_
     }
 
 pub settled : (unasked : ℕ → Bool) (k : Kernel) (x : State) (inputs : ℕ → Bool) (before now : ℕ) (cells : List Status)
-    (r : DecidedCells) → Settling unasked k x inputs before now cells r.swept r.env → (now ≡ before)
+    (r : RunEnd) → Settling unasked k x inputs before now cells r.swept r.env → (now ≡ before)
     ⊎ (now ≡ length cells)
     → IsSettledBut unasked k x inputs cells r
 settled unasked k x inputs before now cells r h e = record {
@@ -123,7 +123,7 @@ settled unasked k x inputs before now cells r h e = record {
 
 -- a table without an open cell is settled
 pub full_settled : (unasked : ℕ → Bool) (k : Kernel) (x : State) (inputs : ℕ → Bool) (cells : List Status)
-    (r : DecidedCells)
+    (r : RunEnd)
     → IsSettledBut unasked k x inputs cells r → decided cells ≡ length cells → IsSettled k x inputs cells r.swept
 full_settled unasked k x inputs cells r h all = record {
   size = h.size;
@@ -135,7 +135,7 @@ full_settled unasked k x inputs cells r h all = record {
 
 -- and so is one where each input is asked
 pub none_settled : (unasked : ℕ → Bool) (k : Kernel) (x : State) (inputs : ℕ → Bool) (cells : List Status)
-    (r : DecidedCells)
+    (r : RunEnd)
     → ((n : ℕ) → unasked n ≡ false) → IsSettledBut unasked k x inputs cells r → IsSettled k x inputs cells r.swept
 none_settled unasked k x inputs cells r none h = elim h.closed [
   | inl all ↦ full_settled unasked k x inputs cells r h all
@@ -156,7 +156,7 @@ none_settled unasked k x inputs cells r none h = elim h.closed [
 ]
 
 pub none_knows : (unasked : ℕ → Bool) (k : Kernel) (x : State) (inputs : ℕ → Bool) (cells : List Status)
-    (r : DecidedCells)
+    (r : RunEnd)
     → ((n : ℕ) → unasked n ≡ false) → IsSettledBut unasked k x inputs cells r
     → env_of r.env ≡ known (judged_signals k.interface inputs) inputs (output_cells k.interface cells)
 none_knows unasked k x inputs cells r none h = h.knows ∙ none_opened unasked _ none
@@ -195,7 +195,7 @@ pub start_ready : (unasked : ℕ → Bool) (k : Kernel) (x : State) (inputs sure
     (new : List Status) (e : Known)
     → IsClosed k.interface 0 0 (term_of k.root) → n ≡ cell_count k → ((i : ℕ) → sure i ≡ false)
     → HasEmissions k.root x possible
-    → IsExchanged k.interface unasked inputs sure possible (replicate n Unknown) new e
+    → AreSignalsUpdated k.interface unasked inputs sure possible (replicate n Unknown) new e
     → length (replicate n Unknown) ≡ n → Ready unasked k x inputs new e
 start_ready unasked k x inputs sure possible n new e closed size none all h long =
     let i = k.interface in

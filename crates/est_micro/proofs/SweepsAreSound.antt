@@ -18,7 +18,7 @@ use Rattle.est_cells.specs.Meaning.{cells_at, status_at, begun, begun_parts, res
 use Rattle.est_cells.specs.Tables.{Again, Parts, Sheet, PartsBelow, Below, AgainBelow, emits, is_sure, make_again}
 use Rattle.est_cells.specs.Tables.{map_again}
 use Rattle.est_net.specs.Cells.{learned}
-use Rattle.est_micro.specs.Hearing.{Heard}
+use Rattle.est_micro.specs.Inner.Hearing.{Heard}
 use Rattle.est_micro.specs.Sweeps.{entered, sweep_by, swept_parts, swept, live_sweep_by, live_swept_parts, live_swept}
 use Rattle.est_micro.specs.Sweeps.{told}
 use Rattle.est_micro.specs.declared.direction.Direction.{Direction}

@@ -19,7 +19,7 @@ use Rattle.est_cells.specs.Meaning.{cells_at, status_at, begun, resumed}
 use Rattle.est_cells.specs.Tables.{Again, Parts, Sheet, PartsBelow, Below, AgainBelow, emits, is_sure, make_again}
 use Rattle.est_cells.specs.Tables.{Two, map_again, of_again}
 use Rattle.est_net.specs.Cells.{learned}
-use Rattle.est_micro.specs.Hearing.{Seen}
+use Rattle.est_micro.specs.Inner.Hearing.{Seen}
 use Rattle.est_micro.specs.Sweeps.{entered, sweep_by, sure_told, may_told, swept_parts, swept, live_sweep_by}
 use Rattle.est_micro.specs.Sweeps.{live_swept_parts, live_swept, one_way, told}
 use Rattle.est_micro.specs.declared.direction.Direction.{Direction}

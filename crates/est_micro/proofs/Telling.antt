@@ -16,13 +16,13 @@ use Rattle.est_net.specs.Cells.{cell_at, decided, learned, Learns}
 use Rattle.est_net.specs.Layout.{sure_codes, possible_codes}
 use Rattle.est_net.proofs.OwnerValues.{read_back}
 use Rattle.est_net.proofs.Ranges.{last_or_before}
-use Rattle.est_rounds.specs.declared.acts.Judgement.{Judgement}
+use Rattle.est_rounds.specs.declared.acts.MustCan.{MustCan}
 use Rattle.est_micro.specs.Sweeps.{sure_told, may_told}
-use Rattle.est_micro.specs.Views.{AreTold}
+use Rattle.est_micro.specs.Inner.Views.{AreTold}
 use Rattle.est_micro.proofs.Frames.{and_same}
 
 -- the first n code cells from place c on are told
-pub record ToldSoFar (c n : ℕ) (j : Judgement) (old new : List Status) : Type 0 where
+pub record ToldSoFar (c n : ℕ) (j : MustCan) (old new : List Status) : Type 0 where
   pub told : (k : ℕ) → k < n
       → cell_at new (c + k) ≡ learned (cell_at old (c + k)) (verdict (codes_of j.must.codes k) (codes_of j.can.codes k))
   pub before : (i : ℕ) → i < c → cell_at new i ≡ cell_at old i
@@ -31,7 +31,7 @@ pub record ToldSoFar (c n : ℕ) (j : Judgement) (old new : List Status) : Type 
   pub more : decided old ≤ decided new
   pub quiet : decided new ≡ decided old → new ≡ old
 
-pub told_none : (c : ℕ) (j : Judgement) (old : List Status) → ToldSoFar c 0 j old old
+pub told_none : (c : ℕ) (j : MustCan) (old : List Status) → ToldSoFar c 0 j old old
 told_none c j old = record {
   told = λ k l. absurd (omega arith);
   before = λ i l. refl;
@@ -41,7 +41,7 @@ told_none c j old = record {
   quiet = λ e. refl;
 }
 
-pub told_more : (c n : ℕ) (j : Judgement) (old mid new : List Status) (now : Status) → ToldSoFar c n j old mid
+pub told_more : (c n : ℕ) (j : MustCan) (old mid new : List Status) (now : Status) → ToldSoFar c n j old mid
     → Learns (c + n) now mid new → now ≡ verdict (codes_of j.must.codes n) (codes_of j.can.codes n)
     → ToldSoFar c (n + 1) j old new
 told_more c n j old mid new now x y e =
@@ -67,7 +67,7 @@ code_told : (pick : Status → Bool) (b : Bool) (v w n : Status) → pick Absent
 code_told pick true v w n e h = ap pick (h refl ∙ ap (λ (x : Status). learned x w) (sym (read_back v)))
 code_told pick false v w n e h = sym e
 
-pub told_done : (c n : ℕ) (j : Judgement) (old new : List Status) → ToldSoFar c n j old new → AreTold c n j old new
+pub told_done : (c n : ℕ) (j : MustCan) (old new : List Status) → ToldSoFar c n j old new → AreTold c n j old new
 unfolding sure_codes possible_codes sure_told may_told
 told_done c n j old new x = record {
   changes = record { before = x.before; after = x.after; size = x.size; more = x.more; quiet = x.quiet };
@@ -153,7 +153,7 @@ unfolding possible_codes
 read_possible_done codes f c n h = fun_ext h
 
 -- the first n code cells from place c on are told, and read
-pub record ToldAndRead (c n : ℕ) (j : Judgement) (old new : List Status) (sure possible : Codes) : Type 0 where
+pub record ToldAndRead (c n : ℕ) (j : MustCan) (old new : List Status) (sure possible : Codes) : Type 0 where
   pub told : ToldSoFar c n j old new
   pub sure_read : ReadSoFar sure (λ k. is_sure (cell_at new (c + k))) n
   pub possible_read : ReadSoFar possible (λ k. is_possible (cell_at new (c + k))) n
@@ -162,7 +162,7 @@ pub none_there : (codes : Codes) → codes ≡ no_codes → (k : ℕ) → codes 
 unfolding no_codes
 none_there codes e k = ap (λ (g : Codes). g k) e
 
-pub nothing_read : (c : ℕ) (j : Judgement) (old : List Status) (sure possible : Codes) → sure ≡ no_codes
+pub nothing_read : (c : ℕ) (j : MustCan) (old : List Status) (sure possible : Codes) → sure ≡ no_codes
     → possible ≡ no_codes → ToldAndRead c 0 j old old sure possible
 nothing_read c j old sure possible e f = record {
   told = told_none c j old;
@@ -174,7 +174,7 @@ pub read_same : (codes : Codes) (f g : ℕ → Bool) (n : ℕ) → ReadSoFar cod
     → ReadSoFar codes g n
 read_same codes f g n h s k = h k ∙ and_same (ltb k n) (f k) (g k) (λ b. s k (ltb-true k n b))
 
-pub one_read : (c n : ℕ) (j : Judgement) (old mid new : List Status) (now status : Status) (a b x y : Codes)
+pub one_read : (c n : ℕ) (j : MustCan) (old mid new : List Status) (now status : Status) (a b x y : Codes)
     → ToldAndRead c n j old mid a b → Learns (c + n) now mid new
     → now ≡ verdict (codes_of j.must.codes n) (codes_of j.can.codes n) → status ≡ cell_at new (c + n)
     → x n ≡ (a n || is_sure status) → ((k : ℕ) → k ≢ n → x k ≡ a k)

@@ -21,9 +21,9 @@ use Rattle.est_cells.specs.Tables.{Again, Sheet, emits, if_run, of_again}
 use Rattle.est_cells.specs.Whole.{known}
 use Rattle.est_net.specs.Cells.{learned}
 use Rattle.est_rounds.specs.declared.signal_set.Env.{Env as Known}
-use Rattle.est_micro.specs.Hearing.{Heard, Seen}
+use Rattle.est_micro.specs.Inner.Hearing.{Heard, Seen}
 use Rattle.est_micro.specs.Parts.{AgreeBut, AreInputsAlone, known_but, opened}
-use Rattle.est_micro.specs.Runs.{output_cells, IsExchanged, IsRound}
+use Rattle.est_micro.specs.Runs.{output_cells, AreSignalsUpdated, IsRound}
 use Rattle.est_micro.specs.declared.cells.Swept.{Swept}
 use Rattle.est_micro.specs.declared.direction.Direction.{Direction}
 
@@ -148,7 +148,8 @@ asked_at unasked i n a o = go (unasked n) refl
 
 exchange_agrees : (i : List Declaration) (unasked inputs others sure possible : ℕ → Bool) (old new : List Status)
     (e : Known) → AreInputsAlone i unasked → AgreeBut unasked inputs others
-    → IsExchanged i unasked inputs sure possible old new e → IsExchanged i unasked others sure possible old new e
+    → AreSignalsUpdated i unasked inputs sure possible old new e
+    → AreSignalsUpdated i unasked others sure possible old new e
 exchange_agrees i unasked inputs others sure possible old new e a h x = record {
   changes = x.changes;
   told = λ n l o. x.told n l o
@@ -157,11 +158,11 @@ exchange_agrees i unasked inputs others sure possible old new e a h x = record {
   knows = x.knows ∙ known_agree unasked inputs others i (output_cells i new) h;
 }
 
--- an exchange and a round by some inputs are those by all that agree
-pub exchange_by : (i : List Declaration) (unasked inputs sure possible : ℕ → Bool) (old new : List Status)
-    (e : Known) → AreInputsAlone i unasked → IsExchanged i unasked inputs sure possible old new e
-    → (others : ℕ → Bool) → AgreeBut unasked inputs others → IsExchanged i unasked others sure possible old new e
-exchange_by i unasked inputs sure possible old new e a x others h =
+-- an update_signals and a round by some inputs are those by all that agree
+pub update_by : (i : List Declaration) (unasked inputs sure possible : ℕ → Bool) (old new : List Status)
+    (e : Known) → AreInputsAlone i unasked → AreSignalsUpdated i unasked inputs sure possible old new e
+    → (others : ℕ → Bool) → AgreeBut unasked inputs others → AreSignalsUpdated i unasked others sure possible old new e
+update_by i unasked inputs sure possible old new e a x others h =
     exchange_agrees i unasked inputs others sure possible old new e a h x
 
 pub round_by : (way : Direction) (i : List Declaration) (unasked inputs : ℕ → Bool) (s : Statement) (x : State)
@@ -171,5 +172,5 @@ pub round_by : (way : Direction) (i : List Declaration) (unasked inputs : ℕ �
 round_by way i unasked inputs s x e f old new r a y others h = record {
   mid = y.mid;
   sweep = y.sweep;
-  exchange = exchange_agrees i unasked inputs others _ _ y.mid new f a h y.exchange;
+  update_signals = exchange_agrees i unasked inputs others _ _ y.mid new f a h y.update_signals;
 }

@@ -22,8 +22,8 @@ use Rattle.est_micro.specs.Runs.{AreOfferedTrue, table_of}
 -- the table is that of the kernel, and so are what may be emitted and what is known of each statement
 pub record IsNetOf (net : Net) (k : Kernel) : Type 0 where
   pub size : length net.cells.items ≡ cell_count k
-  pub signals : bits net.signals ≡ emittable k.interface
-  pub outputs : net.outputs ≡ output_count k.interface
+  pub signals : bits net.emittable ≡ emittable k.interface
+  pub outputs : net.output_count ≡ output_count k.interface
   pub reach : IsReachOf net.reach k.root
   pub extents : HasExtents net.extents.items 0 0 k.root
   pub emissions : net.emissions.items ≡ emissions true k.root (output_count k.interface) 0

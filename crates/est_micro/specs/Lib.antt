@@ -1,13 +1,8 @@
 pub mod Sweeps
-pub mod Hearing
 pub mod Laws
-pub mod Views
 pub mod Parts
 pub mod Runs
-pub mod Outputs
 pub mod Engine
-pub mod Outcomes
 pub mod Waiting
 pub mod Unsettled
-pub mod Pausing
-pub mod Passes
+pub mod Inner

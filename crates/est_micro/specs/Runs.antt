@@ -22,9 +22,9 @@ use Rattle.est_rounds.specs.declared.signal_set.Env.{Env as Known}
 use Rattle.est_micro.specs.Parts.{IsClosedBut, known_but}
 use Rattle.est_micro.specs.Sweeps.{swept, live_swept}
 use Rattle.est_micro.specs.declared.direction.Direction.{Direction}
-use Rattle.est_micro.specs.Views.{Changes, IsJudged, IsSwept}
+use Rattle.est_micro.specs.Inner.Views.{Changes, IsJudged, IsSwept}
 use Rattle.est_micro.specs.declared.cells.Swept.{Swept}
-use Rattle.est_micro.specs.declared.settling.DecidedCells.{DecidedCells}
+use Rattle.est_micro.specs.declared.settling.RunEnd.{RunEnd}
 
 -- the sheet of a kernel's statement after a sweep, by its state
 abbrev pub sheet_swept : Direction → (s : Statement) → State → Env → Sheet true s → Sheet true s
@@ -42,7 +42,7 @@ abbrev pub output_gate : (ℕ → Bool) → (ℕ → Bool) → (ℕ → Bool) �
 output_gate inputs sure possible n = cond (inputs n) Present (verdict (sure n) (possible n))
 
 -- the cells of the signals are told what is emitted, and this is then known where some inputs are not asked
-pub record IsExchanged (i : List Declaration) (unasked inputs sure possible : ℕ → Bool) (old new : List Status)
+pub record AreSignalsUpdated (i : List Declaration) (unasked inputs sure possible : ℕ → Bool) (old new : List Status)
     (e : Known) : Type 0 where
   pub changes : Changes 0 (output_count i) old new
   pub told : (n : ℕ) → n < length i → emittable i n ≡ true
@@ -55,7 +55,7 @@ pub record IsRound (d : Direction) (i : List Declaration) (unasked inputs : ℕ 
     (r : Swept) : Type 0 where
   pub mid : List Status
   pub sweep : IsSwept true s (output_count i) 0 (sheet_swept d s x (env_of e)) old mid r
-  pub exchange : IsExchanged i unasked inputs (bits r.judged.must.signals.interface)
+  pub update_signals : AreSignalsUpdated i unasked inputs (bits r.judged.must.signals.interface)
       (bits r.judged.can.signals.interface) mid new f
 
 -- the table of a kernel's statement that a list of cells stands for
@@ -91,7 +91,7 @@ pub record IsSettled (k : Kernel) (x : State) (inputs : ℕ → Bool) (cells : L
 
 -- the same where some inputs are not asked: no cell is open, or the gates decide nothing more by what is known
 pub record IsSettledBut (unasked : ℕ → Bool) (k : Kernel) (x : State) (inputs : ℕ → Bool) (cells : List Status)
-    (r : DecidedCells) : Type 0 where
+    (r : RunEnd) : Type 0 where
   pub size : length cells ≡ cell_count k
   pub sound : let j = judged_signals k.interface inputs in
       TableBelow j k.root (table_of k.interface k.root cells) (table_meaning j inputs k.root x)

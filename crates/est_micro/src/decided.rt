@@ -15,14 +15,15 @@ ghost use Rattle.est_net.specs.Cells.{AllDecided, cell_at};
 ghost use Rattle.est_net.specs.Extents.{HasExtents};
 ghost use Rattle.est_net.specs.Layout.{sure_codes};
 ghost use Rattle.est_rounds.specs.Views.{set_of};
-ghost use Rattle.est_micro.specs.Views.{AddsBoth, AddsEmitted, IsRead};
+ghost use Rattle.est_micro.specs.Inner.Views.{AddsBoth, AddsEmitted, IsRead};
 
-use crate::cells::{self, Place, Swept};
+use crate::cells::{self, StatementPlace, Swept};
 use crate::extents::past;
+use crate::judging;
 use est_kernel::code_set::CodeSet;
 use est_kernel::statement::{LocalSignal, Signal, Statement};
 use est_net::net::Net;
-use est_rounds::acts::{Acts, Judgement};
+use est_rounds::acts::{Acts, MustCan};
 use est_rounds::signal_set::{self, SignalSet};
 
 /// Puts the signal of an emission into the set, if its go cell is true.
@@ -34,7 +35,7 @@ fn add_emission(net: &Net, cell: usize, signal: Signal, emitted: &mut SignalSet)
         (if_run (is_sure (cell_at net.now.cells.items cell)) (name_of signal)) }
 {
     let is_emitted = cells::is_true(net.status(cell));
-    *emitted = signal_set::union_of(*emitted, cells::signal_if(is_emitted, signal));
+    *emitted = signal_set::union_of(*emitted, judging::signal_if(is_emitted, signal));
 }
 
 /// Puts the emitted signals of two parts into the set, the second after the first. Answers the
@@ -164,7 +165,7 @@ fn read_codes(net: &Net, cell: usize, count: usize) -> CodeSet
 /// Whether all cells of a statement are decided. They are gone through only where the codes 0 and 1
 /// are decided: as a rule all others are decided then too.
 #[inline(always)]
-pub fn is_decided(net: &Net, at: &Place, s: &Statement) -> bool
+pub fn is_decided(net: &Net, at: &StatementPlace, s: &Statement) -> bool
     requires extents { HasExtents net.now.extents.items at.now.number at.now.traps s.now }
     requires within { at.now.cell + sheet_size at.now.main s.now at.now.traps
         ≤ length net.now.cells.items }
@@ -183,7 +184,7 @@ pub fn is_decided(net: &Net, at: &Place, s: &Statement) -> bool
 
 /// What is found of a statement all of whose cells are decided.
 #[inline(always)]
-pub fn read(net: &Net, at: &Place, s: &Statement) -> Swept
+pub fn read(net: &Net, at: &StatementPlace, s: &Statement) -> Swept
     requires fits { FitsMasks s.now }
     requires within { at.now.cell + sheet_size at.now.main s.now at.now.traps
         ≤ length net.now.cells.items }
@@ -199,7 +200,7 @@ pub fn read(net: &Net, at: &Place, s: &Statement) -> Swept
         signals: emitted,
         codes: read_codes(net, at.cell + 1, at.traps + 2),
     };
-    let judged = Judgement {
+    let judged = MustCan {
         must: acts,
         can: acts,
     };

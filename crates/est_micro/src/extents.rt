@@ -7,7 +7,7 @@ ghost use Rattle.est_meaning.specs.States.{is_live};
 ghost use Rattle.est_net.specs.Extents.{HasExtents};
 ghost use Rattle.est_net.specs.Owners.{statements};
 
-use crate::cells::Place;
+use crate::cells::StatementPlace;
 use est_kernel::pause_set::PauseSet;
 use est_kernel::statement::Statement;
 use est_net::net::Net;
@@ -15,7 +15,7 @@ use est_rounds::resume::has_live;
 
 /// The first place after the cells of the statement at this place.
 #[inline(always)]
-pub fn past(net: &Net, at: &Place, s: &Statement) -> usize
+pub fn past(net: &Net, at: &StatementPlace, s: &Statement) -> usize
     requires extents { HasExtents net.now.extents.items at.now.number at.now.traps s.now }
     requires within { at.now.cell + sheet_size at.now.main s.now at.now.traps
         ≤ length net.now.cells.items }
@@ -26,7 +26,7 @@ pub fn past(net: &Net, at: &Place, s: &Statement) -> usize
 
 /// The number of what follows the statement at this place in the text.
 #[inline(always)]
-pub fn number_after(net: &Net, at: &Place, s: &Statement) -> usize
+pub fn number_after(net: &Net, at: &StatementPlace, s: &Statement) -> usize
     requires extents { HasExtents net.now.extents.items at.now.number at.now.traps s.now }
     ensures { result ≡ at.now.number + statements s.now }
 {

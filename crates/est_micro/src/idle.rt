@@ -5,9 +5,9 @@ ghost use Rattle.est_cells.specs.Tables.{sheet_size};
 ghost use Rattle.est_meaning.specs.declared.status.Status.TheVariants.{Absent};
 ghost use Rattle.est_net.specs.Cells.{learned};
 ghost use Rattle.est_net.specs.Extents.{HasExtents};
-ghost use Rattle.est_micro.specs.Views.{IsIdle};
+ghost use Rattle.est_micro.specs.Inner.Views.{IsIdle};
 
-use crate::cells::Place;
+use crate::cells::StatementPlace;
 use crate::extents::past;
 use est_kernel::statement::Statement;
 use est_meaning::status::Status;
@@ -43,7 +43,7 @@ fn is_off(go: Status, gate: Status) -> bool
 
 /// The first place after the cells of a statement with parts that is not begun, by its go cell and
 /// the gate, if none of its cells is true.
-pub fn past_idle(net: &Net, at: &Place, s: &Statement, gate: Status) -> Option<usize>
+pub fn past_idle(net: &Net, at: &StatementPlace, s: &Statement, gate: Status) -> Option<usize>
     requires extents { HasExtents net.now.extents.items at.now.number at.now.traps s.now }
     requires within { at.now.cell + sheet_size at.now.main s.now at.now.traps
         ≤ length net.now.cells.items }

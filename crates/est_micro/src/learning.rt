@@ -11,7 +11,7 @@ use est_net::net::Net;
 /// Tells a cell something, and answers what it then knows. It is decided by it if it is open and
 /// what it is told isn't Unknown.
 #[inline(always)]
-pub fn learn(net: &mut Net, cell: usize, now: Status) -> Status
+pub fn tell_cell(net: &mut Net, cell: usize, now: Status) -> Status
     requires { cell < length net.old.cells.items }
     ensures learns { Learns cell now net.old.cells.items net.new.cells.items }
     ensures known { result ≡ cell_at net.new.cells.items cell }
@@ -29,7 +29,7 @@ pub fn learn(net: &mut Net, cell: usize, now: Status) -> Status
 }
 
 /// Tells the cells of a range, of which none is true, that they are false, one after another.
-fn learn_false(net: &mut Net, from: usize, past: usize)
+fn tell_false(net: &mut Net, from: usize, past: usize)
     requires range { from ≤ past }
     requires within { past ≤ length net.old.cells.items }
     requires none { NoneTrue from past net.old.cells.items }
@@ -37,12 +37,12 @@ fn learn_false(net: &mut Net, from: usize, past: usize)
     ensures kept { kept net.new ≡ kept net.old }
 {
     for cell in from..past {
-        learn(net, cell, Status::Absent);
+        tell_cell(net, cell, Status::Absent);
     }
 }
 
 /// Makes the cells of a range false, of which none is true: where all are open, at once.
-pub fn make_false(net: &mut Net, from: usize, past: usize)
+pub fn fill_false(net: &mut Net, from: usize, past: usize)
     requires range { from ≤ past }
     requires within { past ≤ length net.old.cells.items }
     requires none { NoneTrue from past net.old.cells.items }
@@ -52,6 +52,6 @@ pub fn make_false(net: &mut Net, from: usize, past: usize)
     if net.all_open(from, past) {
         net.fill(from, past);
     } else {
-        learn_false(net, from, past);
+        tell_false(net, from, past);
     }
 }

@@ -21,6 +21,7 @@ mod decided;
 mod direction;
 mod extents;
 mod idle;
+mod judging;
 pub mod laws;
 mod learning;
 pub mod micro;

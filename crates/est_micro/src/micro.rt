@@ -9,9 +9,9 @@ ghost use Rattle.est_net.specs.Cells.{decided};
 ghost use Rattle.est_net.specs.Kept.{kept, reopened};
 ghost use Rattle.est_rounds.specs.Contract.{HasNoReaction, IsReaction};
 ghost use Rattle.est_micro.specs.Engine.{GoesOnFrom, HasValues, IsAsMeant, IsNetOf};
-ghost use Rattle.est_micro.specs.Outcomes.{HasNoCode, IsOutcomeOf};
+ghost use Rattle.est_micro.specs.Inner.Outcomes.{HasNoCode, IsOutcomeOf};
 
-use crate::cells::{Place, Swept};
+use crate::cells::{StatementPlace, Swept};
 use crate::direction::Direction;
 use crate::next::collect;
 use crate::question::Question;
@@ -51,11 +51,11 @@ fn outcome(
 {
     let must = swept.judged.must;
     if must.codes.has(Completion::Pause) {
-        let place = Place {
+        let place = StatementPlace {
             number: 0,
             main: true,
             direction: Direction::Forwards,
-            cell: net.outputs(),
+            cell: net.output_count(),
             traps: 0,
         };
         let mut next = PauseSet::new();

@@ -14,9 +14,9 @@ ghost use Rattle.est_net.specs.Cells.{cell_at};
 ghost use Rattle.est_net.specs.Extents.{HasExtents};
 ghost use Rattle.est_net.specs.Layout.{sure_codes};
 ghost use Rattle.est_net.specs.Owners.{statements};
-ghost use Rattle.est_micro.specs.Pausing.{Collects, CollectsIn};
+ghost use Rattle.est_micro.specs.Inner.Pausing.{Collects, CollectsIn};
 
-use crate::cells::{Place, is_true};
+use crate::cells::{StatementPlace, is_true};
 use crate::extents::{number_after, past};
 use est_kernel::pause_set::PauseSet;
 use est_kernel::statement::{PauseIndex, Statement};
@@ -83,7 +83,7 @@ fn keep(on: bool, s: &Statement, pauses: &PauseSet, next: &mut PauseSet)
 #[cycle(collect)]
 fn collect_two(
     net: &Net,
-    at: &Place,
+    at: &StatementPlace,
     p: &Statement,
     q: &Statement,
     pauses: &PauseSet,
@@ -103,7 +103,7 @@ fn collect_two(
     ensures par { (a b : _) → CollectsIn (Par' a p.now b q.now) at.now.main at.now.cell
         at.now.traps net.now.cells.items pauses.now next.old next.new }
 {
-    let first = Place {
+    let first = StatementPlace {
         number: at.number + 1,
         main: at.main,
         direction: at.direction,
@@ -111,7 +111,7 @@ fn collect_two(
         traps: at.traps,
     };
     collect(net, &first, p, pauses, next);
-    let second = Place {
+    let second = StatementPlace {
         number: number_after(net, &first, p),
         main: at.main,
         direction: at.direction,
@@ -124,14 +124,20 @@ fn collect_two(
 /// Puts the pauses of a suspended statement into `next`: where the suspension alone pauses, those
 /// that it had.
 #[cycle(collect)]
-fn collect_suspend(net: &Net, at: &Place, p: &Statement, pauses: &PauseSet, next: &mut PauseSet)
+fn collect_suspend(
+    net: &Net,
+    at: &StatementPlace,
+    p: &Statement,
+    pauses: &PauseSet,
+    next: &mut PauseSet,
+)
     requires extents { HasExtents net.now.extents.items (at.now.number + 1) at.now.traps p.now }
     requires within { at.now.cell + at.now.traps + 3 + sheet_size at.now.main p.now at.now.traps
         ≤ length net.now.cells.items }
     ensures { (t a : _) → CollectsIn (Suspend' t a p.now) at.now.main at.now.cell at.now.traps
         net.now.cells.items pauses.now next.old next.new }
 {
-    let body = Place {
+    let body = StatementPlace {
         number: at.number + 1,
         main: at.main,
         direction: at.direction,
@@ -147,7 +153,13 @@ fn collect_suspend(net: &Net, at: &Place, p: &Statement, pauses: &PauseSet, next
 
 /// Puts the pauses of a loop's body into `next`, and those of its restart.
 #[cycle(collect)]
-fn collect_loop(net: &Net, at: &Place, p: &Statement, pauses: &PauseSet, next: &mut PauseSet)
+fn collect_loop(
+    net: &Net,
+    at: &StatementPlace,
+    p: &Statement,
+    pauses: &PauseSet,
+    next: &mut PauseSet,
+)
     requires main { at.now.main ≡ true }
     requires extents { HasExtents net.now.extents.items (at.now.number + 1) at.now.traps p.now }
     requires within { at.now.cell + at.now.traps + 3 + sheet_size true p.now at.now.traps
@@ -156,7 +168,7 @@ fn collect_loop(net: &Net, at: &Place, p: &Statement, pauses: &PauseSet, next: &
     ensures { (a : _) → CollectsIn (Loop' a p.now) at.now.main at.now.cell at.now.traps
         net.now.cells.items pauses.now next.old next.new }
 {
-    let body = Place {
+    let body = StatementPlace {
         number: at.number + 1,
         main: at.main,
         direction: at.direction,
@@ -164,7 +176,7 @@ fn collect_loop(net: &Net, at: &Place, p: &Statement, pauses: &PauseSet, next: &
         traps: at.traps,
     };
     collect(net, &body, p, pauses, next);
-    let again = Place {
+    let again = StatementPlace {
         number: at.number + 1,
         main: false,
         direction: at.direction,
@@ -176,14 +188,14 @@ fn collect_loop(net: &Net, at: &Place, p: &Statement, pauses: &PauseSet, next: &
 
 /// Puts the pauses of a statement that gives code 1 into `next`.
 #[cycle(collect)]
-fn collect_in(net: &Net, at: &Place, s: &Statement, pauses: &PauseSet, next: &mut PauseSet)
+fn collect_in(net: &Net, at: &StatementPlace, s: &Statement, pauses: &PauseSet, next: &mut PauseSet)
     requires extents { HasExtents net.now.extents.items at.now.number at.now.traps s.now }
     requires within { at.now.cell + sheet_size at.now.main s.now at.now.traps
         ≤ length net.now.cells.items }
     ensures { CollectsIn s.now at.now.main at.now.cell at.now.traps net.now.cells.items pauses.now
         next.old next.new }
 {
-    let inside = Place {
+    let inside = StatementPlace {
         number: at.number + 1,
         main: at.main,
         direction: at.direction,
@@ -207,14 +219,14 @@ fn collect_in(net: &Net, at: &Place, s: &Statement, pauses: &PauseSet, next: &mu
             }
         }
         Statement::Trap(p) => {
-            let body = Place {
+            let body = StatementPlace {
                 traps: at.traps + 1,
                 ..inside
             };
             collect(net, &body, p, pauses, next);
         }
         Statement::Local(_, p) => {
-            let body = Place {
+            let body = StatementPlace {
                 cell: inside.cell + 1,
                 ..inside
             };
@@ -225,7 +237,13 @@ fn collect_in(net: &Net, at: &Place, s: &Statement, pauses: &PauseSet, next: &mu
 
 /// Puts the pauses at which a statement stands into `next`: none if it does not give code 1.
 #[cycle(collect)]
-pub fn collect(net: &Net, at: &Place, s: &Statement, pauses: &PauseSet, next: &mut PauseSet)
+pub fn collect(
+    net: &Net,
+    at: &StatementPlace,
+    s: &Statement,
+    pauses: &PauseSet,
+    next: &mut PauseSet,
+)
     requires extents { HasExtents net.now.extents.items at.now.number at.now.traps s.now }
     requires within { at.now.cell + sheet_size at.now.main s.now at.now.traps
         ≤ length net.now.cells.items }

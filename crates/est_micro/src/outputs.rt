@@ -8,22 +8,22 @@ ghost use Rattle.est_cells.specs.Tables.{is_sure, is_possible};
 ghost use Rattle.est_net.specs.Cells.{cell_at};
 ghost use Rattle.est_net.specs.Kept.{kept};
 ghost use Rattle.est_micro.specs.Engine.{IsNetOf};
-ghost use Rattle.est_micro.specs.Outputs.{AreSignalsTold, IsToldOne, told_of};
-ghost use Rattle.est_micro.specs.Runs.{IsExchanged};
+ghost use Rattle.est_micro.specs.Inner.Outputs.{AreSignalsTold, IsToldOne, told_of};
+ghost use Rattle.est_micro.specs.Runs.{AreSignalsUpdated};
 
 use crate::cells::{is_true, may_be_true};
-use crate::learning::learn;
+use crate::learning::tell_cell;
 use crate::question::Question;
 use est_kernel::code_set::CodeSet;
 use est_kernel::mask;
 use est_meaning::status::Status;
 use est_net::net::Net;
-use est_rounds::acts::{Acts, Judgement};
+use est_rounds::acts::{Acts, MustCan};
 use est_rounds::signal_set::{self, Env, SignalSet};
 
 /// What the cell of a signal is told: it is present where it was offered, and else by what is
 /// emitted.
-fn gate(inputs: u64, judged: &Judgement, n: u8) -> Status
+fn gate(inputs: u64, judged: &MustCan, n: u8) -> Status
     requires { n < 64 }
     ensures { result ≡ told_of inputs judged.now n }
 {
@@ -55,11 +55,11 @@ struct Reading {
 }
 
 /// Tells a signal's cell, if it has one, and reads it.
-fn exchange_one(
+fn update_signal(
     net: &mut Net,
     signals: u64,
     inputs: u64,
-    judged: &Judgement,
+    judged: &MustCan,
     so_far: Reading,
     n: u8,
 ) -> Reading
@@ -78,7 +78,7 @@ fn exchange_one(
     if !mask::has(signals, n) {
         return so_far;
     }
-    let status = learn(net, so_far.cell, gate(inputs, judged, n));
+    let status = tell_cell(net, so_far.cell, gate(inputs, judged, n));
     Reading {
         sure: put(so_far.sure, n, is_true(status)),
         possible: put(so_far.possible, n, may_be_true(status)),
@@ -87,12 +87,12 @@ fn exchange_one(
 }
 
 /// Tells the cells of all signals, and reads them.
-fn exchange_all(
+fn update_all_signals(
     net: &mut Net,
     signals: u64,
     places: usize,
     inputs: u64,
-    judged: &Judgement,
+    judged: &MustCan,
 ) -> Reading
     requires few { places ≤ 64 }
     requires within { how_many (bits signals) places ≤ length net.old.cells.items }
@@ -110,25 +110,26 @@ fn exchange_all(
         cell: 0,
     };
     for n in 0..places {
-        read = exchange_one(net, signals, inputs, judged, read, n as u8);
+        read = update_signal(net, signals, inputs, judged, read, n as u8);
     }
     read
 }
 
 /// Tells the cells of the signals what the statement emits. Answers what is then known, by the
 /// cells and by what was offered. Of the inputs that are not asked nothing is.
-pub fn exchange(net: &mut Net, question: &Question<'_>, judged: &Judgement) -> Env
+pub fn update_signals(net: &mut Net, question: &Question<'_>, judged: &MustCan) -> Env
     requires net { IsNetOf net.old question.now.kernel.now }
-    ensures exchanged { IsExchanged question.now.kernel.now.interface (bits question.now.unasked)
+    ensures updated
+        { AreSignalsUpdated question.now.kernel.now.interface (bits question.now.unasked)
         (bits question.now.inputs) (bits judged.now.must.signals.interface)
         (bits judged.now.can.signals.interface) net.old.cells.items net.new.cells.items result }
     ensures net { IsNetOf net.new question.now.kernel.now }
     ensures kept { kept net.new ≡ kept net.old }
 {
     let inputs = question.inputs;
-    let signals = net.signals();
+    let signals = net.emittable();
     let places = question.kernel.interface().len();
-    let read = exchange_all(net, signals, places, inputs, judged);
+    let read = update_all_signals(net, signals, places, inputs, judged);
     Env {
         present: SignalSet {
             interface: mask::difference(mask::union(inputs, read.sure), question.unasked),
@@ -142,11 +143,11 @@ pub fn exchange(net: &mut Net, question: &Question<'_>, judged: &Judgement) -> E
 }
 
 /// What is judged before anything is known: nothing is emitted surely, and these signals possibly.
-pub fn in_doubt(possible: u64) -> Judgement
+pub fn in_doubt(possible: u64) -> MustCan
     ensures sure { (n : ℕ) → bits result.must.signals.interface n ≡ false }
     ensures possible { result.can.signals.interface ≡ possible }
 {
-    Judgement {
+    MustCan {
         must: Acts {
             signals: SignalSet {
                 interface: 0,

@@ -6,7 +6,7 @@ ghost use Rattle.est_meaning.specs.States.{IsState};
 ghost use Rattle.est_net.specs.Cells.{decided};
 ghost use Rattle.est_rounds.specs.Parts.{not_asked};
 ghost use Rattle.est_micro.specs.Engine.{IsNetOf};
-ghost use Rattle.est_micro.specs.Outcomes.{HasNoCode, IsOutcomeOf};
+ghost use Rattle.est_micro.specs.Inner.Outcomes.{HasNoCode, IsOutcomeOf};
 
 use crate::cells::Swept;
 use crate::micro::{Micro, read_outcome};

@@ -18,9 +18,9 @@ ghost use Rattle.est_net.specs.Extents.{HasExtents};
 ghost use Rattle.est_net.specs.Kept.{kept};
 ghost use Rattle.est_net.specs.Owners.{statements};
 ghost use Rattle.est_rounds.specs.Views.{env_of};
-ghost use Rattle.est_micro.specs.Passes.{Passes};
+ghost use Rattle.est_micro.specs.Inner.Passes.{Passes};
 
-use crate::cells::Place;
+use crate::cells::StatementPlace;
 use crate::extents::{number_after, past};
 use crate::sweep_begin::sweep_begun;
 use est_kernel::mask;
@@ -40,14 +40,14 @@ pub fn is_new(go: Status, gate: Status) -> bool {
 
 /// Whether tests in the statement of this number read one of these signals.
 #[inline(always)]
-pub fn is_reader(net: &Net, number: usize, fresh: u64) -> bool
+pub fn is_reader(net: &Net, number: usize, just_decided: u64) -> bool
     requires { number < length net.now.extents.items }
 {
-    mask::intersection(net.extent(number).reads, fresh) != 0
+    mask::intersection(net.extent(number).reads, just_decided) != 0
 }
 
 /// Sweeps a statement, as a pass.
-fn visit(net: &mut Net, at: &Place, s: &Statement, gate: Status, env: &Env)
+fn visit(net: &mut Net, at: &StatementPlace, s: &Statement, gate: Status, env: &Env)
     requires fits { FitsMasks s.now }
     requires extents { HasExtents net.old.extents.items at.now.number at.now.traps
         s.now }
@@ -63,7 +63,14 @@ fn visit(net: &mut Net, at: &Place, s: &Statement, gate: Status, env: &Env)
 
 /// Passes over the sides of a `||`.
 #[cycle(pass_begun)]
-fn pass_par(net: &mut Net, at: &Place, p: &Statement, q: &Statement, env: &Env, fresh: u64)
+fn pass_par(
+    net: &mut Net,
+    at: &StatementPlace,
+    p: &Statement,
+    q: &Statement,
+    env: &Env,
+    just_decided: u64,
+)
     requires fits { FitsMasks p.now × FitsMasks q.now }
     requires first_extents { HasExtents net.old.extents.items (at.now.number + 1)
         at.now.traps p.now }
@@ -79,14 +86,14 @@ fn pass_par(net: &mut Net, at: &Place, p: &Statement, q: &Statement, env: &Env, 
         net.old.cells.items net.new.cells.items }
     ensures kept { kept net.new ≡ kept net.old }
 {
-    let place = Place {
+    let place = StatementPlace {
         number: at.number + 1,
         main: at.main,
         direction: at.direction,
         cell: at.cell + at.traps + 3,
         traps: at.traps,
     };
-    let next = Place {
+    let next = StatementPlace {
         number: number_after(net, &place, p),
         main: at.main,
         direction: at.direction,
@@ -94,13 +101,20 @@ fn pass_par(net: &mut Net, at: &Place, p: &Statement, q: &Statement, env: &Env, 
         traps: at.traps,
     };
     let go = net.status(at.cell);
-    pass_begun(net, &place, p, go, env, fresh);
-    pass_begun(net, &next, q, go, env, fresh);
+    pass_begun(net, &place, p, go, env, just_decided);
+    pass_begun(net, &next, q, go, env, just_decided);
 }
 
 /// Passes over the parts of a `;`.
 #[cycle(pass_begun)]
-fn pass_seq(net: &mut Net, at: &Place, p: &Statement, q: &Statement, env: &Env, fresh: u64)
+fn pass_seq(
+    net: &mut Net,
+    at: &StatementPlace,
+    p: &Statement,
+    q: &Statement,
+    env: &Env,
+    just_decided: u64,
+)
     requires fits { FitsMasks p.now × FitsMasks q.now }
     requires first_extents { HasExtents net.old.extents.items (at.now.number + 1)
         at.now.traps p.now }
@@ -116,14 +130,14 @@ fn pass_seq(net: &mut Net, at: &Place, p: &Statement, q: &Statement, env: &Env, 
         net.old.cells.items net.new.cells.items }
     ensures kept { kept net.new ≡ kept net.old }
 {
-    let place = Place {
+    let place = StatementPlace {
         number: at.number + 1,
         main: at.main,
         direction: at.direction,
         cell: at.cell + at.traps + 3,
         traps: at.traps,
     };
-    let next = Place {
+    let next = StatementPlace {
         number: number_after(net, &place, p),
         main: at.main,
         direction: at.direction,
@@ -131,16 +145,23 @@ fn pass_seq(net: &mut Net, at: &Place, p: &Statement, q: &Statement, env: &Env, 
         traps: at.traps,
     };
     let go = net.status(at.cell);
-    pass_begun(net, &place, p, go, env, fresh);
+    pass_begun(net, &place, p, go, env, just_decided);
     let code = place.cell + 1;
     let ends = net.status(code);
-    pass_begun(net, &next, q, ends, env, fresh);
+    pass_begun(net, &next, q, ends, env, just_decided);
 }
 
 /// Passes over a body inside this many traps. That of a loop that can go on is not begun again in
 /// the instant in which it is begun.
 #[cycle(pass_begun)]
-fn pass_body(net: &mut Net, at: &Place, p: &Statement, traps: usize, env: &Env, fresh: u64)
+fn pass_body(
+    net: &mut Net,
+    at: &StatementPlace,
+    p: &Statement,
+    traps: usize,
+    env: &Env,
+    just_decided: u64,
+)
     requires fits { FitsMasks p.now }
     requires extents { HasExtents net.old.extents.items (at.now.number + 1) traps p.now }
     requires within { at.now.cell + at.now.traps + 3 + sheet_size at.now.main p.now traps
@@ -157,7 +178,7 @@ fn pass_body(net: &mut Net, at: &Place, p: &Statement, traps: usize, env: &Env, 
         net.old.cells.items net.new.cells.items }
     ensures kept { kept net.new ≡ kept net.old }
 {
-    let place = Place {
+    let place = StatementPlace {
         number: at.number + 1,
         main: at.main,
         direction: at.direction,
@@ -165,12 +186,19 @@ fn pass_body(net: &mut Net, at: &Place, p: &Statement, traps: usize, env: &Env, 
         traps,
     };
     let go = net.status(at.cell);
-    pass_begun(net, &place, p, go, env, fresh)
+    pass_begun(net, &place, p, go, env, just_decided)
 }
 
 /// Passes over the parts of a statement.
 #[cycle(pass_begun)]
-fn pass_parts(net: &mut Net, at: &Place, s: &Statement, gate: Status, env: &Env, fresh: u64)
+fn pass_parts(
+    net: &mut Net,
+    at: &StatementPlace,
+    s: &Statement,
+    gate: Status,
+    env: &Env,
+    just_decided: u64,
+)
     requires fits { FitsMasks s.now }
     requires extents { HasExtents net.old.extents.items at.now.number at.now.traps
         s.now }
@@ -187,11 +215,11 @@ fn pass_parts(net: &mut Net, at: &Place, s: &Statement, gate: Status, env: &Env,
         Statement::Emit(_) => visit(net, at, s, gate, env),
         Statement::Exit(_) => visit(net, at, s, gate, env),
         Statement::Present(_, _, _) => visit(net, at, s, gate, env),
-        Statement::Suspend(_, p) => pass_body(net, at, p, at.traps, env, fresh),
-        Statement::Seq(p, q) => pass_seq(net, at, p, q, env, fresh),
-        Statement::Loop(p) => pass_body(net, at, p, at.traps, env, fresh),
-        Statement::Par(p, q) => pass_par(net, at, p, q, env, fresh),
-        Statement::Trap(p) => pass_body(net, at, p, at.traps + 1, env, fresh),
+        Statement::Suspend(_, p) => pass_body(net, at, p, at.traps, env, just_decided),
+        Statement::Seq(p, q) => pass_seq(net, at, p, q, env, just_decided),
+        Statement::Loop(p) => pass_body(net, at, p, at.traps, env, just_decided),
+        Statement::Par(p, q) => pass_par(net, at, p, q, env, just_decided),
+        Statement::Trap(p) => pass_body(net, at, p, at.traps + 1, env, just_decided),
         Statement::Local(_, _) => visit(net, at, s, gate, env),
     }
 }
@@ -199,7 +227,14 @@ fn pass_parts(net: &mut Net, at: &Place, s: &Statement, gate: Status, env: &Env,
 /// Passes over a statement that is begun, if at all, by the gate.
 #[cycle(pass_begun)]
 #[inline(always)]
-pub fn pass_begun(net: &mut Net, at: &Place, s: &Statement, gate: Status, env: &Env, fresh: u64)
+pub fn pass_begun(
+    net: &mut Net,
+    at: &StatementPlace,
+    s: &Statement,
+    gate: Status,
+    env: &Env,
+    just_decided: u64,
+)
     requires fits { FitsMasks s.now }
     requires extents { HasExtents net.old.extents.items at.now.number at.now.traps
         s.now }
@@ -212,7 +247,7 @@ pub fn pass_begun(net: &mut Net, at: &Place, s: &Statement, gate: Status, env: &
 {
     if is_new(net.status(at.cell), gate) {
         visit(net, at, s, gate, env);
-    } else if is_reader(net, at.number, fresh) {
-        pass_parts(net, at, s, gate, env, fresh)
+    } else if is_reader(net, at.number, just_decided) {
+        pass_parts(net, at, s, gate, env, just_decided)
     }
 }

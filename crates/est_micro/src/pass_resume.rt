@@ -16,9 +16,9 @@ ghost use Rattle.est_net.specs.Extents.{HasExtents};
 ghost use Rattle.est_net.specs.Kept.{kept};
 ghost use Rattle.est_net.specs.Owners.{statements};
 ghost use Rattle.est_rounds.specs.Views.{env_of};
-ghost use Rattle.est_micro.specs.Passes.{PassesOn, SidePasses};
+ghost use Rattle.est_micro.specs.Inner.Passes.{PassesOn, SidePasses};
 
-use crate::cells::Place;
+use crate::cells::StatementPlace;
 use crate::extents::{is_live, number_after, past};
 use crate::pass_begin::{is_reader, pass_begun};
 use crate::sweep_resume::sweep_resumed;
@@ -31,7 +31,7 @@ use est_rounds::signal_set::Env;
 /// Sweeps a statement, as a pass.
 fn visit_resumed(
     net: &mut Net,
-    at: &Place,
+    at: &StatementPlace,
     s: &Statement,
     pauses: &PauseSet,
     run: Status,
@@ -56,12 +56,12 @@ fn visit_resumed(
 #[cycle(pass_resumed)]
 fn pass_side(
     net: &mut Net,
-    at: &Place,
+    at: &StatementPlace,
     p: &Statement,
     pauses: &PauseSet,
     run: Status,
     env: &Env,
-    fresh: u64,
+    just_decided: u64,
 )
     requires main { at.now.main ≡ true }
     requires fits { FitsMasks p.now }
@@ -75,7 +75,7 @@ fn pass_side(
     ensures kept { kept net.new ≡ kept net.old }
 {
     if is_live(net, at.number, at.traps, p, pauses) {
-        pass_resumed(net, at, p, pauses, run, env, fresh)
+        pass_resumed(net, at, p, pauses, run, env, just_decided)
     }
 }
 
@@ -83,13 +83,13 @@ fn pass_side(
 #[cycle(pass_resumed)]
 fn pass_resumed_par(
     net: &mut Net,
-    at: &Place,
+    at: &StatementPlace,
     p: &Statement,
     q: &Statement,
     pauses: &PauseSet,
     run: Status,
     env: &Env,
-    fresh: u64,
+    just_decided: u64,
 )
     requires main { at.now.main ≡ true }
     requires fits { FitsMasks p.now × FitsMasks q.now }
@@ -107,35 +107,35 @@ fn pass_resumed_par(
         (env_of env.now) net.old.cells.items net.new.cells.items }
     ensures kept { kept net.new ≡ kept net.old }
 {
-    let place = Place {
+    let place = StatementPlace {
         number: at.number + 1,
         main: at.main,
         direction: at.direction,
         cell: at.cell + at.traps + 3,
         traps: at.traps,
     };
-    let next = Place {
+    let next = StatementPlace {
         number: number_after(net, &place, p),
         main: at.main,
         direction: at.direction,
         cell: past(net, &place, p),
         traps: at.traps,
     };
-    pass_side(net, &place, p, pauses, run, env, fresh);
-    pass_side(net, &next, q, pauses, run, env, fresh);
+    pass_side(net, &place, p, pauses, run, env, just_decided);
+    pass_side(net, &next, q, pauses, run, env, just_decided);
 }
 
 /// Passes over a `;` whose first part goes on.
 #[cycle(pass_resumed)]
 fn pass_resumed_first(
     net: &mut Net,
-    at: &Place,
+    at: &StatementPlace,
     p: &Statement,
     q: &Statement,
     pauses: &PauseSet,
     run: Status,
     env: &Env,
-    fresh: u64,
+    just_decided: u64,
 )
     requires main { at.now.main ≡ true }
     requires fits { FitsMasks p.now × FitsMasks q.now }
@@ -154,37 +154,37 @@ fn pass_resumed_first(
         (env_of env.now) net.old.cells.items net.new.cells.items }
     ensures kept { kept net.new ≡ kept net.old }
 {
-    let place = Place {
+    let place = StatementPlace {
         number: at.number + 1,
         main: at.main,
         direction: at.direction,
         cell: at.cell + at.traps + 3,
         traps: at.traps,
     };
-    let next = Place {
+    let next = StatementPlace {
         number: number_after(net, &place, p),
         main: at.main,
         direction: at.direction,
         cell: past(net, &place, p),
         traps: at.traps,
     };
-    pass_resumed(net, &place, p, pauses, run, env, fresh);
+    pass_resumed(net, &place, p, pauses, run, env, just_decided);
     let code = place.cell + 1;
     let ends = net.status(code);
-    pass_begun(net, &next, q, ends, env, fresh);
+    pass_begun(net, &next, q, ends, env, just_decided);
 }
 
 /// Passes over a `;`.
 #[cycle(pass_resumed)]
 fn pass_resumed_seq(
     net: &mut Net,
-    at: &Place,
+    at: &StatementPlace,
     p: &Statement,
     q: &Statement,
     pauses: &PauseSet,
     run: Status,
     env: &Env,
-    fresh: u64,
+    just_decided: u64,
 )
     requires main { at.now.main ≡ true }
     requires fits { FitsMasks p.now × FitsMasks q.now }
@@ -204,7 +204,7 @@ fn pass_resumed_seq(
         (env_of env.now) net.old.cells.items net.new.cells.items }
     ensures kept { kept net.new ≡ kept net.old }
 {
-    let place = Place {
+    let place = StatementPlace {
         number: at.number + 1,
         main: at.main,
         direction: at.direction,
@@ -212,29 +212,29 @@ fn pass_resumed_seq(
         traps: at.traps,
     };
     if is_live(net, place.number, at.traps, p, pauses) {
-        pass_resumed_first(net, at, p, q, pauses, run, env, fresh);
+        pass_resumed_first(net, at, p, q, pauses, run, env, just_decided);
         return;
     }
-    let next = Place {
+    let next = StatementPlace {
         number: number_after(net, &place, p),
         main: at.main,
         direction: at.direction,
         cell: past(net, &place, p),
         traps: at.traps,
     };
-    pass_resumed(net, &next, q, pauses, run, env, fresh);
+    pass_resumed(net, &next, q, pauses, run, env, just_decided);
 }
 
 /// Passes over a loop: its body, and then its restart.
 #[cycle(pass_resumed)]
 fn pass_resumed_loop(
     net: &mut Net,
-    at: &Place,
+    at: &StatementPlace,
     p: &Statement,
     pauses: &PauseSet,
     run: Status,
     env: &Env,
-    fresh: u64,
+    just_decided: u64,
 )
     requires main { at.now.main ≡ true }
     requires live { is_live p.now (pauses_of pauses.now) ≡ true }
@@ -250,36 +250,36 @@ fn pass_resumed_loop(
         (env_of env.now) net.old.cells.items net.new.cells.items }
     ensures kept { kept net.new ≡ kept net.old }
 {
-    let place = Place {
+    let place = StatementPlace {
         number: at.number + 1,
         main: at.main,
         direction: at.direction,
         cell: at.cell + at.traps + 3,
         traps: at.traps,
     };
-    let again = Place {
+    let again = StatementPlace {
         number: at.number + 1,
         main: false,
         direction: at.direction,
         cell: past(net, &place, p),
         traps: at.traps,
     };
-    pass_resumed(net, &place, p, pauses, run, env, fresh);
+    pass_resumed(net, &place, p, pauses, run, env, just_decided);
     let code = place.cell + 1;
     let ends = net.status(code);
-    pass_begun(net, &again, p, ends, env, fresh);
+    pass_begun(net, &again, p, ends, env, just_decided);
 }
 
 /// Passes over the parts of a statement.
 #[cycle(pass_resumed)]
 fn pass_resumed_parts(
     net: &mut Net,
-    at: &Place,
+    at: &StatementPlace,
     s: &Statement,
     pauses: &PauseSet,
     run: Status,
     env: &Env,
-    fresh: u64,
+    just_decided: u64,
 )
     requires main { at.now.main ≡ true }
     requires fits { FitsMasks s.now }
@@ -294,9 +294,9 @@ fn pass_resumed_parts(
     ensures kept { kept net.new ≡ kept net.old }
 {
     match s {
-        Statement::Seq(p, q) => pass_resumed_seq(net, at, p, q, pauses, run, env, fresh),
-        Statement::Par(p, q) => pass_resumed_par(net, at, p, q, pauses, run, env, fresh),
-        Statement::Loop(p) => pass_resumed_loop(net, at, p, pauses, run, env, fresh),
+        Statement::Seq(p, q) => pass_resumed_seq(net, at, p, q, pauses, run, env, just_decided),
+        Statement::Par(p, q) => pass_resumed_par(net, at, p, q, pauses, run, env, just_decided),
+        Statement::Loop(p) => pass_resumed_loop(net, at, p, pauses, run, env, just_decided),
         Statement::Nothing => visit_resumed(net, at, s, pauses, run, env),
         Statement::Pause(_) => visit_resumed(net, at, s, pauses, run, env),
         Statement::Emit(_) => visit_resumed(net, at, s, pauses, run, env),
@@ -312,12 +312,12 @@ fn pass_resumed_parts(
 #[cycle(pass_resumed)]
 pub fn pass_resumed(
     net: &mut Net,
-    at: &Place,
+    at: &StatementPlace,
     s: &Statement,
     pauses: &PauseSet,
     run: Status,
     env: &Env,
-    fresh: u64,
+    just_decided: u64,
 )
     requires main { at.now.main ≡ true }
     requires fits { FitsMasks s.now }
@@ -331,7 +331,7 @@ pub fn pass_resumed(
         (env_of env.now) net.old.cells.items net.new.cells.items }
     ensures kept { kept net.new ≡ kept net.old }
 {
-    if is_reader(net, at.number, fresh) {
-        pass_resumed_parts(net, at, s, pauses, run, env, fresh)
+    if is_reader(net, at.number, just_decided) {
+        pass_resumed_parts(net, at, s, pauses, run, env, just_decided)
     }
 }

@@ -13,12 +13,12 @@ ghost use Rattle.est_net.specs.Layout.{output_count};
 ghost use Rattle.est_rounds.specs.Views.{env_of};
 ghost use Rattle.est_micro.specs.Engine.{IsNetOf};
 ghost use Rattle.est_micro.specs.Parts.{AgreeBut, AreInputsAlone};
-ghost use Rattle.est_micro.specs.Passes.{IsPassRound, SheetPasses};
+ghost use Rattle.est_micro.specs.Inner.Passes.{IsPassRound, SheetPasses};
 ghost use Rattle.est_micro.specs.Runs.{Ready};
 
-use crate::cells::Place;
+use crate::cells::StatementPlace;
 use crate::direction::Direction;
-use crate::outputs::exchange;
+use crate::outputs::update_signals;
 use crate::pass_begin::pass_begun;
 use crate::pass_resume::pass_resumed;
 use crate::question::Question;
@@ -27,7 +27,7 @@ use est_kernel::mask;
 use est_kernel::state::State;
 use est_meaning::status::Status;
 use est_net::net::Net;
-use est_rounds::acts::{Acts, Judgement};
+use est_rounds::acts::{Acts, MustCan};
 use est_rounds::signal_set::{Env, SignalSet};
 
 /// The signals that one environment decides, and the other does not.
@@ -52,21 +52,21 @@ fn emitting(signals: u64) -> Acts
 }
 
 /// What the emissions say.
-fn judged(net: &Net) -> Judgement
+fn judged(net: &Net) -> MustCan
     ensures sure { (n : ℕ) → bits result.must.signals.interface n
         ≡ list_any (is_of is_sure (cell_at net.now.cells.items) n) net.now.emissions.items }
     ensures possible { (n : ℕ) → bits result.can.signals.interface n
         ≡ list_any (is_of is_possible (cell_at net.now.cells.items) n) net.now.emissions.items }
 {
     let said = net.emitted();
-    Judgement {
+    MustCan {
         must: emitting(said.sure),
         can: emitting(said.possible),
     }
 }
 
 /// Passes over the cells of a kernel's statement by what is known.
-fn pass_sheet(net: &mut Net, question: &Question<'_>, env: &Env, fresh: u64)
+fn pass_sheet(net: &mut Net, question: &Question<'_>, env: &Env, just_decided: u64)
     requires net { IsNetOf net.old question.now.kernel.now }
     requires state { IsState question.now.kernel.now.root question.now.state.now }
     ensures passes { SheetPasses question.now.kernel.now.root question.now.state.now
@@ -76,23 +76,23 @@ fn pass_sheet(net: &mut Net, question: &Question<'_>, env: &Env, fresh: u64)
     ensures kept { kept net.new ≡ kept net.old }
 {
     let root = question.kernel.root();
-    let place = Place {
+    let place = StatementPlace {
         number: 0,
         main: true,
         direction: Direction::Forwards,
-        cell: net.outputs(),
+        cell: net.output_count(),
         traps: 0,
     };
     let run = Status::Present;
     match question.state {
-        State::Fresh => pass_begun(net, &place, root, run, env, fresh),
-        State::Done => pass_begun(net, &place, root, Status::Absent, env, fresh),
-        State::Paused(pauses) => pass_resumed(net, &place, root, pauses, run, env, fresh),
+        State::Fresh => pass_begun(net, &place, root, run, env, just_decided),
+        State::Done => pass_begun(net, &place, root, Status::Absent, env, just_decided),
+        State::Paused(pauses) => pass_resumed(net, &place, root, pauses, run, env, just_decided),
     }
 }
 
 /// One pass, and then the cells of the signals.
-fn pass_round(net: &mut Net, question: &Question<'_>, env: &mut Env, fresh: u64)
+fn pass_round(net: &mut Net, question: &Question<'_>, env: &mut Env, just_decided: u64)
     requires net { IsNetOf net.old question.now.kernel.now }
     requires state { IsState question.now.kernel.now.root question.now.state.now }
     ensures made { IsPassRound question.now.kernel.now.interface (bits question.now.unasked)
@@ -101,13 +101,13 @@ fn pass_round(net: &mut Net, question: &Question<'_>, env: &mut Env, fresh: u64)
     ensures net { IsNetOf net.new question.now.kernel.now }
     ensures kept { kept net.new ≡ kept net.old }
 {
-    pass_sheet(net, question, env, fresh);
+    pass_sheet(net, question, env, just_decided);
     let said = judged(net);
-    *env = exchange(net, question, &said);
+    *env = update_signals(net, question, &said);
 }
 
 /// Passes until no signal is decided any more.
-pub fn pass_all(net: &mut Net, question: &Question<'_>, env: &mut Env, fresh: u64)
+pub fn pass_all(net: &mut Net, question: &Question<'_>, env: &mut Env, just_decided: u64)
     requires net { IsNetOf net.old question.now.kernel.now }
     requires state { IsState question.now.kernel.now.root question.now.state.now }
     requires apart { AreInputsAlone question.now.kernel.now.interface (bits question.now.unasked) }
@@ -122,13 +122,13 @@ pub fn pass_all(net: &mut Net, question: &Question<'_>, env: &mut Env, fresh: u6
     ensures kept { kept net.new ≡ kept net.old }
 {
     let places = question.kernel.interface().len();
-    let mut fresh = fresh;
+    let mut just_decided = just_decided;
     for _ in 0..places {
-        if fresh == 0 {
+        if just_decided == 0 {
             return;
         }
-        let was = *env;
-        pass_round(net, question, env, fresh);
-        fresh = newly_decided(&was, env);
+        let env_before = *env;
+        pass_round(net, question, env, just_decided);
+        just_decided = newly_decided(&env_before, env);
     }
 }

@@ -10,11 +10,11 @@ ghost use Rattle.est_rounds.specs.Views.{env_of};
 ghost use Rattle.est_micro.specs.Engine.{IsNetOf};
 ghost use Rattle.est_micro.specs.Parts.{AgreeBut, AreInputsAlone};
 ghost use Rattle.est_micro.specs.Runs.{IsSettledBut, sheet_swept};
-ghost use Rattle.est_micro.specs.Views.{IsSwept};
+ghost use Rattle.est_micro.specs.Inner.Views.{IsSwept};
 
-use crate::cells::{Place, Swept};
+use crate::cells::{StatementPlace, Swept};
 use crate::direction::Direction;
-use crate::outputs::{exchange, in_doubt};
+use crate::outputs::{in_doubt, update_signals};
 use crate::passes::{newly_decided, pass_all};
 use crate::question::Question;
 use crate::sweep_begin::sweep_begun;
@@ -37,10 +37,10 @@ fn sweep(net: &mut Net, question: &Question<'_>, env: &Env, direction: Direction
     ensures kept { kept net.new ≡ kept net.old }
 {
     let root = question.kernel.root();
-    let place = Place {
+    let place = StatementPlace {
         number: 0,
         main: true,
-        cell: net.outputs(),
+        cell: net.output_count(),
         traps: 0,
         direction,
     };
@@ -51,9 +51,9 @@ fn sweep(net: &mut Net, question: &Question<'_>, env: &Env, direction: Direction
     }
 }
 
-/// What is found where nothing more can be decided.
+/// What a run ends with, where nothing more can be decided.
 #[derive(Clone, Copy)]
-pub struct DecidedCells {
+pub struct RunEnd {
     /// What the cells of the statement say.
     pub swept: Swept,
     /// What is known of the signals of the interface.
@@ -63,22 +63,27 @@ pub struct DecidedCells {
 }
 
 /// Whether more may be decided: the last round has decided something, and there is an open cell.
-fn goes_on(now: usize, before: usize, cells: usize) -> bool
-    ensures more { result ≡ true → now ≢ before }
-    ensures rest { result ≡ false → (now ≡ before) ⊎ (now ≡ cells) }
+fn goes_on(decided: usize, decided_before: usize, cell_count: usize) -> bool
+    ensures more { result ≡ true → decided ≢ decided_before }
+    ensures rest { result ≡ false → (decided ≡ decided_before) ⊎ (decided ≡ cell_count) }
 {
-    now != before && now != cells
+    decided != decided_before && decided != cell_count
 }
 
 /// Whether a sweep decided less than half, rounded down, of the open cells. The first sweep of an
-/// instant has 0 `before` it: what was decided at the beginning counts with it.
-fn is_slow(now: usize, before: usize, cells: usize) -> bool {
-    now.saturating_sub(before) < cells.saturating_sub(before) / 2
+/// instant has 0 as `decided_before`: what was decided at the beginning counts with it.
+fn is_slow(decided: usize, decided_before: usize, cell_count: usize) -> bool {
+    decided.saturating_sub(decided_before) < cell_count.saturating_sub(decided_before) / 2
 }
 
 /// Which way to sweep next: a sweep that was slow is followed by one the other way.
-fn next_direction(direction: Direction, now: usize, before: usize, cells: usize) -> Direction {
-    if is_slow(now, before, cells) {
+fn next_direction(
+    direction: Direction,
+    decided: usize,
+    decided_before: usize,
+    cell_count: usize,
+) -> Direction {
+    if is_slow(decided, decided_before, cell_count) {
         direction.turned()
     } else {
         direction
@@ -86,9 +91,15 @@ fn next_direction(direction: Direction, now: usize, before: usize, cells: usize)
 }
 
 /// The signals that lead a pass: after a sweep that was slow, those that the last round decided.
-fn to_pass(was: &Env, env: &Env, now: usize, before: usize, cells: usize) -> u64 {
-    if is_slow(now, before, cells) {
-        newly_decided(was, env)
+fn to_pass(
+    env_before: &Env,
+    env: &Env,
+    decided: usize,
+    decided_before: usize,
+    cell_count: usize,
+) -> u64 {
+    if is_slow(decided, decided_before, cell_count) {
+        newly_decided(env_before, env)
     } else {
         0
     }
@@ -97,7 +108,7 @@ fn to_pass(was: &Env, env: &Env, now: usize, before: usize, cells: usize) -> u64
 /// Opens the table, and makes rounds until nothing more can be decided. Of the inputs that are not
 /// asked nothing is known: what is decided is so whatever they are. The first sweep goes the way of
 /// `first`.
-pub fn decide_cells(net: &mut Net, question: &Question<'_>, first: Direction) -> DecidedCells
+pub fn decide_cells(net: &mut Net, question: &Question<'_>, first: Direction) -> RunEnd
     requires net { IsNetOf net.old question.now.kernel.now }
     requires state { IsState question.now.kernel.now.root question.now.state.now }
     requires apart { AreInputsAlone question.now.kernel.now.interface (bits question.now.unasked) }
@@ -108,27 +119,27 @@ pub fn decide_cells(net: &mut Net, question: &Question<'_>, first: Direction) ->
         others net.new.cells.items result }
     ensures kept { kept net.new ≡ reopened net.old }
 {
-    let cells = net.cells();
+    let cell_count = net.cells();
     let possible = net.reach().from_state(question.state);
     net.clear();
-    let mut env = exchange(net, question, &in_doubt(possible));
-    let mut before = 0;
+    let mut env = update_signals(net, question, &in_doubt(possible));
+    let mut decided_before = 0;
     let mut direction = first;
-    let mut was = env;
+    let mut env_before = env;
     let mut swept = sweep(net, question, &env, direction);
-    env = exchange(net, question, &swept.judged);
-    let mut now = net.steps();
-    while goes_on(now, before, cells) {
-        direction = next_direction(direction, now, before, cells);
-        let fresh = to_pass(&was, &env, now, before, cells);
-        pass_all(net, question, &mut env, fresh);
-        before = net.steps();
-        was = env;
+    env = update_signals(net, question, &swept.judged);
+    let mut decided = net.steps();
+    while goes_on(decided, decided_before, cell_count) {
+        direction = next_direction(direction, decided, decided_before, cell_count);
+        let just_decided = to_pass(&env_before, &env, decided, decided_before, cell_count);
+        pass_all(net, question, &mut env, just_decided);
+        decided_before = net.steps();
+        env_before = env;
         swept = sweep(net, question, &env, direction);
-        env = exchange(net, question, &swept.judged);
-        now = net.steps();
+        env = update_signals(net, question, &swept.judged);
+        decided = net.steps();
     }
-    DecidedCells {
+    RunEnd {
         swept,
         env,
         direction,

@@ -20,14 +20,15 @@ ghost use Rattle.est_net.specs.Extents.{HasExtents};
 ghost use Rattle.est_net.specs.Kept.{kept};
 ghost use Rattle.est_net.specs.Owners.{statements};
 ghost use Rattle.est_rounds.specs.Views.{env_of};
-ghost use Rattle.est_micro.specs.Views.{IsBegun};
+ghost use Rattle.est_micro.specs.Inner.Views.{IsBegun};
 ghost use Rattle.est_micro.specs.declared.direction.Direction.TheVariants.{Forwards, Backwards};
 
-use crate::cells::{self, Place, Swept};
+use crate::cells::{self, StatementPlace, Swept};
 use crate::direction::Direction;
 use crate::extents::{number_after, past};
 use crate::idle::past_idle;
-use crate::learning::{learn, make_false};
+use crate::judging;
+use crate::learning::{fill_false, tell_cell};
 use est_kernel::completion::Completion;
 use est_kernel::statement::{LocalSignal, Signal, Statement};
 use est_meaning::status::Status;
@@ -37,7 +38,7 @@ use est_rounds::signal_set::{self, Env};
 
 /// Sweeps a statement without parts that gives this code where it is begun.
 #[inline(always)]
-fn begin_leaf(net: &mut Net, at: &Place, completion: Completion, gate: Status) -> Swept
+fn begin_leaf(net: &mut Net, at: &StatementPlace, completion: Completion, gate: Status) -> Swept
     requires code { code_of completion < 64 }
     requires within { at.now.cell + at.now.traps + 3 ≤ length net.old.cells.items }
     requires few { at.now.traps ≤ 62 }
@@ -49,13 +50,13 @@ fn begin_leaf(net: &mut Net, at: &Place, completion: Completion, gate: Status) -
         → IsBegun (Exit k) at.now gate e net.old.cells.items net.new.cells.items result }
     ensures kept { kept net.new ≡ kept net.old }
 {
-    let go = learn(net, at.cell, gate);
-    let own = cells::leaf(go, completion);
-    cells::leave(net, at, &own, at.cell + at.traps + 3)
+    let go = tell_cell(net, at.cell, gate);
+    let own = judging::leaf(go, completion);
+    cells::finish_statement(net, at, &own, at.cell + at.traps + 3)
 }
 
 /// Sweeps an emission.
-fn begin_emit(net: &mut Net, at: &Place, signal: Signal, gate: Status) -> Swept
+fn begin_emit(net: &mut Net, at: &StatementPlace, signal: Signal, gate: Status) -> Swept
     requires bit { HasSignalBit signal }
     requires within { at.now.cell + at.now.traps + 3 ≤ length net.old.cells.items }
     requires few { at.now.traps ≤ 62 }
@@ -63,16 +64,16 @@ fn begin_emit(net: &mut Net, at: &Place, signal: Signal, gate: Status) -> Swept
         → IsBegun (Emit signal) at.now gate e net.old.cells.items net.new.cells.items result }
     ensures kept { kept net.new ≡ kept net.old }
 {
-    let go = learn(net, at.cell, gate);
-    let own = cells::emission(go, signal);
-    cells::leave(net, at, &own, at.cell + at.traps + 3)
+    let go = tell_cell(net, at.cell, gate);
+    let own = judging::emission(go, signal);
+    cells::finish_statement(net, at, &own, at.cell + at.traps + 3)
 }
 
 /// Sweeps a `present` whose test has this status.
 #[cycle(sweep_begun)]
 fn begin_present(
     net: &mut Net,
-    at: &Place,
+    at: &StatementPlace,
     asked: Status,
     p: &Statement,
     q: &Statement,
@@ -94,8 +95,8 @@ fn begin_present(
         net.new.cells.items result }
     ensures kept { kept net.new ≡ kept net.old }
 {
-    let go = learn(net, at.cell, gate);
-    let place = Place {
+    let go = tell_cell(net, at.cell, gate);
+    let place = StatementPlace {
         number: at.number + 1,
         main: at.main,
         direction: at.direction,
@@ -103,7 +104,7 @@ fn begin_present(
         traps: at.traps,
     };
     let first = sweep_begun(net, &place, p, go.and(asked), env);
-    let place = Place {
+    let place = StatementPlace {
         number: number_after(net, &place, p),
         main: at.main,
         direction: at.direction,
@@ -111,13 +112,19 @@ fn begin_present(
         traps: at.traps,
     };
     let second = sweep_begun(net, &place, q, go.and(asked.opposite()), env);
-    let own = cells::either(&first.judged, &second.judged);
-    cells::leave(net, at, &own, second.past)
+    let own = judging::either(&first.judged, &second.judged);
+    cells::finish_statement(net, at, &own, second.past)
 }
 
 /// Sweeps a `suspend`.
 #[cycle(sweep_begun)]
-fn begin_suspend(net: &mut Net, at: &Place, p: &Statement, gate: Status, env: &Env) -> Swept
+fn begin_suspend(
+    net: &mut Net,
+    at: &StatementPlace,
+    p: &Statement,
+    gate: Status,
+    env: &Env,
+) -> Swept
     requires fits { FitsMasks p.now }
     requires extents { HasExtents net.old.extents.items (at.now.number + 1)
         at.now.traps p.now }
@@ -130,8 +137,8 @@ fn begin_suspend(net: &mut Net, at: &Place, p: &Statement, gate: Status, env: &E
         result }
     ensures kept { kept net.new ≡ kept net.old }
 {
-    let go = learn(net, at.cell, gate);
-    let place = Place {
+    let go = tell_cell(net, at.cell, gate);
+    let place = StatementPlace {
         number: at.number + 1,
         main: at.main,
         direction: at.direction,
@@ -139,14 +146,14 @@ fn begin_suspend(net: &mut Net, at: &Place, p: &Statement, gate: Status, env: &E
         traps: at.traps,
     };
     let body = sweep_begun(net, &place, p, go, env);
-    cells::leave(net, at, &body.judged, body.past)
+    cells::finish_statement(net, at, &body.judged, body.past)
 }
 
 /// Sweeps a `;`.
 #[cycle(sweep_begun)]
 fn begin_seq(
     net: &mut Net,
-    at: &Place,
+    at: &StatementPlace,
     p: &Statement,
     q: &Statement,
     gate: Status,
@@ -168,8 +175,8 @@ fn begin_seq(
         result }
     ensures kept { kept net.new ≡ kept net.old }
 {
-    let go = learn(net, at.cell, gate);
-    let place = Place {
+    let go = tell_cell(net, at.cell, gate);
+    let place = StatementPlace {
         number: at.number + 1,
         main: at.main,
         direction: at.direction,
@@ -177,9 +184,9 @@ fn begin_seq(
         traps: at.traps,
     };
     let first = sweep_begun(net, &place, p, go, env);
-    let inside = cells::with_emitted(env, first.judged.must.signals);
-    let later = cells::ends(&first.judged);
-    let place = Place {
+    let inside = judging::with_emitted(env, first.judged.must.signals);
+    let later = judging::ends(&first.judged);
+    let place = StatementPlace {
         number: number_after(net, &place, p),
         main: at.main,
         direction: at.direction,
@@ -187,13 +194,13 @@ fn begin_seq(
         traps: at.traps,
     };
     let second = sweep_begun(net, &place, q, later, &inside);
-    let own = cells::followed(&first.judged, &second.judged);
-    cells::leave(net, at, &own, second.past)
+    let own = judging::followed(&first.judged, &second.judged);
+    cells::finish_statement(net, at, &own, second.past)
 }
 
 /// Sweeps a loop of the incarnation that can go on: its body, and then the cells of its restart.
 #[cycle(sweep_begun)]
-fn begin_loop(net: &mut Net, at: &Place, p: &Statement, gate: Status, env: &Env) -> Swept
+fn begin_loop(net: &mut Net, at: &StatementPlace, p: &Statement, gate: Status, env: &Env) -> Swept
     requires main { at.now.main ≡ true }
     requires fits { FitsMasks p.now }
     requires extents { HasExtents net.old.extents.items (at.now.number + 1)
@@ -207,8 +214,8 @@ fn begin_loop(net: &mut Net, at: &Place, p: &Statement, gate: Status, env: &Env)
         net.new.cells.items result }
     ensures kept { kept net.new ≡ kept net.old }
 {
-    let go = learn(net, at.cell, gate);
-    let place = Place {
+    let go = tell_cell(net, at.cell, gate);
+    let place = StatementPlace {
         number: at.number + 1,
         main: at.main,
         direction: at.direction,
@@ -216,7 +223,7 @@ fn begin_loop(net: &mut Net, at: &Place, p: &Statement, gate: Status, env: &Env)
         traps: at.traps,
     };
     let first = sweep_begun(net, &place, p, go, env);
-    let place = Place {
+    let place = StatementPlace {
         number: at.number + 1,
         main: false,
         direction: at.direction,
@@ -224,13 +231,13 @@ fn begin_loop(net: &mut Net, at: &Place, p: &Statement, gate: Status, env: &Env)
         traps: at.traps,
     };
     let again = sweep_begun(net, &place, p, Status::Absent, env);
-    let own = cells::emitting(&first.judged, &again.judged);
-    cells::leave(net, at, &own, again.past)
+    let own = judging::emitting(&first.judged, &again.judged);
+    cells::finish_statement(net, at, &own, again.past)
 }
 
 /// Sweeps a loop inside a restart, which has no cells for a restart of its own.
 #[cycle(sweep_begun)]
-fn begin_again(net: &mut Net, at: &Place, p: &Statement, gate: Status, env: &Env) -> Swept
+fn begin_again(net: &mut Net, at: &StatementPlace, p: &Statement, gate: Status, env: &Env) -> Swept
     requires main { at.now.main ≡ false }
     requires fits { FitsMasks p.now }
     requires extents { HasExtents net.old.extents.items (at.now.number + 1)
@@ -243,8 +250,8 @@ fn begin_again(net: &mut Net, at: &Place, p: &Statement, gate: Status, env: &Env
         net.new.cells.items result }
     ensures kept { kept net.new ≡ kept net.old }
 {
-    let go = learn(net, at.cell, gate);
-    let place = Place {
+    let go = tell_cell(net, at.cell, gate);
+    let place = StatementPlace {
         number: at.number + 1,
         main: at.main,
         direction: at.direction,
@@ -252,14 +259,14 @@ fn begin_again(net: &mut Net, at: &Place, p: &Statement, gate: Status, env: &Env
         traps: at.traps,
     };
     let body = sweep_begun(net, &place, p, go, env);
-    cells::leave(net, at, &body.judged, body.past)
+    cells::finish_statement(net, at, &body.judged, body.past)
 }
 
 /// Sweeps a `||`, the first side before the second.
 #[cycle(sweep_begun)]
 fn begin_par(
     net: &mut Net,
-    at: &Place,
+    at: &StatementPlace,
     p: &Statement,
     q: &Statement,
     gate: Status,
@@ -282,8 +289,8 @@ fn begin_par(
         result }
     ensures kept { kept net.new ≡ kept net.old }
 {
-    let go = learn(net, at.cell, gate);
-    let place = Place {
+    let go = tell_cell(net, at.cell, gate);
+    let place = StatementPlace {
         number: at.number + 1,
         main: at.main,
         direction: at.direction,
@@ -291,8 +298,8 @@ fn begin_par(
         traps: at.traps,
     };
     let first = sweep_begun(net, &place, p, go, env);
-    let inside = cells::with_emitted(env, first.judged.must.signals);
-    let place = Place {
+    let inside = judging::with_emitted(env, first.judged.must.signals);
+    let place = StatementPlace {
         number: number_after(net, &place, p),
         main: at.main,
         direction: at.direction,
@@ -300,15 +307,15 @@ fn begin_par(
         traps: at.traps,
     };
     let second = sweep_begun(net, &place, q, go, &inside);
-    let own = cells::beside(&first.judged, &second.judged);
-    cells::leave(net, at, &own, second.past)
+    let own = judging::beside(&first.judged, &second.judged);
+    cells::finish_statement(net, at, &own, second.past)
 }
 
 /// Sweeps a `||`, the second side before the first.
 #[cycle(sweep_begun)]
 fn begin_par_back(
     net: &mut Net,
-    at: &Place,
+    at: &StatementPlace,
     p: &Statement,
     q: &Statement,
     gate: Status,
@@ -331,15 +338,15 @@ fn begin_par_back(
         result }
     ensures kept { kept net.new ≡ kept net.old }
 {
-    let go = learn(net, at.cell, gate);
-    let place = Place {
+    let go = tell_cell(net, at.cell, gate);
+    let place = StatementPlace {
         number: at.number + 1,
         main: at.main,
         direction: at.direction,
         cell: at.cell + at.traps + 3,
         traps: at.traps,
     };
-    let later = Place {
+    let later = StatementPlace {
         number: number_after(net, &place, p),
         main: at.main,
         direction: at.direction,
@@ -347,15 +354,15 @@ fn begin_par_back(
         traps: at.traps,
     };
     let second = sweep_begun(net, &later, q, go, env);
-    let inside = cells::with_emitted(env, second.judged.must.signals);
+    let inside = judging::with_emitted(env, second.judged.must.signals);
     let first = sweep_begun(net, &place, p, go, &inside);
-    let own = cells::beside(&first.judged, &second.judged);
-    cells::leave(net, at, &own, second.past)
+    let own = judging::beside(&first.judged, &second.judged);
+    cells::finish_statement(net, at, &own, second.past)
 }
 
 /// Sweeps a trap.
 #[cycle(sweep_begun)]
-fn begin_trap(net: &mut Net, at: &Place, p: &Statement, gate: Status, env: &Env) -> Swept
+fn begin_trap(net: &mut Net, at: &StatementPlace, p: &Statement, gate: Status, env: &Env) -> Swept
     requires fits { FitsMasks p.now }
     requires extents { HasExtents net.old.extents.items (at.now.number + 1)
         (at.now.traps + 1) p.now }
@@ -367,8 +374,8 @@ fn begin_trap(net: &mut Net, at: &Place, p: &Statement, gate: Status, env: &Env)
         net.new.cells.items result }
     ensures kept { kept net.new ≡ kept net.old }
 {
-    let go = learn(net, at.cell, gate);
-    let place = Place {
+    let go = tell_cell(net, at.cell, gate);
+    let place = StatementPlace {
         number: at.number + 1,
         main: at.main,
         direction: at.direction,
@@ -376,8 +383,8 @@ fn begin_trap(net: &mut Net, at: &Place, p: &Statement, gate: Status, env: &Env)
         traps: at.traps + 1,
     };
     let body = sweep_begun(net, &place, p, go, env);
-    let own = cells::out_of_trap(&body.judged);
-    cells::leave(net, at, &own, body.past)
+    let own = judging::out_of_trap(&body.judged);
+    cells::finish_statement(net, at, &own, body.past)
 }
 
 /// Sweeps a local signal's binder: its body, and then the cell of its status, by what the body
@@ -385,7 +392,7 @@ fn begin_trap(net: &mut Net, at: &Place, p: &Statement, gate: Status, env: &Env)
 #[cycle(sweep_begun)]
 fn begin_local(
     net: &mut Net,
-    at: &Place,
+    at: &StatementPlace,
     s: LocalSignal,
     p: &Statement,
     gate: Status,
@@ -403,10 +410,10 @@ fn begin_local(
         result }
     ensures kept { kept net.new ≡ kept net.old }
 {
-    let go = learn(net, at.cell, gate);
+    let go = tell_cell(net, at.cell, gate);
     let cell = at.cell + at.traps + 3;
     let inside = signal_set::set_local(env, s, net.status(cell));
-    let place = Place {
+    let place = StatementPlace {
         number: at.number + 1,
         main: at.main,
         direction: at.direction,
@@ -414,14 +421,14 @@ fn begin_local(
         traps: at.traps,
     };
     let body = sweep_begun(net, &place, p, go, &inside);
-    learn(net, cell, cells::status_of(&body.judged, s));
-    let own = cells::hiding(&body.judged, s);
-    cells::leave(net, at, &own, body.past)
+    tell_cell(net, cell, judging::status_of(&body.judged, s));
+    let own = judging::hiding(&body.judged, s);
+    cells::finish_statement(net, at, &own, body.past)
 }
 
 /// Sweeps the cells of a statement that is begun, if at all, by the gate, one after another.
 #[cycle(sweep_begun)]
-fn begin_each(net: &mut Net, at: &Place, s: &Statement, gate: Status, env: &Env) -> Swept
+fn begin_each(net: &mut Net, at: &StatementPlace, s: &Statement, gate: Status, env: &Env) -> Swept
     requires fits { FitsMasks s.now }
     requires extents { HasExtents net.old.extents.items at.now.number at.now.traps
         s.now }
@@ -462,7 +469,13 @@ fn begin_each(net: &mut Net, at: &Place, s: &Statement, gate: Status, env: &Env)
 /// Sweeps the cells of a statement that is begun, if at all, by the gate. Where it is not, and none
 /// of them is true, all of them are false at once.
 #[cycle(sweep_begun)]
-pub fn sweep_begun(net: &mut Net, at: &Place, s: &Statement, gate: Status, env: &Env) -> Swept
+pub fn sweep_begun(
+    net: &mut Net,
+    at: &StatementPlace,
+    s: &Statement,
+    gate: Status,
+    env: &Env,
+) -> Swept
     requires fits { FitsMasks s.now }
     requires extents { HasExtents net.old.extents.items at.now.number at.now.traps
         s.now }
@@ -475,7 +488,7 @@ pub fn sweep_begun(net: &mut Net, at: &Place, s: &Statement, gate: Status, env: 
 {
     match past_idle(net, at, s, gate) {
         Some(past) => {
-            make_false(net, at.cell, past);
+            fill_false(net, at.cell, past);
             cells::nothing(past)
         }
         None => begin_each(net, at, s, gate, env),

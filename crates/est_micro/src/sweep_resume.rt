@@ -21,27 +21,27 @@ ghost use Rattle.est_net.specs.Extents.{HasExtents};
 ghost use Rattle.est_net.specs.Kept.{kept};
 ghost use Rattle.est_net.specs.Owners.{statements};
 ghost use Rattle.est_rounds.specs.Views.{env_of, set_of};
-ghost use Rattle.est_micro.specs.Views.{IsChosen, IsJudged, IsResumed};
+ghost use Rattle.est_micro.specs.Inner.Views.{IsChosen, IsJudged, IsResumed};
 ghost use Rattle.est_micro.specs.declared.direction.Direction.TheVariants.{Forwards, Backwards};
 
-use crate::cells::{self, Place, Swept};
-use crate::decided;
+use crate::cells::{self, StatementPlace, Swept};
 use crate::direction::Direction;
 use crate::extents::{is_live, number_after, past};
-use crate::learning::learn;
+use crate::learning::tell_cell;
 use crate::sweep_begin::sweep_begun;
+use crate::{decided, judging};
 use est_kernel::completion::Completion;
 use est_kernel::pause_set::PauseSet;
 use est_kernel::statement::{LocalSignal, Statement};
 use est_meaning::status::Status;
 use est_net::net::Net;
-use est_rounds::acts::Judgement;
+use est_rounds::acts::MustCan;
 use est_rounds::answer::answer_to;
 use est_rounds::signal_set::{self, Env};
 
 /// Sweeps a pause, which ends where it is run.
 #[inline(always)]
-fn resume_pause(net: &mut Net, at: &Place, run: Status) -> Swept
+fn resume_pause(net: &mut Net, at: &StatementPlace, run: Status) -> Swept
     requires within { at.now.cell + at.now.traps + 3 ≤ length net.old.cells.items }
     requires few { at.now.traps ≤ 62 }
     ensures swept { (e n pauses : _)
@@ -49,9 +49,9 @@ fn resume_pause(net: &mut Net, at: &Place, run: Status) -> Swept
         pauses run e net.old.cells.items net.new.cells.items result }
     ensures kept { kept net.new ≡ kept net.old }
 {
-    learn(net, at.cell, Status::Absent);
-    let own = cells::leaf(run, Completion::End);
-    cells::leave(net, at, &own, at.cell + at.traps + 3)
+    tell_cell(net, at.cell, Status::Absent);
+    let own = judging::leaf(run, Completion::End);
+    cells::finish_statement(net, at, &own, at.cell + at.traps + 3)
 }
 
 /// Sweeps a part. If it is on (one of its pauses is set), it goes on where it is run; else the gate
@@ -59,7 +59,7 @@ fn resume_pause(net: &mut Net, at: &Place, run: Status) -> Swept
 #[cycle(sweep_resumed)]
 fn part(
     net: &mut Net,
-    at: &Place,
+    at: &StatementPlace,
     p: &Statement,
     pauses: &PauseSet,
     is_on: bool,
@@ -90,7 +90,7 @@ fn part(
 #[cycle(sweep_resumed)]
 fn resume_present(
     net: &mut Net,
-    at: &Place,
+    at: &StatementPlace,
     asked: Status,
     p: &Statement,
     q: &Statement,
@@ -116,8 +116,8 @@ fn resume_present(
         net.new.cells.items result }
     ensures kept { kept net.new ≡ kept net.old }
 {
-    let go = learn(net, at.cell, Status::Absent);
-    let place = Place {
+    let go = tell_cell(net, at.cell, Status::Absent);
+    let place = StatementPlace {
         number: at.number + 1,
         main: at.main,
         direction: at.direction,
@@ -126,7 +126,7 @@ fn resume_present(
     };
     let is_on = is_live(net, place.number, at.traps, p, pauses);
     let first = part(net, &place, p, pauses, is_on, go.and(asked), run, env);
-    let place = Place {
+    let place = StatementPlace {
         number: number_after(net, &place, p),
         main: at.main,
         direction: at.direction,
@@ -143,15 +143,15 @@ fn resume_present(
         run,
         env,
     );
-    let own = cells::either(&first.judged, &second.judged);
-    cells::leave(net, at, &own, second.past)
+    let own = judging::either(&first.judged, &second.judged);
+    cells::finish_statement(net, at, &own, second.past)
 }
 
 /// Sweeps a `suspend` whose test has this status.
 #[cycle(sweep_resumed)]
 fn resume_suspend(
     net: &mut Net,
-    at: &Place,
+    at: &StatementPlace,
     asked: Status,
     p: &Statement,
     pauses: &PauseSet,
@@ -171,8 +171,8 @@ fn resume_suspend(
         net.new.cells.items result }
     ensures kept { kept net.new ≡ kept net.old }
 {
-    learn(net, at.cell, Status::Absent);
-    let place = Place {
+    tell_cell(net, at.cell, Status::Absent);
+    let place = StatementPlace {
         number: at.number + 1,
         main: at.main,
         direction: at.direction,
@@ -180,16 +180,16 @@ fn resume_suspend(
         traps: at.traps,
     };
     let body = sweep_resumed(net, &place, p, pauses, run.and(asked.opposite()), env);
-    let held = cells::leaf(run.and(asked), Completion::Pause);
-    let own = cells::with_codes(&body.judged, &held);
-    cells::leave(net, at, &own, body.past)
+    let held = judging::leaf(run.and(asked), Completion::Pause);
+    let own = judging::with_codes(&body.judged, &held);
+    cells::finish_statement(net, at, &own, body.past)
 }
 
 /// Sweeps a `;`.
 #[cycle(sweep_resumed)]
 fn resume_seq(
     net: &mut Net,
-    at: &Place,
+    at: &StatementPlace,
     p: &Statement,
     q: &Statement,
     pauses: &PauseSet,
@@ -214,8 +214,8 @@ fn resume_seq(
         net.new.cells.items result }
     ensures kept { kept net.new ≡ kept net.old }
 {
-    let go = learn(net, at.cell, Status::Absent);
-    let place = Place {
+    let go = tell_cell(net, at.cell, Status::Absent);
+    let place = StatementPlace {
         number: at.number + 1,
         main: at.main,
         direction: at.direction,
@@ -224,9 +224,9 @@ fn resume_seq(
     };
     let is_on = is_live(net, place.number, at.traps, p, pauses);
     let first = part(net, &place, p, pauses, is_on, go, run, env);
-    let inside = cells::with_emitted(env, first.judged.must.signals);
-    let later = cells::ends(&first.judged);
-    let place = Place {
+    let inside = judging::with_emitted(env, first.judged.must.signals);
+    let later = judging::ends(&first.judged);
+    let place = StatementPlace {
         number: number_after(net, &place, p),
         main: at.main,
         direction: at.direction,
@@ -234,15 +234,15 @@ fn resume_seq(
         traps: at.traps,
     };
     let second = part(net, &place, q, pauses, !is_on, later, run, &inside);
-    let own = cells::followed(&first.judged, &second.judged);
-    cells::leave(net, at, &own, second.past)
+    let own = judging::followed(&first.judged, &second.judged);
+    cells::finish_statement(net, at, &own, second.past)
 }
 
 /// Sweeps a loop.
 #[cycle(sweep_resumed)]
 fn resume_loop(
     net: &mut Net,
-    at: &Place,
+    at: &StatementPlace,
     p: &Statement,
     pauses: &PauseSet,
     run: Status,
@@ -262,8 +262,8 @@ fn resume_loop(
         net.new.cells.items result }
     ensures kept { kept net.new ≡ kept net.old }
 {
-    learn(net, at.cell, Status::Absent);
-    let place = Place {
+    tell_cell(net, at.cell, Status::Absent);
+    let place = StatementPlace {
         number: at.number + 1,
         main: at.main,
         direction: at.direction,
@@ -271,9 +271,9 @@ fn resume_loop(
         traps: at.traps,
     };
     let first = sweep_resumed(net, &place, p, pauses, run, env);
-    let inside = cells::with_emitted(env, first.judged.must.signals);
-    let later = cells::ends(&first.judged);
-    let place = Place {
+    let inside = judging::with_emitted(env, first.judged.must.signals);
+    let later = judging::ends(&first.judged);
+    let place = StatementPlace {
         number: at.number + 1,
         main: false,
         direction: at.direction,
@@ -281,12 +281,12 @@ fn resume_loop(
         traps: at.traps,
     };
     let again = sweep_begun(net, &place, p, later, &inside);
-    let own = cells::followed(&first.judged, &again.judged);
-    cells::leave(net, at, &own, again.past)
+    let own = judging::followed(&first.judged, &again.judged);
+    cells::finish_statement(net, at, &own, again.past)
 }
 
 /// What counts of a side of a `||`: one that has ended gives code 0 where the `||` is run.
-fn side(is_on: bool, swept: &Swept, run: Status) -> Judgement
+fn side(is_on: bool, swept: &Swept, run: Status) -> MustCan
     ensures { IsJudged (cond is_on (codes_of swept.now.judged.must.codes) (sure_code run 0))
         (cond is_on (codes_of swept.now.judged.can.codes) (may_code run 0))
         (set_of swept.now.judged.must.signals) (set_of swept.now.judged.can.signals) result }
@@ -294,8 +294,8 @@ fn side(is_on: bool, swept: &Swept, run: Status) -> Judgement
     if is_on {
         swept.judged
     } else {
-        let ended = cells::leaf(run, Completion::End);
-        cells::giving(&ended, &swept.judged)
+        let ended = judging::leaf(run, Completion::End);
+        judging::giving(&ended, &swept.judged)
     }
 }
 
@@ -320,7 +320,7 @@ fn second_lives(
 #[cycle(sweep_resumed)]
 fn resume_par(
     net: &mut Net,
-    at: &Place,
+    at: &StatementPlace,
     p: &Statement,
     q: &Statement,
     pauses: &PauseSet,
@@ -346,8 +346,8 @@ fn resume_par(
         net.new.cells.items result }
     ensures kept { kept net.new ≡ kept net.old }
 {
-    let go = learn(net, at.cell, Status::Absent);
-    let place = Place {
+    let go = tell_cell(net, at.cell, Status::Absent);
+    let place = StatementPlace {
         number: at.number + 1,
         main: at.main,
         direction: at.direction,
@@ -358,8 +358,8 @@ fn resume_par(
     let first_on = is_live(net, place.number, at.traps, p, pauses);
     let second_on = second_lives(net, number, at.traps, first_on, q, pauses);
     let first = part(net, &place, p, pauses, first_on, go, run, env);
-    let inside = cells::with_emitted(env, first.judged.must.signals);
-    let place = Place {
+    let inside = judging::with_emitted(env, first.judged.must.signals);
+    let place = StatementPlace {
         number,
         main: at.main,
         direction: at.direction,
@@ -369,15 +369,15 @@ fn resume_par(
     let second = part(net, &place, q, pauses, second_on, go, run, &inside);
     let left = side(first_on, &first, run);
     let right = side(second_on, &second, run);
-    let own = cells::beside(&left, &right);
-    cells::leave(net, at, &own, second.past)
+    let own = judging::beside(&left, &right);
+    cells::finish_statement(net, at, &own, second.past)
 }
 
 /// Sweeps a `||`, the second side before the first.
 #[cycle(sweep_resumed)]
 fn resume_par_back(
     net: &mut Net,
-    at: &Place,
+    at: &StatementPlace,
     p: &Statement,
     q: &Statement,
     pauses: &PauseSet,
@@ -403,8 +403,8 @@ fn resume_par_back(
         net.new.cells.items result }
     ensures kept { kept net.new ≡ kept net.old }
 {
-    let go = learn(net, at.cell, Status::Absent);
-    let place = Place {
+    let go = tell_cell(net, at.cell, Status::Absent);
+    let place = StatementPlace {
         number: at.number + 1,
         main: at.main,
         direction: at.direction,
@@ -414,7 +414,7 @@ fn resume_par_back(
     let number = number_after(net, &place, p);
     let first_on = is_live(net, place.number, at.traps, p, pauses);
     let second_on = second_lives(net, number, at.traps, first_on, q, pauses);
-    let later = Place {
+    let later = StatementPlace {
         number,
         main: at.main,
         direction: at.direction,
@@ -422,19 +422,19 @@ fn resume_par_back(
         traps: at.traps,
     };
     let second = part(net, &later, q, pauses, second_on, go, run, env);
-    let inside = cells::with_emitted(env, second.judged.must.signals);
+    let inside = judging::with_emitted(env, second.judged.must.signals);
     let first = part(net, &place, p, pauses, first_on, go, run, &inside);
     let left = side(first_on, &first, run);
     let right = side(second_on, &second, run);
-    let own = cells::beside(&left, &right);
-    cells::leave(net, at, &own, second.past)
+    let own = judging::beside(&left, &right);
+    cells::finish_statement(net, at, &own, second.past)
 }
 
 /// Sweeps a trap.
 #[cycle(sweep_resumed)]
 fn resume_trap(
     net: &mut Net,
-    at: &Place,
+    at: &StatementPlace,
     p: &Statement,
     pauses: &PauseSet,
     run: Status,
@@ -453,8 +453,8 @@ fn resume_trap(
         net.new.cells.items result }
     ensures kept { kept net.new ≡ kept net.old }
 {
-    learn(net, at.cell, Status::Absent);
-    let place = Place {
+    tell_cell(net, at.cell, Status::Absent);
+    let place = StatementPlace {
         number: at.number + 1,
         main: at.main,
         direction: at.direction,
@@ -462,8 +462,8 @@ fn resume_trap(
         traps: at.traps + 1,
     };
     let body = sweep_resumed(net, &place, p, pauses, run, env);
-    let own = cells::out_of_trap(&body.judged);
-    cells::leave(net, at, &own, body.past)
+    let own = judging::out_of_trap(&body.judged);
+    cells::finish_statement(net, at, &own, body.past)
 }
 
 /// Sweeps a local signal's binder: its body, and then the cell of its status, by what the body
@@ -471,7 +471,7 @@ fn resume_trap(
 #[cycle(sweep_resumed)]
 fn resume_local(
     net: &mut Net,
-    at: &Place,
+    at: &StatementPlace,
     s: LocalSignal,
     p: &Statement,
     pauses: &PauseSet,
@@ -491,10 +491,10 @@ fn resume_local(
         net.new.cells.items result }
     ensures kept { kept net.new ≡ kept net.old }
 {
-    learn(net, at.cell, Status::Absent);
+    tell_cell(net, at.cell, Status::Absent);
     let cell = at.cell + at.traps + 3;
     let inside = signal_set::set_local(env, s, net.status(cell));
-    let place = Place {
+    let place = StatementPlace {
         number: at.number + 1,
         main: at.main,
         direction: at.direction,
@@ -502,16 +502,16 @@ fn resume_local(
         traps: at.traps,
     };
     let body = sweep_resumed(net, &place, p, pauses, run, &inside);
-    learn(net, cell, cells::status_of(&body.judged, s));
-    let own = cells::hiding(&body.judged, s);
-    cells::leave(net, at, &own, body.past)
+    tell_cell(net, cell, judging::status_of(&body.judged, s));
+    let own = judging::hiding(&body.judged, s);
+    cells::finish_statement(net, at, &own, body.past)
 }
 
 /// Sweeps the cells of a statement that goes on from its pauses, if it is run, one after another.
 #[cycle(sweep_resumed)]
 fn resume_each(
     net: &mut Net,
-    at: &Place,
+    at: &StatementPlace,
     s: &Statement,
     pauses: &PauseSet,
     run: Status,
@@ -560,7 +560,7 @@ fn resume_each(
 #[cycle(sweep_resumed)]
 pub fn sweep_resumed(
     net: &mut Net,
-    at: &Place,
+    at: &StatementPlace,
     s: &Statement,
     pauses: &PauseSet,
     run: Status,

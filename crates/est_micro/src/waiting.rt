@@ -313,7 +313,7 @@ pub fn first_waited(net: &Net, question: &Question<'_>, env: &Env) -> Option<u8>
     look(
         &sight,
         true,
-        net.outputs(),
+        net.output_count(),
         0,
         question.kernel.root(),
         Status::Present,

@@ -4,7 +4,7 @@ use Rattle.std.proofs.lemmas.List.Folds.{list_any-append}
 use Rattle.std.specs.List.{fold}
 use Rattle.std.specs.Str.{bytes_eq}
 use Rattle.std.proofs.lemmas.Bool.{or_left}
-use Rattle.est_modules.specs.BoundNames.{bound_by}
+use Rattle.est_modules.specs.Inner.BoundNames.{bound_by}
 use Rattle.est_modules.specs.Occurrences.{Occurrence}
 use Rattle.est_modules.specs.Visible.{stands_in}
 

@@ -9,7 +9,7 @@ use Rattle.std.specs.Str.{bytes_eq}
 use Rattle.est_syntax.specs.Tree.{RenamingTree}
 use Rattle.est_syntax.specs.Views.{renaming_view}
 use Rattle.est_syntax.specs.declared.tree.Renaming.{Renaming}
-use Rattle.est_modules.specs.declared.head.Head.{Head}
+use Rattle.est_modules.specs.declared.library_modules.LibraryModule.{LibraryModule}
 use Rattle.est_modules.specs.Modules.{Program, program_of, program_named}
 use Rattle.est_modules.specs.Renamings.{renamed, callers_name}
 
@@ -43,9 +43,9 @@ pub same_none : {X Y Z : Type 0} (f : X → Y) (g : Y → Z) (o : Option X)
 same_none f g None = refl
 same_none f g (Some x) = refl
 
--- the module of a name, from the head of that name
-pub program_found : (hs : List Head) (m : List ℕ) → program_named (map program_of hs) m
-    ≡ option_map program_of (find (λ (h : Head). bytes_eq h.name m) hs)
+-- the module of a name, from the place of that name
+pub program_found : (hs : List LibraryModule) (m : List ℕ) → program_named (map program_of hs) m
+    ≡ option_map program_of (find (λ (h : LibraryModule). bytes_eq h.name m) hs)
 program_found hs m = find_map (λ (p : Program). bytes_eq p.name m) program_of hs
 
 pub renamed_is : (rs : List Renaming) (s : List ℕ) → renamed (map renaming_view rs) s

@@ -13,12 +13,12 @@ use Rattle.est_order.specs.RunRows.{IsRun}
 use Rattle.est_modules.specs.Occurrences.{Act, emits, tests, exits, binds, runs, Occurrence, occurrences}
 use Rattle.est_modules.specs.Modules.{Program, program_of}
 use Rattle.est_modules.specs.ModuleOrders.{place_named, place_run, places_run, run_rows}
-use Rattle.est_modules.specs.declared.head.Head.{Head}
+use Rattle.est_modules.specs.declared.library_modules.LibraryModule.{LibraryModule}
 use Rattle.est_modules.proofs.Positions.{position_map}
 
--- the place of a module, from that of its head
-pub place_found : (hs : List Head) (m : List ℕ) → place_named (map program_of hs) m
-    ≡ position (λ (h : Head). bytes_eq h.name m) hs
+-- the place of a module, from that in the code
+pub place_found : (hs : List LibraryModule) (m : List ℕ) → place_named (map program_of hs) m
+    ≡ position (λ (h : LibraryModule). bytes_eq h.name m) hs
 place_found hs m = position_map (λ (p : Program). bytes_eq p.name m) program_of hs
 
 -- what is put after each other is what each gives

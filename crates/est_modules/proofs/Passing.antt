@@ -15,7 +15,7 @@ use Rattle.est_modules.specs.Derived.{par, unit_derived, sequence_derived, state
 use Rattle.est_modules.specs.Derived.{beside_sequences}
 use Rattle.est_modules.specs.Occurrences.{Binder, signals, a_trap, tests, binds, Occurrence, tested, occurrences}
 use Rattle.est_modules.specs.Tests.{test_names}
-use Rattle.est_modules.specs.Walks.{past, past_names, past_test, passed}
+use Rattle.est_modules.specs.Inner.Walks.{past, past_names, past_test, passed}
 
 two : {S : Type 0} (f : S → Occurrence → S) (xs ys : List Occurrence) (k : S) {m n : S} → m ≡ fold f k xs
     → n ≡ fold f m ys → n ≡ fold f k (xs ++ ys)

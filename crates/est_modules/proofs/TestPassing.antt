@@ -11,7 +11,7 @@ use Rattle.est_syntax.specs.declared.tree.Literal.TheFolds.{the_lemmas}
 use Rattle.est_modules.specs.Occurrences.{Binder, tests, Occurrence}
 use Rattle.est_modules.specs.Tests.{literal_names, conjunction_names, literals_names, expression_names}
 use Rattle.est_modules.specs.Tests.{conjunctions_names}
-use Rattle.est_modules.specs.Walks.{past, past_names}
+use Rattle.est_modules.specs.Inner.Walks.{past, past_names}
 
 pub names_append : {S : Type 0} (f : S → Occurrence → S) (bs : List Binder) (xs ys : List (List ℕ)) (k : S)
     → past_names f bs (xs ++ ys) k ≡ past_names f bs ys (past_names f bs xs k)

@@ -1,4 +1,3 @@
-pub mod BoundNames
 pub mod Derived
 pub mod FirstPlaces
 pub mod ModuleOrders
@@ -13,4 +12,4 @@ pub mod Renamings
 pub mod Scopes
 pub mod Tests
 pub mod Visible
-pub mod Walks
+pub mod Inner

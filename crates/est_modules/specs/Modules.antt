@@ -7,10 +7,10 @@ use Rattle.est_syntax.specs.Tree.{DeclarationTree, input, output, inputoutput, r
 use Rattle.est_syntax.specs.Views.{declaration_view, statement_view}
 use Rattle.est_modules.specs.Derived.{Derived, statement_derived}
 use Rattle.est_modules.specs.Occurrences.{Occurrence, occurrences, first_of}
-use Rattle.est_modules.specs.declared.head.Head.{Head}
-use Rattle.est_modules.specs.declared.head.Declared.{Declared}
-use Rattle.est_modules.specs.declared.head.Kind.{Kind}
-use Rattle.est_modules.specs.declared.head.Kind.TheVariants.{Input, Output, InputOutput}
+use Rattle.est_modules.specs.declared.library_modules.LibraryModule.{LibraryModule}
+use Rattle.est_modules.specs.declared.interface.Declared.{Declared}
+use Rattle.est_modules.specs.declared.interface.Kind.{Kind}
+use Rattle.est_modules.specs.declared.interface.Kind.TheVariants.{Input, Output, InputOutput}
 use Rattle.std.specs.Prelude.{◌&&◌}
 
 -- a module: its name; its interface signals and its relations, each in the order of the text; its body
@@ -72,8 +72,8 @@ module_program m =
 abbrev pub programs_of : LibraryTree → List Program
 programs_of l = map module_program (l.first ∷ l.later)
 
--- the module that a head of the code is
-abbrev pub program_of : Head → Program
+-- what a module of the code is
+abbrev pub program_of : LibraryModule → Program
 program_of h =
     record {
       name = h.name;

@@ -1,10 +1,10 @@
 //! The modules of a library: what each is, where names stand in it, what they mean there, and which
 //! modules it runs.
 //!
-//! A `Head` is a module of the tree with its interface at hand. The definitions in `specs/` say
-//! what stands where (`Occurrences`), what a module is (`Modules`, `Derived`) and what a name means
-//! at a place (`Visible`). One walk serves all that goes over a body: it visits each place in the
-//! order of the text, with the declarations around it.
+//! A `LibraryModule` is a module of the tree with its interface at hand; `collecting` makes them.
+//! The definitions in `specs/` say what stands where (`Occurrences`), what a module is (`Modules`,
+//! `Derived`) and what a name means at a place (`Visible`). One walk serves all that goes over a
+//! body: it visits each place in the order of the text, with the declarations around it.
 //!
 //! `module_order` puts the modules into an order in which each stands after all that it runs, or
 //! answers the first from which a chain of runs leads back to it. It reads off which modules each
@@ -16,9 +16,9 @@
 //! place.
 #![tactic(auto)]
 
-pub mod head;
-pub mod head_tree;
-pub mod library_heads;
+pub mod collecting;
+pub mod interface;
+pub mod library_modules;
 pub mod module_order;
 pub mod names;
 pub mod relations;

@@ -6,8 +6,7 @@ ghost use Rattle.est_order.specs.PlaceOrders.{NoneIsRecursive, IsFaultOf};
 ghost use Rattle.est_modules.specs.Modules.{program_of};
 ghost use Rattle.est_modules.specs.ModuleOrders.{IsOrderOf, run_rows, places_run};
 
-use crate::head::Head;
-use crate::head_tree::Heads;
+use crate::library_modules::{LibraryModule, LibraryModules};
 use crate::names::kept::KeptNames;
 use crate::names::open::OpenNames;
 use crate::names::table::NameTable;
@@ -31,7 +30,7 @@ fn note(places: &mut Vec<usize>, place: Option<usize>) -> Result<(), AllocError>
 /// Notes the places of the modules that are run.
 #[derive(Clone, Copy)]
 struct RunPlaces<'a, 'b> {
-    heads: &'a Heads<'b>,
+    modules: &'a LibraryModules<'b>,
 }
 
 impl Visitor for RunPlaces<'_, '_> {
@@ -47,7 +46,7 @@ impl Visitor for RunPlaces<'_, '_> {
 
     ghost fits = { λ v t ks. ⊤ };
 
-    ghost after = { λ v places o. places ++ place_run (map program_of v.heads.now) o.act };
+    ghost after = { λ v places o. places ++ place_run (map program_of v.modules.now) o.act };
 
     fn visit(
         &self,
@@ -58,7 +57,7 @@ impl Visitor for RunPlaces<'_, '_> {
     ) -> Result<(), AllocError> {
         match act {
             Act::Emits(_) | Act::Tests(_) | Act::Exits(_) | Act::Binds(_) => Ok(()),
-            Act::Runs(name, _) => note(seen, self.heads.place(name)),
+            Act::Runs(name, _) => note(seen, self.modules.place(name)),
         }
     }
 }
@@ -66,14 +65,14 @@ impl Visitor for RunPlaces<'_, '_> {
 /// The places of the modules that a module runs, in the order of the text.
 pub fn places_run(
     alloc: Global,
-    heads: &Heads<'_>,
-    home: &Head<'_>,
+    modules: &LibraryModules<'_>,
+    home: &LibraryModule<'_>,
 ) -> Result<Vec<usize>, AllocError>
-    ensures { IfOk result (λ places. places.items ≡ places_run (map program_of heads.now)
+    ensures { IfOk result (λ places. places.items ≡ places_run (map program_of modules.now)
         (program_of home.now)) }
 {
     let mut places = Vec::new(alloc);
-    let visitor = RunPlaces { heads: &*heads };
+    let visitor = RunPlaces { modules: &*modules };
     let table = NameTable::new(alloc);
     let none = KeptNames::none(alloc);
     walk_body(&visitor, &mut places, alloc, &table, &none, home.body)?;
@@ -81,12 +80,12 @@ pub fn places_run(
 }
 
 /// The same of each module.
-fn run_rows(alloc: Global, heads: &Heads<'_>) -> Result<Vec<Vec<usize>>, AllocError>
-    ensures { IfOk result (λ rows. rows_of rows.items ≡ run_rows (map program_of heads.now)) }
+fn run_rows(alloc: Global, modules: &LibraryModules<'_>) -> Result<Vec<Vec<usize>>, AllocError>
+    ensures { IfOk result (λ rows. rows_of rows.items ≡ run_rows (map program_of modules.now)) }
 {
     let mut rows = Vec::new(alloc);
-    for home in heads.modules() {
-        rows.push(places_run(alloc, &*heads, home)?)?;
+    for home in modules.as_slice() {
+        rows.push(places_run(alloc, &*modules, home)?)?;
     }
     Ok(rows)
 }
@@ -98,11 +97,11 @@ fn run_rows(alloc: Global, heads: &Heads<'_>) -> Result<Vec<Vec<usize>>, AllocEr
 ///
 /// `Recursive` with the place of the first module, in the order of the text, from which a chain of
 /// runs leads back to it, where there is one; or memory was refused.
-pub fn order_heads(alloc: Global, heads: &Heads<'_>) -> Result<Order, OrderFault>
-    ensures order { IfOk result (λ order. IsOrderOf (map program_of heads.now) order) }
-    ensures ok { OnOk result (NoneIsRecursive (run_rows (map program_of heads.now))) }
-    ensures err { IfErr result (λ fault. IsFaultOf (run_rows (map program_of heads.now)) fault) }
+pub fn order_modules(alloc: Global, modules: &LibraryModules<'_>) -> Result<Order, OrderFault>
+    ensures order { IfOk result (λ order. IsOrderOf (map program_of modules.now) order) }
+    ensures ok { OnOk result (NoneIsRecursive (run_rows (map program_of modules.now))) }
+    ensures err { IfErr result (λ fault. IsFaultOf (run_rows (map program_of modules.now)) fault) }
 {
-    let rows = run_rows(alloc, &*heads)?;
+    let rows = run_rows(alloc, &*modules)?;
     order_modules(alloc, &rows)
 }

@@ -4,7 +4,7 @@ ghost use Rattle.est_syntax.specs.Views.{relation_view, declaration_view};
 ghost use Rattle.est_modules.specs.Modules.{is_input_kind, is_offered_kind, related_by};
 ghost use Rattle.est_modules.specs.Modules.{relations_of};
 
-use crate::head::Kind;
+use crate::interface::Kind;
 use est_syntax::tree::{Declaration, Relation};
 use std::alloc::{AllocError, Global};
 

@@ -8,7 +8,7 @@ ghost use Rattle.est_syntax.specs.Views.{test_view};
 ghost use Rattle.est_modules.specs.OpenNames.{IsOpen};
 ghost use Rattle.est_modules.specs.Scopes.{binders_of};
 ghost use Rattle.est_modules.specs.Tests.{literal_names, conjunction_names, expression_names};
-ghost use Rattle.est_modules.specs.Walks.{past_names, past_test};
+ghost use Rattle.est_modules.specs.Inner.Walks.{past_names, past_test};
 
 use crate::names::open::OpenNames;
 use crate::scope::{Act, Scope};

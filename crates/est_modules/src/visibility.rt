@@ -9,7 +9,7 @@ ghost use Rattle.est_modules.specs.Visible.{stands_in};
 ghost use Rattle.est_modules.specs.Visible.{has_signals};
 ghost use Rattle.est_modules.specs.Visible.{is_tick, is_among, is_local, is_trap, is_visible};
 
-use crate::head::Head;
+use crate::library_modules::LibraryModule;
 use crate::names::open::OpenNames;
 use crate::scope::Scope;
 use est_syntax::tree::Names;
@@ -86,7 +86,7 @@ pub fn has_signals(scope: &Scope<'_>) -> bool
 
 /// Whether a signal of this name is visible at a place in the module `home`.
 pub fn is_visible(
-    home: &Head<'_>,
+    home: &LibraryModule<'_>,
     kept: &OpenNames<'_, '_, '_>,
     scope: &Scope<'_>,
     signal: &Identifier,

@@ -13,7 +13,7 @@ ghost use Rattle.est_modules.specs.Occurrences.{occurrences};
 ghost use Rattle.est_modules.specs.NameTables.{IsTable};
 ghost use Rattle.est_modules.specs.OpenNames.{IsOpen};
 ghost use Rattle.est_modules.specs.Scopes.{binders_of};
-ghost use Rattle.est_modules.specs.Walks.{passed, passed_branches, past_test};
+ghost use Rattle.est_modules.specs.Inner.Walks.{passed, passed_branches, past_test};
 
 use crate::names::kept::KeptNames;
 use crate::names::open::OpenNames;

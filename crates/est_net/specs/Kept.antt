@@ -9,8 +9,8 @@ use Rattle.est_net.specs.declared.reach.Reach.{Reach}
 -- how many cells were decided before the cells were last opened, and what never changes
 pub record Kept : Type 0 where
   pub earlier : ℕ
-  pub signals : ℕ
-  pub outputs : ℕ
+  pub emittable : ℕ
+  pub output_count : ℕ
   pub reach : Reach
   pub extents : List Extent
   pub emissions : List Emission
@@ -18,8 +18,8 @@ pub record Kept : Type 0 where
 abbrev pub kept : Net → Kept
 kept net = record {
   earlier = net.earlier;
-  signals = net.signals;
-  outputs = net.outputs;
+  emittable = net.emittable;
+  output_count = net.output_count;
   reach = net.reach;
   extents = net.extents.items;
   emissions = net.emissions.items;
@@ -29,8 +29,8 @@ kept net = record {
 abbrev pub reopened : Net → Kept
 reopened net = record {
   earlier = (net.earlier + decided net.cells.items) % 2 ^ 64;
-  signals = net.signals;
-  outputs = net.outputs;
+  emittable = net.emittable;
+  output_count = net.output_count;
   reach = net.reach;
   extents = net.extents.items;
   emissions = net.emissions.items;

@@ -9,7 +9,7 @@
 pub mod emissions;
 pub mod extents;
 pub mod laws;
-mod lay;
+mod layout;
 pub mod net;
 pub mod owners;
 pub mod pause_run;

@@ -17,7 +17,7 @@ ghost use Rattle.est_net.specs.Reach.{IsReachOf};
 
 use crate::emissions::{Emission, Emitted, emissions_of};
 use crate::extents::{Extent, extents_of};
-use crate::lay::lay;
+use crate::layout::lay;
 use crate::reach::Reach;
 use crate::table;
 use est_kernel::interface::Interface;
@@ -31,13 +31,13 @@ use std::alloc::{AllocError, Global};
 pub struct Net {
     cells: Vec<Status>,
     /// How many of them are open.
-    left_open: usize,
+    open_count: usize,
     /// How many cells were decided before they were last opened, modulo 2^64.
     earlier: u64,
     /// The signals of the interface that may be emitted, a bit for each.
-    signals: u64,
+    emittable: u64,
     /// How many of them there are. Their cells come first.
-    outputs: usize,
+    output_count: usize,
     /// What may be emitted in an instant.
     reach: Reach,
     /// What is known of each statement, in the order of the text.
@@ -45,7 +45,7 @@ pub struct Net {
     /// The emissions of signals of the interface, in the order of their cells.
     emissions: Vec<Emission>,
     /// All others are decided.
-    ghost counted: { decided cells.items + left_open ≡ length cells.items },
+    ghost counted: { decided cells.items + open_count ≡ length cells.items },
 }
 
 /// How many signals up to a place are in the mask.
@@ -81,8 +81,9 @@ impl Net {
     pub fn build(alloc: Global, kernel: &Kernel) -> Result<Net, AllocError>
         ensures cells { IfOk result (λ net. net.cells.items
             ≡ replicate (cell_count kernel.now) Unknown) }
-        ensures signals { IfOk result (λ net. bits net.signals ≡ emittable kernel.now.interface) }
-        ensures outputs { IfOk result (λ net. net.outputs ≡ output_count kernel.now.interface) }
+        ensures signals { IfOk result (λ net. bits net.emittable ≡ emittable kernel.now.interface) }
+        ensures outputs
+            { IfOk result (λ net. net.output_count ≡ output_count kernel.now.interface) }
         ensures reach { IfOk result (λ net. IsReachOf net.reach kernel.now.root) }
         ensures extents { IfOk result (λ net. HasExtents net.extents.items 0 0 kernel.now.root) }
         ensures emissions { IfOk result (λ net. net.emissions.items
@@ -97,11 +98,11 @@ impl Net {
         let extents = extents_of(alloc, kernel.root())?;
         let emissions = emissions_of(alloc, kernel.root(), outputs)?;
         Ok(Net {
-            left_open: cells.len(),
+            open_count: cells.len(),
             cells,
             earlier: 0,
-            signals,
-            outputs,
+            emittable: signals,
+            output_count: outputs,
             reach,
             extents,
             emissions,
@@ -116,17 +117,17 @@ impl Net {
     }
 
     /// The signals of the interface that may be emitted, a bit for each.
-    pub fn signals(&self) -> u64
-        ensures { result ≡ self.now.signals }
+    pub fn emittable(&self) -> u64
+        ensures { result ≡ self.now.emittable }
     {
-        self.signals
+        self.emittable
     }
 
-    /// How many of them are of signals of the interface. They come first.
-    pub fn outputs(&self) -> usize
-        ensures { result ≡ self.now.outputs }
+    /// How many of the cells are of signals of the interface. They come first.
+    pub fn output_count(&self) -> usize
+        ensures { result ≡ self.now.output_count }
     {
-        self.outputs
+        self.output_count
     }
 
     /// What may be emitted in an instant.
@@ -147,7 +148,7 @@ impl Net {
 
     /// What a cell knows. One that isn't there is never true.
     #[inline(always)]
-    fn known(&self, cell: usize) -> Status
+    fn status_or_absent(&self, cell: usize) -> Status
         ensures { result ≡ cell_at self.now.cells.items cell }
     {
         if cell < self.cells.len() {
@@ -167,7 +168,7 @@ impl Net {
     {
         let mut said = Emitted::nothing();
         for emission in &self.emissions {
-            said = said.beside(emission.signal, self.known(emission.go));
+            said = said.beside(emission.signal, self.status_or_absent(emission.go));
         }
         said
     }
@@ -177,7 +178,7 @@ impl Net {
         ensures count { result ≡ decided self.now.cells.items }
         ensures bound { result ≤ length self.now.cells.items }
     {
-        self.cells.len() - self.left_open
+        self.cells.len() - self.open_count
     }
 
     /// How many cells were ever decided, modulo 2^64, each as often as it was: `clear` takes none
@@ -253,7 +254,7 @@ impl Net {
         ensures kept { kept self.new ≡ kept self.old }
     {
         table::decide(self.cells.as_mut_slice(), cell, value);
-        self.left_open -= 1;
+        self.open_count -= 1;
     }
 
     /// Decides the cells of a range, all of them open, to be false: as many writes as it has cells.
@@ -268,7 +269,7 @@ impl Net {
         ensures kept { kept self.new ≡ kept self.old }
     {
         table::fill(self.cells.as_mut_slice(), from, past);
-        self.left_open -= past - from;
+        self.open_count -= past - from;
     }
 
     /// Opens all cells. The number of writes stays.
@@ -279,6 +280,6 @@ impl Net {
     {
         self.earlier = self.earlier.wrapping_add(self.steps() as u64);
         table::open_all(self.cells.as_mut_slice());
-        self.left_open = self.cells.len();
+        self.open_count = self.cells.len();
     }
 }

@@ -3,7 +3,7 @@
 use Rattle.std.specs.Prelude.{◌≡◌, ℕ, ◌+◌, ◌^◌, true, false, not, List, position, Option, Some, Result, Ok, Err, bit_or}
 use Rattle.std.specs.Prelude.{slice_get}
 use Rattle.std.specs.List.{find, list_all}
-use Rattle.refusal_rules.specs.Rules.{Rules, Says, Unless, Naming, accept, ◌▸◌, Answers}
+use Rattle.refusal_rules.specs.Rules.{Rules, RefuseIf, RefuseUnless, RefuseNaming, accept, ◌▸◌, Answers}
 use Rattle.est_kernel.specs.Bits.{bits}
 use Rattle.est_kernel.specs.Interfaces.{offerable, is_named}
 use Rattle.est_kernel.specs.declared.interface.Declaration.{Declaration}
@@ -100,15 +100,15 @@ pub record IsFirstImplied (p : PendingInputs) (number : ℕ) (missing : List ℕ
 -- the rules of refusal of an offer, in their order
 abbrev pub offer_rules : PendingInputs → List ℕ → Rules PendingRefusal
 offer_rules p name =
-    Unless (IsSignalName p.interface name) UnknownSignal
-    ▸ Says NotInput (IsOutputName p.interface name)
-    ▸ Says AlreadyOffered (IsPendingName p.interface p.inputs name)
-    ▸ Naming {Thing = ℕ × List ℕ} (λ e. Excluded e.0 e.1) (λ e. IsFirstExcluded p name e.0 e.1)
+    RefuseUnless (IsSignalName p.interface name) UnknownSignal
+    ▸ RefuseIf NotInput (IsOutputName p.interface name)
+    ▸ RefuseIf AlreadyOffered (IsPendingName p.interface p.inputs name)
+    ▸ RefuseNaming {Thing = ℕ × List ℕ} (λ e. Excluded e.0 e.1) (λ e. IsFirstExcluded p name e.0 e.1)
     ▸ accept
 
 -- the rules of refusal of an instant
 abbrev pub ready_rules : PendingInputs → Rules PendingRefusal
-ready_rules p = Naming {Thing = ℕ × List ℕ} (λ e. Implied e.0 e.1) (λ e. IsFirstImplied p e.0 e.1) ▸ accept
+ready_rules p = RefuseNaming {Thing = ℕ × List ℕ} (λ e. Implied e.0 e.1) (λ e. IsFirstImplied p e.0 e.1) ▸ accept
 
 -- the signal of the name becomes pending too
 pub record Adds (before : PendingInputs) (name : List ℕ) (after : PendingInputs) : Type 0 where

@@ -13,7 +13,7 @@ use Rattle.est_kernel.specs.declared.statement.Statement.{Statement}
 use Rattle.est_rounds.specs.Views.{acts_of, env_of}
 use Rattle.est_rounds.specs.declared.signal_set.Env.{Env as Known}
 use Rattle.est_rounds.specs.declared.acts.Acts.{Acts}
-use Rattle.est_rounds.specs.declared.acts.Judgement.{Judgement}
+use Rattle.est_rounds.specs.declared.acts.MustCan.{MustCan}
 
 -- s has a pause in the set, and what is left of it can do these acts, in doubt whether it is reached
 pub record CanDo (s : Statement) (pauses : ℕ → Bool) (e : Env) (acts : Acts) : Type 0 where
@@ -26,13 +26,13 @@ IsJudgedInDoubt (Some acts) s pauses e = CanDo s pauses e acts
 IsJudgedInDoubt None s pauses e = is_live s pauses ≡ false
 
 -- s has a pause in the set, and what is left of it is judged so
-pub record MustAndCanDo (s : Statement) (pauses : ℕ → Bool) (e : Env) (judged : Judgement) : Type 0 where
+pub record MustAndCanDo (s : Statement) (pauses : ℕ → Bool) (e : Env) (judged : MustCan) : Type 0 where
   pub live : is_live s pauses ≡ true
   pub must_is : acts_of judged.must ≡ must (term_at s pauses) e
   pub can_is : acts_of judged.can ≡ can (term_at s pauses) sure e
 
 -- the answer for s: what it is judged to do, or none where it has no pause in the set
-abbrev pub IsJudged : Option Judgement → Statement → (ℕ → Bool) → Env → Type 0
+abbrev pub IsJudged : Option MustCan → Statement → (ℕ → Bool) → Env → Type 0
 IsJudged (Some judged) s pauses e = MustAndCanDo s pauses e judged
 IsJudged None s pauses e = is_live s pauses ≡ false
 
@@ -40,7 +40,7 @@ IsJudged None s pauses e = is_live s pauses ≡ false
 abbrev pub JudgesInDoubt : Option Acts → Statement → PauseSet → Known → Type 0
 JudgesInDoubt answer s pauses e = IsJudgedInDoubt answer s (pauses_of pauses) (env_of e)
 
-abbrev pub Judges : Option Judgement → Statement → PauseSet → Known → Type 0
+abbrev pub Judges : Option MustCan → Statement → PauseSet → Known → Type 0
 Judges answer s pauses e = IsJudged answer s (pauses_of pauses) (env_of e)
 
 -- what a term must do, what it can do, and what it can do in doubt whether it is reached, as far as is known
@@ -54,9 +54,9 @@ abbrev pub may_by : Known → Term → meaning.Acts
 may_by e t = can t maybe (env_of e)
 
 -- what a first part and the statement after it must do and can do, from what is judged of the first part
-abbrev pub must_follow : Judgement → Statement → Known → meaning.Acts
+abbrev pub must_follow : MustCan → Statement → Known → meaning.Acts
 must_follow first q e = must_then (acts_of first.must) (must (term_of q) (env_of e))
 
-abbrev pub can_follow : Judgement → Statement → Known → meaning.Acts
+abbrev pub can_follow : MustCan → Statement → Known → meaning.Acts
 can_follow first q e =
     can_then (acts_of first.can) (can (term_of q) (next_mode sure (codes_of first.must.codes 0)) (env_of e))

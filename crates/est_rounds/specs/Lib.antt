@@ -1,6 +1,5 @@
 pub mod Contract
 pub mod Judging
-pub mod Learning
 pub mod Parts
-pub mod Steps
 pub mod Views
+pub mod Inner

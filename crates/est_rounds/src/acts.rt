@@ -138,42 +138,42 @@ impl Acts {
 
 /// What must be done and what can be done.
 #[derive(Clone, Copy)]
-pub struct Judgement {
+pub struct MustCan {
     /// What must be done.
     pub must: Acts,
     /// What can be done.
     pub can: Acts,
 }
 
-impl Judgement {
+impl MustCan {
     /// What is done for sure.
-    pub fn exactly(acts: Acts) -> Judgement
+    pub fn exactly(acts: Acts) -> MustCan
         ensures must { result.must ≡ acts }
         ensures can { result.can ≡ acts }
     {
-        Judgement {
+        MustCan {
             must: acts,
             can: acts,
         }
     }
 
     /// What is judged of both, side by side.
-    pub fn beside(self, other: Judgement) -> Judgement
+    pub fn beside(self, other: MustCan) -> MustCan
         ensures must { acts_of result.must ≡ together (acts_of self.must) (acts_of other.must) }
         ensures can { acts_of result.can ≡ together (acts_of self.can) (acts_of other.can) }
     {
-        Judgement {
+        MustCan {
             must: self.must.beside(other.must),
             can: self.can.beside(other.can),
         }
     }
 
     /// What is judged outside a trap.
-    pub fn out_of_trap(self) -> Judgement
+    pub fn out_of_trap(self) -> MustCan
         ensures must { acts_of result.must ≡ acts_out_of_trap (acts_of self.must) }
         ensures can { acts_of result.can ≡ acts_out_of_trap (acts_of self.can) }
     {
-        Judgement {
+        MustCan {
             must: self.must.out_of_trap(),
             can: self.can.out_of_trap(),
         }
@@ -190,12 +190,12 @@ impl Judgement {
     }
 
     /// What is judged outside the binder of this local signal.
-    pub fn hiding(self, s: LocalSignal) -> Judgement
+    pub fn hiding(self, s: LocalSignal) -> MustCan
         requires { s.index < 64 }
         ensures must { acts_of result.must ≡ hide s.index (acts_of self.must) }
         ensures can { acts_of result.can ≡ hide s.index (acts_of self.can) }
     {
-        Judgement {
+        MustCan {
             must: self.must.hiding(s),
             can: self.can.hiding(s),
         }

@@ -11,7 +11,7 @@ ghost use Rattle.est_kernel.specs.declared.statement.Statement.TheVariants.{Par'
 ghost use Rattle.est_meaning.specs.States.{is_live};
 ghost use Rattle.est_rounds.specs.Judging.{Judges, JudgesInDoubt};
 
-use crate::acts::{Acts, Judgement};
+use crate::acts::{Acts, MustCan};
 use crate::answer::answer_to;
 use crate::signal_set::{self, Env};
 use crate::start::{then_start, then_start_maybe};
@@ -149,7 +149,7 @@ fn resume_local_maybe(s: LocalSignal, p: &Statement, pauses: &PauseSet, env: &En
 /// What a statement must do and can do as it goes on. There is no answer where it has no pause in
 /// the set.
 #[cycle(sure)]
-pub fn resume_sure(s: &Statement, pauses: &PauseSet, env: &Env) -> Option<Judgement>
+pub fn resume_sure(s: &Statement, pauses: &PauseSet, env: &Env) -> Option<MustCan>
     requires fits { FitsMasks s.now }
     ensures { Judges result s.now pauses.now env.now }
 {
@@ -157,7 +157,7 @@ pub fn resume_sure(s: &Statement, pauses: &PauseSet, env: &Env) -> Option<Judgem
         Statement::Nothing => None,
         Statement::Pause(n) => {
             if pauses.has(*n) {
-                Some(Judgement::exactly(Acts::just_code(Completion::End)))
+                Some(MustCan::exactly(Acts::just_code(Completion::End)))
             } else {
                 None
             }
@@ -179,14 +179,14 @@ pub fn resume_sure(s: &Statement, pauses: &PauseSet, env: &Env) -> Option<Judgem
 
 /// What `suspend p when t` must do and can do as it goes on.
 #[cycle(sure)]
-fn suspend_sure(t: &Test, p: &Statement, pauses: &PauseSet, env: &Env) -> Option<Judgement>
+fn suspend_sure(t: &Test, p: &Statement, pauses: &PauseSet, env: &Env) -> Option<MustCan>
     requires fits { FitsMasks p.now }
     ensures { (x : _) → Judges result (Suspend' t.now x p.now) pauses.now env.now }
 {
     match answer_to(env, t) {
         Status::Present => {
             if has_live(p, pauses) {
-                Some(Judgement::exactly(Acts::just_code(Completion::Pause)))
+                Some(MustCan::exactly(Acts::just_code(Completion::Pause)))
             } else {
                 None
             }
@@ -194,7 +194,7 @@ fn suspend_sure(t: &Test, p: &Statement, pauses: &PauseSet, env: &Env) -> Option
         Status::Absent => resume_sure(p, pauses, env),
         Status::Unknown => {
             let acts = resume_maybe(p, pauses, env)?;
-            Some(Judgement {
+            Some(MustCan {
                 must: Acts::none(),
                 can: acts.or_stays(),
             })
@@ -204,7 +204,7 @@ fn suspend_sure(t: &Test, p: &Statement, pauses: &PauseSet, env: &Env) -> Option
 
 /// What `p; q` must do and can do as it goes on.
 #[cycle(sure)]
-fn seq_sure(p: &Statement, q: &Statement, pauses: &PauseSet, env: &Env) -> Option<Judgement>
+fn seq_sure(p: &Statement, q: &Statement, pauses: &PauseSet, env: &Env) -> Option<MustCan>
     requires fits { FitsMasks p.now × FitsMasks q.now }
     ensures { (x y : _) → Judges result (Seq' x p.now y q.now) pauses.now env.now }
 {
@@ -216,7 +216,7 @@ fn seq_sure(p: &Statement, q: &Statement, pauses: &PauseSet, env: &Env) -> Optio
 
 /// What `loop p end` must do and can do as it goes on.
 #[cycle(sure)]
-fn loop_sure(p: &Statement, pauses: &PauseSet, env: &Env) -> Option<Judgement>
+fn loop_sure(p: &Statement, pauses: &PauseSet, env: &Env) -> Option<MustCan>
     requires fits { FitsMasks p.now }
     ensures { (x : _) → Judges result (Loop' x p.now) pauses.now env.now }
 {
@@ -226,16 +226,14 @@ fn loop_sure(p: &Statement, pauses: &PauseSet, env: &Env) -> Option<Judgement>
 
 /// What `p || q` must do and can do as it goes on.
 #[cycle(sure)]
-fn resume_par_sure(p: &Statement, q: &Statement, pauses: &PauseSet, env: &Env) -> Option<Judgement>
+fn resume_par_sure(p: &Statement, q: &Statement, pauses: &PauseSet, env: &Env) -> Option<MustCan>
     requires fits { FitsMasks p.now × FitsMasks q.now }
     ensures { (x y : _) → Judges result (Par' x p.now y q.now) pauses.now env.now }
 {
     match (resume_sure(p, pauses, env), resume_sure(q, pauses, env)) {
         (None, None) => None,
-        (Some(left), None) => Some(left.beside(Judgement::exactly(Acts::just_code(
-            Completion::End,
-        )))),
-        (None, Some(right)) => Some(Judgement::exactly(Acts::just_code(Completion::End)).beside(
+        (Some(left), None) => Some(left.beside(MustCan::exactly(Acts::just_code(Completion::End)))),
+        (None, Some(right)) => Some(MustCan::exactly(Acts::just_code(Completion::End)).beside(
             right,
         )),
         (Some(left), Some(right)) => Some(left.beside(right)),
@@ -244,7 +242,7 @@ fn resume_par_sure(p: &Statement, q: &Statement, pauses: &PauseSet, env: &Env) -
 
 /// What `trap p end` must do and can do as it goes on.
 #[cycle(sure)]
-fn resume_trap_sure(p: &Statement, pauses: &PauseSet, env: &Env) -> Option<Judgement>
+fn resume_trap_sure(p: &Statement, pauses: &PauseSet, env: &Env) -> Option<MustCan>
     requires fits { FitsMasks p.now }
     ensures { (x : _) → Judges result (Trap' x p.now) pauses.now env.now }
 {
@@ -253,12 +251,7 @@ fn resume_trap_sure(p: &Statement, pauses: &PauseSet, env: &Env) -> Option<Judge
 
 /// What `signal s in p end` must do and can do as it goes on.
 #[cycle(sure)]
-fn resume_local_sure(
-    s: LocalSignal,
-    p: &Statement,
-    pauses: &PauseSet,
-    env: &Env,
-) -> Option<Judgement>
+fn resume_local_sure(s: LocalSignal, p: &Statement, pauses: &PauseSet, env: &Env) -> Option<MustCan>
     requires fits { (s.index < 64) × FitsMasks p.now }
     ensures { (x : _) → Judges result (Local' s x p.now) pauses.now env.now }
 {

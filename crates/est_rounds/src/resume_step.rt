@@ -10,8 +10,8 @@ ghost use Rattle.est_meaning.specs.States.{IsExclusive};
 ghost use Rattle.est_kernel.specs.Pauses.{pauses_of};
 ghost use Rattle.est_kernel.specs.declared.statement.Statement.TheVariants.{Suspend', Seq', Loop'};
 ghost use Rattle.est_kernel.specs.declared.statement.Statement.TheVariants.{Par', Trap', Local'};
-ghost use Rattle.est_rounds.specs.Steps.{AreClear, AreExclusive, GoesOn, IsClear, KeepsOthers};
-ghost use Rattle.est_rounds.specs.Steps.{TakeTurns, TakesOver};
+ghost use Rattle.est_rounds.specs.Inner.Steps.{AreClear, AreExclusive, GoesOn, IsClear};
+ghost use Rattle.est_rounds.specs.Inner.Steps.{KeepsOthers, TakeTurns, TakesOver};
 
 use crate::answer::answer_to;
 use crate::resume::{has_live, resume_sure};

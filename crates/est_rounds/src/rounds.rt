@@ -9,11 +9,11 @@ ghost use Rattle.est_meaning.specs.States.{IsState};
 ghost use Rattle.est_rounds.specs.Contract.{judged_of};
 ghost use Rattle.est_rounds.specs.Views.{env_of, acts_of, judged_by};
 ghost use Rattle.est_rounds.specs.Judging.{can_by, must_by};
-ghost use Rattle.est_rounds.specs.Learning.{IsKernelStep, IsLastRound, IsRound, is_left_open};
-ghost use Rattle.est_rounds.specs.Learning.{term_left};
-ghost use Rattle.est_rounds.specs.Steps.{IsClear, IsStuckBy, KeepsOthers};
+ghost use Rattle.est_rounds.specs.Inner.Learning.{IsKernelStep, IsLastRound, IsRound, is_left_open};
+ghost use Rattle.est_rounds.specs.Inner.Learning.{term_left};
+ghost use Rattle.est_rounds.specs.Inner.Steps.{IsClear, IsStuckBy, KeepsOthers};
 
-use crate::acts::{Acts, Judgement};
+use crate::acts::{Acts, MustCan};
 use crate::engine::Engine;
 use crate::judged::JudgedSignals;
 use crate::resume::resume_sure;
@@ -70,17 +70,17 @@ fn first_known(judged: JudgedSignals, inputs: u64) -> Env
 
 /// What a kernel must do and can do from this state.
 #[tactic(auto, using(est_kernel::proofs::FitsMasks::fits_within_limits))]
-fn judge(kernel: &Kernel, state: &State, env: &Env) -> Judgement
+fn judge(kernel: &Kernel, state: &State, env: &Env) -> MustCan
     requires { IsState kernel.now.root state.now }
     ensures must { acts_of result.must ≡ must_by env.now (term_left kernel.now state.now) }
     ensures can { acts_of result.can ≡ can_by env.now (term_left kernel.now state.now) }
 {
     match state {
         State::Fresh => start_sure(kernel.root(), env),
-        State::Done => Judgement::exactly(Acts::just_code(Completion::End)),
+        State::Done => MustCan::exactly(Acts::just_code(Completion::End)),
         State::Paused(pauses) => match resume_sure(kernel.root(), pauses, env) {
             Some(judged) => judged,
-            None => Judgement::exactly(Acts::just_code(Completion::End)),
+            None => MustCan::exactly(Acts::just_code(Completion::End)),
         },
     }
 }

@@ -11,7 +11,7 @@ ghost use Rattle.est_rounds.specs.Views.{acts_of};
 ghost use Rattle.est_meaning.specs.MustCan.{can_then};
 ghost use Rattle.est_rounds.specs.Judging.{can_by, can_follow, may_by, must_by, must_follow};
 
-use crate::acts::{Acts, Judgement};
+use crate::acts::{Acts, MustCan};
 use crate::answer::answer_to;
 use crate::signal_set::{self, Env};
 use est_kernel::code_set::CodeSet;
@@ -92,22 +92,22 @@ pub fn then_start_maybe(first: Acts, q: &Statement, env: &Env) -> Acts
 
 /// What a statement must do and can do.
 #[cycle(start)]
-pub fn start_sure(s: &Statement, env: &Env) -> Judgement
+pub fn start_sure(s: &Statement, env: &Env) -> MustCan
     requires fits { FitsMasks s.now }
     ensures must { acts_of result.must ≡ must_by env.now (term_of s.now) }
     ensures can { acts_of result.can ≡ can_by env.now (term_of s.now) }
 {
     match s {
-        Statement::Nothing => Judgement::exactly(Acts::just_code(Completion::End)),
-        Statement::Pause(_) => Judgement::exactly(Acts::just_code(Completion::Pause)),
-        Statement::Emit(s) => Judgement::exactly(Acts {
+        Statement::Nothing => MustCan::exactly(Acts::just_code(Completion::End)),
+        Statement::Pause(_) => MustCan::exactly(Acts::just_code(Completion::Pause)),
+        Statement::Emit(s) => MustCan::exactly(Acts {
             signals: signal_set::only_signal(*s),
             codes: CodeSet::single(Completion::End),
         }),
         Statement::Present(t, p, q) => match answer_to(env, t) {
             Status::Present => start_sure(p, env),
             Status::Absent => start_sure(q, env),
-            Status::Unknown => Judgement {
+            Status::Unknown => MustCan {
                 must: Acts::none(),
                 can: start_maybe(p, env).or(start_maybe(q, env)),
             },
@@ -117,14 +117,14 @@ pub fn start_sure(s: &Statement, env: &Env) -> Judgement
         Statement::Loop(p) => start_sure(p, env),
         Statement::Par(p, q) => start_par_sure(p, q, env),
         Statement::Trap(p) => start_trap_sure(p, env),
-        Statement::Exit(k) => Judgement::exactly(Acts::just_code(Completion::Exit(*k))),
+        Statement::Exit(k) => MustCan::exactly(Acts::just_code(Completion::Exit(*k))),
         Statement::Local(s, p) => start_local_sure(*s, p, env),
     }
 }
 
 /// What `p || q` must do and can do.
 #[cycle(start)]
-fn start_par_sure(p: &Statement, q: &Statement, env: &Env) -> Judgement
+fn start_par_sure(p: &Statement, q: &Statement, env: &Env) -> MustCan
     requires fits { FitsMasks p.now × FitsMasks q.now }
     ensures must { acts_of result.must ≡ must_by env.now (par (term_of p.now) (term_of q.now)) }
     ensures can { acts_of result.can ≡ can_by env.now (par (term_of p.now) (term_of q.now)) }
@@ -134,7 +134,7 @@ fn start_par_sure(p: &Statement, q: &Statement, env: &Env) -> Judgement
 
 /// What `trap p end` must do and can do.
 #[cycle(start)]
-fn start_trap_sure(p: &Statement, env: &Env) -> Judgement
+fn start_trap_sure(p: &Statement, env: &Env) -> MustCan
     requires fits { FitsMasks p.now }
     ensures must { acts_of result.must ≡ must_by env.now (trap (term_of p.now)) }
     ensures can { acts_of result.can ≡ can_by env.now (trap (term_of p.now)) }
@@ -144,7 +144,7 @@ fn start_trap_sure(p: &Statement, env: &Env) -> Judgement
 
 /// What `signal s in p end` must do and can do.
 #[cycle(start)]
-fn start_local_sure(s: LocalSignal, p: &Statement, env: &Env) -> Judgement
+fn start_local_sure(s: LocalSignal, p: &Statement, env: &Env) -> MustCan
     requires fits { (s.index < 64) × FitsMasks p.now }
     ensures must { acts_of result.must ≡ must_by env.now (signal s.index (term_of p.now)) }
     ensures can { acts_of result.can ≡ can_by env.now (signal s.index (term_of p.now)) }
@@ -157,14 +157,14 @@ fn start_local_sure(s: LocalSignal, p: &Statement, env: &Env) -> Judgement
 
 /// What is judged of a first part and of the statement after it.
 #[cycle(start)]
-pub fn then_start(first: Judgement, q: &Statement, env: &Env) -> Judgement
+pub fn then_start(first: MustCan, q: &Statement, env: &Env) -> MustCan
     requires fits { FitsMasks q.now }
     ensures must { acts_of result.must ≡ must_follow first q.now env.now }
     ensures can { acts_of result.can ≡ can_follow first q.now env.now }
 {
     if first.must.has_end() {
         let second = start_sure(q, env);
-        Judgement {
+        MustCan {
             must: first.must.must_then(second.must),
             can: if first.can.has_end() {
                 first.can.can_then(second.can)
@@ -173,7 +173,7 @@ pub fn then_start(first: Judgement, q: &Statement, env: &Env) -> Judgement
             },
         }
     } else {
-        Judgement {
+        MustCan {
             must: first.must,
             can: if first.can.has_end() {
                 first.can.can_then(start_maybe(q, env))

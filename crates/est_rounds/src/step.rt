@@ -17,8 +17,9 @@ ghost use Rattle.est_kernel.specs.declared.statement.Statement.TheVariants.{Loca
 ghost use Rattle.est_kernel.specs.declared.statement.Statement.TheVariants.{Trap'};
 ghost use Rattle.est_meaning.specs.Signals.{no_signals, union, without};
 ghost use Rattle.est_rounds.specs.Views.{set_of};
-ghost use Rattle.est_rounds.specs.Steps.{AreClear, HaveSamePauses, IfBegun, IsClear, IsStuckBy};
-ghost use Rattle.est_rounds.specs.Steps.{KeepsAllBut, KeepsOthers, emitted, greater_code};
+ghost use Rattle.est_rounds.specs.Inner.Steps.{AreClear, HaveSamePauses, IfBegun, IsClear};
+ghost use Rattle.est_rounds.specs.Inner.Steps.{IsStuckBy, KeepsAllBut, KeepsOthers, emitted};
+ghost use Rattle.est_rounds.specs.Inner.Steps.{greater_code};
 
 use crate::answer::answer_to;
 use crate::signal_set::{self, Env, SignalSet};

@@ -8,15 +8,15 @@ use Rattle.est_text.specs.declared.token.Located.{Located}
 use Rattle.est_text.specs.declared.token.Token.TheVariants.{Keyword, Identifier, Symbol}
 use Rattle.est_text.specs.declared.keyword.Keyword.TheVariants as keyword
 use Rattle.est_text.specs.declared.token.Symbol.TheVariants as symbol
-use Rattle.est_syntax.specs.declared.fault.Fault.{Fault}
-use Rattle.est_syntax.specs.declared.fault.Fault.TheVariants.{Syntax, TooDeep, Memory}
+use Rattle.est_syntax.specs.declared.fault.ParserStop.{ParserStop}
+use Rattle.est_syntax.specs.declared.fault.ParserStop.TheVariants.{Syntax, TooDeep, Memory}
 use Rattle.est_syntax.specs.Tree.{DeclarationTree, StatementTree, ModuleTree, LibraryTree}
 use Rattle.est_syntax.specs.Grammar as g
-use Rattle.est_syntax.specs.Machine as m
-use Rattle.est_syntax.specs.Machine.{Want, run, Skips, right, wrong, deep}
-use Rattle.est_syntax.specs.Parsing.{Fails, FailsIn, Round, Reads, IsPart}
+use Rattle.est_syntax.specs.Inner.Machine as m
+use Rattle.est_syntax.specs.Inner.Machine.{Want, run, Skips, right, wrong, deep}
+use Rattle.est_syntax.specs.Inner.Parsing.{Fails, FailsIn, Round, Reads, IsPart}
 use Rattle.est_syntax.specs.declared.parse.TheConstants.{MOST_OPEN_UNITS}
-use Rattle.est_syntax.specs.Modules.{Stops, IsModule, AreModules, AreAllModules}
+use Rattle.est_syntax.specs.Inner.Modules.{Stops, IsModule, AreModules, AreAllModules}
 use Rattle.est_syntax.proofs.Reading.{modules_push}
 use Rattle.est_syntax.proofs.TestRuns.{either}
 use Rattle.est_syntax.proofs.Runs.{run_library}
@@ -25,20 +25,20 @@ use Rattle.est_syntax.specs.Faults.{IsSyntaxFault, IsTooDeep}
 
 -- ---- what is wanted leads to something else that fails
 
-pub stops_from : (ws vs s : List Want) (bs after : List Token) (e : Fault)
+pub stops_from : (ws vs s : List Want) (bs after : List Token) (e : ParserStop)
     → run MOST_OPEN_UNITS ws bs ≡ run MOST_OPEN_UNITS (vs ++ s) after → Fails vs after e → Stops ws bs e
 stops_from ws vs s bs after (Syntax n) h k = (k.0, k.1, h ∙ k.2 s)
 stops_from ws vs s bs after (TooDeep n) h k = (k.0, k.1, h ∙ k.2 s)
 stops_from ws vs s bs after Memory h k = tt
 
-pub stops_in : (room : ℕ) (ends : Option Bool) (ws vs s : List Want) (bs after : List Token) (e : Fault)
+pub stops_in : (room : ℕ) (ends : Option Bool) (ws vs s : List Want) (bs after : List Token) (e : ParserStop)
     → Round room ends s → run MOST_OPEN_UNITS ws bs ≡ run MOST_OPEN_UNITS (vs ++ s) after
     → FailsIn room ends vs after e → Stops ws bs e
 stops_in room ends ws vs s bs after (Syntax n) r h k = (k.0, k.1, h ∙ k.2 s r)
 stops_in room ends ws vs s bs after (TooDeep n) r h k = (k.0, k.1, h ∙ k.2 s r)
 stops_in room ends ws vs s bs after Memory r h k = tt
 
-pub stops_stops : (ws vs : List Want) (bs after : List Token) (e : Fault)
+pub stops_stops : (ws vs : List Want) (bs after : List Token) (e : ParserStop)
     → run MOST_OPEN_UNITS ws bs ≡ run MOST_OPEN_UNITS vs after → Stops vs after e → Stops ws bs e
 stops_stops ws vs bs after (Syntax n) h k = (k.0, k.1, h ∙ k.2)
 stops_stops ws vs bs after (TooDeep n) h k = (k.0, k.1, h ∙ k.2)
@@ -132,7 +132,7 @@ one_more_module ps p old left mid new h e k = record {
   shorter = omega (arith, h.shorter, ap (length {A = Token}) e, k.shorter);
 }
 
-pub more_modules_fail : (ps : List ModuleTree) (old left mid : List Token) (e : Fault) → AreModules ps old left
+pub more_modules_fail : (ps : List ModuleTree) (old left mid : List Token) (e : ParserStop) → AreModules ps old left
     → left ≡ Keyword keyword.Module ∷ mid → Stops wants mid e → Stops (m.modules ∷ []) old e
 more_modules_fail ps old left mid e h f k =
     stops_stops (m.modules ∷ []) wants old mid e (h.passes ∙ ap (run MOST_OPEN_UNITS (m.modules ∷ [])) f) k

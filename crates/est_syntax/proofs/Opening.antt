@@ -5,8 +5,8 @@ use Rattle.std.specs.Prelude.{Option, Some, None}
 use Rattle.est_text.specs.declared.token.Token.{Token}
 use Rattle.est_text.specs.declared.token.Token.TheVariants.{Keyword}
 use Rattle.est_text.specs.declared.keyword.Keyword.TheVariants as keyword
-use Rattle.est_syntax.specs.declared.fault.Fault.{Fault}
-use Rattle.est_syntax.specs.declared.fault.Fault.TheVariants.{Syntax, TooDeep, Memory}
+use Rattle.est_syntax.specs.declared.fault.ParserStop.{ParserStop}
+use Rattle.est_syntax.specs.declared.fault.ParserStop.TheVariants.{Syntax, TooDeep, Memory}
 use Rattle.est_syntax.specs.declared.units.Opener.{Opener}
 use Rattle.est_syntax.specs.declared.units.Opener.TheVariants as opener
 use Rattle.est_syntax.specs.declared.units.Frame.TheVariants as frame
@@ -15,16 +15,16 @@ use Rattle.est_syntax.specs.declared.units.Head.TheVariants as head
 use Rattle.est_syntax.specs.Tree.{UnitTree, SequenceTree}
 use Rattle.est_syntax.specs.Grammar as g
 use Rattle.est_syntax.specs.Views.{units_of, sequences_of}
-use Rattle.est_syntax.specs.Machine as m
-use Rattle.est_syntax.specs.Machine.{Want, run, Skips, open_count, opens, deep, go_on}
-use Rattle.est_syntax.specs.Frames.{opener_token, opener_wants, head_wants, body_end}
-use Rattle.est_syntax.specs.Parsing.{Fails, EndsSo, FailsBefore, Round, FailsIn}
+use Rattle.est_syntax.specs.Inner.Machine as m
+use Rattle.est_syntax.specs.Inner.Machine.{Want, run, Skips, open_count, opens, deep, go_on}
+use Rattle.est_syntax.specs.Inner.Frames.{opener_token, opener_wants, head_wants, body_end}
+use Rattle.est_syntax.specs.Inner.Parsing.{Fails, EndsSo, FailsBefore, Round, FailsIn}
 use Rattle.est_syntax.specs.declared.parse.TheConstants.{MOST_OPEN_UNITS}
 use Rattle.est_syntax.proofs.TestRuns.{open_part}
 
 -- what is wanted leads to something else that fails, for the wants that count there
 pub in_leaf : (room : ℕ) (ends : Option Bool) (ws vs : List Want) (f : List Want → List Want) (bs after : List Token)
-    (e : Fault) → ((s : List Want) → Round room ends s
+    (e : ParserStop) → ((s : List Want) → Round room ends s
     → run MOST_OPEN_UNITS (ws ++ s) bs ≡ run MOST_OPEN_UNITS (vs ++ f s) after) → Fails vs after e
     → FailsIn room ends ws bs e
 in_leaf room ends ws vs f bs after (Syntax n) h k = (k.0, k.1, λ s r. h s r ∙ k.2 (f s))
@@ -32,7 +32,7 @@ in_leaf room ends ws vs f bs after (TooDeep n) h k = (k.0, k.1, λ s r. h s r �
 in_leaf room ends ws vs f bs after Memory h k = tt
 
 pub in_before : (room : ℕ) (ends : Option Bool) (inner : Bool) (ws vs : List Want) (f : List Want → List Want)
-    (bs after : List Token) (e : Fault) → ((s : List Want) → Round room ends s → EndsSo inner (f s))
+    (bs after : List Token) (e : ParserStop) → ((s : List Want) → Round room ends s → EndsSo inner (f s))
     → ((s : List Want) → Round room ends s
     → run MOST_OPEN_UNITS (ws ++ s) bs ≡ run MOST_OPEN_UNITS (vs ++ f s) after) → FailsBefore inner vs after e
     → FailsIn room ends ws bs e
@@ -41,7 +41,7 @@ in_before room ends inner ws vs f bs after (TooDeep n) q h k = (k.0, k.1, λ s r
 in_before room ends inner ws vs f bs after Memory q h k = tt
 
 pub in_in : (room less : ℕ) (ends inner : Option Bool) (ws vs : List Want) (f : List Want → List Want)
-    (bs after : List Token) (e : Fault) → ((s : List Want) → Round room ends s → Round less inner (f s))
+    (bs after : List Token) (e : ParserStop) → ((s : List Want) → Round room ends s → Round less inner (f s))
     → ((s : List Want) → Round room ends s
     → run MOST_OPEN_UNITS (ws ++ s) bs ≡ run MOST_OPEN_UNITS (vs ++ f s) after) → FailsIn less inner vs after e
     → FailsIn room ends ws bs e

@@ -6,7 +6,7 @@ use Rattle.est_text.specs.declared.token.Token.{Token}
 use Rattle.est_text.specs.declared.token.Token.TheVariants.{Keyword, Symbol}
 use Rattle.est_text.specs.declared.keyword.Keyword.TheVariants as keyword
 use Rattle.est_text.specs.declared.token.Symbol.TheVariants as symbol
-use Rattle.est_syntax.specs.declared.fault.Fault.{Fault}
+use Rattle.est_syntax.specs.declared.fault.ParserStop.{ParserStop}
 use Rattle.est_syntax.specs.declared.units.Opener.{Opener}
 use Rattle.est_syntax.specs.declared.units.Opener.TheVariants as opener
 use Rattle.est_syntax.specs.declared.units.Frame.{Frame}
@@ -22,12 +22,13 @@ use Rattle.est_syntax.specs.Tree.{UnitTree, UnitsTree, SequenceTree, SequencesTr
 use Rattle.est_syntax.specs.Tree.{sequence, statement, then_only, else_only, both}
 use Rattle.est_syntax.specs.Grammar as g
 use Rattle.est_syntax.specs.Views.{test_view, unit_view, branches_view, statement_view, units_of, sequences_of}
-use Rattle.est_syntax.specs.Machine as m
-use Rattle.est_syntax.specs.Machine.{Want, run, Skips, open_count, wrong, deep, refused, followed, go_on, unit_start}
-use Rattle.est_syntax.specs.Frames.{frame_wants, opener_token, opener_wants, head_wants, head_onto, body_end, IsHead}
-use Rattle.est_syntax.specs.Frames.{IsTail, IsOpened, IsPlain}
-use Rattle.est_syntax.specs.Parsing.{Fails, Round, FailsIn, Reads, IsPart, IsUnitStart}
-use Rattle.est_syntax.specs.Parts.{IsTest}
+use Rattle.est_syntax.specs.Inner.Machine as m
+use Rattle.est_syntax.specs.Inner.Machine.{Want, run, Skips, open_count, wrong, deep, refused, followed, go_on}
+use Rattle.est_syntax.specs.Inner.Machine.{unit_start}
+use Rattle.est_syntax.specs.Inner.Frames.{frame_wants, opener_token, opener_wants, head_wants, head_onto, body_end}
+use Rattle.est_syntax.specs.Inner.Frames.{IsHead, IsTail, IsOpened, IsPlain}
+use Rattle.est_syntax.specs.Inner.Parsing.{Fails, Round, FailsIn, Reads, IsPart, IsUnitStart}
+use Rattle.est_syntax.specs.Inner.Parts.{IsTest}
 use Rattle.est_syntax.specs.declared.parse.TheConstants.{MOST_OPEN_UNITS}
 use Rattle.est_syntax.proofs.TestRuns.{leave_over}
 use Rattle.est_syntax.proofs.Runs.{sequence_is, statement_is, sequence_over, statement_over}
@@ -61,7 +62,7 @@ opened_part room less ends inner o t u old mid new e f k q h =
     }
 
 pub opened_fails : (room less : ℕ) (ends : Bool) (inner : Option Bool) (o : Opener) (t : Token)
-    (old mid : List Token) (x : Fault) → room ≡ suc less → old ≡ t ∷ mid → t ≡ opener_token o
+    (old mid : List Token) (x : ParserStop) → room ≡ suc less → old ≡ t ∷ mid → t ≡ opener_token o
     → ((s : List Want) → Round room (Some ends) s → Round room inner s)
     → FailsIn (suc less) inner (opener_wants o) mid x → FailsIn room (Some ends) (m.unit ∷ []) old x
 opened_fails room less ends inner o t old mid x e f k q h =
@@ -122,7 +123,7 @@ framed_part room ends f h inner t u old mid behind new a i b d = record {
 }
 
 pub framed_body_fails : (room : ℕ) (ends : Bool) (f : Frame) (h : Head) (inner : Bool) (old mid : List Token)
-    (x : Fault) → IsHead room f h old mid → inner ≡ body_end h → FailsIn room (Some inner) (m.statement ∷ []) mid x
+    (x : ParserStop) → IsHead room f h old mid → inner ≡ body_end h → FailsIn room (Some inner) (m.statement ∷ []) mid x
     → FailsIn (suc room) (Some ends) (frame_wants f) old x
 framed_body_fails room ends f h inner old mid x a i b =
     in_in (suc room) room (Some ends) (Some inner) (frame_wants f) (m.statement ∷ [])
@@ -131,7 +132,7 @@ framed_body_fails room ends f h inner old mid x a i b =
     (round_body room (Some ends) h s r)) (λ s r. a.passes s (round_any (suc room) (Some ends) s r)) b
 
 pub framed_tail_fails : (room : ℕ) (ends : Bool) (f : Frame) (h : Head) (inner : Bool) (t : StatementTree)
-    (old mid behind : List Token) (x : Fault) → IsHead room f h old mid → inner ≡ body_end h
+    (old mid behind : List Token) (x : ParserStop) → IsHead room f h old mid → inner ≡ body_end h
     → IsPart room (Some inner) (m.statement ∷ []) (g.statement_onto t behind) (g.statement_depth t) mid behind
     → FailsIn (suc room) (Some ends) (head_wants h) behind x → FailsIn (suc room) (Some ends) (frame_wants f) old x
 framed_tail_fails room ends f h inner t old mid behind x a i b d =
@@ -187,7 +188,7 @@ one_more_unit room ends us u old left mid new h e k p = record {
   shorter = omega (arith, h.shorter, ap (length {A = Token}) e, p.shorter);
 }
 
-pub more_units_fail : (room : ℕ) (ends : Bool) (us : UnitsTree) (old left mid : List Token) (x : Fault)
+pub more_units_fail : (room : ℕ) (ends : Bool) (us : UnitsTree) (old left mid : List Token) (x : ParserStop)
     → UnitsSoFar room ends us old left → left ≡ Symbol symbol.Semicolon ∷ mid → IsUnitStart true mid
     → FailsIn room (Some ends) (m.unit ∷ []) mid x → FailsIn room (Some ends) (m.sequence_tail ∷ []) old x
 more_units_fail room ends us old left mid x h e k p =
@@ -258,7 +259,7 @@ one_more_sequence room ends qs q old left mid new h e p = record {
   shorter = omega (arith, h.shorter, ap (length {A = Token}) e, p.shorter);
 }
 
-pub more_sequences_fail : (room : ℕ) (ends : Bool) (qs : SequencesTree) (old left mid : List Token) (x : Fault)
+pub more_sequences_fail : (room : ℕ) (ends : Bool) (qs : SequencesTree) (old left mid : List Token) (x : ParserStop)
     → SequencesSoFar room ends qs old left → left ≡ Symbol symbol.Parallel ∷ mid
     → FailsIn room (Some ends) (m.sequence ∷ []) mid x → FailsIn room (Some ends) (m.statement_tail ∷ []) old x
 more_sequences_fail room ends qs old left mid x h e p =
@@ -318,7 +319,7 @@ Branched room b old new =
     IsPart room None (m.branches ∷ []) (g.branches_onto (branches_view b) new)
     (g.branches_depth (branches_view b)) old new
 
-abbrev pub BranchesFail : ℕ → List Token → Fault → Type 0
+abbrev pub BranchesFail : ℕ → List Token → ParserStop → Type 0
 BranchesFail room old x = FailsIn room None (m.branches ∷ []) old x
 
 branched : (room : ℕ) (b : Branches) (v : BranchesTree) (old new : List Token) → branches_view b ≡ v
@@ -328,7 +329,7 @@ branched room b v old new e h =
     (g.branches_depth w) old new) (sym e) h
 
 -- `else` alone
-pub else_missing : (room : ℕ) (old same : List Token) (x : Fault) → same ≡ old → Skips (Keyword keyword.Then) old
+pub else_missing : (room : ℕ) (old same : List Token) (x : ParserStop) → same ≡ old → Skips (Keyword keyword.Then) old
     → Fails (m.one (Keyword keyword.Else) ∷ []) same x → BranchesFail room old x
 else_missing room old same x e k h =
     in_leaf room None (m.branches ∷ []) (m.one (Keyword keyword.Else) ∷ [])
@@ -336,13 +337,13 @@ else_missing room old same x e k h =
     (λ s r. branches_are s old k ∙ ap (run MOST_OPEN_UNITS (m.one (Keyword keyword.Else) ∷ m.statement ∷ end_wants s))
     (sym e)) h
 
-pub else_body_fails : (room : ℕ) (old mid : List Token) (x : Fault) → old ≡ Keyword keyword.Else ∷ mid
+pub else_body_fails : (room : ℕ) (old mid : List Token) (x : ParserStop) → old ≡ Keyword keyword.Else ∷ mid
     → FailsIn room (Some true) (m.statement ∷ []) mid x → BranchesFail room old x
 else_body_fails room old mid x e h =
     in_in room room None (Some true) (m.branches ∷ []) (m.statement ∷ []) end_wants old mid x
     (λ s r. round_end room (Keyword keyword.Present) s r) (λ s r. ap (run MOST_OPEN_UNITS (m.branches ∷ s)) e) h
 
-pub else_end_fails : (room : ℕ) (t : Statement) (old mid behind : List Token) (x : Fault)
+pub else_end_fails : (room : ℕ) (t : Statement) (old mid behind : List Token) (x : ParserStop)
     → old ≡ Keyword keyword.Else ∷ mid → Body room t mid behind
     → Fails (m.one m.kw_end ∷ m.may (Keyword keyword.Present) ∷ []) behind x → BranchesFail room old x
 else_end_fails room t old mid behind x e b h =
@@ -364,7 +365,7 @@ else_part room t c old mid behind new e b h =
     })
 
 -- `then` alone
-pub then_body_fails : (room : ℕ) (old mid : List Token) (x : Fault) → old ≡ Keyword keyword.Then ∷ mid
+pub then_body_fails : (room : ℕ) (old mid : List Token) (x : ParserStop) → old ≡ Keyword keyword.Then ∷ mid
     → FailsIn room (Some true) (m.statement ∷ []) mid x → BranchesFail room old x
 then_body_fails room old mid x e h =
     in_in room room None (Some true) (m.branches ∷ []) (m.statement ∷ []) (λ s. m.after_then ∷ s) old mid x
@@ -381,7 +382,7 @@ no_else : (s : List Want) (behind same : List Token) → same ≡ behind → Ski
     → run MOST_OPEN_UNITS (m.after_then ∷ s) behind ≡ run MOST_OPEN_UNITS (end_wants s) same
 no_else s behind same e k = after_then_is s behind k ∙ ap (run MOST_OPEN_UNITS (end_wants s)) (sym e)
 
-pub then_end_fails : (room : ℕ) (t : Statement) (old mid behind same : List Token) (x : Fault)
+pub then_end_fails : (room : ℕ) (t : Statement) (old mid behind same : List Token) (x : ParserStop)
     → old ≡ Keyword keyword.Then ∷ mid → Body room t mid behind → same ≡ behind → Skips (Keyword keyword.Else) behind
     → Fails (m.one m.kw_end ∷ m.may (Keyword keyword.Present) ∷ []) same x → BranchesFail room old x
 then_end_fails room t old mid behind same x e b f k h =
@@ -401,7 +402,7 @@ then_part room t c old mid behind same new e b f k h =
     })
 
 -- both branches
-pub both_body_fails : (room : ℕ) (t : Statement) (old mid behind next : List Token) (x : Fault)
+pub both_body_fails : (room : ℕ) (t : Statement) (old mid behind next : List Token) (x : ParserStop)
     → old ≡ Keyword keyword.Then ∷ mid → Body room t mid behind → behind ≡ Keyword keyword.Else ∷ next
     → FailsIn room (Some true) (m.statement ∷ []) next x → BranchesFail room old x
 both_body_fails room t old mid behind next x e b f h =
@@ -409,7 +410,7 @@ both_body_fails room t old mid behind next x e b f h =
     (λ s r. round_end room (Keyword keyword.Present) s r)
     (λ s r. then_goes room t old mid behind s r e b ∙ ap (run MOST_OPEN_UNITS (m.after_then ∷ s)) f) h
 
-pub both_end_fails : (room : ℕ) (t u : Statement) (old mid behind next last : List Token) (x : Fault)
+pub both_end_fails : (room : ℕ) (t u : Statement) (old mid behind next last : List Token) (x : ParserStop)
     → old ≡ Keyword keyword.Then ∷ mid → Body room t mid behind → behind ≡ Keyword keyword.Else ∷ next
     → Body room u next last → Fails (m.one m.kw_end ∷ m.may (Keyword keyword.Present) ∷ []) last x
     → BranchesFail room old x

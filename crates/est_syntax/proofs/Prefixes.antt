@@ -10,9 +10,9 @@ use Rattle.est_syntax.specs.Tree.{bracketed, WeakEndTree, left_out, end_abort, e
 use Rattle.est_syntax.specs.Tree.{both, SequenceTree, sequence, no_units, units, StatementTree, statement, no_sequences}
 use Rattle.est_syntax.specs.Tree.{sequences, excludes, implies, input, output, inputoutput, relations, ModuleTree}
 use Rattle.est_syntax.specs.Grammar as g
-use Rattle.est_syntax.specs.Machine as m
-use Rattle.est_syntax.specs.Machine.{Want, Step, refused, to, opens, same, step, step_after_end, literal_start}
-use Rattle.est_syntax.specs.Machine.{unit_start, followed, unit_or, open_count, kw_end, module_wants}
+use Rattle.est_syntax.specs.Inner.Machine as m
+use Rattle.est_syntax.specs.Inner.Machine.{Want, Step, refused, to, opens, same, step, step_after_end, literal_start}
+use Rattle.est_syntax.specs.Inner.Machine.{unit_start, followed, unit_or, open_count, kw_end, module_wants}
 use Rattle.est_syntax.proofs.UnitPrefixes.{Spells, All, fewer, same_is, LiteralFirst, LiteralBack, literal_back}
 use Rattle.est_syntax.proofs.UnitPrefixes.{UnitFirst, UnitBack, unit_back}
 

@@ -5,18 +5,18 @@ use Rattle.est_text.specs.declared.token.Token.{Token}
 use Rattle.est_text.specs.declared.token.Token.TheVariants.{Keyword, Identifier, Symbol}
 use Rattle.est_text.specs.declared.keyword.Keyword.TheVariants as keyword
 use Rattle.est_text.specs.declared.token.Symbol.TheVariants as symbol
-use Rattle.est_syntax.specs.declared.fault.Fault.{Fault}
-use Rattle.est_syntax.specs.declared.fault.Fault.TheVariants.{Syntax, TooDeep, Memory}
+use Rattle.est_syntax.specs.declared.fault.ParserStop.{ParserStop}
+use Rattle.est_syntax.specs.declared.fault.ParserStop.TheVariants.{Syntax, TooDeep, Memory}
 use Rattle.est_syntax.specs.Tree.{RenamingTree, UnitTree, SequenceTree, RelationTree, DeclarationTree, ModuleTree}
 use Rattle.est_syntax.specs.Grammar as g
 use Rattle.est_syntax.specs.Views.{units_of, sequences_of}
-use Rattle.est_syntax.specs.Machine as m
-use Rattle.est_syntax.specs.Machine.{Want, run, Skips}
-use Rattle.est_syntax.specs.Parsing.{Fails, EndsSo, renamings_so_far}
+use Rattle.est_syntax.specs.Inner.Machine as m
+use Rattle.est_syntax.specs.Inner.Machine.{Want, run, Skips}
+use Rattle.est_syntax.specs.Inner.Parsing.{Fails, EndsSo, renamings_so_far}
 use Rattle.est_syntax.specs.declared.parse.TheConstants.{MOST_OPEN_UNITS}
 
 -- what is wanted leads to something else that fails
-pub fails_from : (ws vs : List Want) (f : List Want → List Want) (bs after : List Token) (e : Fault)
+pub fails_from : (ws vs : List Want) (f : List Want → List Want) (bs after : List Token) (e : ParserStop)
     → ((s : List Want) → run MOST_OPEN_UNITS (ws ++ s) bs ≡ run MOST_OPEN_UNITS (vs ++ f s) after) → Fails vs after e
     → Fails ws bs e
 fails_from ws vs f bs after (Syntax n) h k = (k.0, k.1, λ s. h s ∙ k.2 (f s))

@@ -12,9 +12,9 @@ use Rattle.est_syntax.specs.Tree.{both, SequenceTree, sequence, UnitsTree, no_un
 use Rattle.est_syntax.specs.Tree.{SequencesTree, no_sequences, sequences, RelationTree, excludes, implies}
 use Rattle.est_syntax.specs.Tree.{DeclarationTree, input, output, inputoutput, relations, ModuleTree, LibraryTree}
 use Rattle.est_syntax.specs.Grammar as g
-use Rattle.est_syntax.specs.Machine as m
-use Rattle.est_syntax.specs.Machine.{Want, to, right, same, step, step_after_end, go_on, open_count, kw_end, Ends}
-use Rattle.est_syntax.specs.Machine.{Skips}
+use Rattle.est_syntax.specs.Inner.Machine as m
+use Rattle.est_syntax.specs.Inner.Machine.{Want, to, right, same, step, step_after_end, go_on, open_count, kw_end, Ends}
+use Rattle.est_syntax.specs.Inner.Machine.{Skips}
 use Rattle.est_syntax.proofs.TestRuns.{either, may_over, leave_over, open_part, run_test, run_delay}
 
 -- ---- what may follow

@@ -6,9 +6,9 @@ use Rattle.est_text.specs.declared.token.Token.{Token}
 use Rattle.est_syntax.specs.Tree.{LibraryTree}
 use Rattle.est_syntax.specs.Grammar as g
 use Rattle.est_syntax.specs.Faults.{Begins, BeginsWithin, IsSyntaxFault, IsTooDeep}
-use Rattle.est_syntax.specs.Machine as m
-use Rattle.est_syntax.specs.Machine.{Want, Step, Outcome, refused, to, opens, right, wrong, deep, step, go_on}
-use Rattle.est_syntax.specs.Machine.{open_count}
+use Rattle.est_syntax.specs.Inner.Machine as m
+use Rattle.est_syntax.specs.Inner.Machine.{Want, Step, Outcome, refused, to, opens, right, wrong, deep, step, go_on}
+use Rattle.est_syntax.specs.Inner.Machine.{open_count}
 use Rattle.est_syntax.proofs.Runs.{run_library}
 use Rattle.est_syntax.proofs.Prefixes.{Back, back}
 use Rattle.est_syntax.proofs.UnitPrefixes.{All, finish}

@@ -9,9 +9,9 @@ use Rattle.est_syntax.specs.Tree.{LiteralTree, negated, enclosed, ExpressionTree
 use Rattle.est_syntax.specs.Tree.{ConjunctionsTree, conjunction, expression}
 use Rattle.est_syntax.specs.Grammar as g
 use Rattle.est_syntax.specs.Views.{literals_of, conjunctions_of}
-use Rattle.est_syntax.specs.Machine as m
-use Rattle.est_syntax.specs.Machine.{Want, run, Skips, open_count, deep}
-use Rattle.est_syntax.specs.Parsing.{IsPart, Round}
+use Rattle.est_syntax.specs.Inner.Machine as m
+use Rattle.est_syntax.specs.Inner.Machine.{Want, run, Skips, open_count, deep}
+use Rattle.est_syntax.specs.Inner.Parsing.{IsPart, Round}
 use Rattle.est_syntax.specs.declared.parse.TheConstants.{MOST_OPEN_UNITS}
 use Rattle.est_syntax.proofs.TestRuns.{leave_over}
 use Rattle.est_syntax.proofs.TestRuns.{open_part}

@@ -9,8 +9,8 @@ use Rattle.est_syntax.specs.Tree.{LiteralTree, named, negated, enclosed, Conjunc
 use Rattle.est_syntax.specs.Tree.{no_literals, literals, ExpressionTree, expression, ConjunctionsTree, no_conjunctions}
 use Rattle.est_syntax.specs.Tree.{conjunctions, TestTree, bare, bracketed, DelayTree}
 use Rattle.est_syntax.specs.Grammar as g
-use Rattle.est_syntax.specs.Machine as m
-use Rattle.est_syntax.specs.Machine.{Want, Step, Outcome, to, opens, deep, step, go_on, open_count, Skips}
+use Rattle.est_syntax.specs.Inner.Machine as m
+use Rattle.est_syntax.specs.Inner.Machine.{Want, Step, Outcome, to, opens, deep, step, go_on, open_count, Skips}
 
 -- ---- what may be left out, and is
 

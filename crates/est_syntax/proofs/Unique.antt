@@ -12,8 +12,8 @@ use Rattle.est_syntax.specs.Tree.{else_only, both, SequenceTree, sequence, Units
 use Rattle.est_syntax.specs.Tree.{statement, SequencesTree, no_sequences, sequences, RelationTree, excludes, implies}
 use Rattle.est_syntax.specs.Tree.{DeclarationTree, input, output, inputoutput, relations, ModuleTree, LibraryTree}
 use Rattle.est_syntax.specs.Grammar as g
-use Rattle.est_syntax.specs.Machine.{Step, Want, refused, to, opens, same, kw_end, Skips, unit_start}
-use Rattle.est_syntax.specs.Machine as m
+use Rattle.est_syntax.specs.Inner.Machine.{Step, Want, refused, to, opens, same, kw_end, Skips, unit_start}
+use Rattle.est_syntax.specs.Inner.Machine as m
 use Rattle.est_syntax.proofs.UniqueTests.{Answer, expect, maybe, test, delay, test_size, no_room, if_true, if_false}
 use Rattle.est_syntax.proofs.UniqueTests.{maybe_not, maybe_is, test_is, delay_is}
 use Rattle.est_syntax.proofs.Runs.{unit_and, unit_or, end_and, end_or, weak_and, weak_or, branches_and, branches_or}

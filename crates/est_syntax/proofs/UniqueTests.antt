@@ -10,7 +10,7 @@ use Rattle.est_syntax.specs.Tree.{ExpressionTree, ConjunctionsTree, no_conjuncti
 use Rattle.est_syntax.specs.Tree.{DelayTree, LibraryTree, conjunction as conjunction_tree, literals as literals_tree}
 use Rattle.est_syntax.specs.Tree.{expression as expression_tree, conjunctions as conjunctions_tree}
 use Rattle.est_syntax.specs.Grammar as g
-use Rattle.est_syntax.specs.Machine.{same, Skips}
+use Rattle.est_syntax.specs.Inner.Machine.{same, Skips}
 use Rattle.est_syntax.proofs.TestRuns.{no_bracket, no_immediate, behind_conjunctions}
 
 -- what a reading answers

@@ -16,9 +16,9 @@ use Rattle.est_syntax.specs.Tree.{every, trap, signal, run, group, BranchesTree,
 use Rattle.est_syntax.specs.Tree.{UnitsTree, no_units, StatementTree, statement, SequencesTree, no_sequences}
 use Rattle.est_syntax.specs.Tree.{RelationTree, implies, DeclarationTree, ModuleTree}
 use Rattle.est_syntax.specs.Grammar as g
-use Rattle.est_syntax.specs.Machine as m
-use Rattle.est_syntax.specs.Machine.{Want, Step, refused, to, opens, same, step, literal_start, unit_start, open_count}
-use Rattle.est_syntax.specs.Machine.{kw_end}
+use Rattle.est_syntax.specs.Inner.Machine as m
+use Rattle.est_syntax.specs.Inner.Machine.{Want, Step, refused, to, opens, same, step, literal_start, unit_start}
+use Rattle.est_syntax.specs.Inner.Machine.{open_count, kw_end}
 
 -- the text is what is wanted, and then the rest, with k units open around it
 abbrev pub Spells : ℕ → ℕ → Want → List Token → List Token → Type 0

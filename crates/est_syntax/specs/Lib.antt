@@ -1,10 +1,6 @@
 pub mod Tree
 pub mod Grammar
 pub mod Faults
-pub mod Machine
-pub mod Parsing
-pub mod Parts
-pub mod Frames
-pub mod Modules
 pub mod ParseFaults
 pub mod Views
+pub mod Inner

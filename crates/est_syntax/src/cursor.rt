@@ -4,12 +4,12 @@ ghost use Rattle.std.specs.Prelude.{MatchOption, false};
 ghost use Rattle.est_text.specs.declared.token.Token.TheVariants.{Keyword as KeywordToken};
 ghost use Rattle.est_text.specs.declared.token.Token.TheVariants.{Identifier as IdentifierToken};
 ghost use Rattle.est_text.specs.declared.token.Token.TheVariants.{Symbol as SymbolToken};
-ghost use Rattle.est_syntax.specs.Machine.{one, may, name as name_want, Skips};
-ghost use Rattle.est_syntax.specs.Parsing.{Fails, StandsFirst, NotMemory};
-ghost use Rattle.est_syntax.specs.Parts.{Leads};
+ghost use Rattle.est_syntax.specs.Inner.Machine.{one, may, name as name_want, Skips};
+ghost use Rattle.est_syntax.specs.Inner.Parsing.{Fails, StandsFirst, NotMemory};
+ghost use Rattle.est_syntax.specs.Inner.Parts.{Leads};
 ghost use Rattle.est_syntax.specs.Grammar.{tokens_of};
 
-use crate::fault::Fault;
+use crate::fault::ParserStop;
 use est_text::identifier::Identifier;
 use est_text::keyword::Keyword;
 use est_text::token::{Located, Symbol, Token};
@@ -108,7 +108,7 @@ impl<'a> Cursor<'a> {
     }
 
     /// Goes past the keyword, which has to stand first.
-    pub fn expect_keyword(&mut self, keyword: Keyword) -> Result<(), Fault>
+    pub fn expect_keyword(&mut self, keyword: Keyword) -> Result<(), ParserStop>
         ensures ok { OnOk result (self.old ≡ KeywordToken keyword ∷ self.new) }
         ensures err { IfErr result (λ e. Fails (one (KeywordToken keyword) ∷ []) self.old e) }
         ensures memory { IfErr result NotMemory }
@@ -117,12 +117,12 @@ impl<'a> Cursor<'a> {
         if self.take_keyword(keyword) {
             Ok(())
         } else {
-            Err(Fault::Syntax(here))
+            Err(ParserStop::Syntax(here))
         }
     }
 
     /// Goes past the symbol, which has to stand first.
-    pub fn expect_symbol(&mut self, symbol: Symbol) -> Result<(), Fault>
+    pub fn expect_symbol(&mut self, symbol: Symbol) -> Result<(), ParserStop>
         ensures ok { OnOk result (self.old ≡ SymbolToken symbol ∷ self.new) }
         ensures err { IfErr result (λ e. Fails (one (SymbolToken symbol) ∷ []) self.old e) }
         ensures memory { IfErr result NotMemory }
@@ -131,23 +131,23 @@ impl<'a> Cursor<'a> {
         if self.take_symbol(symbol) {
             Ok(())
         } else {
-            Err(Fault::Syntax(here))
+            Err(ParserStop::Syntax(here))
         }
     }
 
     /// Goes past the identifier that has to stand first, and answers it.
-    pub fn expect_name(&mut self) -> Result<Identifier, Fault>
+    pub fn expect_name(&mut self) -> Result<Identifier, ParserStop>
         ensures ok { IfOk result (λ name. self.old ≡ IdentifierToken name ∷ self.new) }
         ensures err { IfErr result (λ e. Fails (name_want ∷ []) self.old e) }
         ensures memory { IfErr result NotMemory }
     {
         let here = self.count();
         let Some(first) = self.next() else {
-            return Err(Fault::Syntax(here));
+            return Err(ParserStop::Syntax(here));
         };
         match first {
             Token::Identifier(name) => Ok(*name),
-            _ => Err(Fault::Syntax(here)),
+            _ => Err(ParserStop::Syntax(here)),
         }
     }
 }

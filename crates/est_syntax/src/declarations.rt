@@ -4,14 +4,14 @@ ghost use Rattle.std.specs.Prelude.{map};
 ghost use Rattle.est_syntax.specs.Grammar.{later_members_onto, relation_onto, later_relations_onto};
 ghost use Rattle.est_syntax.specs.Grammar.{declaration_onto, declarations_onto};
 ghost use Rattle.est_syntax.specs.Views.{relation_view, declaration_view};
-ghost use Rattle.est_syntax.specs.Machine.{later_members as later_members_want};
-ghost use Rattle.est_syntax.specs.Machine.{relation as relation_want};
-ghost use Rattle.est_syntax.specs.Machine.{later_relations as later_relations_want};
-ghost use Rattle.est_syntax.specs.Machine.{declarations as declarations_want};
-ghost use Rattle.est_syntax.specs.Parsing.{Fails, Reads, IsDeclared};
+ghost use Rattle.est_syntax.specs.Inner.Machine.{later_members as later_members_want};
+ghost use Rattle.est_syntax.specs.Inner.Machine.{relation as relation_want};
+ghost use Rattle.est_syntax.specs.Inner.Machine.{later_relations as later_relations_want};
+ghost use Rattle.est_syntax.specs.Inner.Machine.{declarations as declarations_want};
+ghost use Rattle.est_syntax.specs.Inner.Parsing.{Fails, Reads, IsDeclared};
 
 use crate::cursor::Cursor;
-use crate::fault::Fault;
+use crate::fault::ParserStop;
 use crate::names::names;
 use crate::tree::{Declaration, Relation};
 use est_text::identifier::Identifier;
@@ -20,7 +20,7 @@ use est_text::token::Symbol;
 use std::alloc::Global;
 
 /// The further members of a relation, each after a `#`.
-fn later_members(alloc: Global, cursor: &mut Cursor) -> Result<Vec<Identifier>, Fault>
+fn later_members(alloc: Global, cursor: &mut Cursor) -> Result<Vec<Identifier>, ParserStop>
     ensures spelt { IfOk result (λ ns. cursor.old ≡ later_members_onto ns.items cursor.new) }
     ensures reads { IfOk result (λ _. Reads (later_members_want ∷ []) cursor.old cursor.new) }
     ensures err { IfErr result (λ e. Fails (later_members_want ∷ []) cursor.old e) }
@@ -34,7 +34,7 @@ fn later_members(alloc: Global, cursor: &mut Cursor) -> Result<Vec<Identifier>, 
 }
 
 /// One relation.
-fn relation(alloc: Global, cursor: &mut Cursor) -> Result<Relation, Fault>
+fn relation(alloc: Global, cursor: &mut Cursor) -> Result<Relation, ParserStop>
     ensures spelt { IfOk result (λ r. cursor.old ≡ relation_onto (relation_view r) cursor.new) }
     ensures reads { IfOk result (λ _. Reads (relation_want ∷ []) cursor.old cursor.new) }
     ensures err { IfErr result (λ e. Fails (relation_want ∷ []) cursor.old e) }
@@ -51,7 +51,7 @@ fn relation(alloc: Global, cursor: &mut Cursor) -> Result<Relation, Fault>
 }
 
 /// The further relations, each after a comma.
-fn later_relations(alloc: Global, cursor: &mut Cursor) -> Result<Vec<Relation>, Fault>
+fn later_relations(alloc: Global, cursor: &mut Cursor) -> Result<Vec<Relation>, ParserStop>
     ensures spelt { IfOk result
         (λ rs. cursor.old ≡ later_relations_onto (map relation_view rs.items) cursor.new) }
     ensures reads { IfOk result (λ _. Reads (later_relations_want ∷ []) cursor.old cursor.new) }
@@ -66,7 +66,7 @@ fn later_relations(alloc: Global, cursor: &mut Cursor) -> Result<Vec<Relation>, 
 }
 
 /// One declaration, if one begins there.
-fn declaration(alloc: Global, cursor: &mut Cursor) -> Result<Option<Declaration>, Fault>
+fn declaration(alloc: Global, cursor: &mut Cursor) -> Result<Option<Declaration>, ParserStop>
     ensures ok { IfOk result (λ d. IsDeclared d cursor.old cursor.new) }
     ensures err { IfErr result (λ e. Fails (declarations_want ∷ []) cursor.old e) }
 {
@@ -95,7 +95,7 @@ fn declaration(alloc: Global, cursor: &mut Cursor) -> Result<Option<Declaration>
 }
 
 /// The declarations of a module, in the order of the text.
-pub fn declarations(alloc: Global, cursor: &mut Cursor) -> Result<Vec<Declaration>, Fault>
+pub fn declarations(alloc: Global, cursor: &mut Cursor) -> Result<Vec<Declaration>, ParserStop>
     ensures spelt { IfOk result
         (λ ds. cursor.old ≡ declarations_onto (map declaration_view ds.items) cursor.new) }
     ensures reads { IfOk result (λ _. Reads (declarations_want ∷ []) cursor.old cursor.new) }

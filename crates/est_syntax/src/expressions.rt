@@ -3,16 +3,16 @@
 //! The functions call one another in a cycle. Each `not` and each `(` takes one from `room`, and
 //! lists are read by loops. So on any text the recursion ends, and goes no deeper than `room`.
 ghost use Rattle.std.specs.Prelude.{◌∷◌, [], None, IfOk, IfErr};
-ghost use Rattle.est_syntax.specs.Machine.{test as test_want, expression as expression_want};
-ghost use Rattle.est_syntax.specs.Machine.{expression_tail, conjunction as conjunction_want};
-ghost use Rattle.est_syntax.specs.Machine.{conjunction_tail, literal as literal_want};
-ghost use Rattle.est_syntax.specs.Parsing.{FailsIn};
-ghost use Rattle.est_syntax.specs.Parts.{IsLiteral, AreLaterLiterals, IsConjunction};
-ghost use Rattle.est_syntax.specs.Parts.{AreLaterConjunctions, IsExpression, IsTest, IsDelay};
-ghost use Rattle.est_syntax.specs.Parts.{delay_wants};
+ghost use Rattle.est_syntax.specs.Inner.Machine.{test as test_want, expression as expression_want};
+ghost use Rattle.est_syntax.specs.Inner.Machine.{expression_tail, conjunction as conjunction_want};
+ghost use Rattle.est_syntax.specs.Inner.Machine.{conjunction_tail, literal as literal_want};
+ghost use Rattle.est_syntax.specs.Inner.Parsing.{FailsIn};
+ghost use Rattle.est_syntax.specs.Inner.Parts.{IsLiteral, AreLaterLiterals, IsConjunction};
+ghost use Rattle.est_syntax.specs.Inner.Parts.{AreLaterConjunctions, IsExpression, IsTest, IsDelay};
+ghost use Rattle.est_syntax.specs.Inner.Parts.{delay_wants};
 
 use crate::cursor::Cursor;
-use crate::fault::Fault;
+use crate::fault::ParserStop;
 use crate::tree::{Conjunction, Delay, Expression, Literal, Test};
 use est_text::keyword::Keyword;
 use est_text::token::Symbol;
@@ -20,14 +20,14 @@ use std::alloc::Global;
 
 /// One literal. `room` units may be opened in one another from here on.
 #[cycle(parse)]
-fn literal(alloc: Global, cursor: &mut Cursor, room: usize) -> Result<Literal, Fault>
+fn literal(alloc: Global, cursor: &mut Cursor, room: usize) -> Result<Literal, ParserStop>
     ensures ok { IfOk result (λ l. IsLiteral room l cursor.old cursor.new) }
     ensures err { IfErr result (λ e. FailsIn room None (literal_want ∷ []) cursor.old e) }
 {
     let here = cursor.count();
     if cursor.take_keyword(Keyword::Not) {
         if room == 0 {
-            return Err(Fault::TooDeep(here));
+            return Err(ParserStop::TooDeep(here));
         }
         let inner = literal(alloc, cursor, room - 1)?;
         let inner = Box::new(alloc, inner)?;
@@ -35,7 +35,7 @@ fn literal(alloc: Global, cursor: &mut Cursor, room: usize) -> Result<Literal, F
     }
     if cursor.take_symbol(Symbol::OpenParenthesis) {
         if room == 0 {
-            return Err(Fault::TooDeep(here));
+            return Err(ParserStop::TooDeep(here));
         }
         let inner = expression(alloc, cursor, room - 1)?;
         cursor.expect_symbol(Symbol::CloseParenthesis)?;
@@ -47,7 +47,11 @@ fn literal(alloc: Global, cursor: &mut Cursor, room: usize) -> Result<Literal, F
 
 /// The further literals of a conjunction, each after an `and`.
 #[cycle(parse)]
-fn later_literals(alloc: Global, cursor: &mut Cursor, room: usize) -> Result<Vec<Literal>, Fault>
+fn later_literals(
+    alloc: Global,
+    cursor: &mut Cursor,
+    room: usize,
+) -> Result<Vec<Literal>, ParserStop>
     ensures ok { IfOk result (λ ls. AreLaterLiterals room ls.items cursor.old cursor.new) }
     ensures err { IfErr result (λ e. FailsIn room None (conjunction_tail ∷ []) cursor.old e) }
 {
@@ -61,7 +65,7 @@ fn later_literals(alloc: Global, cursor: &mut Cursor, room: usize) -> Result<Vec
 
 /// Literals with `and` between them.
 #[cycle(parse)]
-fn conjunction(alloc: Global, cursor: &mut Cursor, room: usize) -> Result<Conjunction, Fault>
+fn conjunction(alloc: Global, cursor: &mut Cursor, room: usize) -> Result<Conjunction, ParserStop>
     ensures ok { IfOk result (λ c. IsConjunction room c cursor.old cursor.new) }
     ensures err { IfErr result (λ e. FailsIn room None (conjunction_want ∷ []) cursor.old e) }
 {
@@ -77,7 +81,7 @@ fn later_conjunctions(
     alloc: Global,
     cursor: &mut Cursor,
     room: usize,
-) -> Result<Vec<Conjunction>, Fault>
+) -> Result<Vec<Conjunction>, ParserStop>
     ensures ok { IfOk result (λ cs. AreLaterConjunctions room cs.items cursor.old cursor.new) }
     ensures err { IfErr result (λ e. FailsIn room None (expression_tail ∷ []) cursor.old e) }
 {
@@ -91,7 +95,7 @@ fn later_conjunctions(
 
 /// Conjunctions with `or` between them.
 #[cycle(parse)]
-fn expression(alloc: Global, cursor: &mut Cursor, room: usize) -> Result<Expression, Fault>
+fn expression(alloc: Global, cursor: &mut Cursor, room: usize) -> Result<Expression, ParserStop>
     ensures ok { IfOk result (λ e. IsExpression room e cursor.old cursor.new) }
     ensures err { IfErr result (λ e. FailsIn room None (expression_want ∷ []) cursor.old e) }
 {
@@ -102,7 +106,7 @@ fn expression(alloc: Global, cursor: &mut Cursor, room: usize) -> Result<Express
 }
 
 /// What is asked. Its brackets open no unit.
-pub fn test(alloc: Global, cursor: &mut Cursor, room: usize) -> Result<Test, Fault>
+pub fn test(alloc: Global, cursor: &mut Cursor, room: usize) -> Result<Test, ParserStop>
     ensures ok { IfOk result (λ t. IsTest room t cursor.old cursor.new) }
     ensures err { IfErr result (λ e. FailsIn room None (test_want ∷ []) cursor.old e) }
 {
@@ -116,7 +120,7 @@ pub fn test(alloc: Global, cursor: &mut Cursor, room: usize) -> Result<Test, Fau
 }
 
 /// A test that is waited for.
-pub fn delay(alloc: Global, cursor: &mut Cursor, room: usize) -> Result<Delay, Fault>
+pub fn delay(alloc: Global, cursor: &mut Cursor, room: usize) -> Result<Delay, ParserStop>
     ensures ok { IfOk result (λ d. IsDelay room d cursor.old cursor.new) }
     ensures err { IfErr result (λ e. FailsIn room None delay_wants cursor.old e) }
 {

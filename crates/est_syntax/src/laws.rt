@@ -3,7 +3,7 @@
 ghost use Rattle.std.specs.Prelude.{◌≡◌, ◌≤◌, ◌+◌, ◌∷◌, [], ℕ, List, length};
 ghost use Rattle.est_text.specs.declared.token.Token.{Token};
 ghost use Rattle.est_syntax.specs.Faults.{IsSyntaxFault, IsTooDeep};
-ghost use Rattle.est_syntax.specs.Machine.{run, library, right, wrong, deep};
+ghost use Rattle.est_syntax.specs.Inner.Machine.{run, library, right, wrong, deep};
 ghost use Rattle.est_syntax.specs.Grammar.{spelling, library_depth};
 ghost use Rattle.est_syntax.specs.Tree.{LibraryTree};
 

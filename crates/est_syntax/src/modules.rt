@@ -1,13 +1,13 @@
 //! From tokens to the tree of a library.
 ghost use Rattle.std.specs.Prelude.{◌≡◌, ◌∷◌, [], List, length, IfOk, IfErr, map};
 ghost use Rattle.est_syntax.specs.Views.{module_view, library_view};
-ghost use Rattle.est_syntax.specs.Machine.{module_wants, modules as modules_want};
-ghost use Rattle.est_syntax.specs.Machine.{library as library_want};
-ghost use Rattle.est_syntax.specs.Modules.{Stops, IsModule, AreAllModules, IsLibrary};
+ghost use Rattle.est_syntax.specs.Inner.Machine.{module_wants, modules as modules_want};
+ghost use Rattle.est_syntax.specs.Inner.Machine.{library as library_want};
+ghost use Rattle.est_syntax.specs.Inner.Modules.{Stops, IsModule, AreAllModules, IsLibrary};
 
 use crate::cursor::Cursor;
 use crate::declarations::declarations;
-use crate::fault::Fault;
+use crate::fault::ParserStop;
 use crate::parse::MOST_OPEN_UNITS;
 use crate::statements::statement;
 use crate::tree::{Library, Module};
@@ -16,7 +16,7 @@ use est_text::token::Symbol;
 use std::alloc::Global;
 
 /// A module, after its first word.
-fn module(alloc: Global, cursor: &mut Cursor) -> Result<Module, Fault>
+fn module(alloc: Global, cursor: &mut Cursor) -> Result<Module, ParserStop>
     ensures ok { IfOk result (λ p. IsModule (module_view p) cursor.old cursor.new) }
     ensures err { IfErr result (λ e. Stops (module_wants []) cursor.old e) }
 {
@@ -34,7 +34,7 @@ fn module(alloc: Global, cursor: &mut Cursor) -> Result<Module, Fault>
 }
 
 /// The further modules.
-fn later_modules(alloc: Global, cursor: &mut Cursor) -> Result<Vec<Module>, Fault>
+fn later_modules(alloc: Global, cursor: &mut Cursor) -> Result<Vec<Module>, ParserStop>
     ensures ok { IfOk result
         (λ ps. AreAllModules (map module_view ps.items) cursor.old cursor.new) }
     ensures err { IfErr result (λ e. Stops (modules_want ∷ []) cursor.old e) }
@@ -48,7 +48,7 @@ fn later_modules(alloc: Global, cursor: &mut Cursor) -> Result<Vec<Module>, Faul
 }
 
 /// A library, which takes all tokens.
-pub fn library(alloc: Global, cursor: &mut Cursor) -> Result<Library, Fault>
+pub fn library(alloc: Global, cursor: &mut Cursor) -> Result<Library, ParserStop>
     ensures ok { IfOk result (λ l. IsLibrary (library_view l) cursor.old) }
     ensures err { IfErr result (λ e. Stops (library_want ∷ []) cursor.old e) }
 {
@@ -57,7 +57,7 @@ pub fn library(alloc: Global, cursor: &mut Cursor) -> Result<Library, Fault>
     let later = later_modules(alloc, cursor)?;
     let left = cursor.count();
     if left != 0 {
-        return Err(Fault::Syntax(left));
+        return Err(ParserStop::Syntax(left));
     }
     Ok(Library { first, later })
 }

@@ -9,7 +9,7 @@ ghost use Rattle.est_syntax.specs.declared.parse.TheConstants.{MOST_OPEN_UNITS};
 ghost use Rattle.est_syntax.specs.declared.parse.ParseFault.TheVariants.{Memory};
 
 use crate::cursor::Cursor;
-use crate::fault::Fault;
+use crate::fault::ParserStop;
 use crate::modules::library;
 use crate::tree::Library;
 use est_text::place::Place;
@@ -49,8 +49,12 @@ pub fn parse(alloc: Global, tokens: &Tokens) -> Result<Library, ParseFault>
     let mut cursor = Cursor::new(located);
     match library(alloc, &mut cursor) {
         Ok(library) => Ok(library),
-        Err(Fault::Syntax(left)) => Err(ParseFault::Syntax(tokens.place(located.len() - left))),
-        Err(Fault::TooDeep(left)) => Err(ParseFault::TooLarge(tokens.place(located.len() - left))),
-        Err(Fault::Memory) => Err(ParseFault::Memory),
+        Err(ParserStop::Syntax(left)) => Err(ParseFault::Syntax(tokens.place(
+            located.len() - left,
+        ))),
+        Err(ParserStop::TooDeep(left)) => Err(ParseFault::TooLarge(tokens.place(
+            located.len() - left,
+        ))),
+        Err(ParserStop::Memory) => Err(ParseFault::Memory),
     }
 }

@@ -4,18 +4,18 @@
 //! `room`, which begins at `MOST_OPEN_UNITS`, and lists are read by loops. So on any text the
 //! recursion ends, and goes no deeper than `room`.
 ghost use Rattle.std.specs.Prelude.{◌∷◌, [], suc, None, Some, IfOk, IfErr};
-ghost use Rattle.est_syntax.specs.Machine.{unit as unit_want, branches as branches_want};
-ghost use Rattle.est_syntax.specs.Machine.{sequence as sequence_want, sequence_tail};
-ghost use Rattle.est_syntax.specs.Machine.{statement as statement_want, statement_tail};
-ghost use Rattle.est_syntax.specs.Parsing.{FailsIn, IsUnitStart};
-ghost use Rattle.est_syntax.specs.Parts.{IsUnit, IsBranches, AreLaterUnits, IsSequence};
-ghost use Rattle.est_syntax.specs.Parts.{AreLaterSequences, IsStatement};
-ghost use Rattle.est_syntax.specs.Frames.{IsOpened, frame_wants, opener_wants};
+ghost use Rattle.est_syntax.specs.Inner.Machine.{unit as unit_want, branches as branches_want};
+ghost use Rattle.est_syntax.specs.Inner.Machine.{sequence as sequence_want, sequence_tail};
+ghost use Rattle.est_syntax.specs.Inner.Machine.{statement as statement_want, statement_tail};
+ghost use Rattle.est_syntax.specs.Inner.Parsing.{FailsIn, IsUnitStart};
+ghost use Rattle.est_syntax.specs.Inner.Parts.{IsUnit, IsBranches, AreLaterUnits, IsSequence};
+ghost use Rattle.est_syntax.specs.Inner.Parts.{AreLaterSequences, IsStatement};
+ghost use Rattle.est_syntax.specs.Inner.Frames.{IsOpened, frame_wants, opener_wants};
 
 use crate::closings::end_again;
 use crate::cursor::Cursor;
 use crate::expressions::test;
-use crate::fault::Fault;
+use crate::fault::ParserStop;
 use crate::tree::{Branches, Sequence, Statement, Unit};
 use crate::units::{Frame, Opener, head_of, opener_of, plain_unit, tail};
 use est_text::keyword::Keyword;
@@ -25,22 +25,22 @@ use std::alloc::Global;
 /// One unit. `room` units may be opened in one another from here on; `ends` tells whether what is
 /// around may go on with `end`.
 #[cycle(parse)]
-fn unit(alloc: Global, cursor: &mut Cursor, room: usize, ends: bool) -> Result<Unit, Fault>
+fn unit(alloc: Global, cursor: &mut Cursor, room: usize, ends: bool) -> Result<Unit, ParserStop>
     ensures ok { IfOk result (λ u. IsUnit room ends u cursor.old cursor.new) }
     ensures err { IfErr result (λ e. FailsIn room (Some ends) (unit_want ∷ []) cursor.old e) }
 {
     let here = cursor.count();
     let Some(first) = cursor.next() else {
-        return Err(Fault::Syntax(here));
+        return Err(ParserStop::Syntax(here));
     };
     if let Some(plain) = plain_unit(alloc, cursor, first, room)? {
         return Ok(plain);
     }
     let Some(opener) = opener_of(first) else {
-        return Err(Fault::Syntax(here));
+        return Err(ParserStop::Syntax(here));
     };
     if room == 0 {
-        return Err(Fault::TooDeep(here));
+        return Err(ParserStop::TooDeep(here));
     }
     match opener {
         Opener::Test => tested(alloc, cursor, room - 1),
@@ -50,7 +50,7 @@ fn unit(alloc: Global, cursor: &mut Cursor, room: usize, ends: bool) -> Result<U
 
 /// A `present`, after its first word.
 #[cycle(parse)]
-fn tested(alloc: Global, cursor: &mut Cursor, room: usize) -> Result<Unit, Fault>
+fn tested(alloc: Global, cursor: &mut Cursor, room: usize) -> Result<Unit, ParserStop>
     ensures ok { IfOk result (λ u. IsOpened room None (Opener.Test) u cursor.old cursor.new) }
     ensures err { IfErr result
         (λ e. FailsIn (suc room) None (opener_wants Opener.Test) cursor.old e) }
@@ -68,7 +68,7 @@ fn framed(
     frame: Frame,
     room: usize,
     ends: bool,
-) -> Result<Unit, Fault>
+) -> Result<Unit, ParserStop>
     ensures ok { IfOk result
         (λ u. IsOpened room (Some ends) (Opener.Frame frame) u cursor.old cursor.new) }
     ensures err { IfErr result
@@ -81,7 +81,7 @@ fn framed(
 
 /// The branches of a `present`, and its end.
 #[cycle(parse)]
-fn branches(alloc: Global, cursor: &mut Cursor, room: usize) -> Result<Branches, Fault>
+fn branches(alloc: Global, cursor: &mut Cursor, room: usize) -> Result<Branches, ParserStop>
     ensures ok { IfOk result (λ b. IsBranches room b cursor.old cursor.new) }
     ensures err { IfErr result (λ e. FailsIn room None (branches_want ∷ []) cursor.old e) }
 {
@@ -108,7 +108,7 @@ fn later_units(
     cursor: &mut Cursor,
     room: usize,
     ends: bool,
-) -> Result<(Vec<Unit>, bool), Fault>
+) -> Result<(Vec<Unit>, bool), ParserStop>
     ensures ok { IfOk result (λ p. AreLaterUnits room ends p.0.items p.1 cursor.old cursor.new) }
     ensures err { IfErr result (λ e. FailsIn room (Some ends) (sequence_tail ∷ []) cursor.old e) }
 {
@@ -147,7 +147,12 @@ fn begins_unit(cursor: &Cursor) -> bool
 
 /// Units one after another.
 #[cycle(parse)]
-fn sequence(alloc: Global, cursor: &mut Cursor, room: usize, ends: bool) -> Result<Sequence, Fault>
+fn sequence(
+    alloc: Global,
+    cursor: &mut Cursor,
+    room: usize,
+    ends: bool,
+) -> Result<Sequence, ParserStop>
     ensures ok { IfOk result (λ q. IsSequence room ends q cursor.old cursor.new) }
     ensures err { IfErr result (λ e. FailsIn room (Some ends) (sequence_want ∷ []) cursor.old e) }
 {
@@ -168,7 +173,7 @@ fn later_sequences(
     cursor: &mut Cursor,
     room: usize,
     ends: bool,
-) -> Result<Vec<Sequence>, Fault>
+) -> Result<Vec<Sequence>, ParserStop>
     ensures ok { IfOk result (λ qs. AreLaterSequences room ends qs.items cursor.old cursor.new) }
     ensures err { IfErr result (λ e. FailsIn room (Some ends) (statement_tail ∷ []) cursor.old e) }
 {
@@ -187,7 +192,7 @@ pub fn statement(
     cursor: &mut Cursor,
     room: usize,
     ends: bool,
-) -> Result<Statement, Fault>
+) -> Result<Statement, ParserStop>
     ensures ok { IfOk result (λ t. IsStatement room ends t cursor.old cursor.new) }
     ensures err { IfErr result (λ e. FailsIn room (Some ends) (statement_want ∷ []) cursor.old e) }
 {

@@ -3,15 +3,16 @@ ghost use Rattle.std.specs.Prelude.{◌≡◌, ◌≤◌, ◌+◌, ◌∷◌, �
 ghost use Rattle.std.specs.Prelude.{IfOk, IfErr, MatchOption, map};
 ghost use Rattle.est_syntax.specs.Grammar.{unit_onto, unit_depth, statement_onto, statement_depth};
 ghost use Rattle.est_syntax.specs.Views.{unit_view, statement_view};
-ghost use Rattle.est_syntax.specs.Machine.{unit as unit_want};
-ghost use Rattle.est_syntax.specs.Parsing.{Fails, FailsIn, NotMemory};
-ghost use Rattle.est_syntax.specs.Frames.{IsPlain, frame_token, IsOpener, frame_wants, head_onto};
-ghost use Rattle.est_syntax.specs.Frames.{head_wants, body_end, IsHead, IsTail, IsTailAlways};
+ghost use Rattle.est_syntax.specs.Inner.Machine.{unit as unit_want};
+ghost use Rattle.est_syntax.specs.Inner.Parsing.{Fails, FailsIn, NotMemory};
+ghost use Rattle.est_syntax.specs.Inner.Frames.{IsPlain, frame_token, IsOpener, frame_wants};
+ghost use Rattle.est_syntax.specs.Inner.Frames.{head_onto, head_wants, body_end, IsHead, IsTail};
+ghost use Rattle.est_syntax.specs.Inner.Frames.{IsTailAlways};
 
 use crate::closings::{end_again, end_pair, watched, weak_end};
 use crate::cursor::Cursor;
 use crate::expressions::{delay, test};
-use crate::fault::Fault;
+use crate::fault::ParserStop;
 use crate::names::{names, renamings};
 use crate::tree::{Delay, Names, Statement, Unit};
 use est_text::identifier::Identifier;
@@ -26,7 +27,7 @@ pub fn plain_unit(
     cursor: &mut Cursor,
     first: &Token,
     room: usize,
-) -> Result<Option<Unit>, Fault>
+) -> Result<Option<Unit>, ParserStop>
     ensures ok { IfOk result (λ u. IsPlain room first.now u cursor.old cursor.new) }
     ensures err { IfErr result
         (λ e. FailsIn room None (unit_want ∷ []) (first.now ∷ cursor.old) e) }
@@ -117,7 +118,12 @@ pub enum Head {
 }
 
 /// What stands before the body, after the frame's first token.
-pub fn head_of(alloc: Global, cursor: &mut Cursor, frame: Frame, room: usize) -> Result<Head, Fault>
+pub fn head_of(
+    alloc: Global,
+    cursor: &mut Cursor,
+    frame: Frame,
+    room: usize,
+) -> Result<Head, ParserStop>
     ensures ok { IfOk result (λ h. IsHead room frame h cursor.old cursor.new) }
     ensures err { IfErr result (λ e. FailsIn (suc room) None (frame_wants frame) cursor.old e) }
 {
@@ -167,7 +173,7 @@ fn suspended(
     body: Statement,
     room: usize,
     ends: bool,
-) -> Result<Unit, Fault>
+) -> Result<Unit, ParserStop>
     ensures ok { IfOk result
         (λ u. IsTail room (Some ends) (Head.Suspend) (statement_view body) u
         cursor.old cursor.new) }
@@ -186,7 +192,7 @@ fn aborted(
     body: Statement,
     room: usize,
     ends: bool,
-) -> Result<Unit, Fault>
+) -> Result<Unit, ParserStop>
     ensures ok { IfOk result
         (λ u. IsTail room (Some ends) (Head.Abort) (statement_view body) u cursor.old cursor.new) }
     ensures err { IfErr result
@@ -204,7 +210,7 @@ fn weakly_aborted(
     body: Statement,
     room: usize,
     ends: bool,
-) -> Result<Unit, Fault>
+) -> Result<Unit, ParserStop>
     ensures ok { IfOk result
         (λ u. IsTail room (Some ends) (Head.WeakAbort)
         (statement_view body) u cursor.old cursor.new) }
@@ -217,7 +223,12 @@ fn weakly_aborted(
 }
 
 /// The end of a loop.
-fn looped(alloc: Global, cursor: &mut Cursor, body: Statement, room: usize) -> Result<Unit, Fault>
+fn looped(
+    alloc: Global,
+    cursor: &mut Cursor,
+    body: Statement,
+    room: usize,
+) -> Result<Unit, ParserStop>
     ensures ok { IfOk result
         (λ u. IsTail room None (Head.Loop) (statement_view body) u cursor.old cursor.new) }
     ensures err { IfErr result
@@ -232,7 +243,7 @@ fn looped(alloc: Global, cursor: &mut Cursor, body: Statement, room: usize) -> R
 }
 
 /// The end of an `every`.
-fn repeated(cursor: &mut Cursor, every: Delay, body: Statement) -> Result<Unit, Fault>
+fn repeated(cursor: &mut Cursor, every: Delay, body: Statement) -> Result<Unit, ParserStop>
     ensures ok { IfOk result
         (λ u. IsTailAlways (Head.Every every) (statement_view body) u cursor.old cursor.new) }
     ensures err { IfErr result (λ e. Fails (head_wants (Head.Every every)) cursor.old e) }
@@ -243,7 +254,7 @@ fn repeated(cursor: &mut Cursor, every: Delay, body: Statement) -> Result<Unit, 
 }
 
 /// The end of a `trap`.
-fn trapped(cursor: &mut Cursor, name: Identifier, body: Statement) -> Result<Unit, Fault>
+fn trapped(cursor: &mut Cursor, name: Identifier, body: Statement) -> Result<Unit, ParserStop>
     ensures ok { IfOk result
         (λ u. IsTailAlways (Head.Trap name) (statement_view body) u cursor.old cursor.new) }
     ensures err { IfErr result (λ e. Fails (head_wants (Head.Trap name)) cursor.old e) }
@@ -254,7 +265,7 @@ fn trapped(cursor: &mut Cursor, name: Identifier, body: Statement) -> Result<Uni
 }
 
 /// The end of a `signal`.
-fn local(cursor: &mut Cursor, names: Names, body: Statement) -> Result<Unit, Fault>
+fn local(cursor: &mut Cursor, names: Names, body: Statement) -> Result<Unit, ParserStop>
     ensures ok { IfOk result
         (λ u. IsTailAlways (Head.Signal names) (statement_view body) u cursor.old cursor.new) }
     ensures err { IfErr result (λ e. Fails (head_wants (Head.Signal names)) cursor.old e) }
@@ -265,7 +276,7 @@ fn local(cursor: &mut Cursor, names: Names, body: Statement) -> Result<Unit, Fau
 }
 
 /// The end of a group.
-fn grouped(cursor: &mut Cursor, body: Statement) -> Result<Unit, Fault>
+fn grouped(cursor: &mut Cursor, body: Statement) -> Result<Unit, ParserStop>
     ensures ok { IfOk result
         (λ u. IsTailAlways (Head.Group) (statement_view body) u cursor.old cursor.new) }
     ensures err { IfErr result (λ e. Fails (head_wants (Head.Group)) cursor.old e) }
@@ -283,7 +294,7 @@ pub fn tail(
     body: Statement,
     room: usize,
     ends: bool,
-) -> Result<Unit, Fault>
+) -> Result<Unit, ParserStop>
     ensures ok { IfOk result
         (λ u. IsTail room (Some ends) head (statement_view body) u cursor.old cursor.new) }
     ensures err { IfErr result

@@ -33,7 +33,7 @@ use Rattle.access_core.specs.SlotStep.{SlotStep, no_session, stamp_of, tells_add
 use Rattle.history_events.specs.declared.event.Event.{Event}
 use Rattle.history_events.specs.declared.event.Event.TheVariants.{Admin, OnSlot}
 use Rattle.history_events.specs.Accepting.{MeetsNoLimit, IsInputName, IsExcluded, CanOffer, HasReaction}
-use Rattle.history_events.specs.Changes.{Changes, AddsSlotEntry}
+use Rattle.history_events.specs.EventChanges.{Changes, AddsSlotEntry}
 use Rattle.history_events.specs.Entering.{WasOffered, StandsIn}
 use Rattle.history_events.specs.Runs.{WorldState, Moment, EventStep, Comes, journal_in, journal_at, desk_of}
 use Rattle.history_events.specs.Runs.{version_rules, Judged}

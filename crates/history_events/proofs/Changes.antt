@@ -30,7 +30,7 @@ use Rattle.access_core.specs.Desk.{reply_of_change, change_of}
 use Rattle.access_core.proofs.Unchanged.{accepted_is_allowed, same_place}
 use Rattle.history_events.specs.declared.event.Event.{Event}
 use Rattle.history_events.specs.declared.event.Event.TheVariants.{Admin, OnSlot}
-use Rattle.history_events.specs.Changes.{Changes}
+use Rattle.history_events.specs.EventChanges.{Changes}
 use Rattle.history_events.specs.Runs.{WorldState, Moment, EventStep, Comes, desk_of, version_rules, Judged}
 use Rattle.history_events.proofs.Following.{reached}
 use Rattle.history_events.proofs.Moving.{moves, not_accepted}

@@ -11,7 +11,7 @@ use Rattle.access_core.specs.declared.command.SlotCommand.{SlotCommand}
 use Rattle.access_core.specs.declared.command.SlotCommand.TheVariants.{Move}
 use Rattle.history_events.specs.declared.event.Event.{Event}
 use Rattle.history_events.specs.declared.event.Event.TheVariants.{Admin, OnSlot}
-use Rattle.history_events.specs.Changing.{ChangesJournal, IsMoveOf, RunsInstant}
+use Rattle.history_events.specs.SlotAdditions.{ChangesJournal, IsMoveOf, RunsInstant}
 use Rattle.history_events.specs.Entering.{Accepts, IsOn, IsStep, WasOffered, StandsIn, AddsInstantAt, Enters}
 use Rattle.history_events.specs.Runs.{Moment, EventStep, Comes, journal_at}
 use Rattle.history_events.proofs.Following.{reached}

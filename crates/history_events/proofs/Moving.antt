@@ -28,7 +28,7 @@ use Rattle.access_core.specs.Answering.{IsRefused}
 use Rattle.access_core.specs.Refusals.{of_reactor}
 use Rattle.access_core.specs.Needs.{IsAccepted}
 use Rattle.access_core.specs.SlotStep.{SlotStep, slot_rules, Does, Loads, Offers, Steps, stamp_of, tells_added}
-use Rattle.history_events.specs.Changing.{ChangesJournal}
+use Rattle.history_events.specs.SlotAdditions.{ChangesJournal}
 
 -- a refusal accepts nothing
 pub not_accepted : {A : Type 0} (reply : Reply) (refusal : Refusal) → reply ≡ Refused refusal → IsAccepted reply → A

@@ -14,7 +14,7 @@ use Rattle.access_core.specs.declared.command.SlotCommand.TheVariants.{Move, Loo
 use Rattle.access_core.specs.SlotStep.{stamp_of}
 use Rattle.history_events.specs.declared.event.Event.{Event}
 use Rattle.history_events.specs.declared.event.Event.TheVariants.{Admin, OnSlot}
-use Rattle.history_events.specs.Changing.{AddsMove, IsMoveOf}
+use Rattle.history_events.specs.SlotAdditions.{AddsMove, IsMoveOf}
 use Rattle.history_events.specs.Entering.{Accepts, IsOn, IsOfferOf, IsLoad, IsStep, EmptiesPending, WasOffered}
 use Rattle.history_events.specs.Entering.{StandsIn}
 use Rattle.history_events.specs.Runs.{Moment, Comes, journal_at}

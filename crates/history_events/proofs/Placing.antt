@@ -22,7 +22,7 @@ use Rattle.access_core.specs.SlotStep.{no_session}
 use Rattle.access_core.specs.Desk.{DeskState, desk_at, AdminStep, DeskStep, InSlot, Appends, list_full, no_slot}
 use Rattle.access_core.specs.Desk.{empty_slot}
 use Rattle.history_events.specs.Runs.{WorldState, opening_world, journal_in, journal_at, desk_of, Judged, version_rules}
-use Rattle.history_events.specs.Changing.{ChangesJournal}
+use Rattle.history_events.specs.SlotAdditions.{ChangesJournal}
 use Rattle.history_events.proofs.Moving.{not_accepted, moves}
 
 -- the journal of the slot of this number

@@ -10,7 +10,7 @@ use Rattle.access_core.specs.Answering.{IsRefused}
 use Rattle.access_core.specs.Desk.{desk_at}
 use Rattle.history_events.specs.declared.event.Event.{Event}
 use Rattle.history_events.specs.declared.event.Event.TheVariants.{Admin, OnSlot}
-use Rattle.history_events.specs.Changing.{ChangesJournal}
+use Rattle.history_events.specs.SlotAdditions.{ChangesJournal}
 use Rattle.history_events.specs.Rising.{Rises}
 use Rattle.history_events.specs.Runs.{WorldState, Moment, EventStep, Comes, journal_in, journal_at, last_version}
 use Rattle.history_events.specs.Runs.{newest_known, desk_of, version_rules, Judged}

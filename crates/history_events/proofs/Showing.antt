@@ -32,7 +32,7 @@ use Rattle.access_core.specs.Needs.{IsAccepted}
 use Rattle.access_core.specs.Shown.{shown_of}
 use Rattle.access_core.specs.SlotStep.{SlotStep, stamp_of, tells_added, Looks}
 use Rattle.history_events.specs.declared.event.Event.TheVariants.{OnSlot}
-use Rattle.history_events.specs.Changing.{AddsMove, IsMoveOf}
+use Rattle.history_events.specs.SlotAdditions.{AddsMove, IsMoveOf}
 use Rattle.history_events.specs.Entering.{Accepts, IsOn, IsStep, IsLoad, StandsIn, WasOffered}
 use Rattle.history_events.specs.Runs.{Moment, EventStep, Comes, desk_of, version_rules, Judged, journal_in, journal_at}
 use Rattle.history_events.specs.Showing.{Reactions, starts, goes_on, WasStep, ShowsReaction}

@@ -6,7 +6,7 @@ use Rattle.reactor_core.specs.declared.entry.SlotEntry.{SlotEntry}
 use Rattle.access_core.specs.declared.command.SlotCommand.{SlotCommand}
 use Rattle.history_events.specs.declared.event.Event.{Event}
 use Rattle.history_events.specs.declared.event.Event.TheVariants.{Admin, OnSlot}
-use Rattle.history_events.specs.Changing.{ChangesJournal, AddsMove, OnlyAsks}
+use Rattle.history_events.specs.SlotAdditions.{ChangesJournal, AddsMove, OnlyAsks}
 use Rattle.history_events.specs.Entering.{Accepts, IsOn}
 use Rattle.history_events.specs.Runs.{WorldState, Moment, EventStep, Comes, journal_in, journal_at, desk_of}
 use Rattle.history_events.proofs.Following.{reached}

@@ -14,7 +14,7 @@ use Rattle.access_core.specs.Needs.{IsAccepted}
 use Rattle.history_events.specs.declared.event.Event.{Event}
 use Rattle.history_events.specs.declared.event.Event.TheVariants.{OnSlot}
 use Rattle.history_events.specs.Accepting.{MeetsNoLimit, IsInputName, IsExcluded, HasInstant, HasReaction}
-use Rattle.history_events.specs.Changes.{Changes}
+use Rattle.history_events.specs.EventChanges.{Changes}
 use Rattle.history_events.specs.Denying.{AnswersBy, rules_of}
 use Rattle.history_events.specs.Entering.{Accepts, IsStep, WasOffered, Enters}
 use Rattle.history_events.specs.OneRun.{events_of}

@@ -1,8 +1,8 @@
 pub mod Runs
 pub mod Since
 pub mod Rising
-pub mod Changing
-pub mod Changes
+pub mod SlotAdditions
+pub mod EventChanges
 pub mod Entering
 pub mod Accepting
 pub mod Showing

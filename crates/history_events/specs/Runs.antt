@@ -3,7 +3,7 @@
 use Rattle.std.specs.Prelude.{◌≡◌, ℕ, ◌≤◌, List, [], ◌∷◌, ◌++◌, Option, Some, None, length, max, slice_get, slice_set}
 use Rattle.std.specs.Prelude.{slice_index_or, map, Bool, true, false}
 use Rattle.std.specs.List.{range_with_len}
-use Rattle.refusal_rules.specs.Rules.{Rules, Unless, accept, ◌▸◌}
+use Rattle.refusal_rules.specs.Rules.{Rules, RefuseUnless, accept, ◌▸◌}
 use Rattle.rbac_policy.specs.declared.commands.AdminCommand.{AdminCommand}
 use Rattle.rbac_policy.specs.declared.commands.Entry.{Entry}
 use Rattle.reactor_core.specs.declared.entry.SlotEntry.{SlotEntry}
@@ -54,8 +54,8 @@ newest_known world seat slot = max (last_version 0 (journal_at world slot)) (sli
 -- the rules of the version of an event on a slot: it is not under what slot and seat know, and there is such a version
 abbrev pub version_rules : WorldState → (seat version slot : ℕ) → Rules Refusal
 version_rules world seat version slot =
-    Unless (newest_known world seat slot ≤ version) (Behind version (newest_known world seat slot))
-    ▸ Unless (version ≤ length world.entries) (Behind version (length world.entries))
+    RefuseUnless (newest_known world seat slot ≤ version) (Behind version (newest_known world seat slot))
+    ▸ RefuseUnless (version ≤ length world.entries) (Behind version (length world.entries))
     ▸ accept
 
 -- the seat has seen this version, too

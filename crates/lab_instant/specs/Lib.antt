@@ -1,4 +1,3 @@
-pub mod Adding
 pub mod Inner
 pub mod Instants
 pub mod Laws

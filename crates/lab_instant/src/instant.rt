@@ -18,11 +18,11 @@ use std::alloc::{AllocError, Global};
 
 /// What took part, or memory was refused.
 fn seen_in(alloc: Global, net: &Net, owners: &[OwnCells]) -> Result<Seen, AllocError>
-    requires { net.now.outputs + length (cells_of owners.now) ≤ length net.now.cells.items }
+    requires { net.now.output_count + length (cells_of owners.now) ≤ length net.now.cells.items }
     ensures { IfOk result (λ seen. (k : KernelValue) → cells_of owners.now ≡ statement_cells k
-        → net.now.outputs ≡ output_count k.interface → IsSeen k net.now.cells.items seen) }
+        → net.now.output_count ≡ output_count k.interface → IsSeen k net.now.cells.items seen) }
 {
-    all_seen(alloc, owners, net, net.outputs())
+    all_seen(alloc, owners, net, net.output_count())
 }
 
 /// What reads the instants of a kernel from inside.

@@ -4,7 +4,7 @@ ghost use Rattle.std.specs.Prelude.{◌≡◌, ◌<◌, ◌≤◌, ◌+◌, true
 ghost use Rattle.est_kernel.specs.Limits.{trap_depth};
 ghost use Rattle.est_kernel.specs.View.{term_of};
 ghost use Rattle.est_net.specs.Owners.{inside_loop, owners_in};
-ghost use Rattle.lab_instant.specs.Adding.{AddsOwn, AddsOwners};
+ghost use Rattle.lab_instant.specs.Inner.Adding.{AddsOwn, AddsOwners};
 ghost use Rattle.lab_instant.specs.OwnCells.{cells_of, own_count};
 
 use crate::seen::Incarnation;

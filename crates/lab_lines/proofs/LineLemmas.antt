@@ -11,7 +11,7 @@ use Rattle.serde_json.specs.Written.{outline, members_outline}
 use Rattle.est_kernel.specs.Bits.{bits}
 use Rattle.est_kernel.specs.declared.interface.Declaration.{Declaration}
 use Rattle.wire_lines.specs.Inner.ReplyTokens.{value_tokens, member_tokens, item_tokens}
-use Rattle.lab_lines.specs.LineParts.{names_left}
+use Rattle.lab_lines.specs.Inner.LineParts.{names_left}
 use Rattle.lab_lines.specs.FoundJson.{names_from}
 use Rattle.lab_lines.proofs.NameLemmas.{names_there, names_later}
 

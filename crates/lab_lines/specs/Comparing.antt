@@ -5,7 +5,7 @@ use Rattle.est_explore.specs.Comparisons.{IsRightOfBoth}
 use Rattle.est_explore.specs.ExploredBoth.{IsExploredBoth}
 use Rattle.est_explore.specs.Runs.{Module}
 use Rattle.est_cover.specs.declared.answered.AnsweredInputs.{AnsweredInputs}
-use Rattle.est_explore.specs.declared.same.Comparison.{Comparison}
+use Rattle.est_explore.specs.declared.comparison.Comparison.{Comparison}
 use Rattle.est_explore.specs.declared.two_modules.AnswerPair.{AnswerPair}
 use Rattle.est_explore.specs.declared.two_modules.PositionPair.{PositionPair}
 use Rattle.state_search.specs.Table.{HasEnded}

@@ -10,8 +10,8 @@ use Rattle.est_explore.specs.declared.one_module.Answer.TheVariants.{Reaction, S
 use Rattle.est_explore.specs.declared.two_modules.AnswerPair.{AnswerPair}
 use Rattle.est_explore.specs.declared.verdict.Verdict.{Verdict}
 use Rattle.est_explore.specs.declared.verdict.Verdict.TheVariants.{Holds, Fails, TooMany}
-use Rattle.est_explore.specs.declared.same.Comparison.{Comparison}
-use Rattle.est_explore.specs.declared.same.Comparison.TheVariants.{Same, Differ, TooMany as TooManyPairs}
+use Rattle.est_explore.specs.declared.comparison.Comparison.{Comparison}
+use Rattle.est_explore.specs.declared.comparison.Comparison.TheVariants.{Same, Differ, TooMany as TooManyPairs}
 
 -- the names of those signals, of declarations from this place on, that are in the set
 abbrev pub names_from : (place : ℕ) → List Declaration → (signals : ℕ) → List Data

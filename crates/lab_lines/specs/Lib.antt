@@ -3,10 +3,10 @@ pub mod Comparing
 pub mod Exploring
 pub mod FoundJson
 pub mod Inside
-pub mod LineParts
 pub mod Offers
 pub mod Requests
 pub mod Statements
 pub mod TableJson
 pub mod Tests
 pub mod Ties
+pub mod Inner

@@ -8,8 +8,8 @@ ghost use Rattle.lab_lines.specs.Comparing.{IsComparison};
 ghost use Rattle.lab_lines.specs.FoundJson.{comparison_json};
 
 use crate::found_json::word_of_both_json;
-use est_cover::all_lawful::AllLawful;
-use est_explore::same::{Comparison, compare, explore_both};
+use est_cover::all_lawful::LawfulInputs;
+use est_explore::comparison::{Comparison, compare, explore_both};
 use est_explore::two_modules::{EnginePair, TwoModules};
 use est_kernel::interface::{Declaration, Interface};
 use est_rounds::part_engine::PartEngine;
@@ -75,7 +75,7 @@ fn comparison_json(
 /// Whether two modules do the same.
 pub fn compare_modules<E: PartEngine, F: PartEngine>(
     alloc: Global,
-    subject: &AllLawful<'_, TwoModules<'_, E, F>>,
+    subject: &LawfulInputs<'_, TwoModules<'_, E, F>>,
     engines: &mut EnginePair<E, F>,
     limits: Limits,
 ) -> Result<Value, AllocError>

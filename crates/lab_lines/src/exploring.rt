@@ -14,7 +14,7 @@ ghost use Rattle.lab_lines.specs.FoundJson.{exploration_json};
 
 use crate::asked_test::AskedTest;
 use crate::found_json::verdict_json;
-use est_cover::all_lawful::AllLawful;
+use est_cover::all_lawful::LawfulInputs;
 use est_cover::answered::AnsweredInputs;
 use est_explore::claim::Claim;
 use est_explore::judge::{explore, judge};
@@ -41,7 +41,7 @@ fn watched_by(tests: &[AskedTest]) -> u64
 /// The verdicts on tests.
 fn verdicts_on<E: PartEngine>(
     alloc: Global,
-    subject: &AllLawful<'_, OneModule<'_, E>>,
+    subject: &LawfulInputs<'_, OneModule<'_, E>>,
     found: &Found<Position, AnsweredInputs<Answer>>,
     tests: &[AskedTest],
     limits: Limits,
@@ -88,7 +88,7 @@ fn exploration_json(
 /// The verdicts on a module: whether it is ever Stuck, and whether the tests always hold.
 pub fn judge_module<E: PartEngine>(
     alloc: Global,
-    subject: &AllLawful<'_, OneModule<'_, E>>,
+    subject: &LawfulInputs<'_, OneModule<'_, E>>,
     engine: &mut E,
     tests: &[AskedTest],
     limits: Limits,
@@ -98,7 +98,7 @@ pub fn judge_module<E: PartEngine>(
         subject.now.relations.now subject.now.allowed) (map test_of tests.now) limits.states
         limits.steps (view v)) }
 {
-    let watching = AllLawful {
+    let watching = LawfulInputs {
         reactive: subject.reactive,
         relations: subject.relations,
         allowed: subject.allowed,

@@ -7,7 +7,7 @@ ghost use Rattle.lab_instant.specs.declared.seen.Instant.TheVariants as told;
 ghost use Rattle.wire_lines.specs.Inner.ReplyTokens.{item_tokens, member_tokens, value_tokens};
 ghost use Rattle.lab_lines.specs.Inside.{back_json, inside_json, local_json, locals_json};
 ghost use Rattle.lab_lines.specs.Inside.{statements_json, status_json};
-ghost use Rattle.lab_lines.specs.LineParts.{members_in};
+ghost use Rattle.lab_lines.specs.Inner.LineParts.{members_in};
 ghost use Rattle.lab_lines.specs.Ties.{incarnation_json};
 
 use crate::line_parts::{write_names, write_state};

@@ -3,7 +3,7 @@
 ghost use Rattle.std.specs.Prelude.{◌≡◌, ◌<◌, ◌+◌, ◌++◌, length, OnOk};
 ghost use Rattle.est_kernel.specs.declared.state.State.TheVariants.{Paused};
 ghost use Rattle.wire_lines.specs.Inner.ReplyTokens.{item_tokens, value_tokens};
-ghost use Rattle.lab_lines.specs.LineParts.{names_left};
+ghost use Rattle.lab_lines.specs.Inner.LineParts.{names_left};
 ghost use Rattle.lab_lines.specs.TableJson.{number_json, state_json};
 ghost use Rattle.lab_lines.specs.FoundJson.{names_from, names_json};
 

@@ -12,11 +12,11 @@ ghost use Rattle.lab_lines.specs.TableJson.{place_json, row_json, state_json};
 use crate::found_json::names_json;
 use crate::pauses::pause_numbers;
 use crate::refusal::TOO_MANY_CODE;
-use est_cover::all_lawful::AllLawful;
+use est_cover::all_lawful::LawfulInputs;
 use est_cover::answered::AnsweredInputs;
 use est_explore::judge::explore;
 use est_explore::one_module::{Answer, OneModule, Position};
-use est_explore::table::is_closed;
+use est_explore::table::is_complete;
 use est_kernel::interface::Interface;
 use est_kernel::pause_set::PauseSet;
 use est_kernel::state::State;
@@ -144,7 +144,7 @@ fn too_large_json(alloc: Global, reactions: usize, states: usize) -> Result<Valu
 /// The table of a module; or that there are too many states or reactions.
 pub fn find_table<E: PartEngine>(
     alloc: Global,
-    subject: &AllLawful<'_, OneModule<'_, E>>,
+    subject: &LawfulInputs<'_, OneModule<'_, E>>,
     engine: &mut E,
     limits: Limits,
 ) -> Result<Value, AllocError>
@@ -156,7 +156,7 @@ pub fn find_table<E: PartEngine>(
 {
     let interface = subject.reactive.kernel.interface();
     let found = explore(alloc, subject, engine, limits)?;
-    if !is_closed(&found) {
+    if !is_complete(&found) {
         let reactions = found.rows.len();
         let states = found.nodes.len();
         let told = too_large_json(alloc, reactions, states)?;

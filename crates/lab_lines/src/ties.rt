@@ -3,7 +3,7 @@
 ghost use Rattle.std.specs.Prelude.{◌≡◌, ◌++◌, ◌∷◌, [], codes, OnOk};
 ghost use Rattle.wire_lines.specs.Inner.ReplyTokens.{item_tokens, member_tokens, value_tokens};
 ghost use Rattle.lab_ties.specs.declared.tie.OpenSignal.TheVariants as open_signal;
-ghost use Rattle.lab_lines.specs.LineParts.{members_in};
+ghost use Rattle.lab_lines.specs.Inner.LineParts.{members_in};
 ghost use Rattle.lab_lines.specs.Ties.{incarnation_json, kind_text, signal_json, tie_json};
 ghost use Rattle.lab_lines.specs.Ties.{ties_json};
 

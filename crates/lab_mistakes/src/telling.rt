@@ -11,7 +11,7 @@ ghost use Rattle.lab_lines.specs.Requests.{Says, SaysNothing};
 ghost use Rattle.lab_lines.specs.Statements.{IsKernelTold};
 ghost use Rattle.lab_lines.specs.TableJson.{state_json};
 
-use est_cover::all_lawful::AllLawful;
+use est_cover::all_lawful::LawfulInputs;
 use est_explore::two_modules::{EnginePair, TwoModules};
 use est_explore::verdict::Verdict;
 use est_kernel::interface::Interface;
@@ -93,7 +93,7 @@ pub fn kernel_json(alloc: Global, kernel: &Kernel) -> Result<Value, AllocError>
 /// `AllocError` where memory is refused.
 pub fn compare_modules<E: PartEngine, F: PartEngine>(
     alloc: Global,
-    subject: &AllLawful<'_, TwoModules<'_, E, F>>,
+    subject: &LawfulInputs<'_, TwoModules<'_, E, F>>,
     engines: &mut EnginePair<E, F>,
     limits: Limits,
 ) -> Result<Value, AllocError>

@@ -10,7 +10,7 @@ use Rattle.wire_reader.specs.declared.serving.EndReason.TheVariants.{Closed, Too
 use Rattle.lab_run.specs.Lines.{HasNoText, IsAnswer, IsTextOf}
 use Rattle.lab_run.specs.Proving.{TellsOfText}
 use Rattle.lab_run.specs.Statuses.{status_of}
-use Rattle.lab_run.specs.declared.answer.LineAnswerer.{LineAnswerer}
+use Rattle.lab_run.specs.declared.answer.LabAnswerer.{LabAnswerer}
 use Rattle.lab_run.specs.declared.lab.Lab.{Lab}
 use Rattle.lab_run.specs.declared.lab.LabReply.{LabReply}
 use Rattle.lab_run.specs.declared.invocation.ProveOptions.{ProveOptions}
@@ -24,19 +24,19 @@ status_of_end WriteFault = 1
 status_of_end Memory = 3
 
 -- the text is the answer to the line, over what is loaded
-abbrev pub Tells : (before : LineAnswerer × Lab) → (line text : List ℕ) → (after : LineAnswerer × Lab) → Type 0
+abbrev pub Tells : (before : LabAnswerer × Lab) → (line text : List ℕ) → (after : LabAnswerer × Lab) → Type 0
 Tells before line text after = IsAnswer before.1.stepped line text after.1.stepped
 
 -- memory was refused for the text of the answer
-abbrev pub TellsNothing : (before : LineAnswerer × Lab) → (line : List ℕ) → (after : LineAnswerer × Lab) → Type 0
+abbrev pub TellsNothing : (before : LabAnswerer × Lab) → (line : List ℕ) → (after : LabAnswerer × Lab) → Type 0
 TellsNothing before line after = HasNoText before.1.stepped line after.1.stepped
 
 -- the lines are answered, first of a lab in which nothing is loaded
 pub record ServesLines (ahead : Option (List ℕ)) (status : ℕ) (written after : Option (List ℕ)) : Type 0 where
   pub why : EndReason
-  pub opened : LineAnswerer × Lab
+  pub opened : LabAnswerer × Lab
   pub empty : opened.1.stepped ≡ None
-  pub closed : LineAnswerer × Lab
+  pub closed : LabAnswerer × Lab
   pub serves : ServesBy Tells TellsNothing (line_of (reply.Refused refusal.TooLong)) (between ahead opened) why closed
       written after [] []
   pub ends : status ≡ status_of_end why

@@ -78,9 +78,9 @@ pub fn line_of(alloc: Global, told: LabReply) -> Result<AnswerText, AllocError>
 
 /// Answers the lines of a connection by the lab.
 #[derive(Clone, Copy, Drop)]
-pub struct LineAnswerer;
+pub struct LabAnswerer;
 
-impl Answerer<Lab> for LineAnswerer {
+impl Answerer<Lab> for LabAnswerer {
     ghost tells = { λ before line text after. IsAnswer before.1.stepped line text after.1.stepped };
 
     ghost fails = { λ before line after. HasNoText before.1.stepped line after.1.stepped };

@@ -19,7 +19,7 @@ ghost use Rattle.wire_lines.specs.Requests.{IsValue};
 use crate::stepped_module::{SteppedModule, refusal_of};
 use access_core::refusal::Refusal;
 use access_core::reply::Reply;
-use est_cover::all_lawful::AllLawful;
+use est_cover::all_lawful::LawfulInputs;
 use est_explore::one_module::OneModule;
 use est_explore::two_modules::{EnginePair, TwoModules};
 use est_micro::micro::Micro;
@@ -122,7 +122,7 @@ fn judge_tests(
 {
     let mut engine = engine_of(alloc, loaded)?;
     let reactive = one_module(loaded);
-    let subject = AllLawful {
+    let subject = LawfulInputs {
         reactive: &reactive,
         relations: &loaded.relations,
         allowed,
@@ -186,7 +186,7 @@ fn compare_among(
         first: one_module(one),
         second: one_module(other),
     };
-    let subject = AllLawful {
+    let subject = LawfulInputs {
         reactive: &both,
         relations: &one.relations,
         allowed,
@@ -257,7 +257,7 @@ fn table_among(
 {
     let mut engine = engine_of(alloc, loaded)?;
     let reactive = one_module(loaded);
-    let subject = AllLawful {
+    let subject = LawfulInputs {
         reactive: &reactive,
         relations: &loaded.relations,
         allowed,

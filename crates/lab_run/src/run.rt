@@ -7,7 +7,7 @@ ghost use Rattle.lab_run.specs.Proving.{IsAmong, TellsOfModule, TellsOfText};
 ghost use Rattle.lab_run.specs.Runs.{Proves, ProvesText, Runs, ServesAll, TellsSo};
 ghost use Rattle.lab_run.specs.Runs.{status_of_end};
 
-use crate::answer::{LineAnswerer, line_of};
+use crate::answer::{LabAnswerer, line_of};
 use crate::invocation::{Invocation, ProveOptions, WordFault};
 use crate::lab::{Lab, LabReply, explore_among, limits};
 use crate::status::{FAILS, UNKNOWN, UNREAD, status_of};
@@ -23,7 +23,7 @@ use std::fs;
 use std::fs::Files;
 use std::io::{Read, Write};
 use wire_reader::meter::{MeteredMemory, MeteredReader, MeteredWriter};
-use wire_reader::replies::{Replies, WriteFault};
+use wire_reader::replies::{ReplyBuffer, WriteFault};
 use wire_reader::serving::{EndReason, answer_connection};
 
 /// The status after the end of the lines.
@@ -49,7 +49,7 @@ fn serve<I: Read, O: Write>(
     let Ok(refusal) = line_of(memory.allocator(), LabReply::Refused(Refusal::TooLong)) else {
         return UNKNOWN;
     };
-    let mut answerer = LineAnswerer;
+    let mut answerer = LabAnswerer;
     let mut lab = Lab::new();
     let why = answer_connection(
         memory,
@@ -131,7 +131,7 @@ fn write_line<O: Write>(
     ensures { OnOk result (Appends (O.contents output.old.device) (O.contents output.new.device)
         line.now) }
 {
-    let Ok(mut waiting) = Replies::new(memory) else {
+    let Ok(mut waiting) = ReplyBuffer::new(memory) else {
         return Err(WriteFault);
     };
     waiting.add(output, line)?;

@@ -19,13 +19,13 @@ use Rattle.lab_ties.specs.Ties.{AreTiedLocalsAgain, after_part, again_at, is_in_
 use Rattle.lab_ties.specs.Ties.{tie_if, ties_at}
 use Rattle.lab_ties.specs.declared.place.After.{After}
 use Rattle.lab_ties.specs.declared.place.Both.{Both}
-use Rattle.lab_ties.specs.declared.place.Place.{Place}
+use Rattle.lab_ties.specs.declared.place.IncarnationPlace.{IncarnationPlace}
 use Rattle.lab_ties.specs.declared.tie.Tie.{Tie}
 use Rattle.lab_ties.specs.declared.tie.TieKind.TheVariants.{Waits}
 use Rattle.lab_ties.specs.declared.ties.Wanted.{Wanted}
 
 -- a place by its parts
-abbrev pub place : (main : Bool) (i n c t : ℕ) → Place
+abbrev pub place : (main : Bool) (i n c t : ℕ) → IncarnationPlace
 place main i n c t = record { at = record { statement = n; number = i }; cell = c; main = main; traps = t }
 
 -- where a statement's cells have room, its own cells have
@@ -47,7 +47,7 @@ then_added : (old mid new xs ys : List Tie) → mid ≡ old ++ xs → new ≡ mi
 then_added old mid new xs ys a b = rw (b, a, append_assoc old xs ys) refl
 
 -- two parts
-pub both_added : (L : (p : Statement) → Place → List Tie) (main : Bool) (i n c t : ℕ) (p q : Statement)
+pub both_added : (L : (p : Statement) → IncarnationPlace → List Tie) (main : Bool) (i n c t : ℕ) (p q : Statement)
     (old mid new : List Tie) (next end : After) → Adds p (place main i n c t) (L p (place main i n c t)) old mid next
     → Adds q (place main i next.statement next.cell t) (L q (place main i next.statement next.cell t)) mid new end
     → AddsBoth p q (place main i n c t)
@@ -74,7 +74,7 @@ both_added L main i n c t p q old mid new next end a b =
     }
 
 -- a loop's body, and the body as the restart begins it
-pub again_added : (L : (p : Statement) → Place → List Tie) (main : Bool) (i n c t : ℕ) (p : Statement)
+pub again_added : (L : (p : Statement) → IncarnationPlace → List Tie) (main : Bool) (i n c t : ℕ) (p : Statement)
     (old mid new : List Tie) (next end : After) → Adds p (place main i n c t) (L p (place main i n c t)) old mid next
     → Adds p (place false 1 n next.cell t) (L p (place false 1 n next.cell t)) mid new end
     → AddsAgain p (place main i n c t)

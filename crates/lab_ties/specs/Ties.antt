@@ -22,7 +22,7 @@ use Rattle.lab_ties.specs.declared.tie.TieKind.TheVariants.{Waits, MayEmit}
 use Rattle.lab_ties.specs.declared.tie.Tie.{Tie}
 use Rattle.lab_ties.specs.declared.place.After.{After}
 use Rattle.lab_ties.specs.declared.place.Both.{Both}
-use Rattle.lab_ties.specs.declared.place.Place.{Place}
+use Rattle.lab_ties.specs.declared.place.IncarnationPlace.{IncarnationPlace}
 use Rattle.lab_ties.specs.declared.ties.Wanted.{Wanted}
 
 abbrev mutual
@@ -104,23 +104,24 @@ local_ties main (Binder' m a p) i n T =
     ++ local_ties main p i (n + 1) T.parts.body
 
 -- the sheet of a statement at a place
-abbrev pub sheet_at : List Status → (p : Statement) → (at : Place) → Sheet at.main p
+abbrev pub sheet_at : List Status → (p : Statement) → (at : IncarnationPlace) → Sheet at.main p
 sheet_at cells p at = sheet_in (cell_at cells) at.main p at.cell at.traps
 
 -- the same of a statement at a place, by the list of cells
-abbrev pub ties_at : Wanted → (p : Statement) → Place → List Status → List Tie
+abbrev pub ties_at : Wanted → (p : Statement) → IncarnationPlace → List Status → List Tie
 ties_at w p at cells = ties (name_of w.name) w.signal at.main p at.at.number at.at.statement (sheet_at cells p at)
 
-abbrev pub local_ties_at : (p : Statement) → Place → List Status → List Tie
+abbrev pub local_ties_at : (p : Statement) → IncarnationPlace → List Status → List Tie
 local_ties_at p at cells = local_ties at.main p at.at.number at.at.statement (sheet_at cells p at)
 
 -- what is tied to the local signal of number m, that is declared there, if its status is open: p is its scope
-abbrev pub own_ties : (m : ℕ) → Incarnation → Status → (p : Statement) → Place → List Status → List Tie
+abbrev pub own_ties : (m : ℕ) → Incarnation → Status → (p : Statement) → IncarnationPlace → List Status → List Tie
 own_ties m declared status p at cells = cond (is_unknown status)
     (ties (inner m) (of_signal.Local declared) at.main p at.at.number at.at.statement (sheet_at cells p at)) []
 
 -- these ties of a statement at a place are added, and what follows it; there are more cells than statements
-pub record Adds (p : Statement) (at : Place) (added : List Tie) (old new : List Tie) (after : After) : Type 0 where
+pub record Adds (p : Statement) (at : IncarnationPlace) (added : List Tie) (old new : List Tie)
+    (after : After) : Type 0 where
   pub tied : new ≡ old ++ added
   pub statement : after.statement ≡ at.at.statement + statements p
   pub cell : after.cell ≡ at.cell + sheet_size at.main p at.traps
@@ -128,14 +129,14 @@ pub record Adds (p : Statement) (at : Place) (added : List Tie) (old new : List 
   pub later : at.cell + 3 ≤ after.cell
 
 -- what is tied to a signal is added; what is tied to local signals is
-abbrev pub AreTied : Wanted → (p : Statement) → Place → List Status → (old new : List Tie) → After → Type 0
+abbrev pub AreTied : Wanted → (p : Statement) → IncarnationPlace → List Status → (old new : List Tie) → After → Type 0
 AreTied w p at cells old new after = Adds p at (ties_at w p at cells) old new after
 
-abbrev pub AreTiedLocals : (p : Statement) → Place → List Status → (old new : List Tie) → After → Type 0
+abbrev pub AreTiedLocals : (p : Statement) → IncarnationPlace → List Status → (old new : List Tie) → After → Type 0
 AreTiedLocals p at cells old new after = Adds p at (local_ties_at p at cells) old new after
 
 -- the place of a second part, which follows a first one
-abbrev pub after_part : (p : Statement) → Place → Place
+abbrev pub after_part : (p : Statement) → IncarnationPlace → IncarnationPlace
 after_part p at = record {
   at = incarnation at.at.number (at.at.statement + statements p);
   cell = at.cell + sheet_size at.main p at.traps;
@@ -144,7 +145,8 @@ after_part p at = record {
 }
 
 -- two parts of which the first stands at a place: their ties are added
-pub record AddsBoth (p q : Statement) (at : Place) (added : List Tie) (old new : List Tie) (both : Both) : Type 0 where
+pub record AddsBoth (p q : Statement) (at : IncarnationPlace) (added : List Tie) (old new : List Tie)
+    (both : Both) : Type 0 where
   pub tied : new ≡ old ++ added
   pub second : both.second ≡ at.cell + sheet_size at.main p at.traps
   pub statement : both.after.statement ≡ at.at.statement + statements p + statements q
@@ -153,16 +155,17 @@ pub record AddsBoth (p q : Statement) (at : Place) (added : List Tie) (old new :
   pub later : both.second + 3 ≤ both.after.cell
   pub first : at.cell + 3 ≤ both.second
 
-abbrev pub AreTiedBoth : Wanted → (p q : Statement) → Place → List Status → (old new : List Tie) → Both → Type 0
+abbrev pub AreTiedBoth : Wanted → (p q : Statement) → IncarnationPlace → List Status → (old new : List Tie) → Both
+    → Type 0
 AreTiedBoth w p q at cells old new both =
     AddsBoth p q at (ties_at w p at cells ++ ties_at w q (after_part p at) cells) old new both
 
-abbrev pub AreTiedLocalsBoth : (p q : Statement) → Place → List Status → (old new : List Tie) → Both → Type 0
+abbrev pub AreTiedLocalsBoth : (p q : Statement) → IncarnationPlace → List Status → (old new : List Tie) → Both → Type 0
 AreTiedLocalsBoth p q at cells old new both =
     AddsBoth p q at (local_ties_at p at cells ++ local_ties_at q (after_part p at) cells) old new both
 
 -- the place of a loop's body as the restart begins it, which follows the body
-abbrev pub again_at : (p : Statement) → Place → Place
+abbrev pub again_at : (p : Statement) → IncarnationPlace → IncarnationPlace
 again_at p at = record {
   at = incarnation 1 at.at.statement;
   cell = at.cell + sheet_size at.main p at.traps;
@@ -171,17 +174,19 @@ again_at p at = record {
 }
 
 -- a loop's body that can go on, and the body as the restart begins it: their ties are added
-pub record AddsAgain (p : Statement) (at : Place) (added : List Tie) (old new : List Tie) (after : After) : Type 0 where
+pub record AddsAgain (p : Statement) (at : IncarnationPlace) (added : List Tie) (old new : List Tie)
+    (after : After) : Type 0 where
   pub tied : new ≡ old ++ added
   pub statement : after.statement ≡ at.at.statement + statements p
   pub cell : after.cell ≡ at.cell + sheet_size at.main p at.traps + sheet_size false p at.traps
   pub numbers : after.statement ≤ after.cell
   pub later : at.cell + 3 ≤ after.cell
 
-abbrev pub AreTiedAgain : Wanted → (p : Statement) → Place → List Status → (old new : List Tie) → After → Type 0
+abbrev pub AreTiedAgain : Wanted → (p : Statement) → IncarnationPlace → List Status → (old new : List Tie) → After
+    → Type 0
 AreTiedAgain w p at cells old new after =
     AddsAgain p at (ties_at w p at cells ++ ties_at w p (again_at p at) cells) old new after
 
-abbrev pub AreTiedLocalsAgain : (p : Statement) → Place → List Status → (old new : List Tie) → After → Type 0
+abbrev pub AreTiedLocalsAgain : (p : Statement) → IncarnationPlace → List Status → (old new : List Tie) → After → Type 0
 AreTiedLocalsAgain p at cells old new after =
     AddsAgain p at (local_ties_at p at cells ++ local_ties_at p (again_at p at) cells) old new after

@@ -10,7 +10,7 @@ ghost use Rattle.est_net.specs.Cells.{cell_at};
 ghost use Rattle.lab_ties.specs.Ties.{AreTiedLocals, AreTiedLocalsAgain, AreTiedLocalsBoth};
 ghost use Rattle.lab_ties.specs.Ties.{own_ties};
 
-use crate::place::{After, Both, Place};
+use crate::place::{After, Both, IncarnationPlace};
 use crate::tie::{OpenSignal, Tie};
 use crate::ties::{Wanted, is_open, tie};
 use est_kernel::statement::{LocalSignal, Signal, Statement};
@@ -22,7 +22,7 @@ use std::alloc::AllocError;
 #[cycle(locals)]
 fn tie_locals_of_two(
     net: &Net,
-    first: Place,
+    first: IncarnationPlace,
     p: &Statement,
     q: &Statement,
     found: &mut Vec<Tie>,
@@ -35,7 +35,7 @@ fn tie_locals_of_two(
         found.old.items found.new.items) }
 {
     let next = tie_locals(net, first, p, found)?;
-    let second = Place {
+    let second = IncarnationPlace {
         at: Incarnation {
             statement: next.statement,
             number: first.at.number,
@@ -55,7 +55,7 @@ fn tie_locals_of_two(
 #[cycle(locals)]
 fn tie_locals_of_loop(
     net: &Net,
-    body: Place,
+    body: IncarnationPlace,
     p: &Statement,
     found: &mut Vec<Tie>,
 ) -> Result<After, AllocError>
@@ -67,7 +67,7 @@ fn tie_locals_of_loop(
         found.new.items) }
 {
     let next = tie_locals(net, body, p, found)?;
-    let again = Place {
+    let again = IncarnationPlace {
         at: Incarnation {
             statement: body.at.statement,
             number: 1,
@@ -85,7 +85,7 @@ fn tie_own(
     net: &Net,
     declared: Incarnation,
     cell: usize,
-    body: Place,
+    body: IncarnationPlace,
     name: LocalSignal,
     p: &Statement,
     found: &mut Vec<Tie>,
@@ -113,7 +113,7 @@ fn tie_own(
 #[cycle(locals)]
 fn tie_local(
     net: &Net,
-    place: Place,
+    place: IncarnationPlace,
     name: LocalSignal,
     p: &Statement,
     found: &mut Vec<Tie>,
@@ -125,7 +125,7 @@ fn tie_local(
     ensures { IfOk result (λ after. (a : _) → AreTiedLocals (Binder' name a p.now)
         place net.now.cells.items found.old.items found.new.items after) }
 {
-    let body = Place {
+    let body = IncarnationPlace {
         at: Incarnation {
             statement: place.at.statement + 1,
             number: place.at.number,
@@ -145,7 +145,7 @@ fn tie_local(
 #[cycle(locals)]
 pub fn tie_locals(
     net: &Net,
-    place: Place,
+    place: IncarnationPlace,
     s: &Statement,
     found: &mut Vec<Tie>,
 ) -> Result<After, AllocError>
@@ -156,7 +156,7 @@ pub fn tie_locals(
     ensures { IfOk result (AreTiedLocals s.now place net.now.cells.items found.old.items
         found.new.items) }
 {
-    let parts = Place {
+    let parts = IncarnationPlace {
         at: Incarnation {
             statement: place.at.statement + 1,
             number: place.at.number,
@@ -196,7 +196,7 @@ pub fn tie_locals(
                 let after_loop = tie_locals_of_loop(net, parts, p, found)?;
                 Ok(after_loop)
             } else {
-                let body = Place {
+                let body = IncarnationPlace {
                     at: Incarnation {
                         statement: parts.at.statement,
                         number: place.at.number + 1,
@@ -208,7 +208,7 @@ pub fn tie_locals(
             }
         }
         Statement::Trap(p) => {
-            let body = Place {
+            let body = IncarnationPlace {
                 traps: place.traps + 1,
                 ..parts
             };

@@ -4,7 +4,7 @@ use lab_instant::seen::Incarnation;
 
 /// Where a statement stands, and where its cells begin.
 #[derive(Clone, Copy)]
-pub struct Place {
+pub struct IncarnationPlace {
     /// The statement in its incarnation.
     pub at: Incarnation,
     /// The place of its first cell.

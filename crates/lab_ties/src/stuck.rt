@@ -7,7 +7,7 @@ ghost use Rattle.lab_ties.specs.Stuck.{instant_ties, open_ties, signal_ties, tie
 ghost use Rattle.lab_ties.specs.Stuck.{ties_of_signal};
 
 use crate::local_ties::tie_locals;
-use crate::place::Place;
+use crate::place::IncarnationPlace;
 use crate::tie::{OpenSignal, Tie};
 use crate::ties::{Wanted, tie};
 use est_kernel::kernel::Kernel;
@@ -26,7 +26,7 @@ fn tie_signal(
     found: &mut Vec<Tie>,
 ) -> Result<(), AllocError>
     requires place { place < 64 }
-    requires outputs { net.now.outputs ≡ output_count kernel.now.interface }
+    requires outputs { net.now.output_count ≡ output_count kernel.now.interface }
     requires size { length net.now.cells.items ≡ cell_count kernel.now }
     ensures { IfOk result (λ _. found.new.items ≡ found.old.items
         ++ ties_of_signal kernel.now net.now.cells.items place) }
@@ -35,12 +35,12 @@ fn tie_signal(
         name: Signal::Interface(InterfaceSignal { index: place as u8 }),
         signal: OpenSignal::Interface(place),
     };
-    let root = Place {
+    let root = IncarnationPlace {
         at: Incarnation {
             statement: 0,
             number: 0,
         },
-        cell: net.outputs(),
+        cell: net.output_count(),
         main: true,
         traps: 0,
     };
@@ -57,7 +57,7 @@ fn add_signal_ties(
     found: &mut Vec<Tie>,
 ) -> Result<(), AllocError>
     requires place { place < 64 }
-    requires outputs { net.now.outputs ≡ output_count kernel.now.interface }
+    requires outputs { net.now.output_count ≡ output_count kernel.now.interface }
     requires size { length net.now.cells.items ≡ cell_count kernel.now }
     ensures { IfOk result (λ _. found.new.items ≡ found.old.items
         ++ ties_if kernel.now undecided net.now.cells.items place) }
@@ -75,7 +75,7 @@ fn add_all_signal_ties(
     undecided: u64,
     found: &mut Vec<Tie>,
 ) -> Result<(), AllocError>
-    requires outputs { net.now.outputs ≡ output_count kernel.now.interface }
+    requires outputs { net.now.output_count ≡ output_count kernel.now.interface }
     requires size { length net.now.cells.items ≡ cell_count kernel.now }
     ensures { IfOk result (λ _. found.new.items ≡ found.old.items
         ++ signal_ties kernel.now undecided net.now.cells.items
@@ -96,19 +96,19 @@ pub fn ties_of(
     kernel: &Kernel,
     undecided: u64,
 ) -> Result<Vec<Tie>, AllocError>
-    requires outputs { net.now.outputs ≡ output_count kernel.now.interface }
+    requires outputs { net.now.output_count ≡ output_count kernel.now.interface }
     requires size { length net.now.cells.items ≡ cell_count kernel.now }
     ensures { IfOk result (λ found. found.items
         ≡ open_ties kernel.now undecided net.now.cells.items) }
 {
     let mut found = Vec::new(alloc);
     add_all_signal_ties(net, kernel, undecided, &mut found)?;
-    let root = Place {
+    let root = IncarnationPlace {
         at: Incarnation {
             statement: 0,
             number: 0,
         },
-        cell: net.outputs(),
+        cell: net.output_count(),
         main: true,
         traps: 0,
     };

@@ -12,7 +12,7 @@ ghost use Rattle.est_meaning.specs.Environments.{is_unknown};
 ghost use Rattle.lab_ties.specs.Ties.{AreTied, AreTiedAgain, AreTiedBoth, is_in_doubt};
 ghost use Rattle.lab_ties.specs.Ties.{is_unanswered, reads, reads_of_joint, tie_if};
 
-use crate::place::{After, Both, Place};
+use crate::place::{After, Both, IncarnationPlace};
 use crate::tie::{OpenSignal, Tie, TieKind};
 use est_kernel::statement::{Operands, Signal, Statement, Test};
 use est_meaning::status::Status;
@@ -137,7 +137,7 @@ fn add_if(
 fn tie_two(
     net: &Net,
     wanted: Wanted,
-    first: Place,
+    first: IncarnationPlace,
     p: &Statement,
     q: &Statement,
     found: &mut Vec<Tie>,
@@ -150,7 +150,7 @@ fn tie_two(
         found.old.items found.new.items) }
 {
     let next = tie(net, wanted, first, p, found)?;
-    let second = Place {
+    let second = IncarnationPlace {
         at: Incarnation {
             statement: next.statement,
             number: first.at.number,
@@ -171,7 +171,7 @@ fn tie_two(
 fn tie_present(
     net: &Net,
     wanted: Wanted,
-    place: Place,
+    place: IncarnationPlace,
     test: &Test,
     p: &Statement,
     q: &Statement,
@@ -184,7 +184,7 @@ fn tie_present(
     ensures { IfOk result (λ after. (a b : _) → AreTied wanted (Present' test.now a p.now b q.now)
         place net.now.cells.items found.old.items found.new.items after) }
 {
-    let first = Place {
+    let first = IncarnationPlace {
         at: Incarnation {
             statement: place.at.statement + 1,
             number: place.at.number,
@@ -207,7 +207,7 @@ fn tie_present(
 fn tie_suspend(
     net: &Net,
     wanted: Wanted,
-    place: Place,
+    place: IncarnationPlace,
     test: &Test,
     p: &Statement,
     found: &mut Vec<Tie>,
@@ -219,7 +219,7 @@ fn tie_suspend(
     ensures { IfOk result (λ after. (a : _) → AreTied wanted (Suspend' test.now a p.now)
         place net.now.cells.items found.old.items found.new.items after) }
 {
-    let body = Place {
+    let body = IncarnationPlace {
         at: Incarnation {
             statement: place.at.statement + 1,
             number: place.at.number,
@@ -241,7 +241,7 @@ fn tie_suspend(
 fn tie_loop(
     net: &Net,
     wanted: Wanted,
-    body: Place,
+    body: IncarnationPlace,
     p: &Statement,
     found: &mut Vec<Tie>,
 ) -> Result<After, AllocError>
@@ -253,7 +253,7 @@ fn tie_loop(
         found.old.items found.new.items) }
 {
     let next = tie(net, wanted, body, p, found)?;
-    let again = Place {
+    let again = IncarnationPlace {
         at: Incarnation {
             statement: body.at.statement,
             number: 1,
@@ -271,7 +271,7 @@ fn tie_loop(
 pub fn tie(
     net: &Net,
     wanted: Wanted,
-    place: Place,
+    place: IncarnationPlace,
     s: &Statement,
     found: &mut Vec<Tie>,
 ) -> Result<After, AllocError>
@@ -282,7 +282,7 @@ pub fn tie(
     ensures { IfOk result (AreTied wanted s.now place net.now.cells.items found.old.items
         found.new.items) }
 {
-    let parts = Place {
+    let parts = IncarnationPlace {
         at: Incarnation {
             statement: place.at.statement + 1,
             number: place.at.number,
@@ -326,7 +326,7 @@ pub fn tie(
                 let after_loop = tie_loop(net, wanted, parts, p, found)?;
                 Ok(after_loop)
             } else {
-                let body = Place {
+                let body = IncarnationPlace {
                     at: Incarnation {
                         statement: parts.at.statement,
                         number: place.at.number + 1,
@@ -338,7 +338,7 @@ pub fn tie(
             }
         }
         Statement::Trap(p) => {
-            let body = Place {
+            let body = IncarnationPlace {
                 traps: place.traps + 1,
                 ..parts
             };
@@ -346,7 +346,7 @@ pub fn tie(
             Ok(after_trap)
         }
         Statement::Local(_, p) => {
-            let body = Place {
+            let body = IncarnationPlace {
                 cell: parts.cell + 1,
                 ..parts
             };

@@ -185,7 +185,7 @@ const SIGNAL_CELLS: [(&str, u64, &str); 4] = [
 fn signals_of(rt: &impl Abort, alloc: Global, net: &Net) -> String {
     let mut told = String::new(alloc);
     for cell in 0..net.cells() {
-        if cell < net.outputs() {
+        if cell < net.output_count() {
             let word = match net.value(cell) {
                 Some(true) => "1",
                 Some(false) => "0",

@@ -2,9 +2,9 @@
 use crate::openers::library_of;
 use crate::told::expect_told;
 use est_checks::statement_count::count_statements;
-use est_modules::head_tree::Heads;
-use est_modules::library_heads::heads_of;
-use est_modules::module_order::order_heads;
+use est_modules::collecting::collect_modules;
+use est_modules::library_modules::LibraryModules;
+use est_modules::module_order::order_modules;
 use std::alloc::Global;
 use std::process::Abort;
 
@@ -22,11 +22,11 @@ const DOUBLING: &str = "module M: [run A; run A; run A; run A; run A; run A; run
 
 /// The number of statements of the linked module at a place, which the limit may refuse, or why the
 /// modules have no order.
-fn counted(rt: &impl Abort, alloc: Global, heads: &Heads<'_>, place: usize) -> String {
-    let main = heads.modules().get(place).expect(rt, "a module");
-    let words = match order_heads(alloc, &*heads) {
+fn counted(rt: &impl Abort, alloc: Global, modules: &LibraryModules<'_>, place: usize) -> String {
+    let main = modules.as_slice().get(place).expect(rt, "a module");
+    let words = match order_modules(alloc, &*modules) {
         Ok(order) => {
-            let count = count_statements(alloc, &*heads, &order, &main.name).expect(rt, "room");
+            let count = count_statements(alloc, &*modules, &order, &main.name).expect(rt, "room");
             format!(in alloc; "{count:?}")
         }
         Err(fault) => format!(in alloc; "{fault:?}"),
@@ -63,8 +63,8 @@ const COUNTS: [(&str, usize, &str); 7] = [
 /// Fails where a module of a text has another number of statements, or another fault.
 fn expect_count(rt: &impl Abort, alloc: Global, text: &str, place: usize, count: &str) {
     let library = library_of(rt, alloc, text);
-    let heads = heads_of(alloc, &library).expect(rt, "room");
-    let found = counted(rt, alloc, &heads, place);
+    let modules = collect_modules(alloc, &library).expect(rt, "room");
+    let found = counted(rt, alloc, &modules, place);
     expect_told(rt, found.as_str(), count, text);
 }
 

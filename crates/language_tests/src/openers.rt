@@ -5,8 +5,8 @@ ghost use Rattle.est_modules.specs.Modules.{program_of};
 
 use est_kernel::kernel::Kernel;
 use est_link::link::link;
-use est_modules::head_tree::Heads;
-use est_modules::module_order::order_heads;
+use est_modules::library_modules::LibraryModules;
+use est_modules::module_order::order_modules;
 use est_order::place_order::Order;
 use est_reduce::flat::Flat;
 use est_reduce::reduce::reduce;
@@ -29,10 +29,10 @@ pub fn library_of(rt: &impl Abort, alloc: Global, text: &str) -> Library {
 }
 
 /// The order of the modules of a library, which has one.
-pub fn order_of(rt: &impl Abort, alloc: Global, heads: &Heads<'_>) -> Order
-    ensures { IsOrderOf (map program_of heads.now) result }
+pub fn order_of(rt: &impl Abort, alloc: Global, modules: &LibraryModules<'_>) -> Order
+    ensures { IsOrderOf (map program_of modules.now) result }
 {
-    match order_heads(alloc, &*heads) {
+    match order_modules(alloc, &*modules) {
         Ok(order) => order,
         Err(_) => None.expect(rt, "an order"),
     }

@@ -16,7 +16,7 @@ ghost use Rattle.est_syntax.specs.Views.{library_view};
 use est_checks::fault::LinkFault;
 use est_checks::statement_count;
 use est_link::{link, linked_module};
-use est_modules::head_tree::Heads;
+use est_modules::library_modules::LibraryModules;
 use est_order::place_order::Order;
 use est_reduce::body::Body;
 use est_reduce::flat::Flat;
@@ -31,20 +31,20 @@ use std::alloc::{AllocError, Global};
 /// `AllocError` where memory is refused.
 pub fn linked_body(
     alloc: Global,
-    heads: &Heads<'_>,
+    modules: &LibraryModules<'_>,
     order: &Order,
     main: &Identifier,
 ) -> Result<Body, AllocError>
-    requires order { IsOrderOf (map program_of heads.now) order.now }
-    requires distinct { first_duplicate (map program_of heads.now) ≡ None }
-    requires there { first_missing (map program_of heads.now) main.now ≡ None }
-    ensures linked { IfOk result (λ b. IsLinked (map program_of heads.now) main.now (body_of b)) }
+    requires order { IsOrderOf (map program_of modules.now) order.now }
+    requires distinct { first_duplicate (map program_of modules.now) ≡ None }
+    requires there { first_missing (map program_of modules.now) main.now ≡ None }
+    ensures linked { IfOk result (λ b. IsLinked (map program_of modules.now) main.now (body_of b)) }
     ensures bound { IfOk result (λ b. (emitted : List ℕ → List ℕ → Bool) (p : Program)
-        → HasSoundNames (map program_of heads.now) emitted
-        → program_named (map program_of heads.now) main.now ≡ Some p
+        → HasSoundNames (map program_of modules.now) emitted
+        → program_named (map program_of modules.now) main.now ≡ Some p
         → IsBound (declarations_of p) 0 0 (body_of b)) }
 {
-    linked_module::linked_body(alloc, heads, order, main)
+    linked_module::linked_body(alloc, modules, order, main)
 }
 
 /// The number of statements that the linked module `main` has before reduction, or `None` if it
@@ -55,14 +55,14 @@ pub fn linked_body(
 /// `AllocError` where memory is refused.
 pub fn count_statements(
     alloc: Global,
-    heads: &Heads<'_>,
+    modules: &LibraryModules<'_>,
     order: &Order,
     main: &Identifier,
 ) -> Result<Option<u16>, AllocError>
-    requires { IsOrderOf (map program_of heads.now) order.now }
-    ensures { IfOk result (λ answer. IsCountOf (map program_of heads.now) main.now answer) }
+    requires { IsOrderOf (map program_of modules.now) order.now }
+    ensures { IfOk result (λ answer. IsCountOf (map program_of modules.now) main.now answer) }
 {
-    statement_count::count_statements(alloc, heads, order, main)
+    statement_count::count_statements(alloc, modules, order, main)
 }
 
 /// Links a library: its flat main module, or the first fault of its checks.

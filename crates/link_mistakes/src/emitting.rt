@@ -9,7 +9,7 @@ ghost use Rattle.est_modules.specs.Renamings.{renamed};
 ghost use Rattle.est_syntax.specs.Views.{renaming_view};
 
 use est_checks::module_emissions::emissions_along;
-use est_modules::head_tree::Heads;
+use est_modules::library_modules::LibraryModules;
 use est_modules::names::table::{further_names, numbered};
 use est_modules::renamings::RunRenamings;
 use est_order::place_order::Order;
@@ -24,20 +24,20 @@ use std::alloc::{AllocError, Global};
 /// `AllocError` where memory is refused for names.
 pub fn emits(
     alloc: Global,
-    heads: &Heads<'_>,
+    modules: &LibraryModules<'_>,
     order: &Order,
     name: &Identifier,
     signal: &Identifier,
 ) -> Result<bool, AllocError>
-    requires order { IsOrderOf (map program_of heads.now) order.now }
-    requires distinct { first_duplicate (map program_of heads.now) ≡ None }
-    requires known { first_in_bodies (unknown_at (map program_of heads.now))
-        (map program_of heads.now) ≡ None }
-    ensures { IfOk result (IsEmissionOf (map program_of heads.now) name.now signal.now) }
+    requires order { IsOrderOf (map program_of modules.now) order.now }
+    requires distinct { first_duplicate (map program_of modules.now) ≡ None }
+    requires known { first_in_bodies (unknown_at (map program_of modules.now))
+        (map program_of modules.now) ≡ None }
+    ensures { IfOk result (IsEmissionOf (map program_of modules.now) name.now signal.now) }
 {
-    let further = further_names(alloc, heads)?;
-    let names = numbered(alloc, &*heads, &further)?;
-    let table = emissions_along(alloc, &names, &*heads, order.places())?;
+    let further = further_names(alloc, modules)?;
+    let names = numbered(alloc, &*modules, &further)?;
+    let table = emissions_along(alloc, &names, &*modules, order.places())?;
     Ok(table.emits(name, signal))
 }
 

@@ -21,8 +21,7 @@ use est_checks::missing_modules::first_missing;
 use est_checks::place_check::{PlaceCheck, first_in_bodies, first_in_body};
 use est_checks::unknown_names::UnknownName;
 use est_checks::{duplicates, input_emissions};
-use est_modules::head::Head;
-use est_modules::head_tree::Heads;
+use est_modules::library_modules::{LibraryModule, LibraryModules};
 use est_modules::names::kept::KeptNames;
 use est_modules::names::open::OpenNames;
 use est_modules::names::set::NumberSet;
@@ -36,10 +35,13 @@ use std::alloc::{AllocError, Global};
 /// # Errors
 ///
 /// `AllocError` where memory is refused for the names that were met.
-pub fn first_duplicate(alloc: Global, heads: &Heads<'_>) -> Result<Option<Identifier>, AllocError>
-    ensures { IfOk result (λ name. name ≡ first_duplicate (map program_of heads.now)) }
+pub fn first_duplicate(
+    alloc: Global,
+    modules: &LibraryModules<'_>,
+) -> Result<Option<Identifier>, AllocError>
+    ensures { IfOk result (λ name. name ≡ first_duplicate (map program_of modules.now)) }
 {
-    duplicates::first_duplicate(alloc, heads)
+    duplicates::first_duplicate(alloc, modules)
 }
 
 /// The first right name of a renaming that is no interface signal of the module that is run, or
@@ -50,18 +52,18 @@ pub fn first_duplicate(alloc: Global, heads: &Heads<'_>) -> Result<Option<Identi
 /// `AllocError`, as a check answers it.
 pub fn first_bad_renaming(
     alloc: Global,
-    heads: &Heads<'_>,
+    modules: &LibraryModules<'_>,
 ) -> Result<Option<Identifier>, AllocError>
     ensures { IfOk result (λ name. name ≡ first_in_bodies (bad_renaming_at
-        (map program_of heads.now)) (map program_of heads.now)) }
+        (map program_of modules.now)) (map program_of modules.now)) }
 {
     let names = NameTable::new(alloc);
     let none = KeptNames::none(alloc);
     let check = BadRename {
         alloc,
-        heads: &*heads,
+        modules: &*modules,
     };
-    first_in_bodies(alloc, &names, &none, &check, &*heads)
+    first_in_bodies(alloc, &names, &none, &check, &*modules)
 }
 
 /// The check for names that aren't visible where they are used. It is asked of the places in one
@@ -71,9 +73,9 @@ pub struct Unknown<'a, 'b> {
     /// Where memory for names is taken.
     pub alloc: Global,
     /// The modules of the library.
-    pub heads: &'a Heads<'b>,
+    pub modules: &'a LibraryModules<'b>,
     /// The module.
-    pub home: &'a Head<'b>,
+    pub home: &'a LibraryModule<'b>,
     /// The names that it declares, and `tick`.
     pub own: &'a NumberSet,
 }
@@ -86,24 +88,24 @@ impl PlaceCheck for Unknown<'_, '_> {
 
     ghost fits = { λ c. LooksFor (record {
       alloc = c.alloc;
-      heads = c.heads;
+      modules = c.modules;
       home = c.home;
       own = c.own;
     }) };
 
-    ghost fault = { λ c p. unknown_at (map program_of c.heads.now)
+    ghost fault = { λ c p. unknown_at (map program_of c.modules.now)
         (program_of c.home.now) };
 
     fn fault(
         &self,
-        home: &Head<'_>,
+        home: &LibraryModule<'_>,
         kept: &OpenNames<'_, '_, '_>,
         act: &Act<'_>,
         scope: &Scope<'_>,
     ) -> Result<Option<Identifier>, AllocError> {
         let names = UnknownName {
             alloc: self.alloc,
-            heads: self.heads,
+            modules: self.modules,
             home: self.home,
             own: self.own,
         };
@@ -116,18 +118,18 @@ fn unknown_in<'a, 'b>(
     alloc: Global,
     table: &NameTable<'_>,
     kept: &KeptNames<'_>,
-    heads: &'a Heads<'b>,
-    home: &'a Head<'b>,
+    modules: &'a LibraryModules<'b>,
+    home: &'a LibraryModule<'b>,
 ) -> Result<Option<Identifier>, AllocError>
     requires table { IsTable table.now }
-    requires kept { AreKept table.now (names_of (map program_of heads.now)) kept.now }
-    ensures { IfOk result (λ name. name ≡ first_of (unknown_at (map program_of heads.now)
+    requires kept { AreKept table.now (names_of (map program_of modules.now)) kept.now }
+    ensures { IfOk result (λ name. name ≡ first_of (unknown_at (map program_of modules.now)
         (program_of home.now)) (occurrences [] (program_of home.now).body)) }
 {
     let own = own_names(alloc, table, home)?;
     let check = Unknown {
         alloc,
-        heads,
+        modules,
         home,
         own: &own,
     };
@@ -139,15 +141,18 @@ fn unknown_in<'a, 'b>(
 /// # Errors
 ///
 /// `AllocError` where memory is refused for names.
-pub fn first_unknown(alloc: Global, heads: &Heads<'_>) -> Result<Option<Identifier>, AllocError>
-    ensures { IfOk result (λ name. name ≡ first_in_bodies (unknown_at (map program_of heads.now))
-        (map program_of heads.now)) }
+pub fn first_unknown(
+    alloc: Global,
+    modules: &LibraryModules<'_>,
+) -> Result<Option<Identifier>, AllocError>
+    ensures { IfOk result (λ name. name ≡ first_in_bodies (unknown_at (map program_of modules.now))
+        (map program_of modules.now)) }
 {
-    let further = further_names(alloc, heads)?;
-    let table = numbered(alloc, &*heads, &further)?;
-    let kept = interfaces_of(alloc, &table, &*heads)?;
-    for home in heads.modules() {
-        if let Some(name) = unknown_in(alloc, &table, &kept, &*heads, &*home)? {
+    let further = further_names(alloc, modules)?;
+    let table = numbered(alloc, &*modules, &further)?;
+    let kept = interfaces_of(alloc, &table, &*modules)?;
+    for home in modules.as_slice() {
+        if let Some(name) = unknown_in(alloc, &table, &kept, &*modules, &*home)? {
             return Ok(Some(name));
         }
     }
@@ -162,19 +167,22 @@ pub fn first_unknown(alloc: Global, heads: &Heads<'_>) -> Result<Option<Identifi
 /// `AllocError` where memory is refused for names.
 pub fn first_refused<'a>(
     alloc: Global,
-    heads: &'a Heads<'_>,
+    modules: &'a LibraryModules<'_>,
     table: &'a Emissions<'_>,
 ) -> Result<Option<Identifier>, AllocError>
-    ensures { IfOk result (λ name. name ≡ first_in_bodies (refused_at (map program_of heads.now)
-        (emitted_of table.now)) (map program_of heads.now)) }
+    ensures { IfOk result (λ name. name ≡ first_in_bodies (refused_at (map program_of modules.now)
+        (emitted_of table.now)) (map program_of modules.now)) }
 {
-    let further = further_names(alloc, heads)?;
-    let names = numbered(alloc, &*heads, &further)?;
-    input_emissions::first_refused(alloc, &names, heads, table)
+    let further = further_names(alloc, modules)?;
+    let names = numbered(alloc, &*modules, &further)?;
+    input_emissions::first_refused(alloc, &names, modules, table)
 }
 
 /// The number of the first lawless relation of the main module.
-fn number_over_outputs(alloc: Global, main: Option<&Head<'_>>) -> Result<Option<usize>, AllocError>
+fn number_over_outputs(
+    alloc: Global,
+    main: Option<&LibraryModule<'_>>,
+) -> Result<Option<usize>, AllocError>
     ensures { IfOk result
         (λ number. number ≡ number_over_outputs (option_map (λ h. program_of h.now)
         main.entry)) }
@@ -192,19 +200,19 @@ fn number_over_outputs(alloc: Global, main: Option<&Head<'_>>) -> Result<Option<
 /// `AllocError` where memory is refused for the names that were met.
 pub fn fault_before_order(
     alloc: Global,
-    heads: &Heads<'_>,
+    modules: &LibraryModules<'_>,
     main: &str,
 ) -> Result<Option<LinkFault>, AllocError>
-    ensures { IfOk result (λ fault. fault ≡ fault_before_order (map program_of heads.now)
+    ensures { IfOk result (λ fault. fault ≡ fault_before_order (map program_of modules.now)
         main.now) }
 {
-    if let Some(name) = first_duplicate(alloc, &*heads)? {
+    if let Some(name) = first_duplicate(alloc, &*modules)? {
         return Ok(Some(LinkFault::DuplicateName(name)));
     }
     let Some(main) = Identifier::from_text(main) else {
         return Ok(Some(LinkFault::MisnamedMain));
     };
-    match first_missing(alloc, &*heads, &main)? {
+    match first_missing(alloc, &*modules, &main)? {
         Some(name) => Ok(Some(LinkFault::UnknownModule(name))),
         None => Ok(None),
     }
@@ -218,23 +226,23 @@ pub fn fault_before_order(
 /// `AllocError` where memory is refused.
 pub fn fault_after_order<'a>(
     alloc: Global,
-    heads: &'a Heads<'_>,
+    modules: &'a LibraryModules<'_>,
     main: &Identifier,
     table: &'a Emissions<'_>,
 ) -> Result<Option<LinkFault>, AllocError>
-    ensures { IfOk result (λ fault. fault ≡ fault_after_order (map program_of heads.now) main.now
+    ensures { IfOk result (λ fault. fault ≡ fault_after_order (map program_of modules.now) main.now
         (emitted_of table.now)) }
 {
-    if let Some(name) = first_bad_renaming(alloc, &*heads)? {
+    if let Some(name) = first_bad_renaming(alloc, &*modules)? {
         return Ok(Some(LinkFault::BadRename(name)));
     }
-    if let Some(name) = first_unknown(alloc, &*heads)? {
+    if let Some(name) = first_unknown(alloc, &*modules)? {
         return Ok(Some(LinkFault::UnknownName(name)));
     }
-    if let Some(name) = first_refused(alloc, &*heads, &*table)? {
+    if let Some(name) = first_refused(alloc, &*modules, &*table)? {
         return Ok(Some(LinkFault::EmitInput(name)));
     }
-    match number_over_outputs(alloc, heads.named(main))? {
+    match number_over_outputs(alloc, modules.named(main))? {
         Some(number) => Ok(Some(LinkFault::Semantics(number))),
         None => Ok(None),
     }

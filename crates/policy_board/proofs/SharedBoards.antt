@@ -7,7 +7,7 @@ use Rattle.std.proofs.Crossing.{crosses}
 use Rattle.std.proofs.MapsCrossing as maps
 use Rattle.std.specs.contracts.option.Option as option
 use Rattle.rbac_policy.specs.contracts.journal.PolicyJournal as journal
-use Rattle.policy_board.specs.declared.board_list.BoardName.{Ghosts}
+use Rattle.policy_board.specs.declared.board_name.BoardName.{Ghosts}
 use Rattle.policy_board.specs.contracts.board.Board as board
 use Rattle.policy_board.specs.contracts.locked_policy.LockedPolicy as locked
 use Rattle.policy_board.specs.contracts.locked_policy.LockedPolicy.TheInside as inside

@@ -1,4 +1,4 @@
-pub mod Traced
+pub mod BookPrefixes
 pub mod SeatState
 pub mod Receipts
 pub mod Rule

@@ -9,9 +9,9 @@ ghost use Rattle.policy_board.specs.Receipts.{HasRoom, IsCounted};
 ghost use Rattle.history_receipts.specs.declared.mismatch.TheConstants.{POLICY_LIST};
 ghost use Rattle.history_receipts.specs.declared.mismatch.Mismatch.TheVariants.{Count};
 
-use crate::board_list::BoardName;
+use crate::board_name::BoardName;
 use crate::locked_policy::LockedPolicy;
-use crate::reader::SlotReader;
+use crate::reader::IdleReader;
 use crate::refusal::BoardRefusal;
 use crate::seat::{Acceptance, Seat};
 use history_receipts::mismatch::Mismatch;
@@ -66,7 +66,7 @@ impl<B: BoardName> Board<B> {
             × SeatAfter seat.old result after seat.new }
     {
         let mut policy = self.policy.lock(rt);
-        let answer = policy.command_locked(rt, seat, session, command);
+        let answer = policy.answer_locked_policy(rt, seat, session, command);
         MutexGuard::unlock(policy);
         answer
     }
@@ -90,7 +90,7 @@ impl<B: BoardName> Board<B> {
     /// # Errors
     ///
     /// - Behind, where the policy that was read is older than one that the seat has seen;
-    /// - Memory, where `left_right` refuses the read (`SlotReader::enter`).
+    /// - Memory, where `left_right` refuses the read (`IdleReader::enter`).
     pub fn check_access(
         &self,
         seat: &mut Seat<B>,
@@ -128,7 +128,7 @@ impl<B: BoardName> Closed<B> {
     /// # Errors
     ///
     /// Count, where it saw more entries than the journal has.
-    pub fn reader(&mut self, reader: SlotReader<B>) -> Result<(), Mismatch>
+    pub fn reader(&mut self, reader: IdleReader<B>) -> Result<(), Mismatch>
         ensures seen { MatchResult result
             (λ _. Begins reader self.old.policy)
             (λ mismatch. (mismatch ≡ Count POLICY_LIST)

@@ -15,11 +15,13 @@
 
 pub mod board;
 pub mod board_list;
+pub mod board_name;
+pub mod growth_rule;
 mod locked_policy;
 pub mod opening;
+mod published;
 mod publisher;
 pub mod reader;
 pub mod refusal;
 pub mod seat;
 pub mod sharing;
-mod shown;

@@ -11,9 +11,9 @@ ghost use Rattle.policy_board.specs.Inner.Keeping.{KeepsAnswer};
 ghost use Rattle.history_receipts.specs.declared.mismatch.TheConstants.{POLICY_LIST};
 ghost use Rattle.history_receipts.specs.declared.mismatch.Mismatch.TheVariants.{Count};
 
-use crate::board_list::BoardName;
+use crate::board_name::BoardName;
 use crate::publisher::Publisher;
-use crate::reader::SlotReader;
+use crate::reader::IdleReader;
 use crate::refusal::BoardRefusal;
 use crate::seat::{Acceptance, Seat};
 use history_receipts::mismatch::{Mismatch, POLICY_LIST};
@@ -123,7 +123,7 @@ impl<B: BoardName> LockedPolicy<B> {
         let acceptance = Acceptance {
             session: session_made(publisher.policy(), &told),
             entry: told,
-            list: publisher.front(),
+            list: publisher.prefix(),
         };
         put_back(&mut self.publisher, publisher);
         seat.keep(Kept::Admin {
@@ -158,7 +158,7 @@ impl<B: BoardName> LockedPolicy<B> {
 
     /// Answers a policy command. An accepted one adds its entry at the end, and publishes it. The
     /// seat then knows the list, and keeps a receipt (`Kept`) of an accepted one.
-    pub fn command_locked<R: Wait>(
+    pub fn answer_locked_policy<R: Wait>(
         &mut self,
         rt: &R,
         seat: &mut Seat<B>,
@@ -172,7 +172,7 @@ impl<B: BoardName> LockedPolicy<B> {
     {
         let publisher = self.publisher.as_ref().unwrap();
         publisher.confirm_all_published(rt, seat.known());
-        seat.note_known(&publisher.front());
+        seat.note_known(&publisher.prefix());
         let answer = self.decide_and_append(rt, seat, session, command);
         if let Ok(acceptance) = &answer {
             seat.note_known(acceptance.list());
@@ -181,14 +181,14 @@ impl<B: BoardName> LockedPolicy<B> {
     }
 
     /// Whether what the reader saw is a beginning of the journal.
-    pub fn compare(&self, reader: &SlotReader<B>) -> Result<(), Mismatch>
+    pub fn compare(&self, reader: &IdleReader<B>) -> Result<(), Mismatch>
         ensures { MatchResult result
             (λ _. Begins reader.now self.now)
             (λ mismatch. (mismatch ≡ Count POLICY_LIST) × (length self.now < length reader.now)) }
     {
         if reader
-            .front()
-            .begins(&self.publisher.as_ref().unwrap().front())
+            .prefix()
+            .begins(&self.publisher.as_ref().unwrap().prefix())
         {
             return Ok(());
         }

@@ -9,13 +9,14 @@ ghost use Rattle.policy_board.specs.Inner.Publishing.{IsPublishing};
 ghost use Rattle.policy_board.specs.declared.refusal.BoardRefusal.TheVariants.{Memory};
 
 use crate::board::Board;
-use crate::board_list::{BoardName, FreshList, Front};
+use crate::board_list::{BoardPrefix, FreshList};
+use crate::board_name::BoardName;
 use crate::locked_policy::LockedPolicy;
+use crate::published::{PolicyWriter, PublishedPolicy};
 use crate::publisher::Publisher;
-use crate::reader::SlotReader;
+use crate::reader::IdleReader;
 use crate::refusal::BoardRefusal;
 use crate::seat::Seat;
-use crate::shown::{PolicyWriter, PublishedPolicy};
 use history_receipts::receipt_list::SEATS;
 use rbac_policy::journal::PolicyJournal;
 use rbac_policy::objects::SLOTS;
@@ -27,28 +28,28 @@ use std::sync::Wait;
 pub struct Opened<B: BoardName> {
     pub board: Board<B>,
     pub seats: Vec<Seat<B>>,
-    pub readers: Vec<SlotReader<B>>,
+    pub readers: Vec<IdleReader<B>>,
 }
 
 /// A writer that shows the opening policy, with room for n readers.
 fn open_writer<B: BoardName>(
     alloc: Global,
-    opening: &Front<B>,
+    opening: &BoardPrefix<B>,
     readers: usize,
 ) -> Result<PolicyWriter<B>, AllocError>
     requires opening { opening.now ≡ opening_entries }
     requires readers { (1 ≤ readers) × (readers ≤ 1024) }
-    ensures { IfOk result (λ w. (w.desk.shown.value.trace.list ≡ opening_entries)
-        × IsPublishing B.book w.desk.shown.value.policy w.desk.shown.value.trace
+    ensures { IfOk result (λ w. (w.desk.shown.value.book_prefix.list ≡ opening_entries)
+        × IsPublishing B.book w.desk.shown.value.policy w.desk.shown.value.book_prefix
         (drop w.behind w.log.items)) }
 {
     let first = PublishedPolicy {
         policy: Policy::opening(),
-        trace: opening.trace(),
+        book_prefix: opening.book_prefix(),
     };
     let second = PublishedPolicy {
         policy: Policy::opening(),
-        trace: opening.trace(),
+        book_prefix: opening.book_prefix(),
     };
     let writer = PolicyWriter::<B>::new(alloc, first, second, readers)?;
     Ok(writer)
@@ -56,11 +57,11 @@ fn open_writer<B: BoardName>(
 
 /// n readers, in room that was made for them; none if `left_right` has no place for one of them.
 fn fill_readers<B: BoardName>(
-    room: Vec<SlotReader<B>>,
+    room: Vec<IdleReader<B>>,
     publisher: &Publisher<B>,
-    opening: &Front<B>,
+    opening: &BoardPrefix<B>,
     count: usize,
-) -> Option<Vec<SlotReader<B>>>
+) -> Option<Vec<IdleReader<B>>>
     requires opening { opening.now ≡ opening_entries }
     requires room { (room.items ≡ []) × (count ≤ vec_capacity room) }
     ensures { IfSome result (λ readers. readers.items ≡ replicate count opening_entries) }
@@ -81,7 +82,7 @@ fn fill_seats<B: BoardName>(
     alloc: Global,
     room: Vec<Seat<B>>,
     publisher: &Publisher<B>,
-    opening: &Front<B>,
+    opening: &BoardPrefix<B>,
     count: usize,
 ) -> Option<Vec<Seat<B>>>
     requires opening { opening.now ≡ opening_entries }

@@ -4,12 +4,13 @@ ghost use Rattle.rbac_policy.specs.Opening.{opening_entries};
 ghost use Rattle.rbac_policy.specs.StandsFor.{StandsFor};
 ghost use Rattle.rbac_admin.specs.PolicyLists.{Begins, IsAccepted};
 ghost use Rattle.rbac_admin.specs.Room.{most_entries};
-ghost use Rattle.policy_board.specs.Traced.{traced};
+ghost use Rattle.policy_board.specs.BookPrefixes.{prefix_in_book};
 ghost use Rattle.policy_board.specs.Inner.Publishing.{IsPublishing};
 
-use crate::board_list::{BoardName, Front, Head};
-use crate::reader::SlotReader;
-use crate::shown::{PolicyWriter, Publication, PublishedPolicy, SeenRule};
+use crate::board_list::{BoardPrefix, SharedLength};
+use crate::board_name::BoardName;
+use crate::published::{PolicyWriter, Publication, PublishedPolicy, SeenRule};
+use crate::reader::IdleReader;
 use rbac_policy::commands::Entry;
 use rbac_policy::policy::Policy;
 use std::marker::Model;
@@ -18,7 +19,7 @@ use std::sync::Wait;
 /// The writer. A contract sees the list of all that is published. End it by `take`.
 pub struct Publisher<B: BoardName> {
     writer: PolicyWriter<B>,
-    head: Head<B>,
+    head: SharedLength<B>,
 }
 
 impl<B: BoardName> Model for Publisher<B> {
@@ -28,10 +29,10 @@ impl<B: BoardName> Model for Publisher<B> {
 
     ghost Value = { List Entry };
 
-    ghost view = { λ p. p.writer.desk.shown.value.trace.list };
+    ghost view = { λ p. p.writer.desk.shown.value.book_prefix.list };
 
     ghost invariant = { λ p. IsPublishing B.book p.writer.desk.shown.value.policy
-        p.writer.desk.shown.value.trace (drop p.writer.behind p.writer.log.items) };
+        p.writer.desk.shown.value.book_prefix (drop p.writer.behind p.writer.log.items) };
 }
 
 /// Has the writer take up the publication. If memory is refused, it asks again. `Publisher::new`
@@ -60,18 +61,18 @@ fn append<B: BoardName, R: Wait>(
 /// the list's length by one. No other thread does so meanwhile; so the first turn does it.
 fn add_entry<B: BoardName, R: Wait>(
     rt: &R,
-    head: &Head<B>,
-    front: Front<B>,
+    head: &SharedLength<B>,
+    prefix: BoardPrefix<B>,
     entry: &Entry,
-) -> Front<B>
-    requires room { length front < most_entries }
-    requires accepted { IsAccepted front entry.now }
-    ensures { result ≡ front ++ entry.now ∷ [] }
+) -> BoardPrefix<B>
+    requires room { length prefix < most_entries }
+    requires accepted { IsAccepted prefix entry.now }
+    ensures { result ≡ prefix ++ entry.now ∷ [] }
 {
-    let mut front = front;
+    let mut prefix = prefix;
     for _ in rt.forever() {
-        if front.add(head, entry) {
-            return front;
+        if prefix.add(head, entry) {
+            return prefix;
         }
     }
     unreachable!()
@@ -82,19 +83,20 @@ fn show<B: BoardName, R: Wait>(
     rt: &R,
     writer: PolicyWriter<B>,
     entry: Entry,
-    front: &Front<B>,
+    prefix: &BoardPrefix<B>,
 ) -> PolicyWriter<B>
-    requires list { front.now ≡ writer.desk.shown.value.trace.list ++ entry ∷ [] }
-    requires accepted { IsAccepted writer.desk.shown.value.trace.list entry }
+    requires list { prefix.now ≡ writer.desk.shown.value.book_prefix.list ++ entry ∷ [] }
+    requires accepted { IsAccepted writer.desk.shown.value.book_prefix.list entry }
     requires before { IsPublishing B.book writer.desk.shown.value.policy
-        writer.desk.shown.value.trace (drop writer.behind writer.log.items) }
-    ensures shown { result.desk.shown.value.trace ≡ traced B.book front.now }
-    ensures after { IsPublishing B.book result.desk.shown.value.policy result.desk.shown.value.trace
+        writer.desk.shown.value.book_prefix (drop writer.behind writer.log.items) }
+    ensures shown { result.desk.shown.value.book_prefix ≡ prefix_in_book B.book prefix.now }
+    ensures after
+        { IsPublishing B.book result.desk.shown.value.policy result.desk.shown.value.book_prefix
         (drop result.behind result.log.items) }
 {
     let publication = Publication::Add {
         entry,
-        trace: front.trace(),
+        book_prefix: prefix.book_prefix(),
     };
     let writer = append(rt, writer, publication);
     let (writer, published) = writer.publish_as::<SeenRule<B>, R>(rt);
@@ -111,10 +113,14 @@ impl<B: BoardName> Publisher<B> {
     /// # Errors
     ///
     /// The writer, where memory was refused for that.
-    pub fn new(writer: PolicyWriter<B>, head: Head<B>) -> Result<Publisher<B>, PolicyWriter<B>>
-        requires { IsPublishing B.book writer.desk.shown.value.policy writer.desk.shown.value.trace
+    pub fn new(
+        writer: PolicyWriter<B>,
+        head: SharedLength<B>,
+    ) -> Result<Publisher<B>, PolicyWriter<B>>
+        requires
+            { IsPublishing B.book writer.desk.shown.value.policy writer.desk.shown.value.book_prefix
             (drop writer.behind writer.log.items) }
-        ensures { IfOk result (λ publisher. publisher ≡ writer.desk.shown.value.trace.list) }
+        ensures { IfOk result (λ publisher. publisher ≡ writer.desk.shown.value.book_prefix.list) }
     {
         let mut writer = writer;
         match writer.append(Publication::Room) {
@@ -131,29 +137,29 @@ impl<B: BoardName> Publisher<B> {
     }
 
     /// The list that is published.
-    pub fn front(&self) -> Front<B>
+    pub fn prefix(&self) -> BoardPrefix<B>
         ensures { result ≡ self.now }
     {
-        Front::of(&self.writer.published().trace)
+        BoardPrefix::of(&self.writer.published().book_prefix)
     }
 
     /// A reader that has seen the opening entries, where `left_right` has a place for it.
-    pub fn reader(&self, opening: &Front<B>) -> Option<SlotReader<B>>
+    pub fn reader(&self, opening: &BoardPrefix<B>) -> Option<IdleReader<B>>
         requires { opening.now ≡ opening_entries }
         ensures { IfSome result (λ reader. reader ≡ opening_entries) }
     {
-        SlotReader::new(&self.writer, opening)
+        IdleReader::new(&self.writer, opening)
     }
 
     /// Checks that nothing is unpublished: then what `known` has seen is a beginning of the
     /// published list. That is always so at the first look, since each entry is published as soon
     /// as it is added, and no other thread adds any. The check is there for the proof.
-    pub fn confirm_all_published<R: Wait>(&self, rt: &R, known: &Front<B>)
+    pub fn confirm_all_published<R: Wait>(&self, rt: &R, known: &BoardPrefix<B>)
         ensures { Begins known.now self.now }
     {
-        let front = self.front();
+        let prefix = self.prefix();
         for _ in rt.forever() {
-            if front.is_all_published(&self.head, known) {
+            if prefix.is_all_published(&self.head, known) {
                 return;
             }
         }
@@ -166,10 +172,10 @@ impl<B: BoardName> Publisher<B> {
         requires { IsAccepted self entry }
         ensures { result ≡ self ++ entry ∷ [] }
     {
-        let front = self.front();
+        let prefix = self.prefix();
         let Publisher { writer, head } = self;
-        let front = add_entry(rt, &head, front, &entry);
-        let writer = show(rt, writer, entry, &front);
+        let prefix = add_entry(rt, &head, prefix, &entry);
+        let writer = show(rt, writer, entry, &prefix);
         Publisher { writer, head }
     }
 

@@ -4,8 +4,9 @@ ghost use Rattle.rbac_policy.specs.Opening.{opening_entries};
 ghost use Rattle.rbac_policy.specs.StandsFor.{StandsFor};
 ghost use Rattle.rbac_admin.specs.PolicyLists.{Begins};
 
-use crate::board_list::{BoardName, Front};
-use crate::shown::{PolicyReader, PolicyWriter, PublishedPolicy, PublishedRule, SeenRule};
+use crate::board_list::BoardPrefix;
+use crate::board_name::BoardName;
+use crate::published::{PolicyReader, PolicyWriter, PublishedPolicy, PublishedRule, SeenRule};
 use left_right::reader;
 use rbac_policy::commands::Entry;
 use rbac_policy::policy::Policy;
@@ -15,28 +16,28 @@ use std::marker::Model;
 /// A reader that is not reading: `enter` begins a read, unless it is refused. A contract sees the
 /// policy list that it has seen.
 #[derive(Drop)]
-pub struct SlotReader<B: BoardName> {
+pub struct IdleReader<B: BoardName> {
     reader: PolicyReader<B>,
-    front: Front<B>,
+    prefix: BoardPrefix<B>,
 }
 
-impl<B: BoardName> Model for SlotReader<B> {
+impl<B: BoardName> Model for IdleReader<B> {
     ghost use Rattle.std.specs.Prelude.{◌≡◌, List};
     ghost use Rattle.rbac_policy.specs.declared.commands.Entry.{Entry};
     ghost use Rattle.left_right.specs.Sides.{view as seen_at};
 
     ghost Value = { List Entry };
 
-    ghost view = { λ s. s.front };
+    ghost view = { λ s. s.prefix };
 
-    ghost invariant = { λ s. seen_at s.reader.place ≡ s.front };
+    ghost invariant = { λ s. seen_at s.reader.place ≡ s.prefix };
 }
 
 /// A read. A contract sees the policy list that the policy stands for. End it by `leave`: a
 /// publication waits for it.
 pub struct Reading<B: BoardName> {
     reading: reader::Reading<PublishedPolicy, LinkedList<Entry>, PublishedRule<B>>,
-    front: Front<B>,
+    prefix: BoardPrefix<B>,
 }
 
 impl<B: BoardName> Model for Reading<B> {
@@ -47,22 +48,22 @@ impl<B: BoardName> Model for Reading<B> {
 
     ghost Value = { List Entry };
 
-    ghost view = { λ s. s.front };
+    ghost view = { λ s. s.prefix };
 
-    ghost invariant = { λ s. (seen_at s.reading.place ≡ s.front)
-        × StandsFor s.reading.part.value.policy s.front };
+    ghost invariant = { λ s. (seen_at s.reading.place ≡ s.prefix)
+        × StandsFor s.reading.part.value.policy s.prefix };
 }
 
-impl<B: BoardName> SlotReader<B> {
+impl<B: BoardName> IdleReader<B> {
     /// A reader that has seen the opening entries, where `left_right` has a place for it.
-    pub(crate) fn new(writer: &PolicyWriter<B>, opening: &Front<B>) -> Option<SlotReader<B>>
+    pub(crate) fn new(writer: &PolicyWriter<B>, opening: &BoardPrefix<B>) -> Option<IdleReader<B>>
         requires { opening.now ≡ opening_entries }
         ensures { IfSome result (λ reader. reader ≡ opening_entries) }
     {
         match writer.factory().reader() {
-            Ok(reader) => Some(SlotReader {
+            Ok(reader) => Some(IdleReader {
                 reader,
-                front: opening.again(),
+                prefix: opening.copied(),
             }),
             Err(_) => None,
         }
@@ -75,24 +76,24 @@ impl<B: BoardName> SlotReader<B> {
     ///
     /// The reader as it was, where `left_right` refuses the read. It does so only once its writer
     /// has ended, which is after all commands (`Closed::journal`); no clause of the kit says so.
-    pub fn enter(self) -> Result<Reading<B>, SlotReader<B>>
+    pub fn enter(self) -> Result<Reading<B>, IdleReader<B>>
         ensures { MatchResult result (λ reading. Begins self reading) (λ reader. reader ≡ self) }
     {
-        let SlotReader { reader, front } = self;
+        let IdleReader { reader, prefix } = self;
         match reader.enter_as::<SeenRule<B>>() {
             Ok(reading) => {
-                let front = Front::of(&reading.get().trace);
-                Ok(Reading { reading, front })
+                let prefix = BoardPrefix::of(&reading.get().book_prefix);
+                Ok(Reading { reading, prefix })
             }
-            Err(reader) => Err(SlotReader { reader, front }),
+            Err(reader) => Err(IdleReader { reader, prefix }),
         }
     }
 
     /// The list that it has seen.
-    pub fn front(&self) -> &Front<B>
+    pub fn prefix(&self) -> &BoardPrefix<B>
         ensures { result.now ≡ self.now }
     {
-        &self.front
+        &self.prefix
     }
 }
 
@@ -105,20 +106,20 @@ impl<B: BoardName> Reading<B> {
     }
 
     /// The list that the policy stands for.
-    pub fn front(&self) -> &Front<B>
+    pub fn prefix(&self) -> &BoardPrefix<B>
         ensures { result.now ≡ self.now }
     {
-        &self.front
+        &self.prefix
     }
 
     /// Ends the read.
-    pub fn leave(self) -> SlotReader<B>
+    pub fn leave(self) -> IdleReader<B>
         ensures { result ≡ self }
     {
-        let Reading { reading, front } = self;
-        SlotReader {
+        let Reading { reading, prefix } = self;
+        IdleReader {
             reader: reading.leave(),
-            front,
+            prefix,
         }
     }
 }

@@ -10,8 +10,9 @@ ghost use Rattle.policy_board.specs.Receipts.{HasRoom, seat_keeping};
 ghost use Rattle.policy_board.specs.SeatState.{KeepsReceipts, new_seat};
 ghost use Rattle.policy_board.specs.declared.refusal.BoardRefusal.TheVariants.{Memory};
 
-use crate::board_list::{BoardName, Front};
-use crate::reader::{Reading, SlotReader};
+use crate::board_list::BoardPrefix;
+use crate::board_name::BoardName;
+use crate::reader::{IdleReader, Reading};
 use crate::refusal::BoardRefusal;
 use history_receipts::receipt::Kept;
 use history_receipts::receipt_list::Receipts;
@@ -25,7 +26,7 @@ use std::marker::Model;
 #[derive(Drop)]
 pub struct Acceptance<B: BoardName> {
     pub(crate) entry: Entry,
-    pub(crate) list: Front<B>,
+    pub(crate) list: BoardPrefix<B>,
     pub(crate) session: Option<SessionId>,
 }
 
@@ -52,7 +53,7 @@ impl<B: BoardName> Acceptance<B> {
     }
 
     /// The list that ends with the entry: a note that another seat may learn.
-    pub fn list(&self) -> &Front<B>
+    pub fn list(&self) -> &BoardPrefix<B>
         ensures { result.now ≡ self.now.list }
     {
         &self.list
@@ -64,8 +65,8 @@ impl<B: BoardName> Acceptance<B> {
 #[derive(Drop)]
 pub struct Seat<B: BoardName> {
     // It is away only while a call of the seat reads.
-    reader: Option<SlotReader<B>>,
-    known: Front<B>,
+    reader: Option<IdleReader<B>>,
+    known: BoardPrefix<B>,
     seen: u64,
     kept: Vec<Kept>,
 }
@@ -92,10 +93,10 @@ impl<B: BoardName> Model for Seat<B> {
 /// Reads. What is read is then known, unless it is older than what was seen. A refused read hands
 /// the reader back.
 fn read_newer<B: BoardName>(
-    reader: SlotReader<B>,
-    known: &mut Front<B>,
+    reader: IdleReader<B>,
+    known: &mut BoardPrefix<B>,
     seen: &mut u64,
-) -> Result<Reading<B>, (BoardRefusal, SlotReader<B>)>
+) -> Result<Reading<B>, (BoardRefusal, IdleReader<B>)>
     requires { length known.old ≤ max seen.old (length opening_entries) }
     ensures { MatchResult result
         (λ reading. IsRead reader (record { known = known.old; seen = seen.old }) reading
@@ -107,26 +108,26 @@ fn read_newer<B: BoardName>(
         Ok(reading) => reading,
         Err(reader) => return Err((BoardRefusal::Memory, reader)),
     };
-    let front = reading.front().again();
-    let found = front.version();
+    let prefix = reading.prefix().copied();
+    let found = prefix.version();
     if found < *seen {
         let refusal = BoardRefusal::Behind { found, seen: *seen };
         return Err((refusal, reading.leave()));
     }
-    known.assert_begins(&front);
-    *known = front;
+    known.assert_begins(&prefix);
+    *known = prefix;
     *seen = found;
     Ok(reading)
 }
 
 impl<B: BoardName> Seat<B> {
     /// A seat that knows the opening entries alone. Its seen number is 0.
-    pub(crate) fn new(alloc: Global, reader: SlotReader<B>) -> Seat<B>
+    pub(crate) fn new(alloc: Global, reader: IdleReader<B>) -> Seat<B>
         requires { reader ≡ opening_entries }
         ensures { result ≡ new_seat }
     {
         Seat {
-            known: reader.front().again(),
+            known: reader.prefix().copied(),
             reader: Some(reader),
             seen: 0,
             kept: Vec::new(alloc),
@@ -188,7 +189,7 @@ impl<B: BoardName> Seat<B> {
 
     /// Notes that it has seen this list, which is no shorter than its seen number: so the list
     /// begins with all that it knew.
-    pub fn note_list(&mut self, list: &Front<B>)
+    pub fn note_list(&mut self, list: &BoardPrefix<B>)
         requires { self.old.seen ≤ length list.now }
         ensures later { Begins self.old.known list.now }
         ensures list { IsPolicyList list.now }
@@ -196,24 +197,24 @@ impl<B: BoardName> Seat<B> {
     {
         let version = list.version();
         self.known.assert_begins(list);
-        self.known = list.again();
+        self.known = list.copied();
         self.seen = version;
     }
 
     /// The longest list that it has read or was told of.
-    pub(crate) fn known(&self) -> &Front<B>
+    pub(crate) fn known(&self) -> &BoardPrefix<B>
         ensures { result.now ≡ self.now.known }
     {
         &self.known
     }
 
     /// Notes that it knows this list, which begins with what it knew.
-    pub(crate) fn note_known(&mut self, list: &Front<B>)
+    pub(crate) fn note_known(&mut self, list: &BoardPrefix<B>)
         requires { Begins self.old.known list.now }
         ensures { self.new ≡ seat_after self.old list.now }
     {
         self.seen = self.seen.max(list.version());
-        self.known = list.again();
+        self.known = list.copied();
     }
 
     /// Learns of the list of an answer: from now on it is answered for no shorter one.
@@ -238,7 +239,7 @@ impl<B: BoardName> Seat<B> {
     /// # Errors
     ///
     /// - Behind, where the policy that was read is older than one that the seat has seen;
-    /// - Memory, where `left_right` refuses the read (`SlotReader::enter`).
+    /// - Memory, where `left_right` refuses the read (`IdleReader::enter`).
     pub(crate) fn check(
         &mut self,
         session: SessionId,

@@ -3,11 +3,11 @@ ghost use denote.Param.{param};
 ghost use denote.Param.Send.{IsSend, IsSync};
 ghost use Rattle.policy_board.specs.contracts.board.Board as board;
 
-use crate::board_list::BoardName;
+use crate::board_name::BoardName;
 use crate::publisher::Publisher;
 
 /// By its bound the proof learns that values of this type may cross threads.
-fn may_cross<T: Send>()
+fn assert_send<T: Send>()
     ensures { IsSend (param 0 T.row) }
 {}
 
@@ -15,5 +15,5 @@ fn may_cross<T: Send>()
 pub fn boards_are_shared<B: BoardName + Send + Sync>()
     ensures { IsSync (board.the_row (param 0 B.row) ⟦<B as BoardName>⟧) }
 {
-    may_cross::<Publisher<B>>();
+    assert_send::<Publisher<B>>();
 }

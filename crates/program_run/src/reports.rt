@@ -12,7 +12,7 @@ use reactor_core::journal::Journal;
 use std::alloc::Global;
 use std::io::Write;
 use wire_reader::meter::{MeteredMemory, MeteredWriter};
-use wire_reader::replies::Replies;
+use wire_reader::replies::ReplyBuffer;
 
 /// Writes the report on these journals.
 ///
@@ -35,7 +35,7 @@ pub fn write_report<O: Write>(
         return Err(Fault::Memory);
     };
     let mut memory = MeteredMemory::new(alloc);
-    let Ok(mut waiting) = Replies::new(&mut memory) else {
+    let Ok(mut waiting) = ReplyBuffer::new(&mut memory) else {
         return Err(Fault::Memory);
     };
     let Ok(()) = waiting.add(output, text.as_bytes()) else {

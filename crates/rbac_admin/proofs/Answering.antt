@@ -2,8 +2,8 @@
 use Rattle.std.proofs.Common.{refl, inl, inr, ◌≡◌, ◌∙◌, ◌⊎◌, ◌↔◌, sym, subst, ℕ, List, IsTrue, true, false, Bool, rules}
 use Rattle.std.specs.Prelude.{IsFalse, Option, Some, Result, Ok, Err}
 use Rattle.std.proofs.lemmas.Option.{same_Some}
-use Rattle.refusal_rules.specs.Rules.{Rule, Rules, accept, ◌▸◌, ◌▸▸◌, Says, Unless, Refuses, Passes, Answers, AllPass}
-use Rattle.refusal_rules.specs.Rules.{Tests}
+use Rattle.refusal_rules.specs.Rules.{Rule, Rules, accept, ◌▸◌, ◌▸▸◌, RefuseIf, RefuseUnless, Refuses, Passes, Answers}
+use Rattle.refusal_rules.specs.Rules.{AllPass, Tests}
 use Rattle.refusal_rules.proofs.RuleLemmas.{refuse, pass, append, accepted, all_passed}
 use Rattle.rbac_policy.specs.declared.commands.AdminCommand.{AdminCommand}
 use Rattle.rbac_policy.specs.declared.commands.Entry.{Entry}
@@ -106,37 +106,37 @@ module _ (entries : List Entry) (session : Option ℕ) (n : ℕ) (by : IsGivenBy
   pub pass_inactive : (role : NameText) {Refused : PolicyRefusal → Type 0} {Next : Type 0}
       → (IsActive entries n role → ⊥)
       → Next
-      → Refuses (Says (AlreadyActive role) (HasActive entries session role)) Refused
-      ⊎ Passes (Says (AlreadyActive role) (HasActive entries session role)) Next
+      → Refuses (RefuseIf (AlreadyActive role) (HasActive entries session role)) Refused
+      ⊎ Passes (RefuseIf (AlreadyActive role) (HasActive entries session role)) Next
   pass_inactive role inactive then =
       pass (λ a. inactive
       (subst (λ k. IsActive entries k role) (same_Some a.number n (sym a.given ∙ by.given)) a.active)) then
 
   pub refuse_inactive : (role : NameText) {Refused : PolicyRefusal → Type 0} {Next : Type 0} (refusal : PolicyRefusal)
       → (refusal ≡ AlreadyActive role) × IsActive entries n role → Refused refusal
-      → Refuses (Says (AlreadyActive role) (HasActive entries session role)) Refused
-      ⊎ Passes (Says (AlreadyActive role) (HasActive entries session role)) Next
+      → Refuses (RefuseIf (AlreadyActive role) (HasActive entries session role)) Refused
+      ⊎ Passes (RefuseIf (AlreadyActive role) (HasActive entries session role)) Next
   refuse_inactive role refusal given answered = refuse refusal
       (given.0, record { number = n; given = by.given; active = given.1 }) answered
 
   pub tested_inactive : (role : NameText) (answer : Result (Unit {0}) PolicyRefusal)
-      → Tests (Says (AlreadyActive role) (IsActive entries n role)) answer
-      → Checks (Says (AlreadyActive role) (HasActive entries session role) ▸ accept) answer
+      → Tests (RefuseIf (AlreadyActive role) (IsActive entries n role)) answer
+      → Checks (RefuseIf (AlreadyActive role) (HasActive entries session role) ▸ accept) answer
   tested_inactive role (Ok done) h = pass_inactive role h refl
   tested_inactive role (Err refusal) h = refuse_inactive role refusal h refl
 
   pub pass_authorized : (role : NameText) {Refused : PolicyRefusal → Type 0} {Next : Type 0}
       → IsAuthorized entries by.user role → Next
-      → Refuses (Unless (HasAuthorized entries session role) (NotAuthorized role)) Refused
-      ⊎ Passes (Unless (HasAuthorized entries session role) (NotAuthorized role)) Next
+      → Refuses (RefuseUnless (HasAuthorized entries session role) (NotAuthorized role)) Refused
+      ⊎ Passes (RefuseUnless (HasAuthorized entries session role) (NotAuthorized role)) Next
   pass_authorized role authorized then = pass (record { number = n; by = by; authorized = authorized }) then
 
   -- whoever the user of the session is
   pub refuse_authorized : (role : NameText) {Refused : PolicyRefusal → Type 0} {Next : Type 0} (refusal : PolicyRefusal)
       → ((user : NameText) → Lives entries n user → (refusal ≡ NotAuthorized role)
       × (IsAuthorized entries user role → ⊥)) → Refused refusal
-      → Refuses (Unless (HasAuthorized entries session role) (NotAuthorized role)) Refused
-      ⊎ Passes (Unless (HasAuthorized entries session role) (NotAuthorized role)) Next
+      → Refuses (RefuseUnless (HasAuthorized entries session role) (NotAuthorized role)) Refused
+      ⊎ Passes (RefuseUnless (HasAuthorized entries session role) (NotAuthorized role)) Next
   refuse_authorized role refusal given answered =
       refuse refusal (
         (given by.user by.lives).0,

@@ -4,7 +4,7 @@ use Rattle.std.specs.Prelude.{Option, Some, None, Result, slice_get}
 use Rattle.std.proofs.lemmas.Bool.{cases_order}
 use Rattle.std.proofs.lemmas.Option.{same_Some, slice_get_within}
 use Rattle.std.proofs.lemmas.List.{length-take-le}
-use Rattle.refusal_rules.specs.Rules.{Rules, accept, ◌▸◌, ◌▸▸◌, Naming, IsDefinite, AllDefinite}
+use Rattle.refusal_rules.specs.Rules.{Rules, accept, ◌▸◌, ◌▸▸◌, RefuseNaming, IsDefinite, AllDefinite}
 use Rattle.refusal_rules.proofs.RuleLemmas.{says, unless, naming, one_answer as same_answer}
 use Rattle.rbac_policy.specs.Names.{NameText}
 use Rattle.rbac_policy.specs.Facts.{IsSet, Violates}
@@ -18,7 +18,7 @@ use Rattle.rbac_policy.specs.declared.commands.Entry.{Entry}
 use Rattle.rbac_admin.specs.declared.refusal.PolicyRefusal.{PolicyRefusal}
 use Rattle.rbac_policy.specs.Separation.{IsFirstViolated, IsFirstSetOf}
 use Rattle.rbac_admin.specs.Conditions.{FirstListed}
-use Rattle.rbac_admin.specs.PolicyStep.{PolicyStep, session_rules, right_rules, name_rules, condition_rules}
+use Rattle.rbac_admin.specs.PolicyStep.{PolicyStep, session_rules, permission_rules, existence_rules, condition_rules}
 use Rattle.rbac_admin.specs.PolicyStep.{separation_rules, table_rules, policy_rules, entry_of, violation}
 
 -- one place at most, where none of those before a place with the property has it
@@ -35,7 +35,7 @@ one_listed P names a b x y =
     same_Some a b (sym x.there ∙ ap (slice_get names) at ∙ y.there)
 
 listed : {refusal : NameText → PolicyRefusal} {P : List NameText → NameText → Type 0} {names : List NameText}
-    → IsDefinite (Naming refusal (FirstListed P names))
+    → IsDefinite (RefuseNaming refusal (FirstListed P names))
 listed {P = P} {names = names} = naming (one_listed P names)
 
 module _ (entries : List Entry) where
@@ -104,7 +104,7 @@ violations entries session command = naming same where
       ap (λ set. (set, one.1)) both.0 ∙ ap (λ session. (other.0, session)) both.1
 
 members : {refusal : NameText → PolicyRefusal} (entries : List Entry) (role : NameText)
-    → IsDefinite (Naming refusal (IsFirstSetOf entries role))
+    → IsDefinite (RefuseNaming refusal (IsFirstSetOf entries role))
 members entries role = naming (one_set_of entries role)
 
 -- the rules of each kind are definite
@@ -114,14 +114,14 @@ session_definite entries session (CreateSession user roles) = record {}
 session_definite entries session command = (unless, record {})
 
 right_definite : (entries : List Entry) (session : Option ℕ) (command : AdminCommand)
-    → AllDefinite (right_rules entries session command)
+    → AllDefinite (permission_rules entries session command)
 right_definite entries session (CreateSession user roles) = record {}
 right_definite entries session DeleteSession = record {}
 right_definite entries session (AddActiveRole role) = record {}
 right_definite entries session (DropActiveRole role) = record {}
 right_definite entries session command = (unless, record {})
 
-names_definite : (entries : List Entry) (command : AdminCommand) → AllDefinite (name_rules entries command)
+names_definite : (entries : List Entry) (command : AdminCommand) → AllDefinite (existence_rules entries command)
 names_definite entries (AddUser user) = (says, record {})
 names_definite entries (AddRole role) = (says, record {})
 names_definite entries (AssignUser user role) = (unless, (unless, record {}))
@@ -177,8 +177,8 @@ pub all_definite : (entries : List Entry) (session : Option ℕ) (command : Admi
 all_definite entries session command =
     let by = (entry_of session command).session in
     both_definite (session_rules entries session command) _ (session_definite entries session command)
-    (both_definite (right_rules entries by command) _ (right_definite entries by command)
-    (both_definite (name_rules entries command) _ (names_definite entries command)
+    (both_definite (permission_rules entries by command) _ (right_definite entries by command)
+    (both_definite (existence_rules entries command) _ (names_definite entries command)
     (both_definite (condition_rules entries by command) _ (conditions_definite entries by command)
     (both_definite (separation_rules entries by command) _ (separation_definite entries by command)
     (tables_definite entries command)))))

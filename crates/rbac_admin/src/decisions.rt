@@ -5,7 +5,7 @@ ghost use Rattle.rbac_policy.specs.StandsFor.{StandsFor};
 ghost use Rattle.refusal_rules.specs.Rules.{Answers, AllPass};
 ghost use Rattle.rbac_admin.specs.Conditions.{IsGiven};
 ghost use Rattle.rbac_admin.specs.PolicyStep.{Checks, PolicyStep, entry_of, session_rules};
-ghost use Rattle.rbac_admin.specs.PolicyStep.{right_rules, name_rules, condition_rules};
+ghost use Rattle.rbac_admin.specs.PolicyStep.{permission_rules, existence_rules, condition_rules};
 ghost use Rattle.rbac_admin.specs.PolicyStep.{separation_rules, table_rules};
 
 use crate::refusal::PolicyRefusal;
@@ -44,9 +44,9 @@ fn find_giver(
 }
 
 /// Refuses an administrative command whose session may not administer the policy.
-fn check_right(policy: &Policy, entry: &Entry) -> Result<(), PolicyRefusal>
+fn check_permission(policy: &Policy, entry: &Entry) -> Result<(), PolicyRefusal>
     ensures { (entries : List Entry) → StandsFor policy.now entries → IsGiven entries entry.now
-        → Checks (right_rules entries entry.now.session entry.now.command) result }
+        → Checks (permission_rules entries entry.now.session entry.now.command) result }
 {
     match entry.session {
         Some(session) if entry.command.is_administrative() => check_may_administer(policy, session),
@@ -55,9 +55,9 @@ fn check_right(policy: &Policy, entry: &Entry) -> Result<(), PolicyRefusal>
 }
 
 /// Refuses a command that makes what is there already, or that names what is not there.
-fn check_names(policy: &Policy, command: &AdminCommand) -> Result<(), PolicyRefusal>
+fn check_existence(policy: &Policy, command: &AdminCommand) -> Result<(), PolicyRefusal>
     ensures { (entries : List Entry) → StandsFor policy.now entries
-        → Checks (name_rules entries command.now) result }
+        → Checks (existence_rules entries command.now) result }
 {
     match command {
         AdminCommand::AddUser { user } => check_user_is_new(policy, user),
@@ -145,7 +145,7 @@ fn check_conditions(policy: &Policy, entry: &Entry) -> Result<(), PolicyRefusal>
 fn check_separation(policy: &Policy, entry: &Entry) -> Result<(), PolicyRefusal>
     ensures { (entries : List Entry) → StandsFor policy.now entries
         → IsGiven entries entry.now
-        → AllPass (name_rules entries entry.now.command)
+        → AllPass (existence_rules entries entry.now.command)
         → AllPass (condition_rules entries entry.now.session entry.now.command)
         → Checks (separation_rules entries entry.now.session entry.now.command) result }
 {
@@ -242,8 +242,8 @@ pub fn decide(
 {
     let session = find_giver(policy, session, &command)?;
     let entry = Entry { session, command };
-    check_right(policy, &entry)?;
-    check_names(policy, &entry.command)?;
+    check_permission(policy, &entry)?;
+    check_existence(policy, &entry.command)?;
     check_conditions(policy, &entry)?;
     check_separation(policy, &entry)?;
     check_tables(policy, &entry.command)?;

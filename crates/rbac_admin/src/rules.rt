@@ -12,9 +12,9 @@ ghost use Rattle.rbac_policy.specs.Facts.{May};
 ghost use Rattle.rbac_policy.specs.Fits.{NumbersExhausted, UsersFull, RolesFull, SetsFull};
 ghost use Rattle.rbac_policy.specs.Fits.{SessionsFull};
 ghost use Rattle.rbac_policy.specs.Separation.{IsFirstSetOf};
-ghost use Rattle.refusal_rules.specs.Rules.{Says, Unless, Naming, Tests};
+ghost use Rattle.refusal_rules.specs.Rules.{RefuseIf, RefuseUnless, RefuseNaming, Tests};
 ghost use Rattle.rbac_admin.specs.Conditions.{IsGivenBy, HasNoRoomFor, IsNoShape, FirstListed};
-ghost use Rattle.rbac_admin.specs.PolicyStep.{no_giver, unknown_user, unknown_role};
+ghost use Rattle.rbac_admin.specs.PolicyStep.{no_session, unknown_user, unknown_role};
 ghost use Rattle.rbac_admin.specs.PolicyStep.{unknown_listed, unauthorized_listed, repeated_listed};
 ghost use Rattle.rbac_admin.specs.PolicyStep.{violation};
 
@@ -30,7 +30,7 @@ pub fn find_living_session(
     session: Option<SessionId>,
 ) -> Result<SessionId, PolicyRefusal>
     ensures { (entries : List Entry) → StandsFor policy.now entries
-        → MatchResult result (IsGivenBy entries session) (no_giver entries session).refuses }
+        → MatchResult result (IsGivenBy entries session) (no_session entries session).refuses }
 {
     let Some(number) = session else {
         return Err(PolicyRefusal::NoSession);
@@ -45,7 +45,7 @@ pub fn find_living_session(
 /// Refuses a session that may not change the policy.
 pub fn check_may_administer(policy: &Policy, session: SessionId) -> Result<(), PolicyRefusal>
     ensures { (entries : List Entry) → StandsFor policy.now entries
-        → Tests (Unless (May entries session Operation.Administer Object.Policy)
+        → Tests (RefuseUnless (May entries session Operation.Administer Object.Policy)
         (PolicyRefusal.Permission Operation.Administer Object.Policy)) result }
 {
     if policy.may(session, &Operation::Administer, &Object::Policy) {
@@ -78,7 +78,7 @@ pub fn check_grant_is_new(
     object: &Object,
 ) -> Result<(), PolicyRefusal>
     ensures { (entries : List Entry) → StandsFor policy.now entries
-        → Tests (Says PolicyRefusal.AlreadyGranted
+        → Tests (RefuseIf PolicyRefusal.AlreadyGranted
         (IsGranted entries role.now operation.now object.now))
         result }
 {
@@ -96,7 +96,7 @@ pub fn check_room_for_grant(
     object: &Object,
 ) -> Result<(), PolicyRefusal>
     ensures { (entries : List Entry) → StandsFor policy.now entries
-        → Tests (Says (PolicyRefusal.Full Table.Permissions) (HasNoRoomFor entries operation.now
+        → Tests (RefuseIf (PolicyRefusal.Full Table.Permissions) (HasNoRoomFor entries operation.now
         object.now)) result }
 {
     if policy.is_pair_granted(operation, object) {
@@ -113,7 +113,7 @@ pub fn check_room_for_grant(
 /// Refuses if there is such a user.
 pub fn check_user_is_new(policy: &Policy, user: &Name) -> Result<(), PolicyRefusal>
     ensures { (entries : List Entry) → StandsFor policy.now entries
-        → Tests (Says (PolicyRefusal.UserExists user.now) (IsUser entries user.now)) result }
+        → Tests (RefuseIf (PolicyRefusal.UserExists user.now) (IsUser entries user.now)) result }
 {
     if policy.has_user(user) {
         Err(PolicyRefusal::UserExists { user: *user })
@@ -125,7 +125,7 @@ pub fn check_user_is_new(policy: &Policy, user: &Name) -> Result<(), PolicyRefus
 /// Refuses if there is no room for another user.
 pub fn check_room_for_user(policy: &Policy) -> Result<(), PolicyRefusal>
     ensures { (entries : List Entry) → StandsFor policy.now entries
-        → Tests (Says (PolicyRefusal.Full Table.Users) (UsersFull entries)) result }
+        → Tests (RefuseIf (PolicyRefusal.Full Table.Users) (UsersFull entries)) result }
 {
     if policy.are_users_full() {
         Err(PolicyRefusal::Full {
@@ -139,7 +139,7 @@ pub fn check_room_for_user(policy: &Policy) -> Result<(), PolicyRefusal>
 /// Refuses if there is such a role.
 pub fn check_role_is_new(policy: &Policy, role: &Name) -> Result<(), PolicyRefusal>
     ensures { (entries : List Entry) → StandsFor policy.now entries
-        → Tests (Says (PolicyRefusal.RoleExists role.now) (IsRole entries role.now)) result }
+        → Tests (RefuseIf (PolicyRefusal.RoleExists role.now) (IsRole entries role.now)) result }
 {
     if policy.has_role(role) {
         Err(PolicyRefusal::RoleExists { role: *role })
@@ -151,7 +151,7 @@ pub fn check_role_is_new(policy: &Policy, role: &Name) -> Result<(), PolicyRefus
 /// Refuses if there is no room for another role.
 pub fn check_room_for_role(policy: &Policy) -> Result<(), PolicyRefusal>
     ensures { (entries : List Entry) → StandsFor policy.now entries
-        → Tests (Says (PolicyRefusal.Full Table.Roles) (RolesFull entries)) result }
+        → Tests (RefuseIf (PolicyRefusal.Full Table.Roles) (RolesFull entries)) result }
 {
     if policy.are_roles_full() {
         Err(PolicyRefusal::Full {
@@ -169,7 +169,8 @@ pub fn check_assignment_is_new(
     role: &Name,
 ) -> Result<(), PolicyRefusal>
     ensures { (entries : List Entry) → StandsFor policy.now entries
-        → Tests (Says PolicyRefusal.AlreadyAssigned (IsAssigned entries user.now role.now)) result }
+        → Tests (RefuseIf PolicyRefusal.AlreadyAssigned (IsAssigned entries user.now role.now))
+        result }
 {
     if policy.is_assigned(user, role) {
         Err(PolicyRefusal::AlreadyAssigned)
@@ -181,7 +182,8 @@ pub fn check_assignment_is_new(
 /// Refuses if the role is not assigned to the user.
 pub fn check_assigned(policy: &Policy, user: &Name, role: &Name) -> Result<(), PolicyRefusal>
     ensures { (entries : List Entry) → StandsFor policy.now entries
-        → Tests (Unless (IsAssigned entries user.now role.now) PolicyRefusal.NotAssigned) result }
+        → Tests (RefuseUnless (IsAssigned entries user.now role.now) PolicyRefusal.NotAssigned)
+        result }
 {
     if policy.is_assigned(user, role) {
         Ok(())
@@ -198,7 +200,7 @@ pub fn check_granted(
     object: &Object,
 ) -> Result<(), PolicyRefusal>
     ensures { (entries : List Entry) → StandsFor policy.now entries
-        → Tests (Unless (IsGranted entries role.now operation.now object.now)
+        → Tests (RefuseUnless (IsGranted entries role.now operation.now object.now)
         PolicyRefusal.NotGranted)
         result }
 {
@@ -212,7 +214,7 @@ pub fn check_granted(
 /// Refuses if the edge itself isn't there.
 pub fn check_edge_exists(policy: &Policy, senior: &Name, junior: &Name) -> Result<(), PolicyRefusal>
     ensures { (entries : List Entry) → StandsFor policy.now entries
-        → Tests (Unless (IsEdge entries senior.now junior.now) PolicyRefusal.NoEdge) result }
+        → Tests (RefuseUnless (IsEdge entries senior.now junior.now) PolicyRefusal.NoEdge) result }
 {
     if policy.has_edge(senior, junior) {
         Ok(())
@@ -228,7 +230,8 @@ pub fn check_role_active(
     role: &Name,
 ) -> Result<(), PolicyRefusal>
     ensures { (entries : List Entry) → StandsFor policy.now entries → IsLive entries session
-        → Tests (Unless (IsActive entries session role.now) (PolicyRefusal.NotActive role.now))
+        → Tests (RefuseUnless (IsActive entries session role.now)
+        (PolicyRefusal.NotActive role.now))
         result }
 {
     if policy.is_active(session, role) {
@@ -245,7 +248,8 @@ pub fn check_role_inactive(
     role: &Name,
 ) -> Result<(), PolicyRefusal>
     ensures { (entries : List Entry) → StandsFor policy.now entries → IsLive entries session
-        → Tests (Says (PolicyRefusal.AlreadyActive role.now) (IsActive entries session role.now))
+        → Tests (RefuseIf (PolicyRefusal.AlreadyActive role.now)
+        (IsActive entries session role.now))
         result }
 {
     if policy.is_active(session, role) {
@@ -263,7 +267,8 @@ pub fn check_role_authorized(
 ) -> Result<(), PolicyRefusal>
     ensures { (entries : List Entry) (user : NameText) → StandsFor policy.now entries
         → Lives entries session user
-        → Tests (Unless (IsAuthorized entries user role.now) (PolicyRefusal.NotAuthorized role.now))
+        → Tests (RefuseUnless (IsAuthorized entries user role.now)
+        (PolicyRefusal.NotAuthorized role.now))
         result }
 {
     match policy.user_of(session) {
@@ -275,7 +280,7 @@ pub fn check_role_authorized(
 /// Refuses if there is such a separation set.
 pub fn check_set_is_new(policy: &Policy, set: &Name) -> Result<(), PolicyRefusal>
     ensures { (entries : List Entry) → StandsFor policy.now entries
-        → Tests (Says (PolicyRefusal.DsdExists set.now) (IsSetName entries set.now)) result }
+        → Tests (RefuseIf (PolicyRefusal.DsdExists set.now) (IsSetName entries set.now)) result }
 {
     if policy.has_set(set) {
         Err(PolicyRefusal::DsdExists { set: *set })
@@ -287,7 +292,7 @@ pub fn check_set_is_new(policy: &Policy, set: &Name) -> Result<(), PolicyRefusal
 /// Refuses if there is no such separation set.
 pub fn check_set_exists(policy: &Policy, set: &Name) -> Result<(), PolicyRefusal>
     ensures { (entries : List Entry) → StandsFor policy.now entries
-        → Tests (Unless (IsSetName entries set.now) (PolicyRefusal.NoDsd set.now)) result }
+        → Tests (RefuseUnless (IsSetName entries set.now) (PolicyRefusal.NoDsd set.now)) result }
 {
     if policy.has_set(set) {
         Ok(())
@@ -299,7 +304,7 @@ pub fn check_set_exists(policy: &Policy, set: &Name) -> Result<(), PolicyRefusal
 /// Refuses if there is no room for another separation set.
 pub fn check_room_for_set(policy: &Policy) -> Result<(), PolicyRefusal>
     ensures { (entries : List Entry) → StandsFor policy.now entries
-        → Tests (Says (PolicyRefusal.Full Table.Sets) (SetsFull entries)) result }
+        → Tests (RefuseIf (PolicyRefusal.Full Table.Sets) (SetsFull entries)) result }
 {
     if policy.are_sets_full() {
         Err(PolicyRefusal::Full { table: Table::Sets })
@@ -311,7 +316,7 @@ pub fn check_room_for_set(policy: &Policy) -> Result<(), PolicyRefusal>
 /// Refuses if the senior is the junior, or lies below it.
 pub fn check_no_cycle(policy: &Policy, senior: &Name, junior: &Name) -> Result<(), PolicyRefusal>
     ensures { (entries : List Entry) → StandsFor policy.now entries
-        → Tests (Says PolicyRefusal.Cycle (IsAtOrBelow entries senior.now junior.now)) result }
+        → Tests (RefuseIf PolicyRefusal.Cycle (IsAtOrBelow entries senior.now junior.now)) result }
 {
     if policy.lies_below(senior, junior) {
         Err(PolicyRefusal::Cycle)
@@ -323,7 +328,7 @@ pub fn check_no_cycle(policy: &Policy, senior: &Name, junior: &Name) -> Result<(
 /// Refuses if the edge itself is there.
 pub fn check_edge_is_new(policy: &Policy, senior: &Name, junior: &Name) -> Result<(), PolicyRefusal>
     ensures { (entries : List Entry) → StandsFor policy.now entries
-        → Tests (Says PolicyRefusal.EdgeExists (IsEdge entries senior.now junior.now)) result }
+        → Tests (RefuseIf PolicyRefusal.EdgeExists (IsEdge entries senior.now junior.now)) result }
 {
     if policy.has_edge(senior, junior) {
         Err(PolicyRefusal::EdgeExists)
@@ -335,7 +340,7 @@ pub fn check_edge_is_new(policy: &Policy, senior: &Name, junior: &Name) -> Resul
 /// Refuses if the role is a member of a separation set, and names the first.
 pub fn check_in_no_set(policy: &Policy, role: &Name) -> Result<(), PolicyRefusal>
     ensures { (entries : List Entry) → StandsFor policy.now entries
-        → Tests (Naming PolicyRefusal.RoleInDsd (IsFirstSetOf entries role.now)) result }
+        → Tests (RefuseNaming PolicyRefusal.RoleInDsd (IsFirstSetOf entries role.now)) result }
 {
     match policy.first_set_of(role) {
         Some(set) => Err(PolicyRefusal::RoleInDsd { set }),
@@ -407,7 +412,7 @@ pub fn check_role_separation(
 
 /// Refuses if the number is under two or over that of the roles, or a role is listed twice.
 pub fn check_dsd_shape(count: u64, roles: &RoleNames) -> Result<(), PolicyRefusal>
-    ensures { Tests (Says PolicyRefusal.DsdShape (IsNoShape count roles.now)) result }
+    ensures { Tests (RefuseIf PolicyRefusal.DsdShape (IsNoShape count roles.now)) result }
 {
     if count < 2 || (roles.len() as u64) < count {
         return Err(PolicyRefusal::DsdShape);
@@ -421,7 +426,7 @@ pub fn check_dsd_shape(count: u64, roles: &RoleNames) -> Result<(), PolicyRefusa
 /// Refuses if no session number is left.
 pub fn check_number_left(policy: &Policy) -> Result<(), PolicyRefusal>
     ensures { (entries : List Entry) → StandsFor policy.now entries
-        → Tests (Says PolicyRefusal.SessionsExhausted (NumbersExhausted entries)) result }
+        → Tests (RefuseIf PolicyRefusal.SessionsExhausted (NumbersExhausted entries)) result }
 {
     if policy.are_numbers_exhausted() {
         Err(PolicyRefusal::SessionsExhausted)
@@ -566,7 +571,7 @@ pub fn check_roles_differ(roles: &RoleNames) -> Result<(), PolicyRefusal>
 /// Refuses if there is no room for another session.
 pub fn check_room_for_session(policy: &Policy) -> Result<(), PolicyRefusal>
     ensures { (entries : List Entry) → StandsFor policy.now entries
-        → Tests (Says (PolicyRefusal.Full Table.Sessions) (SessionsFull entries)) result }
+        → Tests (RefuseIf (PolicyRefusal.Full Table.Sessions) (SessionsFull entries)) result }
 {
     if policy.are_sessions_full() {
         Err(PolicyRefusal::Full {

@@ -11,7 +11,7 @@ use Rattle.std.proofs.lemmas.Bool.{cases_lt}
 use Rattle.std.proofs.lemmas.Bool.Decides.{Decides-eqb}
 use Rattle.std.proofs.lemmas.Nat.{ones_cat, mod-pow-add, pow_pos}
 use Rattle.std.proofs.lemmas.Nat.Bits.{bit_at_above, bit_at-trailing_zeros, bit_at-zero}
-use Rattle.rbac_closure.specs.declared.sets.TheConstants.{ROLES}
+use Rattle.rbac_closure.specs.declared.role_sets.TheConstants.{ROLES}
 use Rattle.rbac_closure.specs.Sets.{Has, IsFirstFrom, places_before, places_of}
 use Rattle.rbac_closure.proofs.SetLemmas.{has_cases}
 

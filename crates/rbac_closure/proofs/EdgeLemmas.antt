@@ -6,7 +6,7 @@ use Rattle.std.proofs.lemmas.Bool.{cases_lt, cases_eq}
 use Rattle.std.proofs.lemmas.List.{get_or_past, get_or-map, length-map, get_or-replicate, length-replicate}
 use Rattle.std.proofs.lemmas.Grind.{same_number_lists}
 use Rattle.std.proofs.lemmas.Nat.Bits.{bit_at_above}
-use Rattle.rbac_closure.specs.declared.sets.TheConstants.{ROLES}
+use Rattle.rbac_closure.specs.declared.role_sets.TheConstants.{ROLES}
 use Rattle.rbac_closure.specs.Sets.{Has, either, with_place, without_place}
 use Rattle.rbac_closure.specs.Edges.{stay, step, IsEdge, IsAbove, IsBelowSome, edge_added, edge_removed, role_cleared}
 use Rattle.rbac_closure.specs.Inner.Rows.{IsInTable, HasBelow, HasAbove, IsClosed, HasJuniors}

@@ -7,7 +7,7 @@ use Rattle.std.proofs.lemmas.Nat.{or_lt, xor_lt}
 use Rattle.std.proofs.lemmas.Bool.{cases_lt, cases_eq}
 use Rattle.std.proofs.lemmas.Nat.Bits.{bit_at_or, bit_at_and, bit_at_xor, bit_at-lt, bit_at-zero, bit_at_lowest}
 use Rattle.std.proofs.lemmas.Nat.Bits.{bit_at-suc, bit_at-pow_same, bit_at-pow_other, same_from_bits}
-use Rattle.rbac_closure.specs.declared.sets.TheConstants.{ROLES}
+use Rattle.rbac_closure.specs.declared.role_sets.TheConstants.{ROLES}
 use Rattle.rbac_closure.specs.Sets.{Has, Meets, IsWithin, either, common, with_place, without_place}
 
 -- what is made of two sets of the table fits the word too

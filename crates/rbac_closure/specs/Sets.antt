@@ -1,7 +1,7 @@
 -- Sets of places of roles, each as the number that has a bit for each of its places (this project's own form).
 use Rattle.std.specs.Prelude.{◌≡◌, ℕ, zero, suc, ◌<◌, ◌≤◌, ◌^◌, ◌==◌, List, [], ◌∷◌, if◌then◌else◌}
 use Rattle.std.specs.Int.{bit_at}
-use Rattle.rbac_closure.specs.declared.sets.TheConstants.{ROLES}
+use Rattle.rbac_closure.specs.declared.role_sets.TheConstants.{ROLES}
 use Rattle.std.specs.Int.RustNames.{bit_and, bit_or, bit_xor}
 
 -- the place is in the set

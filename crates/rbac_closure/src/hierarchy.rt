@@ -9,7 +9,7 @@ ghost use Rattle.rbac_closure.specs.Edges.{IsEdge, IsAbove, IsBelowSome, edge_ad
 ghost use Rattle.rbac_closure.specs.Edges.{role_cleared};
 ghost use Rattle.rbac_closure.specs.Inner.Rows.{HasJuniors, IsInTable};
 
-use crate::sets::{ROLES, RoleSet};
+use crate::role_sets::{ROLES, RoleSet};
 use std::marker::Model;
 
 /// Edges from senior roles to junior ones, and what lies below and above each role, itself

@@ -6,4 +6,4 @@
 #![tactic(auto)]
 
 pub mod hierarchy;
-pub mod sets;
+pub mod role_sets;

@@ -1,1 +1,3 @@
 pub mod ObjectLaws
+pub mod SetTables
+pub mod Violations

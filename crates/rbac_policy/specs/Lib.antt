@@ -9,8 +9,6 @@ pub mod Opening
 pub mod Fits
 pub mod Tables
 pub mod Change
-pub mod Violations
-pub mod SetTables
 pub mod Separation
 pub mod StandsFor
 pub mod Decided

@@ -9,7 +9,7 @@
 //! entries, `opening` its first four, and `laws` is for proofs about lists.
 #![tactic(auto)]
 
-mod closure;
+mod below;
 pub mod commands;
 pub mod journal;
 pub mod laws;
@@ -20,7 +20,7 @@ pub mod policy;
 pub mod queries;
 mod rows;
 pub mod separation;
-mod sets;
+mod separation_sets;
 pub mod sizes;
 mod tables;
 pub mod texts;

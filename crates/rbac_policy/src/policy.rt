@@ -13,7 +13,7 @@ ghost use Rattle.rbac_policy.specs.Change.{granted, inherited, role_dropped, log
 ghost use Rattle.rbac_policy.specs.Change.{policy_of, revoked, role_deleted, set_created};
 ghost use Rattle.rbac_policy.specs.Change.{role_activated, user_deleted};
 
-use crate::closure::below;
+use crate::below::below;
 use crate::commands::{AdminCommand, Entry, SessionId};
 use crate::names::{Name, RoleNames};
 use crate::objects::{Object, Operation};
@@ -26,7 +26,7 @@ use crate::tables::{
     remove_user, session_of, take_all_grants, take_grant,
 };
 use rbac_closure::hierarchy::RoleHierarchy;
-use rbac_closure::sets::RoleSet;
+use rbac_closure::role_sets::RoleSet;
 
 /// What a list of accepted entries says, in tables of fixed size. It takes no memory. Two policies
 /// are equal if their tables are, place by place.

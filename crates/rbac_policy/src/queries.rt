@@ -16,14 +16,14 @@ ghost use Rattle.rbac_policy.specs.Fits.{NumbersExhausted, UsersFull, RolesFull,
 ghost use Rattle.rbac_policy.specs.Fits.{SessionsFull, PermissionsFull};
 ghost use Rattle.rbac_policy.specs.StandsFor.{StandsFor};
 
-use crate::closure::below;
+use crate::below::below;
 use crate::commands::SessionId;
 use crate::names::{Name, RoleNames};
 use crate::objects::{Object, Operation};
 use crate::policy::Policy;
 use crate::rows::{DsdSet, Session};
 use crate::separation::{Violation, first_violation, first_violation_with};
-use crate::sets::{first_set_with, has_set};
+use crate::separation_sets::{first_set_with, has_set};
 use crate::sizes::LAST_SESSION;
 use crate::tables::{free, grant_of, has_user, mask_of, place_of, roles_of, session_of};
 

@@ -3,7 +3,7 @@
 use crate::commands::SessionId;
 use crate::names::Name;
 use crate::objects::{Object, Operation};
-use rbac_closure::sets::RoleSet;
+use rbac_closure::role_sets::RoleSet;
 
 /// A user, with the roles that are assigned to it.
 #[derive(Clone, Copy, PartialEq, Eq)]

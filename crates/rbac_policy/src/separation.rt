@@ -1,9 +1,10 @@
 //! Dynamic separation of duty: which set is violated first, and by which session.
 ghost use Rattle.std.specs.Prelude.{◌≡◌, ◌++◌, ◌∷◌, [], None};
-ghost use Rattle.rbac_policy.specs.Violations.{first_violation, holds_many, least_violator, lesser};
-ghost use Rattle.rbac_policy.specs.Violations.{place_of_set, violated_by, violation_of, violator};
+ghost use Rattle.rbac_policy.specs.Inner.Violations.{first_violation, holds_many, least_violator};
+ghost use Rattle.rbac_policy.specs.Inner.Violations.{lesser, place_of_set, violated_by};
+ghost use Rattle.rbac_policy.specs.Inner.Violations.{violation_of, violator};
 
-use crate::closure::below;
+use crate::below::below;
 use crate::commands::SessionId;
 use crate::names::Name;
 use crate::rows::{DsdSet, Session};

@@ -4,7 +4,7 @@
 pub const USERS: usize = 64;
 
 /// Places in the table of roles.
-pub const ROLES: usize = rbac_closure::sets::ROLES;
+pub const ROLES: usize = rbac_closure::role_sets::ROLES;
 
 /// Places in the table of granted pairs of an operation and an object.
 pub const GRANTS: usize = 256;

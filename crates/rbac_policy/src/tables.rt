@@ -11,14 +11,14 @@ ghost use Rattle.rbac_policy.specs.Tables.{grant_with, session_activated, sessio
 ghost use Rattle.rbac_policy.specs.Tables.{session_dropped, set_without, user_cleared};
 ghost use Rattle.rbac_policy.specs.Tables.{user_deassigned, user_without};
 
-use crate::closure::below;
+use crate::below::below;
 use crate::commands::SessionId;
 use crate::names::{Name, RoleNames};
 use crate::objects::{Object, Operation};
 use crate::rows::{DsdSet, Grant, Session, User};
 use crate::sizes::{GRANTS, ROLES, SESSIONS, SETS, USERS};
 use rbac_closure::hierarchy::RoleHierarchy;
-use rbac_closure::sets::RoleSet;
+use rbac_closure::role_sets::RoleSet;
 
 /// The first free place of a table.
 pub fn free<X, const N: usize>(rows: &[Option<X>; N]) -> Option<usize>

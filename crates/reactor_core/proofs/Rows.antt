@@ -7,9 +7,9 @@ use Rattle.refusal_rules.proofs.TellingApart.{first, second, text_in, number_in,
 use Rattle.est_relations.specs.declared.refusal.PendingRefusal.TheVariants.{UnknownSignal, NotInput, AlreadyOffered}
 use Rattle.est_relations.specs.declared.refusal.PendingRefusal.TheVariants.{Excluded, Implied}
 use Rattle.est_text.specs.declared.place.Place.{Place}
-use Rattle.reactor_core.specs.declared.refusal.Limit.{Limit}
-use Rattle.reactor_core.specs.declared.refusal.Limit.TheVariants.{Nesting, Signals, Relations, Statements, Loops, Traps}
-use Rattle.reactor_core.specs.declared.refusal.Limit.TheVariants.{Locals}
+use Rattle.reactor_core.specs.declared.refusal.LoadLimit.{LoadLimit}
+use Rattle.reactor_core.specs.declared.refusal.LoadLimit.TheVariants.{Nesting, Signals, Relations, Statements, Loops}
+use Rattle.reactor_core.specs.declared.refusal.LoadLimit.TheVariants.{Traps, Locals}
 use Rattle.reactor_core.specs.declared.refusal.ModuleRefusal.{ModuleRefusal}
 use Rattle.reactor_core.specs.declared.refusal.ModuleRefusal.TheVariants.{Pending, NoInstant, Lexical, Syntax}
 use Rattle.reactor_core.specs.declared.refusal.ModuleRefusal.TheVariants.{MisnamedMain, UnknownModule, RecursiveRun}
@@ -18,7 +18,7 @@ use Rattle.reactor_core.specs.declared.refusal.ModuleRefusal.TheVariants.{BadRen
 use Rattle.reactor_core.specs.Refusals.{row_of, limit_text}
 
 -- the limit of this word
-abbrev limit_back : List ℕ → Limit
+abbrev limit_back : List ℕ → LoadLimit
 limit_back text =
     if bytes_eq text (codes "nesting") then Nesting
     else (if bytes_eq text (codes "signals") then Signals
@@ -28,7 +28,7 @@ limit_back text =
     else (if bytes_eq text (codes "traps") then Traps
     else Locals)))))
 
-limit_is : (limit : Limit) → limit_back (limit_text limit) ≡ limit
+limit_is : (limit : LoadLimit) → limit_back (limit_text limit) ≡ limit
 limit_is Nesting = refl
 limit_is Signals = refl
 limit_is Relations = refl
@@ -68,7 +68,7 @@ module_back code fields =
 
 -- each row reads back as its refusal
 pub module_is : (given : ModuleRefusal) → module_back (row_of given).code (row_of given).fields ≡ Some given
-module_is (TooLarge limit) = ap (λ (l : Limit). Some (TooLarge l)) (limit_is limit)
+module_is (TooLarge limit) = ap (λ (l : LoadLimit). Some (TooLarge l)) (limit_is limit)
 module_is (Pending (Excluded relation signal)) = refl
 module_is (Pending (Implied relation missing)) = refl
 module_is (Pending UnknownSignal) = refl

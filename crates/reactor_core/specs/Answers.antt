@@ -3,7 +3,7 @@
 use Rattle.std.specs.Prelude.{◌≡◌, ◌⊎◌, ℕ, ◌-◌, ◌<◌, ◌≤◌, List, [], ◌∷◌, ◌++◌, length, Some, Result, Ok, Err}
 use Rattle.std.specs.Prelude.{MatchResult, slice_get, bit_or, bit_and}
 use Rattle.est_relations.specs.Offers.{offer_rules}
-use Rattle.refusal_rules.specs.Rules.{Rule, Rules, Unless, MayRefuse, accept, ◌▸◌, ◌▸▸◌, Answers}
+use Rattle.refusal_rules.specs.Rules.{Rule, Rules, RefuseUnless, MayRefuse, accept, ◌▸◌, ◌▸▸◌, Answers}
 use Rattle.reactor_core.specs.declared.entry.Stamp.{Stamp}
 use Rattle.reactor_core.specs.declared.entry.Load.{Load as LoadEntry}
 use Rattle.reactor_core.specs.declared.entry.PastInstant.{PastInstant}
@@ -35,7 +35,7 @@ RefusesEntry journal (Module refusal) = ⊥
 
 -- the rules for an entry, in the order in which they are asked: the journal has room, and memory may be refused
 abbrev pub entry_rules : List SlotEntry → Rules ReactorRefusal
-entry_rules journal = Unless (HasRoom journal) JournalFull ▸ MayRefuse Memory ▸ accept
+entry_rules journal = RefuseUnless (HasRoom journal) JournalFull ▸ MayRefuse Memory ▸ accept
 
 -- the rules for an offer: those of the pending inputs, by its name and the relations, and then those for its entry
 abbrev pub reactor_offer_rules : List SlotEntry → Running → (name : List ℕ) → Rules ReactorRefusal

@@ -3,8 +3,8 @@
 use Rattle.std.specs.Prelude.{ℕ, List}
 use Rattle.est_kernel.specs.declared.limits.Limit.{Limit as KernelLimit}
 use Rattle.est_kernel.specs.declared.limits.Limit.TheVariants as kernel
-use Rattle.est_checks.specs.declared.fault.Limit.{Limit as LinkLimit}
-use Rattle.est_checks.specs.declared.fault.Limit.TheVariants as limit
+use Rattle.est_checks.specs.declared.fault.ModuleLimit.{ModuleLimit}
+use Rattle.est_checks.specs.declared.fault.ModuleLimit.TheVariants as limit
 use Rattle.est_checks.specs.declared.fault.LinkFault.{LinkFault}
 use Rattle.est_checks.specs.declared.fault.LinkFault.TheVariants as link
 use Rattle.est_reduce.specs.declared.fault.ReduceFault.{ReduceFault}
@@ -15,9 +15,9 @@ use Rattle.est_syntax.specs.declared.parse.ParseFault.{ParseFault}
 use Rattle.est_syntax.specs.declared.parse.ParseFault.TheVariants as parse
 use Rattle.est_text.specs.declared.lex.LexFault.{LexFault}
 use Rattle.est_text.specs.declared.lex.LexFault.TheVariants as lex
-use Rattle.reactor_core.specs.declared.refusal.Limit.{Limit}
-use Rattle.reactor_core.specs.declared.refusal.Limit.TheVariants.{Nesting, Signals, Relations, Statements, Loops, Traps}
-use Rattle.reactor_core.specs.declared.refusal.Limit.TheVariants.{Locals}
+use Rattle.reactor_core.specs.declared.refusal.LoadLimit.{LoadLimit}
+use Rattle.reactor_core.specs.declared.refusal.LoadLimit.TheVariants.{Nesting, Signals, Relations, Statements, Loops}
+use Rattle.reactor_core.specs.declared.refusal.LoadLimit.TheVariants.{Traps, Locals}
 use Rattle.reactor_core.specs.declared.refusal.ModuleRefusal.TheVariants.{Pending, Lexical, Syntax, MisnamedMain}
 use Rattle.reactor_core.specs.declared.refusal.ModuleRefusal.TheVariants.{UnknownModule, RecursiveRun, UnknownName}
 use Rattle.reactor_core.specs.declared.refusal.ModuleRefusal.TheVariants.{DuplicateName, EmitInput, BadRename}
@@ -26,14 +26,14 @@ use Rattle.reactor_core.specs.declared.refusal.ReactorRefusal.{ReactorRefusal}
 use Rattle.reactor_core.specs.declared.refusal.ReactorRefusal.TheVariants.{Module, Memory}
 
 -- the limit of the same name
-abbrev pub limit_of_kernel : KernelLimit → Limit
+abbrev pub limit_of_kernel : KernelLimit → LoadLimit
 limit_of_kernel kernel.Statements = Statements
 limit_of_kernel kernel.Loops = Loops
 limit_of_kernel kernel.Traps = Traps
 limit_of_kernel kernel.Locals = Locals
 
 -- the limit of the same name
-abbrev pub limit_of_link : LinkLimit → Limit
+abbrev pub limit_of_link : ModuleLimit → LoadLimit
 limit_of_link limit.Signals = Signals
 limit_of_link limit.Relations = Relations
 limit_of_link limit.Statements = Statements

@@ -2,9 +2,9 @@
 use Rattle.std.specs.Prelude.{ℕ, List, [], ◌∷◌, codes}
 use Rattle.refusal_rules.specs.Rows.{Row, tells, Number, Text}
 use Rattle.est_relations.specs.Refusals.{row_of as pending_row}
-use Rattle.reactor_core.specs.declared.refusal.Limit.{Limit}
-use Rattle.reactor_core.specs.declared.refusal.Limit.TheVariants.{Nesting, Signals, Relations, Statements, Loops, Traps}
-use Rattle.reactor_core.specs.declared.refusal.Limit.TheVariants.{Locals}
+use Rattle.reactor_core.specs.declared.refusal.LoadLimit.{LoadLimit}
+use Rattle.reactor_core.specs.declared.refusal.LoadLimit.TheVariants.{Nesting, Signals, Relations, Statements, Loops}
+use Rattle.reactor_core.specs.declared.refusal.LoadLimit.TheVariants.{Traps, Locals}
 use Rattle.reactor_core.specs.declared.refusal.ModuleRefusal.{ModuleRefusal}
 use Rattle.reactor_core.specs.declared.refusal.ModuleRefusal.TheVariants.{Pending, NoInstant, Lexical, Syntax}
 use Rattle.reactor_core.specs.declared.refusal.ModuleRefusal.TheVariants.{MisnamedMain, UnknownModule, RecursiveRun}
@@ -12,7 +12,7 @@ use Rattle.reactor_core.specs.declared.refusal.ModuleRefusal.TheVariants.{Unknow
 use Rattle.reactor_core.specs.declared.refusal.ModuleRefusal.TheVariants.{BadRename, InstantLoop, TooLarge, Semantics}
 
 -- the word for a limit of a module's size
-abbrev pub limit_text : Limit → List ℕ
+abbrev pub limit_text : LoadLimit → List ℕ
 limit_text Nesting = codes "nesting"
 limit_text Signals = codes "signals"
 limit_text Relations = codes "relations"

@@ -2,7 +2,7 @@
 ghost use Rattle.std.specs.Prelude.{◌≡◌};
 ghost use Rattle.reactor_core.specs.Refusals.{code_of, name_of, limit_text};
 
-use est_checks::fault::{Limit as LinkLimit, LinkFault};
+use est_checks::fault::{LinkFault, ModuleLimit};
 use est_kernel::limits::Limit as KernelLimit;
 use est_reduce::fault::ReduceFault;
 use est_relations::refusal::PendingRefusal;
@@ -14,7 +14,7 @@ use std::alloc::AllocError;
 
 /// A limit of a module's size.
 #[derive(Clone, Copy, PartialEq, Eq)]
-pub enum Limit {
+pub enum LoadLimit {
     /// Open units around a unit of the text.
     Nesting,
     /// Signals of the interface.
@@ -31,49 +31,49 @@ pub enum Limit {
     Locals,
 }
 
-impl From<KernelLimit> for Limit {
+impl From<KernelLimit> for LoadLimit {
     ghost use Rattle.std.specs.Prelude.{◌≡◌};
     ghost use Rattle.reactor_core.specs.Faults.{limit_of_kernel};
 
     ghost from_gives = { λ limit r. r ≡ limit_of_kernel limit };
 
-    fn from(limit: KernelLimit) -> Limit {
+    fn from(limit: KernelLimit) -> LoadLimit {
         match limit {
-            KernelLimit::Statements => Limit::Statements,
-            KernelLimit::Loops => Limit::Loops,
-            KernelLimit::Traps => Limit::Traps,
-            KernelLimit::Locals => Limit::Locals,
+            KernelLimit::Statements => LoadLimit::Statements,
+            KernelLimit::Loops => LoadLimit::Loops,
+            KernelLimit::Traps => LoadLimit::Traps,
+            KernelLimit::Locals => LoadLimit::Locals,
         }
     }
 }
 
-impl From<LinkLimit> for Limit {
+impl From<ModuleLimit> for LoadLimit {
     ghost use Rattle.std.specs.Prelude.{◌≡◌};
     ghost use Rattle.reactor_core.specs.Faults.{limit_of_link};
 
     ghost from_gives = { λ limit r. r ≡ limit_of_link limit };
 
-    fn from(limit: LinkLimit) -> Limit {
+    fn from(limit: ModuleLimit) -> LoadLimit {
         match limit {
-            LinkLimit::Signals => Limit::Signals,
-            LinkLimit::Relations => Limit::Relations,
-            LinkLimit::Statements => Limit::Statements,
+            ModuleLimit::Signals => LoadLimit::Signals,
+            ModuleLimit::Relations => LoadLimit::Relations,
+            ModuleLimit::Statements => LoadLimit::Statements,
         }
     }
 }
 
 /// The word that a refusal uses for a limit.
-pub fn limit_text(limit: &Limit) -> &'static str
+pub fn limit_text(limit: &LoadLimit) -> &'static str
     ensures { result.now ≡ limit_text limit.now }
 {
     match limit {
-        Limit::Nesting => "nesting",
-        Limit::Signals => "signals",
-        Limit::Relations => "relations",
-        Limit::Statements => "statements",
-        Limit::Loops => "loops",
-        Limit::Traps => "traps",
-        Limit::Locals => "locals",
+        LoadLimit::Nesting => "nesting",
+        LoadLimit::Signals => "signals",
+        LoadLimit::Relations => "relations",
+        LoadLimit::Statements => "statements",
+        LoadLimit::Loops => "loops",
+        LoadLimit::Traps => "traps",
+        LoadLimit::Locals => "locals",
     }
 }
 
@@ -106,7 +106,7 @@ pub enum ModuleRefusal {
     /// The body of a loop can end in the instant in which it begins.
     InstantLoop,
     /// The text is beyond this limit.
-    TooLarge(Limit),
+    TooLarge(LoadLimit),
     /// The main module's relation of this number has a member that is neither an input nor an
     /// inputoutput.
     Semantics(usize),
@@ -183,7 +183,7 @@ impl From<ParseFault> for ReactorRefusal {
         match fault {
             ParseFault::Syntax(place) => ReactorRefusal::Module(ModuleRefusal::Syntax(place)),
             ParseFault::TooLarge(_) => ReactorRefusal::Module(ModuleRefusal::TooLarge(
-                Limit::Nesting,
+                LoadLimit::Nesting,
             )),
             ParseFault::Memory => ReactorRefusal::Memory,
         }
@@ -217,7 +217,7 @@ impl From<LinkFault> for ReactorRefusal {
                 relation,
             )),
             LinkFault::TooLarge(limit) => ReactorRefusal::Module(ModuleRefusal::TooLarge(
-                Limit::from(limit),
+                LoadLimit::from(limit),
             )),
             LinkFault::Memory => ReactorRefusal::Memory,
         }
@@ -233,7 +233,7 @@ impl From<ReduceFault> for ReactorRefusal {
     fn from(fault: ReduceFault) -> ReactorRefusal {
         match fault {
             ReduceFault::TooLarge(limit) => ReactorRefusal::Module(ModuleRefusal::TooLarge(
-                Limit::from(limit),
+                LoadLimit::from(limit),
             )),
             ReduceFault::InstantLoop => ReactorRefusal::Module(ModuleRefusal::InstantLoop),
             ReduceFault::Memory => ReactorRefusal::Memory,

@@ -1,8 +1,9 @@
 -- Steps through an ordered list of rules.
 use Rattle.std.proofs.Common.{◌≡◌, ◌⊎◌, ◌∙◌, ℕ, zero, suc, ◌<◌, inl, inr, sym, ap, ⊎_elim, arith}
 use Rattle.std.specs.Prelude.{Result, Ok, Err}
-use Rattle.refusal_rules.specs.Rules.{Rule, Rules, Says, Unless, Naming, accept, ◌▸◌, ◌▸▸◌, Refuses, Passes, Answers}
-use Rattle.refusal_rules.specs.Rules.{RefusesAt, PassBefore, AllPass, FirstRefuses, IsDefinite, AllDefinite}
+use Rattle.refusal_rules.specs.Rules.{Rule, Rules, RefuseIf, RefuseUnless, RefuseNaming, accept, ◌▸◌, ◌▸▸◌, Refuses}
+use Rattle.refusal_rules.specs.Rules.{Passes, Answers, RefusesAt, PassBefore, AllPass, FirstRefuses, IsDefinite}
+use Rattle.refusal_rules.specs.Rules.{AllDefinite}
 
 -- the rule refuses
 pub refuse : {R : Type 0} {rule : Rule R} {Refused : R → Type 0} {Next : Type 0} (refusal : R) → rule.refuses refusal
@@ -106,16 +107,16 @@ one_answer (rule ▸ later) definite given a b (inl x) (inr y) = absurd (definit
 one_answer (rule ▸ later) definite given a b (inr x) (inl y) = absurd (definite.0.exclusive y.refusal y.given x.passed)
 one_answer (rule ▸ later) definite given a b (inr x) (inr y) = one_answer later definite.1 given a b x.next y.next
 
-pub says : {R : Type 0} {refusal : R} {Fact : Type 0} → IsDefinite (Says refusal Fact)
+pub says : {R : Type 0} {refusal : R} {Fact : Type 0} → IsDefinite (RefuseIf refusal Fact)
 says = record { exclusive = λ refusal given silent. silent given.1; one = λ a b x y. x.0 ∙ sym y.0 }
 
-pub unless : {R : Type 0} {refusal : R} {Fact : Type 0} → IsDefinite (Unless Fact refusal)
+pub unless : {R : Type 0} {refusal : R} {Fact : Type 0} → IsDefinite (RefuseUnless Fact refusal)
 unless = record { exclusive = λ refusal given fact. given.1 fact; one = λ a b x y. x.0 ∙ sym y.0 }
 
 -- a rule that names the one thing for which the fact holds
 pub naming : {R Thing : Type 0} {refusal : Thing → R} {Fact : Thing → Type 0}
     → ((one other : Thing) → Fact one → Fact other → one ≡ other)
-    → IsDefinite (Naming refusal Fact)
+    → IsDefinite (RefuseNaming refusal Fact)
 naming {refusal = refusal} one = record {
   exclusive = λ _ given none. none given.0 given.2;
   one = λ a b x y. x.1 ∙ ap refusal (one x.0 y.0 x.2 y.2) ∙ sym y.1;

@@ -1,11 +1,11 @@
 -- Rules whose facts are tests: what the answer by them is, in a word (this project's own form).
 use Rattle.std.specs.Prelude.{Bool, true, false, IsTrue, List, [], ◌∷◌, Result, Ok, Err}
-use Rattle.refusal_rules.specs.Rules.{Rules, Says, accept, ◌▸◌}
+use Rattle.refusal_rules.specs.Rules.{Rules, RefuseIf, accept, ◌▸◌}
 
 -- rules which say these refusals where their tests are true
 abbrev pub tested : {R : Type 0} → List (R × Bool) → Rules R
 tested [] = accept
-tested (test ∷ later) = Says test.0 (IsTrue test.1) ▸ tested later
+tested (test ∷ later) = RefuseIf test.0 (IsTrue test.1) ▸ tested later
 
 -- this refusal where the test is true, and else the answer that follows
 abbrev pub refused_if : {R : Type 0} → R → Bool → Result (Unit {0}) R → Result (Unit {0}) R

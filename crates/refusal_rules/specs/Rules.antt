@@ -7,16 +7,16 @@ pub record Rule (R : Type 0) : Type 1 where
   pub passes : Type 0
 
 -- refuses with this where the fact holds, and else lets pass
-abbrev pub Says : {R : Type 0} → R → Type 0 → Rule R
-Says refusal Fact = record { refuses = λ given. (given ≡ refusal) × Fact; passes = Fact → ⊥ }
+abbrev pub RefuseIf : {R : Type 0} → R → Type 0 → Rule R
+RefuseIf refusal Fact = record { refuses = λ given. (given ≡ refusal) × Fact; passes = Fact → ⊥ }
 
 -- lets pass where the fact holds, and hands it on; refuses with this where it doesn't
-abbrev pub Unless : {R : Type 0} → Type 0 → R → Rule R
-Unless Fact refusal = record { refuses = λ given. (given ≡ refusal) × (Fact → ⊥); passes = Fact }
+abbrev pub RefuseUnless : {R : Type 0} → Type 0 → R → Rule R
+RefuseUnless Fact refusal = record { refuses = λ given. (given ≡ refusal) × (Fact → ⊥); passes = Fact }
 
 -- refuses with the refusal of the thing for which the fact holds, and lets pass where it holds for none
-abbrev pub Naming : {R Thing : Type 0} → (Thing → R) → (Thing → Type 0) → Rule R
-Naming {Thing = Thing} refusal Fact = record {
+abbrev pub RefuseNaming : {R Thing : Type 0} → (Thing → R) → (Thing → Type 0) → Rule R
+RefuseNaming {Thing = Thing} refusal Fact = record {
   refuses = λ given. (thing : Thing) × (given ≡ refusal thing) × Fact thing;
   passes = (thing : Thing) → Fact thing → ⊥;
 }

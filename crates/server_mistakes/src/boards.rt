@@ -14,7 +14,8 @@ ghost use Rattle.policy_board.specs.declared.refusal.BoardRefusal.TheVariants.{M
 
 use history_receipts::receipt::SlotReceipt;
 use policy_board::board::Board;
-use policy_board::board_list::{BoardName, FreshList};
+use policy_board::board_list::FreshList;
+use policy_board::board_name::BoardName;
 use policy_board::opening::Opened;
 use policy_board::refusal::BoardRefusal;
 use policy_board::seat::{Acceptance, Seat};

@@ -8,7 +8,7 @@ ghost use Rattle.slot_table.specs.Closing.{AllRise, AreLegal, IsJustified, kept_
 
 use history_receipts::mismatch::Mismatch;
 use policy_board::board::Board;
-use policy_board::board_list::BoardName;
+use policy_board::board_name::BoardName;
 use policy_board::seat::Seat;
 use slot_table::closing::Histories;
 use slot_table::table::SlotTable;

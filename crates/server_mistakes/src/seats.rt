@@ -4,7 +4,7 @@ ghost use Rattle.rbac_admin.specs.PolicyLists.{Begins};
 ghost use Rattle.policy_board.specs.SeatState.{KeepsReceipts};
 
 use history_receipts::receipt::Kept;
-use policy_board::board_list::BoardName;
+use policy_board::board_name::BoardName;
 use policy_board::seat::{Acceptance, Seat};
 use rbac_policy::commands::SessionId;
 

@@ -10,7 +10,7 @@ use access_core::reply::Reply;
 use access_core::slot;
 use access_core::slot::Slot;
 use policy_board::board::Board;
-use policy_board::board_list::BoardName;
+use policy_board::board_name::BoardName;
 use policy_board::seat::Seat;
 use rbac_policy::commands::SessionId;
 use rbac_policy::policy::Policy;

@@ -1,9 +1,9 @@
 //! Edges between roles, and what then lies below and above each.
 ghost use Rattle.std.specs.Prelude.{◌<◌};
-ghost use Rattle.rbac_closure.specs.declared.sets.TheConstants.{ROLES};
+ghost use Rattle.rbac_closure.specs.declared.role_sets.TheConstants.{ROLES};
 
 use rbac_closure::hierarchy::RoleHierarchy;
-use rbac_closure::sets::{ROLES, RoleSet};
+use rbac_closure::role_sets::{ROLES, RoleSet};
 use std::process::Abort;
 
 /// What is done with the edges between places, or what is then found of them.

@@ -5,8 +5,8 @@ use Rattle.policy_board.specs.declared.refusal.BoardRefusal.{BoardRefusal}
 use Rattle.policy_board.specs.declared.refusal.BoardRefusal.TheVariants as board
 
 -- the refusal of a call of the board
-abbrev pub of_board : BoardRefusal → Refusal
-of_board (board.Policy refusal) = Policy refusal
-of_board board.JournalFull = JournalFull
-of_board (board.Behind found seen) = Behind found seen
-of_board board.Memory = Memory
+abbrev pub refusal_of_board : BoardRefusal → Refusal
+refusal_of_board (board.Policy refusal) = Policy refusal
+refusal_of_board board.JournalFull = JournalFull
+refusal_of_board (board.Behind found seen) = Behind found seen
+refusal_of_board board.Memory = Memory

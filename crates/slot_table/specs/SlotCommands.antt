@@ -15,7 +15,7 @@ use Rattle.access_core.specs.declared.reply.Reply.{Reply}
 use Rattle.access_core.specs.declared.reply.Reply.TheVariants.{Refused}
 use Rattle.access_core.specs.declared.refusal.Refusal.TheVariants.{Policy, Behind, Memory, NoSlot}
 use Rattle.access_core.specs.SlotStep.{SlotStep}
-use Rattle.slot_table.specs.Conversions.{of_board}
+use Rattle.slot_table.specs.Conversions.{refusal_of_board}
 use Rattle.access_core.specs.Journals.{signal_asked, IsLegal}
 use Rattle.slot_table.specs.LockedState.{LockedState}
 use Rattle.slot_table.specs.Receipts.{Keeps}
@@ -85,7 +85,7 @@ pub record IsNotAsked (slot : ℕ) (seat : SeatState) (reply : Reply) (after : S
   pub none : SLOTS ≤ slot
   pub refusal : BoardRefusal
   pub unread : IsUnread seat refusal after
-  pub answered : reply ≡ Refused (of_board refusal)
+  pub answered : reply ≡ Refused (refusal_of_board refusal)
 
 -- a command of this session on the slot of this number, which a seat gives
 abbrev pub TableCommand : (slot session : ℕ) → SlotCommand → (seat : SeatState) → Reply → (after : SeatState) → Type 0

@@ -14,7 +14,7 @@ use history_merge::compare::compare;
 use history_receipts::mismatch::Mismatch;
 use history_receipts::receipt_list::{Receipts, SEATS};
 use policy_board::board::{Board, Closed};
-use policy_board::board_list::BoardName;
+use policy_board::board_name::BoardName;
 use policy_board::seat::Seat;
 use rbac_policy::journal::PolicyJournal;
 use rbac_policy::objects::SLOTS;

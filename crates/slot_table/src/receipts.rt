@@ -6,7 +6,7 @@ use access_core::reply::Reply;
 use est_text::identifier::Identifier;
 use history_receipts::receipt::SlotReceipt;
 use policy_board::board::Board;
-use policy_board::board_list::BoardName;
+use policy_board::board_name::BoardName;
 use policy_board::seat::Seat;
 use rbac_policy::commands::SessionId;
 use std::sync::Wait;

@@ -8,14 +8,15 @@ ghost use Rattle.history_receipts.specs.declared.mismatch.Mismatch.TheVariants.{
 ghost use Rattle.slot_table.specs.SlotCommands.{LockedCommand};
 
 use crate::receipts::keep;
+use access_core::admission::admit_load;
 use access_core::command::SlotCommand;
 use access_core::refusal::Refusal;
 use access_core::reply::Reply;
-use access_core::slot::{Slot, admit_load, decide_slot, load_admitted};
+use access_core::slot::{Slot, decide_slot, load_admitted};
 use history_receipts::mismatch::Mismatch;
 use policy_board::board::{Board, Closed};
-use policy_board::board_list::BoardName;
-use policy_board::reader::{Reading, SlotReader};
+use policy_board::board_name::BoardName;
+use policy_board::reader::{IdleReader, Reading};
 use policy_board::seat::Seat;
 use rbac_policy::commands::SessionId;
 use rbac_policy::objects::SlotNumber;
@@ -30,7 +31,7 @@ use std::sync::Wait;
 pub struct LockedSlot<B: BoardName, const NUMBER: u8> {
     core: Slot,
     // It is away only while a command reads.
-    reader: Option<SlotReader<B>>,
+    reader: Option<IdleReader<B>>,
 }
 
 impl<B: BoardName, const NUMBER: u8> Model for LockedSlot<B, NUMBER> {
@@ -53,7 +54,7 @@ fn decide_and_leave<B: BoardName>(
     slot: &mut Slot,
     session: SessionId,
     command: SlotCommand,
-) -> (Reply, SlotReader<B>)
+) -> (Reply, IdleReader<B>)
     ensures number { slot.new.number ≡ slot.old.number }
     ensures step { SlotStep reading slot.old.number session command slot.old.journal result.0
         slot.new.journal }
@@ -79,10 +80,10 @@ fn read_and_decide<B: BoardName, const NUMBER: u8, R: Wait>(
     board: &Board<B>,
     seat: &mut Seat<B>,
     slot: &mut Slot,
-    reader: SlotReader<B>,
+    reader: IdleReader<B>,
     session: SessionId,
     command: SlotCommand,
-) -> (Reply, SlotReader<B>)
+) -> (Reply, IdleReader<B>)
     requires { slot.old.number ≡ NUMBER }
     ensures number { slot.new.number ≡ NUMBER }
     ensures command { LockedCommand NUMBER session command
@@ -96,12 +97,12 @@ fn read_and_decide<B: BoardName, const NUMBER: u8, R: Wait>(
         Ok(reading) => reading,
         Err(reader) => return (Reply::Refused(Refusal::Memory), reader),
     };
-    let (found, seen) = (reading.front().version(), seat.seen());
+    let (found, seen) = (reading.prefix().version(), seat.seen());
     if found < seen {
         let behind = Refusal::Behind { found, seen };
         return (Reply::Refused(behind), reading.leave());
     }
-    seat.note_list(reading.front());
+    seat.note_list(reading.prefix());
     let signal = command.signal();
     let (reply, reader) = decide_and_leave(reading, slot, session, command);
     keep(rt, board, seat, NUMBER, session, signal, &reply);
@@ -110,7 +111,7 @@ fn read_and_decide<B: BoardName, const NUMBER: u8, R: Wait>(
 
 impl<B: BoardName, const NUMBER: u8> LockedSlot<B, NUMBER> {
     /// An empty slot with this reader.
-    pub fn new(alloc: Global, reader: SlotReader<B>) -> LockedSlot<B, NUMBER>
+    pub fn new(alloc: Global, reader: IdleReader<B>) -> LockedSlot<B, NUMBER>
         requires { NUMBER < SLOTS }
         ensures { result ≡ record { list = reader; journal = [] } }
     {
@@ -122,7 +123,7 @@ impl<B: BoardName, const NUMBER: u8> LockedSlot<B, NUMBER> {
 
     /// Answers a command on the policy as the slot's own reader reads it. The seat keeps a receipt
     /// of a reply that tells of an entry.
-    pub fn command_locked<R: Wait>(
+    pub fn answer_locked_slot<R: Wait>(
         &mut self,
         rt: &R,
         board: &Board<B>,

@@ -10,7 +10,7 @@ ghost use Rattle.slot_table.specs.Inner.Ending.{EndFrom};
 ghost use Rattle.slot_table.specs.SlotCommands.{IsAnswered, IsNoSlot, IsNotAsked, TableCommand};
 
 use crate::closing::{Closing, Histories, compare_histories};
-use crate::conversions::of_board;
+use crate::conversions::refusal_of_board;
 use crate::slot::LockedSlot;
 use access_core::command::SlotCommand;
 use access_core::refusal::Refusal;
@@ -19,8 +19,8 @@ use history_laws::laws::journals_are_of_one_run;
 use history_receipts::mismatch::Mismatch;
 use history_receipts::receipt_list::SEATS;
 use policy_board::board::Board;
-use policy_board::board_list::BoardName;
-use policy_board::reader::SlotReader;
+use policy_board::board_name::BoardName;
+use policy_board::reader::IdleReader;
 use policy_board::seat::Seat;
 use rbac_admin::refusal::PolicyRefusal;
 use rbac_policy::commands::SessionId;
@@ -88,7 +88,7 @@ macro_rules! end_slots {
 /// An empty slot, with the last of the readers, under its lock.
 fn open_slot<B: BoardName, const NUMBER: u8>(
     alloc: Global,
-    readers: &mut Vec<SlotReader<B>>,
+    readers: &mut Vec<IdleReader<B>>,
 ) -> Mutex<LockedSlot<B, NUMBER>>
     requires number { NUMBER < SLOTS }
     requires some { 0 < vec_len readers.old }
@@ -131,7 +131,7 @@ fn answer_on<B: BoardName, const NUMBER: u8, R: Wait>(
     ensures { IsAnswered NUMBER session command seat.old result seat.new }
 {
     let mut locked = lock_soon(rt, slot);
-    let reply = locked.command_locked(rt, board, seat, session, command);
+    let reply = locked.answer_locked_slot(rt, board, seat, session, command);
     MutexGuard::unlock(locked);
     reply
 }
@@ -145,13 +145,13 @@ fn refuse_number<B: BoardName>(seat: &mut Seat<B>, session: SessionId, slot: u64
     match seat.lives(session) {
         Ok(true) => Reply::Refused(Refusal::NoSlot),
         Ok(false) => Reply::Refused(Refusal::Policy(PolicyRefusal::NoSession)),
-        Err(refusal) => Reply::Refused(of_board(refusal)),
+        Err(refusal) => Reply::Refused(refusal_of_board(refusal)),
     }
 }
 
 impl<B: BoardName> SlotTable<B> {
     /// Sixteen empty slots, which have these readers. It takes no memory.
-    pub fn open(alloc: Global, readers: Vec<SlotReader<B>>) -> SlotTable<B>
+    pub fn open(alloc: Global, readers: Vec<IdleReader<B>>) -> SlotTable<B>
         requires { vec_len readers ≡ SLOTS }
     {
         let mut readers = readers;

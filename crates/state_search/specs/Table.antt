@@ -1,4 +1,4 @@
--- What a search has found of a machine, a node at a time (this project's own form).
+-- What a search has found of a system, a node at a time (this project's own form).
 use Rattle.std.specs.Prelude.{◌≡◌, ◌≢◌, ℕ, ◌<◌, ◌≤◌, ◌+◌, Bool, true, ◌⊎◌, Option, None, Some, List, length}
 use Rattle.std.specs.Prelude.{slice_index_or}
 use Rattle.std.specs.List.{All, AllPairs, Contains}
@@ -27,7 +27,7 @@ pub data Leads {S : Type 0} (nodes : List (Node S)) (most : ℕ) : (place : Opti
   there : (p : ℕ) (n : Node S) → IsNodeAt nodes p n → n.depth ≤ most → Leads nodes most (Some p) (Some n.state)
 
 module _ {S L : Type 0} (does : S → L → Option S → Type 0) where
-  -- the row is a step of the machine
+  -- the row is a step of the system
   pub record IsRow (nodes : List (Node S)) (r : Row L) : Type 0 where
     pub before : Node S
     pub from : IsNodeAt nodes r.from before

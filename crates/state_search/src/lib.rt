@@ -1,4 +1,4 @@
-//! A search of all states that a machine reaches, breadth first.
+//! A search of all states that a transition system reaches, breadth first.
 #![tactic(auto)]
 
 pub mod found;

@@ -56,37 +56,37 @@ fn add_row<S: SearchState, L: Copy + Drop>(
 /// Adds all steps of the state that is next in turn, and answers whether there were no more than
 /// that many.
 fn expand<M: TransitionSystem>(
-    machine: &M,
-    scratch: &mut M::Scratch,
+    system: &M,
+    engine: &mut M::Engine,
     most: usize,
     places: &mut Places,
     found: &mut Found<M::State, M::Label>,
     steps: &mut Vec<Step<M::State, M::Label>>,
 ) -> Result<bool, AllocError>
-    requires fits { M.fits machine.now scratch.old }
+    requires fits { M.fits system.now engine.old }
     requires places { IsPlaced M.State.hash_input places.old found.old.nodes.items }
     requires within { found.old.done < length found.old.nodes.items }
-    requires search { IsSearching (M.is_state machine.now) (M.does machine.now)
-        (M.covers machine.now)
-        (M.apart machine.now) found.old.nodes.items found.old.rows.items found.old.done }
-    ensures fits { M.fits machine.now scratch.new }
+    requires search { IsSearching (M.is_state system.now) (M.does system.now)
+        (M.covers system.now)
+        (M.apart system.now) found.old.nodes.items found.old.rows.items found.old.done }
+    ensures fits { M.fits system.now engine.new }
     ensures places { OnOk result (IsPlaced M.State.hash_input places.new found.new.nodes.items) }
     ensures first { OnOk result ((x : M.State) → HasStateAt found.old.nodes.items 0 x → HasStateAt
         found.new.nodes.items 0 x) }
     ensures search { IfOk result (λ whole. MatchBool whole
         ((found.new.done ≡ found.old.done + 1)
-        × IsSearching (M.is_state machine.now) (M.does machine.now) (M.covers machine.now)
-        (M.apart machine.now)
+        × IsSearching (M.is_state system.now) (M.does system.now) (M.covers system.now)
+        (M.apart system.now)
         found.new.nodes.items found.new.rows.items found.new.done)
         ((most + length found.old.rows.items < length found.new.rows.items)
-        × IsFound (M.is_state machine.now) (M.does machine.now) (M.covers machine.now)
-        (M.apart machine.now)
+        × IsFound (M.is_state system.now) (M.does system.now) (M.covers system.now)
+        (M.apart system.now)
         found.new.nodes.items found.new.rows.items found.new.done)) }
 {
     let from = found.done;
     let node = found.nodes[from];
     steps.clear();
-    let whole = machine.steps(scratch, &node.state, most, steps)?;
+    let whole = system.steps(engine, &node.state, most, steps)?;
     for step in steps.as_slice() {
         add_row(
             places,
@@ -103,22 +103,22 @@ fn expand<M: TransitionSystem>(
     Ok(whole)
 }
 
-/// Searches all states that the machine reaches from one, breadth first, as far as the limits
+/// Searches all states that the system reaches from one, breadth first, as far as the limits
 /// allow.
 pub fn search<M: TransitionSystem>(
     alloc: Global,
-    machine: &M,
-    scratch: &mut M::Scratch,
+    system: &M,
+    engine: &mut M::Engine,
     start: M::State,
     limits: Limits,
 ) -> Result<Found<M::State, M::Label>, AllocError>
-    requires fits { M.fits machine.now scratch.old }
-    requires state { M.is_state machine.now start }
-    ensures fits { M.fits machine.now scratch.new }
+    requires fits { M.fits system.now engine.old }
+    requires state { M.is_state system.now start }
+    ensures fits { M.fits system.now engine.new }
     ensures first { IfOk result (λ f. HasStateAt f.nodes.items 0 start) }
-    ensures found { IfOk result (λ f. IsFound (M.is_state machine.now) (M.does machine.now)
-        (M.covers machine.now)
-        (M.apart machine.now) f.nodes.items f.rows.items f.done) }
+    ensures found { IfOk result (λ f. IsFound (M.is_state system.now) (M.does system.now)
+        (M.covers system.now)
+        (M.apart system.now) f.nodes.items f.rows.items f.done) }
     ensures ended { IfOk result (λ f. HasEnded limits.states limits.steps f.nodes.items f.rows.items
         f.done) }
 {
@@ -142,7 +142,7 @@ pub fn search<M: TransitionSystem>(
         let Some(most) = limits.steps.checked_sub(found.rows.len()) else {
             return Ok(found);
         };
-        if !expand(machine, scratch, most, &mut places, &mut found, &mut steps)? {
+        if !expand(system, engine, most, &mut places, &mut found, &mut steps)? {
             return Ok(found);
         }
     }

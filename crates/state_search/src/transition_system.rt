@@ -8,13 +8,13 @@ ghost use Rattle.state_search.specs.declared.transition_system.Step.{Step as Ste
 use std::alloc::AllocError;
 use std::hash::Hash;
 
-/// What a machine stands at.
+/// What a system stands at.
 pub trait SearchState: Copy + Eq + Hash + Drop {
     /// States that compare alike are one.
     ghost exact: { IsExact Self.eq };
 }
 
-/// What a machine can do at a state: what is to be seen of it, and the state after it, if there is
+/// What a system can do at a state: what is to be seen of it, and the state after it, if there is
 /// one.
 #[derive(Clone, Copy)]
 pub struct Step<S, L> {
@@ -28,11 +28,11 @@ pub trait TransitionSystem {
     type State: SearchState;
     /// What is to be seen of a step.
     type Label: Copy + Drop;
-    /// What it works with.
-    type Scratch;
+    /// What works out its steps: an engine that may change meanwhile.
+    type Engine;
 
-    /// It can work with this.
-    ghost fits: { Self → Self.Scratch → Type 0 };
+    /// The engine is right for it.
+    ghost fits: { Self → Self.Engine → Type 0 };
 
     /// It can stand there.
     ghost is_state: { Self → Self.State → Type 0 };
@@ -50,15 +50,15 @@ pub trait TransitionSystem {
     /// is not, there are more steps than `most`.
     fn steps(
         &self,
-        scratch: &mut Self::Scratch,
+        engine: &mut Self::Engine,
         state: &Self::State,
         most: usize,
         steps: &mut Vec<Step<Self::State, Self::Label>>,
     ) -> Result<bool, AllocError>
-        requires fits { fits self.now scratch.old }
+        requires fits { fits self.now engine.old }
         requires state { is_state self.now state.now }
         requires empty { steps.old.items ≡ [] }
-        ensures fits { fits self.now scratch.new }
+        ensures fits { fits self.now engine.new }
         ensures sound { OnOk result (All (λ s. does self.now state.now s.label s.next)
             steps.new.items) }
         ensures states { OnOk result (All (λ s. (y : Self.State) → s.next ≡ Some y → is_state

@@ -19,15 +19,15 @@ fn reversed<L: Copy + Drop>(alloc: Global, back: &[L]) -> Result<Vec<L>, AllocEr
 /// There are as many as the depth of the state before the row, and one more.
 pub fn word_to<M: TransitionSystem>(
     alloc: Global,
-    machine: &M,
+    system: &M,
     found: &Found<M::State, M::Label>,
     at: usize,
 ) -> Result<Vec<M::Label>, AllocError>
     requires within { at < length found.now.rows.items }
-    requires tree { IsTree (M.is_state machine.now) (M.does machine.now) (M.apart machine.now)
+    requires tree { IsTree (M.is_state system.now) (M.does system.now) (M.apart system.now)
         found.now.nodes.items found.now.rows.items }
     ensures { IfOk result (λ word. (start : M.State) → HasStateAt found.now.nodes.items 0 start
-        → (r : RowValue M.Label) → LedTo (M.does machine.now) start found.now.nodes.items
+        → (r : RowValue M.Label) → LedTo (M.does system.now) start found.now.nodes.items
         (slice_index_or found.now.rows.items at r) word.items) }
 {
     let row = found.rows[at];

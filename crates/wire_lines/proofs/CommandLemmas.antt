@@ -135,7 +135,7 @@ whole_read text word ts rest is r =
 -- ---- the shapes
 
 -- the tokens after this word are read as this request's members, and what it says fits
-record Says (word : List ℕ) (ts : List Token) (request : Request) : Type 0 where
+record RefuseIf (word : List ℕ) (ts : List Token) (request : Request) : Type 0 where
   reads : Reads word ts (said_members (said.spelling request).said)
   named : (said.spelling request).word ≡ word
   fits : Fits request
@@ -145,7 +145,7 @@ abbrev IsSpelt : Request → List ℕ → Said → Type 0
 IsSpelt request word s = said.spelling request ≡ said.spelt word s
 
 says : (word : List ℕ) (ts : List Token) (request : Request) (s : Said) → IsSpelt request word s
-    → Reads word ts (said_members s) → SaidFits s → Says word ts request
+    → Reads word ts (said_members s) → SaidFits s → RefuseIf word ts request
 says word ts request s e r f =
     record {
       reads = subst (λ (x : said.Spelling). Reads word ts (said_members x.said)) (sym e) r;
@@ -177,7 +177,7 @@ Suits word object_operation = (on : Object) (operation : Operation)
 
 names_say : (word first second : List ℕ) (make : List ℕ → List ℕ → AdminCommand)
     → Suits word (two_names first second make) → (ts : List Token) (r : Request)
-    → request_of (two_names first second make) ts ≡ Some r → Says word ts r
+    → request_of (two_names first second make) ts ≡ Some r → RefuseIf word ts r
 unfolding request_of two_values
 names_say word first second make suits ts r h =
     let m = mapped _ _ r h in
@@ -186,11 +186,11 @@ names_say word first second make suits ts r h =
     let one = tested_is is_name first ts p.0.0 p.0.1 p.1 in
     let other = tested_is is_name second p.0.1 q.0 _ (last_is _ q.0 q.1) in
     let reads = two_members word _ _ ts p.0.1 _ _ suits.0 one.0 other.0 in
-    subst (Says word ts) (ap (λ (x : List ℕ × List ℕ). Policy (make x.0 x.1)) q.2 ∙ m.2)
+    subst (RefuseIf word ts) (ap (λ (x : List ℕ × List ℕ). Policy (make x.0 x.1)) q.2 ∙ m.2)
     (says word ts _ _ (suits.1 p.0.0 q.0) reads (one.1, other.1))
 
 permission_says : (word : List ℕ) (make : Object → Operation → List ℕ → AdminCommand) → Suits word (permission make)
-    → (ts : List Token) (r : Request) → request_of (permission make) ts ≡ Some r → Says word ts r
+    → (ts : List Token) (r : Request) → request_of (permission make) ts ≡ Some r → RefuseIf word ts r
 unfolding request_of permission_values
 permission_says word make suits ts r h =
     let m = mapped _ _ r h in
@@ -201,11 +201,11 @@ permission_says word make suits ts r h =
     let operation = operation_is (codes "op") a.0.1 b.0.0 b.0.1 b.1 in
     let role = tested_is is_name (codes "role") b.0.1 q.0 _ (last_is _ q.0 q.1) in
     let reads = three_members word _ _ _ ts a.0.1 b.0.1 _ _ _ (λ w d e f. refl) on.0 operation role.0 in
-    subst (Says word ts) (ap (λ (x : Object × Operation × List ℕ). Policy (make x.0 x.1 x.2)) q.2 ∙ m.2)
+    subst (RefuseIf word ts) (ap (λ (x : Object × Operation × List ℕ). Policy (make x.0 x.1 x.2)) q.2 ∙ m.2)
     (says word ts _ _ (suits a.0.0 b.0.0 q.0) reads (on.1, role.1))
 
 login_says : (word : List ℕ) → Suits word roles_user → (ts : List Token) (r : Request)
-    → request_of roles_user ts ≡ Some r → Says word ts r
+    → request_of roles_user ts ≡ Some r → RefuseIf word ts r
 unfolding request_of
 login_says word suits ts r h =
     let a = chained _ _ r h in
@@ -213,10 +213,10 @@ login_says word suits ts r h =
     let roles = roles_are ts a.0.0 a.0.1 a.1 in
     let user = tested_is is_name (codes "user") a.0.1 q.0 _ (last_is _ q.0 q.1) in
     let reads = two_members word _ _ ts a.0.1 _ _ (λ w d e. refl) roles.0 user.0 in
-    subst (Says word ts) q.2 (says word ts _ _ (suits a.0.0 q.0) reads (roles.1, user.1))
+    subst (RefuseIf word ts) q.2 (says word ts _ _ (suits a.0.0 q.0) reads (roles.1, user.1))
 
 set_says : (word : List ℕ) → Suits word count_name_roles → (ts : List Token) (r : Request)
-    → request_of count_name_roles ts ≡ Some r → Says word ts r
+    → request_of count_name_roles ts ≡ Some r → RefuseIf word ts r
 unfolding request_of
 set_says word suits ts r h =
     let a = chained _ _ r h in
@@ -226,10 +226,10 @@ set_says word suits ts r h =
     let set = tested_is is_name (codes "name") a.0.1 b.0.0 b.0.1 b.1 in
     let roles = roles_are b.0.1 q.0 _ (last_is _ q.0 q.1) in
     let reads = three_members word _ _ _ ts a.0.1 b.0.1 _ _ _ (λ w d e f. refl) count.0 set.0 roles.0 in
-    subst (Says word ts) q.2 (says word ts _ _ (suits a.0.0 b.0.0 q.0) reads (count.1, set.1, roles.1))
+    subst (RefuseIf word ts) q.2 (says word ts _ _ (suits a.0.0 b.0.0 q.0) reads (count.1, set.1, roles.1))
 
 load_says : (word : List ℕ) → Suits word main_slot_text → (ts : List Token) (r : Request)
-    → request_of main_slot_text ts ≡ Some r → Says word ts r
+    → request_of main_slot_text ts ≡ Some r → RefuseIf word ts r
 unfolding request_of
 load_says word suits ts r h =
     let a = chained _ _ r h in
@@ -239,10 +239,10 @@ load_says word suits ts r h =
     let slot = number_member_is (codes "slot") a.0.1 b.0.0 b.0.1 b.1 in
     let text = text_member_is (codes "text") b.0.1 q.0 _ (last_is _ q.0 q.1) in
     let reads = three_members word _ _ _ ts a.0.1 b.0.1 _ _ _ (λ w d e f. refl) main.0 slot.0 text in
-    subst (Says word ts) q.2 (says word ts _ _ (suits a.0.0 b.0.0 q.0) reads (main.1, slot.1))
+    subst (RefuseIf word ts) q.2 (says word ts _ _ (suits a.0.0 b.0.0 q.0) reads (main.1, slot.1))
 
 offer_says : (word : List ℕ) → Suits word signal_slot → (ts : List Token) (r : Request)
-    → request_of signal_slot ts ≡ Some r → Says word ts r
+    → request_of signal_slot ts ≡ Some r → RefuseIf word ts r
 unfolding request_of
 offer_says word suits ts r h =
     let a = chained _ _ r h in
@@ -250,10 +250,10 @@ offer_says word suits ts r h =
     let signal = tested_is is_identifier (codes "signal") ts a.0.0 a.0.1 a.1 in
     let slot = number_member_is (codes "slot") a.0.1 q.0 _ (last_is _ q.0 q.1) in
     let reads = two_members word _ _ ts a.0.1 _ _ (λ w d e. refl) signal.0 slot.0 in
-    subst (Says word ts) q.2 (says word ts _ _ (suits a.0.0 q.0) reads (signal.1, slot.1))
+    subst (RefuseIf word ts) q.2 (says word ts _ _ (suits a.0.0 q.0) reads (signal.1, slot.1))
 
 look_says : (word : List ℕ) → Suits word instant_slot → (ts : List Token) (r : Request)
-    → request_of instant_slot ts ≡ Some r → Says word ts r
+    → request_of instant_slot ts ≡ Some r → RefuseIf word ts r
 unfolding request_of
 look_says word suits ts r h =
     let a = chained _ _ r h in
@@ -261,10 +261,10 @@ look_says word suits ts r h =
     let instant = number_member_is (codes "instant") ts a.0.0 a.0.1 a.1 in
     let slot = number_member_is (codes "slot") a.0.1 q.0 _ (last_is _ q.0 q.1) in
     let reads = two_members word _ _ ts a.0.1 _ _ (λ w d e. refl) instant.0 slot.0 in
-    subst (Says word ts) q.2 (says word ts _ _ (suits a.0.0 q.0) reads (instant.1, slot.1))
+    subst (RefuseIf word ts) q.2 (says word ts _ _ (suits a.0.0 q.0) reads (instant.1, slot.1))
 
 check_says : (word : List ℕ) → Suits word object_operation → (ts : List Token) (r : Request)
-    → request_of object_operation ts ≡ Some r → Says word ts r
+    → request_of object_operation ts ≡ Some r → RefuseIf word ts r
 unfolding request_of
 check_says word suits ts r h =
     let a = chained _ _ r h in
@@ -272,18 +272,18 @@ check_says word suits ts r h =
     let on = object_is (codes "object") ts a.0.0 a.0.1 a.1 in
     let operation = operation_is (codes "op") a.0.1 q.0 _ (last_is _ q.0 q.1) in
     let reads = two_members word _ _ ts a.0.1 _ _ (λ w d e. refl) on.0 operation in
-    subst (Says word ts) q.2 (says word ts _ _ (suits a.0.0 q.0) reads on.1)
+    subst (RefuseIf word ts) q.2 (says word ts _ _ (suits a.0.0 q.0) reads on.1)
 
 shape_says : (word : List ℕ) (shape : Shape) → Suits word shape → (ts : List Token) (r : Request)
-    → request_of shape ts ≡ Some r → Says word ts r
+    → request_of shape ts ≡ Some r → RefuseIf word ts r
 unfolding request_of
 shape_says word (nothing request) suits ts r h =
     let m = mapped _ _ r h in
-    subst (Says word ts) m.2 (says word ts _ _ suits (no_member word ts (end_is ts m.0 m.1)) tt)
+    subst (RefuseIf word ts) m.2 (says word ts _ _ suits (no_member word ts (end_is ts m.0 m.1)) tt)
 shape_says word (one_name key make) suits ts r h =
     let m = mapped _ _ r h in
     let name = tested_is is_name key ts m.0 _ (last_is _ m.0 m.1) in
-    subst (Says word ts) m.2 (says word ts _ _ (suits.1 m.0) (one_member word key ts _ suits.0 name.0) name.1)
+    subst (RefuseIf word ts) m.2 (says word ts _ _ (suits.1 m.0) (one_member word key ts _ suits.0 name.0) name.1)
 shape_says word (two_names first second make) suits ts r h = names_say word first second make suits ts r h
 shape_says word (permission make) suits ts r h = permission_says word make suits ts r h
 shape_says word roles_user suits ts r h = login_says word suits ts r h
@@ -291,7 +291,7 @@ shape_says word count_name_roles suits ts r h = set_says word suits ts r h
 shape_says word (slot_alone command) suits ts r h =
     let m = mapped _ _ r h in
     let slot = number_member_is (codes "slot") ts m.0 _ (last_is _ m.0 m.1) in
-    subst (Says word ts) m.2 (says word ts _ _ (suits m.0)
+    subst (RefuseIf word ts) m.2 (says word ts _ _ (suits m.0)
     (one_member word (codes "slot") ts _ (λ w d. refl) slot.0) slot.1)
 shape_says word main_slot_text suits ts r h = load_says word suits ts r h
 shape_says word signal_slot suits ts r h = offer_says word suits ts r h
@@ -380,11 +380,11 @@ pick P true this later r h now after = now refl h
 pick P false this later r h now after = after h
 
 rows_say : (table : List Row) → AllSuit table → (word : List ℕ) (ts : List Token) (r : Request)
-    → request_in table word ts ≡ Some r → Says word ts r
+    → request_in table word ts ≡ Some r → RefuseIf word ts r
 rows_say [] all word ts r h = cc
 rows_say (row ∷ more) all word ts r h =
-    pick (Says word ts r) (bytes_eq word row.0) (request_of row.1 ts) (request_in more word ts) r h
-    (λ is now. subst (λ (w : List ℕ). Says w ts r) (sym (same_text word row.0 is))
+    pick (RefuseIf word ts r) (bytes_eq word row.0) (request_of row.1 ts) (request_in more word ts) r h
+    (λ is now. subst (λ (w : List ℕ). RefuseIf w ts r) (sym (same_text word row.0 is))
     (shape_says row.0 row.1 all.0 ts r now))
     (λ after. rows_say more all.1 word ts r after)
 

@@ -9,7 +9,7 @@ use Rattle.reactor_core.specs.Meaning.{word_text, is_step}
 use Rattle.access_core.specs.declared.reply.PolicyWord.{PolicyWord}
 use Rattle.access_core.specs.declared.reply.PolicyWord.TheVariants as change
 use Rattle.access_core.specs.declared.reply.Reply.TheVariants.{Added, Changed, Check, Login, Audit}
-use Rattle.access_core.specs.Replies.{word_of}
+use Rattle.access_core.specs.Replies.{word_text}
 use Rattle.wire_lines.specs.Replies.{line_of}
 use Rattle.wire_lines.specs.Inner.Pieces.{added_begin}
 

@@ -13,7 +13,7 @@ use Rattle.access_core.specs.declared.reply.Reply.{Reply}
 use Rattle.access_core.specs.declared.reply.Reply.TheVariants.{Refused, Login, Changed, Added, Look, Audit, Check}
 use Rattle.access_core.specs.declared.reply.ShownSignal.{ShownSignal}
 use Rattle.access_core.specs.Refusals.{row_of}
-use Rattle.access_core.specs.Replies.{word_of}
+use Rattle.access_core.specs.Replies.{word_text}
 use Rattle.wire_lines.specs.Requests.{text_member, number_member, texts_member}
 
 -- a refusal's number and name, and what it names

@@ -135,7 +135,7 @@ pub(crate) fn changed_line(
 ) -> Result<Vec<u8>, AllocError>
     ensures { IfOk result (λ line. line.items ≡ line_of (Changed change.now version)) }
 {
-    word_line(alloc, change.word(), version)
+    word_line(alloc, change.text(), version)
 }
 
 /// The line of a check.

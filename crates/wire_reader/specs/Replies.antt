@@ -1,6 +1,6 @@
 -- What contracts see of the replies that wait (this project's own form).
 use Rattle.std.specs.Prelude.{ℕ, List, take}
-use Rattle.wire_reader.specs.declared.replies.Replies.{Replies}
+use Rattle.wire_reader.specs.declared.replies.ReplyBuffer.{Replies}
 
 -- the bytes that wait to be written, in order
 abbrev pub waiting_bytes : Replies → List ℕ

@@ -12,13 +12,13 @@ ghost use Rattle.wire_reader.specs.declared.lines.LineFault.TheVariants as fault
 
 use crate::lines::{Line, LineFault, LineReader};
 use crate::meter::{MeteredReader, MeteredWriter};
-use crate::replies::{Replies, WriteFault};
+use crate::replies::{ReplyBuffer, WriteFault};
 use std::io::{Read, Write};
 
 /// Writes out what waits, unless the next line is there without a read.
 fn make_ready<W: Write>(
     lines: &mut LineReader,
-    replies: &mut Replies,
+    replies: &mut ReplyBuffer,
     writer: &mut MeteredWriter<W>,
 ) -> Result<(), WriteFault>
     ensures same { (held_bytes lines.new ≡ held_bytes lines.old)
@@ -43,7 +43,7 @@ fn make_ready<W: Write>(
 /// The next line. It is asked for only if it is held already, or nothing waits to be written.
 fn read_line<R: Read>(
     lines: &mut LineReader,
-    _replies: &Replies,
+    _replies: &ReplyBuffer,
     reader: &mut MeteredReader<R>,
 ) -> Result<Line, LineFault>
     requires { IsReady lines.old ⊎ (waiting_bytes _replies.now ≡ []) }
@@ -73,7 +73,7 @@ fn read_line<R: Read>(
 /// Where the writer failed or took nothing, and then a beginning of what waited was written.
 pub fn write_then_read_line<R: Read, W: Write>(
     lines: &mut LineReader,
-    replies: &mut Replies,
+    replies: &mut ReplyBuffer,
     reader: &mut MeteredReader<R>,
     writer: &mut MeteredWriter<W>,
 ) -> Result<Result<Line, LineFault>, WriteFault>

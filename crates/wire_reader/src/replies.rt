@@ -1,4 +1,4 @@
-//! Replies that wait to be written, in a fixed buffer.
+//! ReplyBuffer that wait to be written, in a fixed buffer.
 //!
 //! They are written in order, and before a read that could wait. A writer may take a text in parts.
 ghost use Rattle.std.specs.Prelude.{◌≡◌, ◌≤◌, ◌+◌, ◌++◌, [], length, take, true, IfOk, OnOk, OnErr};
@@ -47,28 +47,28 @@ fn place(bytes: &mut Vec<u8>, at: usize, text: &[u8])
     bytes[at..at + text.len()].copy_from_slice(text);
 }
 
-/// Replies that wait, in the order of their lines. The buffer never grows: what finds no room is
-/// written out.
+/// ReplyBuffer that wait, in the order of their lines. The buffer never grows: what finds no room
+/// is written out.
 #[derive(Drop)]
-pub struct Replies {
+pub struct ReplyBuffer {
     bytes: Vec<u8>,
     filled: usize,
     ghost room: { length bytes.items ≡ REPLY_BUFFER_BYTES },
     ghost within: { filled ≤ REPLY_BUFFER_BYTES },
 }
 
-impl Replies {
+impl ReplyBuffer {
     ghost use Rattle.wire_reader.specs.Replies.{waiting_bytes};
 
     /// No reply waits. This takes all the memory that is ever needed.
-    pub fn new(memory: &mut MeteredMemory) -> Result<Replies, AllocError>
+    pub fn new(memory: &mut MeteredMemory) -> Result<ReplyBuffer, AllocError>
         ensures empty { IfOk result (λ r. waiting_bytes r ≡ []) }
         ensures gave { OnOk result (memory.new.refusals ≡ memory.old.refusals) }
         ensures refused { OnErr result
             (has_failed memory.old.refusals memory.new.refusals ≡ true) }
     {
         let bytes = memory.zeros(REPLY_BUFFER_BYTES)?;
-        Ok(Replies { bytes, filled: 0 })
+        Ok(ReplyBuffer { bytes, filled: 0 })
     }
 
     /// Writes out all that waits.

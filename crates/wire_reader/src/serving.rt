@@ -18,7 +18,7 @@ ghost use Rattle.wire_reader.specs.declared.lines.LineFault.TheVariants as fault
 use crate::exchange::write_then_read_line;
 use crate::lines::{Line, LineFault, LineReader};
 use crate::meter::{MeteredMemory, MeteredReader, MeteredWriter};
-use crate::replies::{Replies, WriteFault};
+use crate::replies::{ReplyBuffer, WriteFault};
 use std::alloc::{AllocError, Global};
 use std::borrow::CowSlice;
 use std::io::{Read, Write};
@@ -66,7 +66,7 @@ pub enum EndReason {
 /// be asked for again; after the end of the bytes it may.
 fn take_line<R: Read, W: Write>(
     lines: &mut LineReader,
-    replies: &mut Replies,
+    replies: &mut ReplyBuffer,
     reader: &mut MeteredReader<R>,
     writer: &mut MeteredWriter<W>,
 ) -> Result<Result<Line, LineFault>, WriteFault>
@@ -97,7 +97,7 @@ fn take_line<R: Read, W: Write>(
 fn answer_next<R: Read, W: Write, D, A: Answerer<D>>(
     alloc: Global,
     lines: &mut LineReader,
-    replies: &mut Replies,
+    replies: &mut ReplyBuffer,
     reader: &mut MeteredReader<R>,
     writer: &mut MeteredWriter<W>,
     answerer: &mut A,
@@ -147,11 +147,11 @@ fn answer_next<R: Read, W: Write, D, A: Answerer<D>>(
     Ok(())
 }
 
-/// Answers lines until the connection ends. Replies that are not written by then still wait.
+/// Answers lines until the connection ends. ReplyBuffer that are not written by then still wait.
 fn answer_all<R: Read, W: Write, D, A: Answerer<D>>(
     alloc: Global,
     lines: &mut LineReader,
-    replies: &mut Replies,
+    replies: &mut ReplyBuffer,
     reader: &mut MeteredReader<R>,
     writer: &mut MeteredWriter<W>,
     answerer: &mut A,
@@ -211,7 +211,7 @@ pub fn answer_connection<R: Read, W: Write, D, A: Answerer<D>>(
     let Ok(mut lines) = LineReader::new(memory) else {
         return EndReason::Memory;
     };
-    let Ok(mut replies) = Replies::new(memory) else {
+    let Ok(mut replies) = ReplyBuffer::new(memory) else {
         return EndReason::Memory;
     };
     match answer_all(

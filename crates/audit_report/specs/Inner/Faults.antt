@@ -11,8 +11,8 @@ use Rattle.access_core.specs.declared.refusal.Refusal.TheVariants as refusal
 use Rattle.access_core.specs.Refusals.{code_of}
 use Rattle.audit_report.specs.declared.finding.Finding.{Finding}
 use Rattle.audit_report.specs.declared.finding.Finding.TheVariants as finding
-use Rattle.audit_report.specs.declared.slot_audit.Fault.{Fault}
-use Rattle.audit_report.specs.declared.slot_audit.Fault.TheVariants.{Refused, Reaction, Memory}
+use Rattle.audit_report.specs.declared.slot_audit.EntryFault.{EntryFault}
+use Rattle.audit_report.specs.declared.slot_audit.EntryFault.TheVariants.{Refused, Reaction, Memory}
 use Rattle.access_core.specs.Journals.{Adds}
 use Rattle.audit_report.specs.Findings.{IsRefusedWith, ReactsOtherwise}
 
@@ -30,7 +30,7 @@ abbrev pub KeepsInstant : List SlotEntry → PastMove → Type 0
 KeepsInstant entries done = MatchOption (instant_of done) (Unit {0}) (λ i. last_instant entries ≡ Some i)
 
 -- the fault of an entry whose command is refused so
-abbrev pub fault_of : Refusal → Fault
+abbrev pub fault_of : Refusal → EntryFault
 fault_of refusal.TooLong = Refused (code_of refusal.TooLong)
 fault_of refusal.NotJson = Refused (code_of refusal.NotJson)
 fault_of refusal.NotARequest = Refused (code_of refusal.NotARequest)
@@ -46,14 +46,14 @@ fault_of (refusal.Behind found seen) = Refused (code_of (refusal.Behind found se
 fault_of refusal.Memory = Memory
 
 -- this is why the slot doesn't add the entry after those before it
-abbrev pub IsFaultOf : (judged : List Entry) → (slot : ℕ) → (before : List SlotEntry) → SlotEntry → Fault → Type 0
+abbrev pub IsFaultOf : (judged : List Entry) → (slot : ℕ) → (before : List SlotEntry) → SlotEntry → EntryFault → Type 0
 IsFaultOf judged slot before entry (Refused code) = IsRefusedWith judged slot before entry code
 IsFaultOf judged slot before entry Reaction = ReactsOtherwise judged slot before entry
 IsFaultOf judged slot before entry Memory = Unit {0}
 
 -- the slot adds this very entry, or the answer is why it doesn't
 abbrev pub Replays : (judged : List Entry) → (slot : ℕ) → (before : List SlotEntry) → SlotEntry
-    → Result (Unit {0}) Fault
+    → Result (Unit {0}) EntryFault
     → (after : List SlotEntry) → Type 0
 Replays judged slot before entry answer after =
     MatchResult answer
@@ -61,7 +61,7 @@ Replays judged slot before entry answer after =
     (IsFaultOf judged slot before entry)
 
 -- the finding of a fault at this place of the slot's journal
-abbrev pub finding_of : Fault → (slot place : ℕ) → Finding
+abbrev pub finding_of : EntryFault → (slot place : ℕ) → Finding
 finding_of (Refused code) slot place = finding.Refused slot place code
 finding_of Reaction slot place = finding.Reaction slot place
 finding_of Memory slot place = finding.Memory

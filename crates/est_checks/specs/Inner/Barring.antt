@@ -15,6 +15,6 @@ use Rattle.est_checks.specs.declared.input_emissions.EmitInput.{EmitInput}
 -- allows are the names that this module declares and that are neither inputs nor `tick`
 pub record Bars (c : EmitInput) (t : NameTable) (ks : List Kept) : Type 0 where
   pub inputs : (s : List ℕ) → has c.inputs.now s ≡ is_input (program_of c.home.now).interface s
-  pub kept : AreKept t (names_emitted_by (map program_of c.heads.now) (emitted_of c.table.now)) ks
+  pub kept : AreKept t (names_emitted_by (map program_of c.modules.now) (emitted_of c.table.now)) ks
   pub allowed : Tells t (λ s. not (is_input (program_of c.home.now).interface s || is_tick s)
       && is_declared (program_of c.home.now).interface s) c.allowed.now

@@ -1,7 +1,7 @@
 -- Which interface names a module that is run emits (this project's own form).
 use Rattle.std.specs.Prelude.{ℕ, List, [], Bool, map, filter, Option, Some, None}
 use Rattle.est_modules.specs.Modules.{Program, program_named}
-use Rattle.est_modules.specs.declared.head.Declared.{Declared}
+use Rattle.est_modules.specs.declared.interface.Declared.{Declared}
 
 -- those of a module that is asked for by a name
 abbrev pub names_emitted_in : (List ℕ → Bool) → Option Program → List (List ℕ)

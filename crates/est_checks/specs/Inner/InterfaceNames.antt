@@ -1,7 +1,7 @@
 -- The interface names of a module that is run (this project's own form).
 use Rattle.std.specs.Prelude.{ℕ, List, [], map, Option, Some, None}
 use Rattle.est_modules.specs.Modules.{Program, program_named}
-use Rattle.est_modules.specs.declared.head.Declared.{Declared}
+use Rattle.est_modules.specs.declared.interface.Declared.{Declared}
 
 -- those of a module that is asked for by a name
 abbrev pub names_in : Option Program → List (List ℕ)

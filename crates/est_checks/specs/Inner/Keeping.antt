@@ -10,4 +10,4 @@ use Rattle.est_checks.specs.declared.module_emissions.EmissionNotes.{EmissionNot
 -- the walk's table of names is the visitor's, whose sets have, for each module, the numbers of the names that it emits
 abbrev pub Keeps : EmissionNotes → NameTable → List Kept → Type 0
 Keeps v t ks = (t ≡ v.names.now)
-    × AreEmittedNumbers t (map program_of v.heads.now) (emitted_of v.table.now) v.numbers.now
+    × AreEmittedNumbers t (map program_of v.modules.now) (emitted_of v.table.now) v.numbers.now

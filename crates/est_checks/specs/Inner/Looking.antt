@@ -12,5 +12,5 @@ use Rattle.est_checks.specs.declared.unknown_names.UnknownName.{UnknownName}
 -- the kept names of each module are those of its interface, and the set of the check has the names that its module
 -- declares, and `tick`
 pub record LooksFor (c : UnknownName) (t : NameTable) (ks : List Kept) : Type 0 where
-  pub kept : AreKept t (names_of (map program_of c.heads.now)) ks
+  pub kept : AreKept t (names_of (map program_of c.modules.now)) ks
   pub own : Tells t (λ s. is_declared (program_of c.home.now).interface s || is_tick s) c.own.now

@@ -17,7 +17,7 @@ number_of ps table m = number_found table (place_named ps m)
 
 -- the same of the table of the code
 abbrev pub numbers_of : Numbers → List ℕ → ℕ
-numbers_of n m = number_of (map program_of n.heads.now) n.numbers.now m
+numbers_of n m = number_of (map program_of n.modules.now) n.numbers.now m
 
 -- the table has the cut of whole numbers, and those of the modules at the first places of the order are right
 pub record IsFilled (ps : List Program) (order : List ℕ) (table : List ℕ) : Type 0 where

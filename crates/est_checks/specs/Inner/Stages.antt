@@ -5,7 +5,7 @@ use Rattle.refusal_rules.specs.Rules.{Rules, accept, ◌▸◌}
 use Rattle.est_checks.specs.BadRenamings.{bad_renaming_at}
 use Rattle.est_checks.specs.Counting.{AreCounts}
 use Rattle.est_checks.specs.Emissions.{first_refused}
-use Rattle.est_checks.specs.FirstFaults.{Check, IsFirstRefused, IsLimitPassed, limit_passed_by}
+use Rattle.est_checks.specs.FirstFaults.{Check, IsFirstRefused, IsLimitPassed, module_limit_passed_by}
 use Rattle.est_checks.specs.LinkFaults.{number_over_outputs}
 use Rattle.est_checks.specs.RecursiveRuns.{IsFirstRecursion}
 use Rattle.est_checks.specs.UnknownNames.{unknown_at}
@@ -18,7 +18,7 @@ use Rattle.est_checks.specs.declared.fault.LinkFault.TheVariants.{Semantics, Too
 pub record IsLimitFault (ps : List Program) (main : List ℕ) (found : Option LinkFault) : Type 0 where
   pub counts : List ℕ → ℕ
   pub are : AreCounts ps counts
-  pub is : found ≡ option_map TooLarge (limit_passed_by (program_named ps main) (counts main))
+  pub is : found ≡ option_map TooLarge (module_limit_passed_by (program_named ps main) (counts main))
 
 -- the first fault of the checks of renamings and of names
 abbrev pub fault_of_names : List Program → Option LinkFault

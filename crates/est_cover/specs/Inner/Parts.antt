@@ -1,4 +1,4 @@
--- Parts of the lawful sets of inputs; for private clauses (this project's own form).
+-- Parts of the lawful sets of inputs (this project's own form).
 use Rattle.std.specs.Prelude.{◌≡◌, ◌≢◌, ◌<◌, ℕ, Bool, true, false, Option, Some, List, ◌++◌, length}
 use Rattle.std.specs.Bool.{MatchBool}
 use Rattle.std.specs.List.{All, AllPairs}

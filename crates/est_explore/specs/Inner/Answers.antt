@@ -1,4 +1,4 @@
--- What a module answers in an instant; for private clauses (this project's own form).
+-- What a module answers in an instant (this project's own form).
 use Rattle.std.specs.Prelude.{◌≡◌, ℕ, Option, Some, None}
 use Rattle.est_kernel.specs.Bits.{bits}
 use Rattle.est_kernel.specs.declared.kernel.Kernel.{Kernel}

@@ -1,4 +1,4 @@
--- What two modules answer in an instant; for private clauses (this project's own form).
+-- What two modules answer in an instant (this project's own form).
 use Rattle.std.specs.Prelude.{◌≡◌, Bool, true, false, nat_eq, Option, Some, None}
 use Rattle.est_kernel.specs.declared.kernel.Kernel.{Kernel}
 use Rattle.est_meaning.specs.States.{IsState}

@@ -1,4 +1,4 @@
--- Which signals a test reads; for private clauses (this project's own form).
+-- Which signals a test reads (this project's own form).
 use Rattle.std.specs.Prelude.{◌≡◌, ℕ, Bool, true}
 use Rattle.est_kernel.specs.Term.{Query, Joint}
 use Rattle.est_kernel.specs.declared.statement.Connective.{Connective}

@@ -6,7 +6,7 @@ use Rattle.est_checks.specs.Duplicates.{first_duplicate, redeclared}
 use Rattle.est_checks.specs.LawlessRelations.{first_over_outputs}
 use Rattle.est_modules.specs.Modules.{Program, program_named}
 use Rattle.est_checks.specs.MissingModules.{first_missing}
-use Rattle.est_modules.specs.declared.head.Declared.{Declared}
+use Rattle.est_modules.specs.declared.interface.Declared.{Declared}
 use Rattle.est_relations.specs.declared.relations.TheConstants.{MOST_RELATIONS}
 
 -- a main module without a fault, within the limits of its signals and relations

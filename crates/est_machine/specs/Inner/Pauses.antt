@@ -1,4 +1,4 @@
--- Pauses of a statement, as Boolean functions; for private clauses (this project's own form).
+-- Pauses of a statement, as Boolean functions (this project's own form).
 use Rattle.std.specs.Prelude.{ℕ, Bool, true, not, ◌&&◌}
 use Rattle.est_kernel.specs.declared.statement.Statement.{Statement}
 use Rattle.est_kernel.specs.declared.statement.Statement.TheVariants.{Nothing, Pause, Emit, Present', Suspend', Seq'}

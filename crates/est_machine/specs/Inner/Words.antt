@@ -1,4 +1,4 @@
--- The words of a state, seen as a set of pauses; for private clauses (this project's own form).
+-- The words of a state, seen as a set of pauses (this project's own form).
 use Rattle.std.specs.Prelude.{◌≡◌, ◌≤◌, ◌<◌, ◌+◌, ◌/◌, ◌%◌, ℕ, List, Bool, false, slice_index}
 use Rattle.est_kernel.specs.Bits.{bits}
 use Rattle.est_kernel.specs.declared.state.State.{State}

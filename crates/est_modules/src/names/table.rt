@@ -8,8 +8,8 @@ ghost use Rattle.est_modules.specs.Modules.{is_declared, program_of};
 ghost use Rattle.est_modules.specs.NameTables.{AreNumbered, IsTable, is_numbered, number_in};
 ghost use Rattle.est_modules.specs.Visible.{stands_in};
 
-use crate::head::Declared;
-use crate::head_tree::Heads;
+use crate::interface::Declared;
+use crate::library_modules::LibraryModules;
 use crate::names::kept::KeptNames;
 use crate::names::open::OpenNames;
 use crate::scope::{Act, Scope};
@@ -117,17 +117,17 @@ fn add_names<'a>(table: &mut NameTable<'a>, names: &'a [Identifier]) -> Result<(
 /// `AllocError` where memory is refused.
 pub fn numbered<'a>(
     alloc: Global,
-    heads: &'a Heads<'_>,
+    modules: &'a LibraryModules<'_>,
     further: &'a [Identifier],
 ) -> Result<NameTable<'a>, AllocError>
     requires { stands_in further.now (codes "tick") ≡ true }
     ensures table { IfOk result (λ table. IsTable table) }
-    ensures numbered { IfOk result (λ table. AreNumbered table (map program_of heads.now)) }
+    ensures numbered { IfOk result (λ table. AreNumbered table (map program_of modules.now)) }
 {
     let mut table = NameTable::new(alloc);
     add_names(&mut table, further)?;
-    for head in heads.modules() {
-        add_interface(&mut table, head.interface.signals())?;
+    for home in modules.as_slice() {
+        add_interface(&mut table, home.interface.signals())?;
     }
     Ok(table)
 }
@@ -192,7 +192,7 @@ struct BoundNames;
 
 impl Visitor for BoundNames {
     ghost use Rattle.std.specs.Prelude.{ℕ, List, ⊤, ◌++◌};
-    ghost use Rattle.est_modules.specs.BoundNames.{bound_by};
+    ghost use Rattle.est_modules.specs.Inner.BoundNames.{bound_by};
 
     type Seen = Vec<Identifier>;
 
@@ -223,14 +223,17 @@ impl Visitor for BoundNames {
 /// # Errors
 ///
 /// `AllocError` where memory is refused.
-pub fn further_names(alloc: Global, heads: &Heads<'_>) -> Result<Vec<Identifier>, AllocError>
+pub fn further_names(
+    alloc: Global,
+    modules: &LibraryModules<'_>,
+) -> Result<Vec<Identifier>, AllocError>
     ensures { IfOk result (λ names. stands_in names.items (codes "tick") ≡ true) }
 {
     let table = NameTable::new(alloc);
     let none = KeptNames::none(alloc);
     let mut names = Vec::new(alloc);
     names.push(tick())?;
-    for home in heads.modules() {
+    for home in modules.as_slice() {
         walk_body(&BoundNames, &mut names, alloc, &table, &none, home.body)?;
     }
     Ok(names)

@@ -1,4 +1,4 @@
--- Reading the cells of one statement after another; for private clauses (this project's own form).
+-- Reading the cells of one statement after another (this project's own form).
 use Rattle.std.specs.Prelude.{◌≡◌, ◌+◌, ℕ, List, length}
 use Rattle.est_meaning.specs.declared.status.Status.{Status}
 use Rattle.est_meaning.specs.declared.status.Status.TheVariants.{Absent}

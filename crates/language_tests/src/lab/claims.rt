@@ -5,7 +5,7 @@ ghost use Rattle.std.specs.Prelude.{◌≡◌};
 use crate::lab::lines::expect_member;
 use crate::lab::modules::{A, B, O, both, is_absent, late, paradox};
 use crate::literature::loads::engine_of;
-use est_cover::all_lawful::AllLawful;
+use est_cover::all_lawful::LawfulInputs;
 use est_cover::answered::AnsweredInputs;
 use est_explore::claim::Claim;
 use est_explore::judge::{explore, judge};
@@ -71,7 +71,7 @@ fn answer_by<E: PartEngine>(
         kernel,
         engine: PhantomData,
     };
-    let subject = AllLawful {
+    let subject = LawfulInputs {
         reactive: &reactive,
         relations,
         allowed,
@@ -228,7 +228,7 @@ fn comparison_json(rt: &impl Abort, alloc: Global, first: &Kernel, second: &Kern
             engine: PhantomData,
         },
     };
-    let subject = AllLawful {
+    let subject = LawfulInputs {
         reactive: &two,
         relations: &free,
         allowed: ALL,

@@ -2,7 +2,7 @@
 
 use crate::lab::modules::{both, late};
 use crate::literature::loads::engine_of;
-use est_cover::all_lawful::AllLawful;
+use est_cover::all_lawful::LawfulInputs;
 use est_explore::one_module::OneModule;
 use est_explore::verdict::Verdict;
 use est_kernel::interface::Interface;
@@ -89,7 +89,7 @@ fn table_of(rt: &impl Abort, alloc: Global, kernel: &Kernel) -> Value {
         kernel,
         engine: PhantomData,
     };
-    let subject = AllLawful {
+    let subject = LawfulInputs {
         reactive: &by_parts,
         relations: &free,
         allowed: 3,
@@ -121,7 +121,7 @@ fn states_of_a_table(rt: HostRuntime) {
     let alloc = rt.alloc();
     let kernel = late(&rt, alloc);
     let free = Relations::new(alloc);
-    let subject = AllLawful {
+    let subject = LawfulInputs {
         reactive: &machine(&kernel),
         relations: &free,
         allowed: 0,

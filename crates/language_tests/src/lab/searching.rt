@@ -34,7 +34,7 @@ impl TransitionSystem for Counter {
 
     type Label = u8;
 
-    type Scratch = ();
+    type Engine = ();
 
     ghost fits = { λ s x. Unit {0} };
 

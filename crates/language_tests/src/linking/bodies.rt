@@ -2,9 +2,9 @@
 use crate::openers::{library_of, name};
 use est_checks::duplicates::first_duplicate;
 use est_checks::missing_modules::first_missing;
-use est_modules::head_tree::Heads;
-use est_modules::library_heads::heads_of;
-use est_modules::module_order::order_heads;
+use est_modules::collecting::collect_modules;
+use est_modules::library_modules::LibraryModules;
+use est_modules::module_order::order_modules;
 use est_reduce::body::{Body, BoundSignal, BoundTest};
 use link_mistakes::bodies::linked_body;
 use std::alloc::Global;
@@ -89,24 +89,28 @@ fn last_act(body: &Body) -> Act {
 }
 
 /// What the last statement of the flat body of M does.
-fn last_act_of(rt: &impl Abort, alloc: Global, heads: &Heads<'_>) -> Act {
+fn last_act_of(rt: &impl Abort, alloc: Global, modules: &LibraryModules<'_>) -> Act {
     let main = name(rt, "M");
-    assert!(rt; first_duplicate(alloc, &*heads).expect(rt, "room").is_none());
     assert!(rt;
-        first_missing(alloc, &*heads, &main)
+        first_duplicate(alloc, &*modules)
             .expect(rt, "room")
             .is_none()
     );
-    let order = order_heads(alloc, &*heads).ok().expect(rt, "an order");
-    let body = linked_body(alloc, &*heads, &order, &main).expect(rt, "room");
+    assert!(rt;
+        first_missing(alloc, &*modules, &main)
+            .expect(rt, "room")
+            .is_none()
+    );
+    let order = order_modules(alloc, &*modules).ok().expect(rt, "an order");
+    let body = linked_body(alloc, &*modules, &order, &main).expect(rt, "room");
     last_act(&body)
 }
 
 /// Fails where the last statement of M does something else.
 fn expect_act(rt: &impl Abort, alloc: Global, text: &str, act: Act) {
     let library = library_of(rt, alloc, text);
-    let heads = heads_of(alloc, &library).expect(rt, "room");
-    assert_eq!(rt; last_act_of(rt, alloc, &heads), act, "{text}");
+    let modules = collect_modules(alloc, &library).expect(rt, "room");
+    assert_eq!(rt; last_act_of(rt, alloc, &modules), act, "{text}");
 }
 
 #[test]

@@ -2,8 +2,8 @@
 use crate::openers::{library_of, name, order_of};
 use crate::told::{add, expect_holds, expect_told};
 use est_checks::duplicates::first_duplicate;
-use est_modules::head_tree::Heads;
-use est_modules::library_heads::heads_of;
+use est_modules::collecting::collect_modules;
+use est_modules::library_modules::LibraryModules;
 use est_syntax::tree::Renaming;
 use link_mistakes::emitting::{callers_name, emits};
 use link_mistakes::faults::first_unknown;
@@ -28,15 +28,24 @@ const EMITTED: [(&str, &str, &str); 4] = [
 ];
 
 /// Which of A, B, O and P a module of a library without faults emits.
-fn emitted_by(rt: &impl Abort, alloc: Global, heads: &Heads<'_>, module: &str) -> String {
-    assert!(rt; first_duplicate(alloc, &*heads).expect(rt, "room").is_none());
-    assert!(rt; first_unknown(alloc, &*heads).expect(rt, "room").is_none());
-    let order = order_of(rt, alloc, &*heads);
+fn emitted_by(
+    rt: &impl Abort,
+    alloc: Global,
+    modules: &LibraryModules<'_>,
+    module: &str,
+) -> String {
+    assert!(rt;
+        first_duplicate(alloc, &*modules)
+            .expect(rt, "room")
+            .is_none()
+    );
+    assert!(rt; first_unknown(alloc, &*modules).expect(rt, "room").is_none());
+    let order = order_of(rt, alloc, &*modules);
     let module = name(rt, module);
     let mut told = String::new(alloc);
     for signal in "A ,B ,O ,P ".split(',') {
         let emitted = name(rt, signal.trim_end());
-        if emits(alloc, &*heads, &order, &module, &emitted).expect(rt, "room") {
+        if emits(alloc, &*modules, &order, &module, &emitted).expect(rt, "room") {
             add(rt, &mut told, signal);
         }
     }
@@ -46,8 +55,8 @@ fn emitted_by(rt: &impl Abort, alloc: Global, heads: &Heads<'_>, module: &str) -
 /// Fails where a module of a library emits others of these names.
 fn expect_emitted(rt: &impl Abort, alloc: Global, text: &str, module: &str, signals: &str) {
     let library = library_of(rt, alloc, text);
-    let heads = heads_of(alloc, &library).expect(rt, "room");
-    let told = emitted_by(rt, alloc, &heads, module);
+    let modules = collect_modules(alloc, &library).expect(rt, "room");
+    let told = emitted_by(rt, alloc, &modules, module);
     expect_told(rt, told.as_str(), signals, text);
 }
 

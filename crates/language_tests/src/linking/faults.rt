@@ -4,8 +4,8 @@ use crate::openers::{library_of, name};
 use crate::told::expect_holds;
 use est_checks::emission::Emissions;
 use est_checks::fault::LinkFault;
-use est_modules::head_tree::Heads;
-use est_modules::library_heads::heads_of;
+use est_modules::collecting::collect_modules;
+use est_modules::library_modules::LibraryModules;
 use est_modules::names::set::NameSet;
 use est_text::identifier::Identifier;
 use link_mistakes::faults::{fault_after_order, fault_before_order};
@@ -98,12 +98,12 @@ fn fault(kind: Kind, name: Identifier) -> LinkFault {
 fn first_fault(
     rt: &impl Abort,
     alloc: Global,
-    heads: &Heads<'_>,
+    modules: &LibraryModules<'_>,
     table: &Emissions<'_>,
 ) -> Option<LinkFault> {
-    let before = fault_before_order(alloc, &*heads, "M").expect(rt, "room");
+    let before = fault_before_order(alloc, &*modules, "M").expect(rt, "room");
     let main = name(rt, "M");
-    let after = fault_after_order(alloc, &*heads, &main, &*table).expect(rt, "room");
+    let after = fault_after_order(alloc, &*modules, &main, &*table).expect(rt, "room");
     before.or(after)
 }
 
@@ -116,8 +116,8 @@ fn expect_fault(
     wanted: Option<LinkFault>,
 ) {
     let library = library_of(rt, alloc, text);
-    let heads = heads_of(alloc, &library).expect(rt, "room");
-    let found = first_fault(rt, alloc, &heads, &*table);
+    let modules = collect_modules(alloc, &library).expect(rt, "room");
+    let found = first_fault(rt, alloc, &modules, &*table);
     expect_holds(rt, found == wanted, text);
 }
 

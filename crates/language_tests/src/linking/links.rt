@@ -2,7 +2,7 @@
 use crate::openers::{library_of, name, order_of};
 use crate::told::{expect_holds, expect_told};
 use est_checks::fault::LinkFault;
-use est_modules::library_heads::heads_of;
+use est_modules::collecting::collect_modules;
 use est_reduce::flat::Flat;
 use link_mistakes::bodies::{count_statements, link};
 use std::alloc::Global;
@@ -127,9 +127,9 @@ fn words_of_tests_are_counted(rt: HostRuntime) {
     let alloc = rt.alloc();
     for (text, wanted) in &COUNTED {
         let library = library_of(&rt, alloc, text);
-        let heads = heads_of(alloc, &library).expect(&rt, "room");
-        let order = order_of(&rt, alloc, &heads);
-        let count = count_statements(alloc, &heads, &order, &name(&rt, "M")).expect(&rt, "room");
+        let modules = collect_modules(alloc, &library).expect(&rt, "room");
+        let order = order_of(&rt, alloc, &modules);
+        let count = count_statements(alloc, &modules, &order, &name(&rt, "M")).expect(&rt, "room");
         expect_holds(&rt, count == Some(*wanted), text);
     }
 }

@@ -2,15 +2,15 @@
 use Rattle.std.specs.Prelude.{◌≡◌, List, fold}
 use Rattle.rbac_policy.specs.declared.policy.Policy.{Policy}
 use Rattle.rbac_policy.specs.Change.{absorbed}
-use Rattle.policy_board.specs.Traced.{Traced}
-use Rattle.policy_board.specs.declared.shown.Publication.{Publication}
-use Rattle.policy_board.specs.declared.shown.Publication.TheVariants.{Room, Add}
+use Rattle.policy_board.specs.BookPrefixes.{PrefixInBook}
+use Rattle.policy_board.specs.declared.published.Publication.{Publication}
+use Rattle.policy_board.specs.declared.published.Publication.TheVariants.{Room, Add}
 
 -- a policy with its list, after the publication
-abbrev pub after_publication : Policy × Traced → Publication → Policy × Traced
+abbrev pub after_publication : Policy × PrefixInBook → Publication → Policy × PrefixInBook
 after_publication s Room = s
-after_publication s (Add entry trace) = (absorbed s.0 entry, trace)
+after_publication s (Add entry book_prefix) = (absorbed s.0 entry, book_prefix)
 
 -- what waits to be published changes nothing
-abbrev pub IsResting : Policy × Traced → List Publication → Type 0
+abbrev pub IsResting : Policy × PrefixInBook → List Publication → Type 0
 IsResting s pending = fold after_publication s pending ≡ s

@@ -1,6 +1,6 @@
 -- What the rows of `RoleHierarchy` keep (this project's own form).
 use Rattle.std.specs.Prelude.{◌≡◌, ℕ, ◌<◌, ◌↔◌, ◌⊎◌, List, length, slice_index}
-use Rattle.rbac_closure.specs.declared.sets.TheConstants.{ROLES}
+use Rattle.rbac_closure.specs.declared.role_sets.TheConstants.{ROLES}
 use Rattle.rbac_closure.specs.Sets.{Has}
 use Rattle.rbac_closure.specs.Edges.{IsEdge, IsAbove}
 

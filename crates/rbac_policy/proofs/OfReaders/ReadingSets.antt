@@ -15,7 +15,7 @@ use Rattle.rbac_policy.specs.Names.{NameText}
 use Rattle.rbac_closure.specs.Sets.{Has}
 use Rattle.rbac_policy.specs.Facts.{IsSet, IsSetName}
 use Rattle.rbac_policy.specs.Separation.{IsFirstSetOf}
-use Rattle.rbac_policy.specs.SetTables.{set_is, set_with, place_of_row, first_set_with}
+use Rattle.rbac_policy.specs.Inner.SetTables.{set_is, set_with, place_of_row, first_set_with}
 use Rattle.rbac_policy.specs.Tables.{At, place_of}
 use Rattle.rbac_policy.specs.StandsFor.{StandsFor}
 use Rattle.rbac_policy.proofs.Asking.{reflects, no_role}

@@ -13,7 +13,7 @@ use Rattle.rbac_policy.specs.declared.rows.Session.{Session}
 use Rattle.rbac_policy.specs.declared.separation.Violation.{Violation}
 use Rattle.rbac_policy.specs.Names.{NameText}
 use Rattle.rbac_policy.specs.Facts.{IsActive, IsAuthorized, IsLive, Lives, HasOnlyAuthorized, Ends}
-use Rattle.rbac_policy.specs.Violations.{first_violation}
+use Rattle.rbac_policy.specs.Inner.Violations.{first_violation}
 use Rattle.rbac_closure.specs.Sets.{with_place}
 use Rattle.rbac_policy.specs.Tables.{At, place_of, session_of}
 use Rattle.rbac_policy.specs.StandsFor.{InMask, IsNamed, StandsFor}

@@ -18,7 +18,7 @@ use Rattle.rbac_policy.specs.Facts.{IsActive, IsAuthorized, IsLive, Lives, HasOn
 use Rattle.rbac_policy.specs.Facts.{Drops}
 use Rattle.rbac_policy.specs.Fits.{NumbersExhausted}
 use Rattle.rbac_policy.specs.Separation.{IsFirstViolated, login_entry}
-use Rattle.rbac_policy.specs.Violations.{first_violation}
+use Rattle.rbac_policy.specs.Inner.Violations.{first_violation}
 use Rattle.rbac_policy.specs.Tables.{At, mask_of}
 use Rattle.rbac_policy.specs.StandsFor.{InMask, StandsFor}
 use Rattle.rbac_policy.proofs.Steps.{in_force_push, get_push, get_last}

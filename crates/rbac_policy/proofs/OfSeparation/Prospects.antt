@@ -16,7 +16,7 @@ use Rattle.rbac_policy.specs.Names.{NameText}
 use Rattle.rbac_policy.specs.Facts.{IsSet, IsActive, IsAuthorized, Lives, HasOnlyAuthorized, CreatesWith, Activates}
 use Rattle.rbac_policy.specs.Facts.{Drops, Ends, Unassigns, Disinherits}
 use Rattle.rbac_policy.specs.Separation.{IsFirstViolated}
-use Rattle.rbac_policy.specs.Violations.{first_violation}
+use Rattle.rbac_policy.specs.Inner.Violations.{first_violation}
 use Rattle.rbac_policy.specs.Tables.{At, place_of, mask_of}
 use Rattle.rbac_policy.specs.StandsFor.{InMask, IsRowOf, SetsStand, StandsFor}
 use Rattle.rbac_policy.proofs.Steps.{in_force_push, get_push, get_last}

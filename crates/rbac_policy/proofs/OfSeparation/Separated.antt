@@ -9,7 +9,7 @@ use Rattle.rbac_policy.specs.declared.rows.DsdSet.{DsdSet}
 use Rattle.rbac_policy.specs.declared.separation.Violation.{Violation}
 use Rattle.rbac_policy.specs.Names.{NameText}
 use Rattle.rbac_policy.specs.Separation.{IsFirstViolated}
-use Rattle.rbac_policy.specs.Violations.{first_violation}
+use Rattle.rbac_policy.specs.Inner.Violations.{first_violation}
 use Rattle.rbac_policy.specs.Tables.{At}
 use Rattle.rbac_policy.specs.StandsFor.{RolesStand, StandsFor}
 use Rattle.rbac_policy.proofs.Steps.{get_push, get_front}

@@ -17,8 +17,8 @@ use Rattle.rbac_policy.specs.Facts.{IsSet, IsLive, IsActive, IsActiveOrBelow, Vi
 use Rattle.rbac_policy.specs.Counting.{HasAtLeast}
 use Rattle.rbac_policy.specs.Separation.{IsFirstViolated}
 use Rattle.rbac_policy.specs.Tables.{At}
-use Rattle.rbac_policy.specs.Violations.{holds_many, violator, least_violator, violated_by, violation_of, place_of_set}
-use Rattle.rbac_policy.specs.Violations.{first_violation}
+use Rattle.rbac_policy.specs.Inner.Violations.{holds_many, violator, least_violator, violated_by, violation_of}
+use Rattle.rbac_policy.specs.Inner.Violations.{place_of_set, first_violation}
 use Rattle.rbac_policy.specs.StandsFor.{Holds, InMask, IsNamed, IsRowOf, RolesStand}
 use Rattle.rbac_policy.proofs.OfRoles.Below.{below_sound, below_all}
 use Rattle.rbac_policy.proofs.OfRoles.Order.{one_role, chain_up, chain_down}

@@ -5,7 +5,7 @@ use Rattle.std.specs.Prelude.{slice_get, Option, Some, None, nat_lt}
 use Rattle.std.proofs.lemmas.Bool.{cases_lt}
 use Rattle.std.proofs.lemmas.Bool.Decides.{Decides-ltb}
 use Rattle.std.proofs.lemmas.Option.{same_Some}
-use Rattle.rbac_policy.specs.Violations.{lesser}
+use Rattle.rbac_policy.specs.Inner.Violations.{lesser}
 
 -- some value that was seen gives it, and none gives a lesser one
 pub record LeastOf {Y R : Type 0} (key : R → ℕ) (g : Y → Option R) (seen : Y → Type 0) (best : R) : Type 0 where

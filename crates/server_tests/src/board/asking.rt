@@ -1,7 +1,8 @@
 //! What examples ask of a board, and refusals.
 use crate::board::playing::{Example, play};
 use policy_board::board::Board;
-use policy_board::board_list::{BoardName, FreshList};
+use policy_board::board_list::FreshList;
+use policy_board::board_name::BoardName;
 use policy_board::refusal::BoardRefusal;
 use policy_board::seat::{Acceptance, Seat};
 use rbac_admin::refusal::PolicyRefusal;

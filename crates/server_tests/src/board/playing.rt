@@ -4,9 +4,10 @@ ghost use Rattle.std.specs.Prelude.{◌≡◌};
 use crate::board::asking::refuse;
 use crate::board::receipts::{command, count_three, give_all, learn};
 use policy_board::board::Board;
-use policy_board::board_list::{BoardName, FreshList};
+use policy_board::board_list::FreshList;
+use policy_board::board_name::BoardName;
 use policy_board::opening::Opened;
-use policy_board::reader::SlotReader;
+use policy_board::reader::IdleReader;
 use policy_board::seat::Seat;
 use server_mistakes::boards;
 use std::alloc::Global;
@@ -52,7 +53,7 @@ fn run<B: BoardName, R: Wait + Abort>(
 fn close<B: BoardName, R: Wait + Abort>(
     rt: &R,
     board: Board<B>,
-    readers: Vec<SlotReader<B>>,
+    readers: Vec<IdleReader<B>>,
 ) -> usize {
     let mut closed = board.close();
     for reader in readers {

@@ -3,7 +3,8 @@ use crate::board::asking::{enter, first, grant, grant_once, login, may_audit, re
 use crate::board::playing::{Example, play};
 use history_receipts::receipt::{Kept, SlotReceipt};
 use policy_board::board::Board;
-use policy_board::board_list::{BoardName, FreshList};
+use policy_board::board_list::FreshList;
+use policy_board::board_name::BoardName;
 use policy_board::seat::Seat;
 use rbac_policy::commands::{AdminCommand, SessionId};
 use reactor_core::entry::SlotWord;

@@ -56,8 +56,8 @@ impl Read for Input<'_> {
             return Err(io::Error::from(ErrorKind::Other));
         }
         let count = self.bytes.len().min(self.step).min(buf.len());
-        let (front, rest) = self.bytes.split_at(count);
-        buf[..count].copy_from_slice(front);
+        let (prefix, rest) = self.bytes.split_at(count);
+        buf[..count].copy_from_slice(prefix);
         self.bytes = rest;
         Ok(count)
     }

@@ -4,7 +4,7 @@ use access_core::command::SlotCommand;
 use access_core::reply::{Added, Reply};
 use est_text::identifier::Identifier;
 use policy_board::board::Board;
-use policy_board::board_list::BoardName;
+use policy_board::board_name::BoardName;
 use policy_board::seat::{Acceptance, Seat};
 use rbac_policy::commands::{AdminCommand, SessionId};
 use rbac_policy::names::{Name, RoleNames};

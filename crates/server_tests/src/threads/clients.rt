@@ -62,8 +62,8 @@ impl Lines {
 impl Read for Lines {
     fn read(&mut self, buf: &mut [u8]) -> io::Result<usize> {
         let count = self.bytes.len().min(buf.len());
-        let (front, rest) = self.bytes.split_at(count);
-        buf[..count].copy_from_slice(front);
+        let (prefix, rest) = self.bytes.split_at(count);
+        buf[..count].copy_from_slice(prefix);
         self.bytes = rest;
         Ok(count)
     }

@@ -2,7 +2,7 @@
 ghost use denote.Param.{param};
 ghost use denote.Param.Send.{IsSend};
 
-use policy_board::board_list::BoardName;
+use policy_board::board_name::BoardName;
 use slot_table::table::SlotTable;
 
 /// What threads are lent: a value of this type. Nothing else is known of the type that lends it,
@@ -19,6 +19,6 @@ impl<B: BoardName> Lends<SlotTable<B>> for SlotTable<B> {
 }
 
 /// Tells proofs that values of this type may cross threads. It does nothing.
-pub(crate) fn may_cross<T: Send>()
+pub(crate) fn assert_send<T: Send>()
     ensures { IsSend (param 0 T.row) }
 {}

@@ -1,5 +1,5 @@
 //! A gate at which one worker waits for another.
-use client_loop::gate::Gate;
+use client_loop::answer_hook::AnswerHook;
 use std::sync::atomic::{AtomicBool, AtomicUsize, Ordering};
 use std::thread;
 use std::time::{Clock, Duration};
@@ -47,7 +47,7 @@ impl<'a, R: Clock> Meeting<'a, R> {
     }
 }
 
-impl<R: Clock> Gate for Meeting<'_, R> {
+impl<R: Clock> AnswerHook for Meeting<'_, R> {
     fn before(&self, worker: usize) {
         let is_first = self
             .first

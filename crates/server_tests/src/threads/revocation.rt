@@ -2,7 +2,7 @@
 ghost use Rattle.std.specs.Prelude.{◌≡◌};
 
 use crate::threads::asking::{INPUT, begin, enter, grant, name, order, revoke, root};
-use crate::threads::lending::{Lends, may_cross};
+use crate::threads::lending::{Lends, assert_send};
 use crate::threads::server::{Server, open};
 use access_core::command::SlotCommand;
 use access_core::refusal::Refusal;
@@ -10,8 +10,9 @@ use access_core::reply::{Added, Reply};
 use audit_report::audit::audit_journals;
 use est_text::identifier::Identifier;
 use policy_board::board::Board;
-use policy_board::board_list::{BoardName, FreshList};
-use policy_board::reader::SlotReader;
+use policy_board::board_list::FreshList;
+use policy_board::board_name::BoardName;
+use policy_board::reader::IdleReader;
 use policy_board::seat::{Acceptance, Seat};
 use policy_board::sharing::boards_are_shared;
 use rbac_admin::refusal::PolicyRefusal;
@@ -289,7 +290,7 @@ fn serve<B: BoardName + Send + Sync, R: Threads + Wait + Abort + Sync>(
         third: seats.pop().expect(rt, "a seat"),
     };
     prepare(rt, alloc, &board, &table, &mut seats);
-    may_cross::<SlotReader<B>>();
+    assert_send::<IdleReader<B>>();
     let Seats {
         giver,
         asker,

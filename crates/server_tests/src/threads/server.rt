@@ -3,7 +3,8 @@ ghost use Rattle.std.specs.Prelude.{◌≡◌, ◌≤◌};
 
 use history_receipts::receipt_list::SEATS;
 use policy_board::board::Board;
-use policy_board::board_list::{BoardName, FreshList};
+use policy_board::board_list::FreshList;
+use policy_board::board_name::BoardName;
 use policy_board::opening::Opened;
 use policy_board::seat::Seat;
 use slot_table::table::SlotTable;

@@ -1,4 +1,4 @@
--- The way back from a row; for private clauses (this project's own form).
+-- The way back from a row (this project's own form).
 use Rattle.std.specs.Prelude.{◌≡◌, ℕ, ◌+◌, Option, List, ◌∷◌, ◌++◌, [], length}
 use Rattle.state_search.specs.Table.{IsNodeAt}
 use Rattle.state_search.specs.Words.{Path}

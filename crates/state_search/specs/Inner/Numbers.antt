@@ -1,4 +1,4 @@
--- The places of the states of one number; for private clauses (this project's own form).
+-- The places of the states of one number (this project's own form).
 use Rattle.std.specs.Prelude.{◌≡◌, ◌≢◌, ◌<◌, ◌≤◌, ◌+◌, ℕ, Option, None, Some, List, length, slice_index_or}
 use Rattle.std.specs.List.{fold}
 use Rattle.std.specs.Hash.FoldHasher.{initial, write, finish}

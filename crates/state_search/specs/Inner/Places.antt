@@ -1,4 +1,4 @@
--- Which place a state has among the nodes of a search; for private clauses (this project's own form).
+-- Which place a state has among the nodes of a search (this project's own form).
 use Rattle.std.specs.Prelude.{◌≡◌, ◌≢◌, ℕ, nat_eq, List, [], ◌∷◌, ◌++◌, length}
 use Rattle.std.specs.List.{All}
 use Rattle.std.specs.HashMap.{get}

@@ -1,4 +1,4 @@
--- Where a search stands while it goes on; for private clauses (this project's own form).
+-- Where a search stands while it goes on (this project's own form).
 use Rattle.std.specs.Prelude.{◌≡◌, ℕ, ◌<◌, ◌≤◌, ◌+◌, Option, None, Some, List, [], ◌∷◌, ◌++◌, length}
 use Rattle.std.specs.List.{All, Contains}
 use Rattle.state_search.specs.Inner.Places.{Puts}

@@ -1,4 +1,4 @@
--- The commands: for each word the shape of the members after it, and what is made of their values; for private clauses.
+-- The commands: for each word the shape of the members after it, and what is made of their values.
 use Rattle.std.specs.Prelude.{ℕ, List, [], ◌∷◌, codes, Option, None, option_map, option_and_then}
 use Rattle.std.specs.Prelude.{if◌then◌else◌}
 use Rattle.std.specs.Str.{bytes_eq}

@@ -1,4 +1,4 @@
--- What the next tokens of a line are, member by member; for private clauses. Each function gives a value and the
+-- What the next tokens of a line are, member by member. Each function gives a value and the
 -- tokens that are left.
 use Rattle.std.specs.Prelude.{ℕ, nat_le, length, List, [], ◌∷◌, ◌++◌, codes, Option, Some, None}
 use Rattle.std.specs.Prelude.{option_map, option_and_then, if◌then◌else◌}

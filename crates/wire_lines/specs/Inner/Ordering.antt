@@ -1,4 +1,4 @@
--- A line's JSON value, written anew; for private clauses.
+-- A line's JSON value, written anew.
 use Rattle.std.specs.Prelude.{◌≡◌, ℕ, List, Some, String, string_bytes, Result, Ok, Err}
 use Rattle.std.specs.declared.alloc.Global.{Global}
 use Rattle.serde_json.specs.Data.{Data}

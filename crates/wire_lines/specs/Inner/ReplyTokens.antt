@@ -1,4 +1,4 @@
--- The tokens of what a reply says; for private clauses.
+-- The tokens of what a reply says.
 use Rattle.std.specs.Prelude.{List, [], ◌∷◌, ◌++◌, ℕ, flat_map}
 use Rattle.json.specs.Token.{Token, key}
 use Rattle.json.specs.Tree.{json_tokens}

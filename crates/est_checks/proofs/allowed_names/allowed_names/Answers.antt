@@ -4,7 +4,7 @@ use Rattle.std.specs.Str.{bytes_eq}
 use Rattle.est_modules.specs.Modules.{is_declared, is_input}
 use Rattle.est_modules.specs.NameSets.{has}
 use Rattle.est_modules.specs.Visible.{is_tick, stands_in}
-use Rattle.est_modules.specs.declared.head.Declared.{Declared}
+use Rattle.est_modules.specs.declared.interface.Declared.{Declared}
 use Rattle.est_modules.proofs.Lists.{any_map}
 use Rattle.est_modules.proofs.TellingNumbers.{tells_same}
 use Rattle.est_checks.proofs.Leaving.{stands_left}

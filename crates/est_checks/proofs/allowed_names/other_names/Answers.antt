@@ -2,7 +2,7 @@ use Rattle.std.proofs.Common.{◌||◌, not, ◌++◌, ℕ, List, [], ◌∷◌,
 use Rattle.std.proofs.lemmas.List.{take_all}
 use Rattle.est_modules.specs.NameSets.{has}
 use Rattle.est_modules.specs.Visible.{is_tick}
-use Rattle.est_modules.specs.declared.head.Declared.{Declared}
+use Rattle.est_modules.specs.declared.interface.Declared.{Declared}
 use Rattle.est_checks.proofs.Looping.{filtered_in, filtered_out}
 use Rattle.est_checks.proofs.allowed_names.other_names.Goals as goal
 use Rattle.est_checks.proofs.allowed_names.other_names.Goals.{then-is_other+in_ok-push, else-is_other}

@@ -1,6 +1,6 @@
 use Rattle.std.proofs.Common.{◌++◌, ℕ, List, [], ◌∷◌, map, ap, ◌∙◌}
 use Rattle.std.proofs.lemmas.List.{take_all}
-use Rattle.est_modules.specs.declared.head.Declared.{Declared}
+use Rattle.est_modules.specs.declared.interface.Declared.{Declared}
 use Rattle.est_checks.proofs.Looping.{mapped_next}
 use Rattle.est_checks.proofs.declared_names.declared_names.Goals as goal
 

@@ -1,5 +1,5 @@
 use Rattle.std.proofs.Common.{◌≡◌, map, take}
-use Rattle.est_modules.specs.declared.head.Declared.{Declared}
+use Rattle.est_modules.specs.declared.interface.Declared.{Declared}
 use Rattle.est_checks.proofs.declared_names.declared_names.Given as goal
 
 abbrev pub invariant-loop-declared : goal.invariant-loop-declared

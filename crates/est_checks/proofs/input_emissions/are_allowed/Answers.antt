@@ -16,7 +16,7 @@ returns-in-Some c =
     let p = program_of check.home.now in
     let bs = binders_of c.args.scope.now in
     let m = c.args.name.now in
-    let base = names_emitted_by (map program_of check.heads.now) em in
+    let base = names_emitted_by (map program_of check.modules.now) em in
     let o = c.args.kept.now in
     IfOk-weaker c.are_bound.result _ _
     (λ found all so s here. allowed em p bs c.args.renamings.now m s

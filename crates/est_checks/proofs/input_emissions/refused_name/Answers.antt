@@ -5,7 +5,7 @@ use Rattle.est_syntax.specs.Views.{renaming_view}
 use Rattle.est_modules.specs.Modules.{program_of}
 use Rattle.est_modules.specs.Renamings.{renamed}
 use Rattle.est_modules.specs.Scopes.{binders_of}
-use Rattle.est_modules.specs.declared.head.Declared.{Declared}
+use Rattle.est_modules.specs.declared.interface.Declared.{Declared}
 use Rattle.est_checks.specs.Emissions.{emitted_of, is_refused_in_run}
 use Rattle.est_checks.proofs.Emitting.{signal_found}
 use Rattle.est_checks.proofs.Looping.{found_next, found_later}

@@ -3,7 +3,7 @@ use Rattle.std.specs.List.{find}
 use Rattle.est_syntax.specs.Views.{renaming_view}
 use Rattle.est_modules.specs.Modules.{program_of}
 use Rattle.est_modules.specs.Scopes.{binders_of}
-use Rattle.est_modules.specs.declared.head.Declared.{Declared}
+use Rattle.est_modules.specs.declared.interface.Declared.{Declared}
 use Rattle.est_checks.specs.Emissions.{emitted_of, is_refused_in_run}
 use Rattle.est_checks.proofs.input_emissions.refused_name.Given as goal
 

@@ -2,7 +2,7 @@ use Rattle.std.proofs.Common.{◌∙◌, ◌||◌, ℕ, List, codes, map, ap}
 use Rattle.std.specs.Str.{bytes_eq}
 use Rattle.est_modules.specs.Modules.{is_declared}
 use Rattle.est_modules.specs.Visible.{is_tick, stands_in}
-use Rattle.est_modules.specs.declared.head.Declared.{Declared}
+use Rattle.est_modules.specs.declared.interface.Declared.{Declared}
 use Rattle.est_modules.proofs.Lists.{any_map}
 use Rattle.est_modules.proofs.TellingNumbers.{adds_both, adds_same, tells_first}
 use Rattle.est_checks.proofs.Noting.{turned}

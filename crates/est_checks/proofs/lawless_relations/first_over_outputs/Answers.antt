@@ -4,7 +4,7 @@ use Rattle.est_syntax.specs.Views.{relation_view}
 use Rattle.est_syntax.specs.declared.tree.Relation.{Relation}
 use Rattle.est_modules.specs.NameSets.{has}
 use Rattle.est_modules.specs.Modules.{program_of}
-use Rattle.est_modules.specs.declared.head.Declared.{Declared}
+use Rattle.est_modules.specs.declared.interface.Declared.{Declared}
 use Rattle.est_checks.specs.Inner.Offers.{is_over_outputs}
 use Rattle.est_checks.specs.LawlessRelations.{is_lawless}
 use Rattle.est_checks.proofs.Listing.{lawless_listed}

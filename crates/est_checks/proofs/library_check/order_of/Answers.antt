@@ -10,7 +10,7 @@ use Rattle.est_order.specs.PlaceOrders.{IsFaultOf}
 
 pub returns-in-Err-Recursive-clause-err : goal.returns-in-Err-Recursive-clause-err
 returns-in-Err-Recursive-clause-err c =
-    let ps = map program_of c.args.heads.now in
+    let ps = map program_of c.args.modules.now in
     let first = subst (IsFaultOf (run_rows ps)) c.in-Err-Recursive.field-0-is c.in-Err-Recursive.ensures.err in
     let at = program_at ps c.in-Err-Recursive.place (omega (arith, first.there, length-map ps (places_run ps))) in
     inr (record {

@@ -3,7 +3,7 @@ use Rattle.std.specs.Str.{bytes_eq}
 use Rattle.est_modules.specs.Modules.{is_declared}
 use Rattle.est_modules.specs.NameSets.{has}
 use Rattle.est_modules.specs.NameTables.{number_in}
-use Rattle.est_modules.specs.declared.head.Declared.{Declared}
+use Rattle.est_modules.specs.declared.interface.Declared.{Declared}
 use Rattle.est_modules.proofs.Numbering.{any_next}
 use Rattle.est_checks.specs.Inner.Noted.{is_noted}
 use Rattle.est_checks.proofs.Noting.{at_same, set_more}

@@ -11,14 +11,14 @@ pub add_module-requires-clause-place : goal.add_module-requires-clause-place
 add_module-requires-clause-place c =
     omega (
       arith,
-      order_within (map program_of c.args.heads.now) c.args.order.now c.loop-place.place-index
+      order_within (map program_of c.args.modules.now) c.args.order.now c.loop-place.place-index
           c.requires.order c.loop-place-test.true,
-      length-map c.args.heads.now program_of,
+      length-map c.args.modules.now program_of,
     )
 
 pub loop-place-init : goal.loop-place-init
 loop-place-init c =
-    let ps = map program_of c.args.heads.now in
+    let ps = map program_of c.args.modules.now in
     let f = emitted_of c.new-table.result in
     record {
       emitted = emitting_begins ps c.args.order.now f c.new-table.ensures;
@@ -27,7 +27,7 @@ loop-place-init c =
 
 pub loop-place-preserved : goal.loop-place-preserved
 loop-place-preserved c =
-    let ps = map program_of c.args.heads.now in
+    let ps = map program_of c.args.modules.now in
     let order = c.args.order.now in
     let k = c.loop-place.place-index in
     let at = program_at ps (slice_index order k) (order_within ps order k c.requires.order c.loop-place-test.true) in
@@ -39,5 +39,5 @@ loop-place-preserved c =
 
 pub returns : goal.returns
 returns c =
-    emitting_ends (map program_of c.args.heads.now) c.args.order.now (emitted_of c.loop-place.table)
+    emitting_ends (map program_of c.args.modules.now) c.args.order.now (emitted_of c.loop-place.table)
     c.loop-place.place-index c.requires.order (omega (arith, c.loop-place-test.false)) c.loop-place.invariant.emitted

@@ -8,6 +8,6 @@ use Rattle.est_checks.proofs.module_emissions.emissions_along.Given as goal
 abbrev pub invariant-loop-place : goal.invariant-loop-place
 invariant-loop-place l =
     record {
-      emitted : AreEmissionsBefore (map program_of l.heads) l.order l.place-index (emitted_of l.table);
-      numbers : AreEmittedNumbers l.names (map program_of l.heads) (emitted_of l.table) l.numbers;
+      emitted : AreEmissionsBefore (map program_of l.modules) l.order l.place-index (emitted_of l.table);
+      numbers : AreEmittedNumbers l.names (map program_of l.modules) (emitted_of l.table) l.numbers;
     }

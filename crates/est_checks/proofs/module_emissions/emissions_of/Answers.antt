@@ -4,7 +4,7 @@ use Rattle.std.specs.Str.{bytes_eq}
 use Rattle.est_modules.specs.Modules.{is_declared, program_of}
 use Rattle.est_modules.specs.NameTables.{number_in}
 use Rattle.est_modules.specs.Occurrences.{occurrences}
-use Rattle.est_modules.specs.declared.head.Declared.{Declared}
+use Rattle.est_modules.specs.declared.interface.Declared.{Declared}
 use Rattle.est_checks.specs.Emissions.{emitted_of, emits_here}
 use Rattle.est_checks.specs.Inner.Noted.{is_noted}
 use Rattle.est_checks.proofs.Noting.{noted_all, noted_set}
@@ -14,7 +14,7 @@ use Rattle.est_checks.proofs.module_emissions.emissions_of.Goals as goal
 pub returns : goal.returns
 returns c s =
     let t = c.args.names.now in
-    let ps = map program_of c.args.heads.now in
+    let ps = map program_of c.args.modules.now in
     let em = emitted_of c.args.table.now in
     let p = program_of c.args.home.now in
     let os = occurrences [] p.body in

@@ -13,7 +13,7 @@ pub returns-in_ok-note_renamed : goal.returns-in_ok-note_renamed
 returns-in_ok-note_renamed c =
     let visitor = c.args.visitor.now in
     let t = c.args.kept.now.table.now in
-    let ps = map program_of visitor.heads.now in
+    let ps = map program_of visitor.modules.now in
     let em = emitted_of visitor.table.now in
     let bs = binders_of c.args.scope.now in
     let rs = map renaming_view c.args.renamings.now in

@@ -1,5 +1,5 @@
 use Rattle.std.proofs.Common.{sym, ◌∙◌, map}
-use Rattle.est_modules.specs.declared.head.Declared.{Declared}
+use Rattle.est_modules.specs.declared.interface.Declared.{Declared}
 use Rattle.est_checks.specs.Emissions.{emitted_of}
 use Rattle.est_checks.proofs.Leaving.{none_left}
 use Rattle.est_checks.proofs.run_emissions.emitted_in.Goals as goal

@@ -1,7 +1,7 @@
 use Rattle.std.proofs.Common.{◌++◌, ℕ, List, [], ◌∷◌, filter, map, ap, sym, ◌∙◌}
 use Rattle.std.proofs.lemmas.List.{take_all}
 use Rattle.est_modules.specs.NameSets.{has}
-use Rattle.est_modules.specs.declared.head.Declared.{Declared}
+use Rattle.est_modules.specs.declared.interface.Declared.{Declared}
 use Rattle.est_checks.proofs.Looping.{filtered_in, filtered_out}
 use Rattle.est_checks.proofs.run_emissions.names_in.Goals as goal
 use Rattle.est_checks.proofs.run_emissions.names_in.Goals.{then-contains+in_ok-push, else-contains}

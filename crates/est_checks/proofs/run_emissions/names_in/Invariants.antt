@@ -1,6 +1,6 @@
 use Rattle.std.proofs.Common.{◌≡◌, map, take, filter}
 use Rattle.est_modules.specs.NameSets.{has}
-use Rattle.est_modules.specs.declared.head.Declared.{Declared}
+use Rattle.est_modules.specs.declared.interface.Declared.{Declared}
 use Rattle.est_checks.proofs.run_emissions.names_in.Given as goal
 
 abbrev pub invariant-loop-declared : goal.invariant-loop-declared

@@ -7,7 +7,7 @@ use Rattle.est_checks.proofs.statement_count.count_statements.Goals as goal
 
 pub returns-then-number-le-MOST_STATEMENTS : goal.returns-then-number-le-MOST_STATEMENTS
 returns-then-number-le-MOST_STATEMENTS c =
-    let ps = map program_of c.args.heads.now in
+    let ps = map program_of c.args.modules.now in
     let filled = subst (λ (order : List ℕ). IsFilled ps order c.in_ok-numbers.numbers.items) c.places.ensures
     c.in_ok-numbers.ensures in
     let number = c.number_of_module-number.ensures ∙ ap (λ (t : List ℕ). min TOO_MANY (number_of ps t c.args.main.now))
@@ -18,7 +18,7 @@ returns-then-number-le-MOST_STATEMENTS c =
 
 pub returns : goal.returns
 returns c =
-    let ps = map program_of c.args.heads.now in
+    let ps = map program_of c.args.modules.now in
     let filled = subst (λ (order : List ℕ). IsFilled ps order c.in_ok-numbers.numbers.items) c.places.ensures
     c.in_ok-numbers.ensures in
     let number = c.number_of_module-number.ensures ∙ ap (λ (t : List ℕ). min TOO_MANY (number_of ps t c.args.main.now))

@@ -20,7 +20,7 @@ returns-in-Some c =
     let own = λ (s : List ℕ). is_declared ds s || is_tick s in
     let bs = binders_of c.args.scope.now in
     let rs = map renaming_view c.args.renamings.now in
-    let base = names_of (map program_of check.heads.now) in
+    let base = names_of (map program_of check.modules.now) in
     let m = c.args.name.now in
     let o = c.args.kept.now in
     IfOk-weaker c.are_bound.result _ _

@@ -4,7 +4,7 @@ use Rattle.std.specs.List.{find}
 use Rattle.est_syntax.specs.Views.{renaming_view}
 use Rattle.est_modules.specs.Modules.{program_of}
 use Rattle.est_modules.specs.Scopes.{binders_of}
-use Rattle.est_modules.specs.declared.head.Declared.{Declared}
+use Rattle.est_modules.specs.declared.interface.Declared.{Declared}
 use Rattle.est_checks.specs.UnknownNames.{is_unbound}
 use Rattle.est_checks.proofs.Looping.{found_next, found_later}
 use Rattle.est_checks.proofs.unknown_names.unbound_name.Goals as goal

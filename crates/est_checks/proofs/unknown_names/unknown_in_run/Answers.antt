@@ -5,7 +5,7 @@ use Rattle.est_syntax.specs.declared.tree.Renaming.{Renaming}
 use Rattle.est_modules.specs.Scopes.{binders_of}
 use Rattle.est_modules.specs.Modules.{program_of, program_named}
 use Rattle.est_modules.specs.Visible.{stands_in}
-use Rattle.est_modules.specs.declared.head.Declared.{Declared}
+use Rattle.est_modules.specs.declared.interface.Declared.{Declared}
 use Rattle.est_checks.specs.Inner.InterfaceNames.{names_in}
 use Rattle.est_checks.specs.UnknownNames.{is_unbound, unknown_in_run}
 use Rattle.est_checks.proofs.Listing.{names_of, run_renaming, run_name, run_nowhere}
@@ -15,7 +15,7 @@ use Rattle.est_checks.proofs.unknown_names.unknown_in_run.Goals as goal
 pub returns-in-Some : goal.returns-in-Some
 returns-in-Some c =
     run_renaming (program_of c.args.check.now.home.now) (binders_of c.args.scope.now) c.args.renamings.now
-    (program_named (map program_of c.args.check.now.heads.now) c.args.name.now) c.in-Some.ensures
+    (program_named (map program_of c.args.check.now.modules.now) c.args.name.now) c.in-Some.ensures
 
 pub returns : goal.returns
 returns c =

@@ -40,7 +40,7 @@ use types.Kit.{use2, rewrite, ‵, raw, ◌⊛◌, some, later, ◌$◌, ◌∵�
 use types.Kit.{fjoin, pick, use0, use1, await}
 use types.Part.{sub, whole}
 use types.Run.{of_opd, addr, stop, fld, no_more, and_then, returns, enter}
-use Rattle.est_host.specs.contracts.loading.Fault as fault
+use Rattle.est_host.specs.contracts.loading.HostFault as fault
 use Rattle.est_host.specs.contracts.running.HostedMachine as running
 use Rattle.est_embed.specs.Handing.{IsHanded, lies_there}
 use Rattle.est_embed.specs.contracts.handed.Handed as handed

@@ -16,9 +16,9 @@ pub is_in-requires : goal.is_in-requires
 is_in-requires c =
     omega (
       arith,
-      order_within (map program_of c.args.heads.now) c.args.order.now c.loop-place.place-index
+      order_within (map program_of c.args.modules.now) c.args.order.now c.loop-place.place-index
           c.requires.order c.loop-place-test.true,
-      length-map c.args.heads.now program_of,
+      length-map c.args.modules.now program_of,
       c.requires.size,
     )
 
@@ -26,9 +26,9 @@ pub add_body-requires : goal.add_body-requires
 add_body-requires c =
     omega (
       arith,
-      order_within (map program_of c.args.heads.now) c.args.order.now c.loop-place.place-index
+      order_within (map program_of c.args.modules.now) c.args.order.now c.loop-place.place-index
           c.requires.order c.loop-place-test.true,
-      length-map c.args.heads.now program_of,
+      length-map c.args.modules.now program_of,
     )
 
 pub loop-place-init : goal.loop-place-init
@@ -40,7 +40,7 @@ loop-place-init c =
 
 pub loop-place-preserved : goal.loop-place-preserved
 loop-place-preserved c =
-    let ps = map program_of c.args.heads.now in
+    let ps = map program_of c.args.modules.now in
     let order = c.args.order.now in
     let k = c.loop-place.place-index in
     let set = c.args.needed.now in
@@ -69,5 +69,5 @@ loop-place-preserved c =
 
 pub returns-clause-each : goal.returns-clause-each
 returns-clause-each c =
-    front_whole (map program_of c.args.heads.now) c.args.order.now c.args.needed.now c.loop-place.bodies
+    front_whole (map program_of c.args.modules.now) c.args.order.now c.args.needed.now c.loop-place.bodies
     c.loop-place.place-index c.requires.order (omega (arith, c.loop-place-test.false)) c.loop-place.invariant.front

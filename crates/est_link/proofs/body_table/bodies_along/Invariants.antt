@@ -6,6 +6,6 @@ use Rattle.est_link.proofs.body_table.bodies_along.Given as goal
 abbrev pub invariant-loop-place : goal.invariant-loop-place
 invariant-loop-place l =
     record {
-      right : AreBodiesOf (map program_of l.heads) l.bodies;
-      front : HasFront (map program_of l.heads) l.needed l.order l.place-index l.bodies;
+      right : AreBodiesOf (map program_of l.modules) l.bodies;
+      front : HasFront (map program_of l.modules) l.needed l.order l.place-index l.bodies;
     }

@@ -12,7 +12,7 @@ use Rattle.est_link.proofs.flatten.+flat.Goals as goal
 pub flat_sequence-returns : goal.flat_sequence-returns
 flat_sequence-returns t c =
     let l = c.args.at.now.linker.now in
-    let ps = map program_of l.heads.now in
+    let ps = map program_of l.modules.now in
     let bodies = bodies_of l.bodies.now in
     let p = program_of l.home.now in
     let bs = binders_of c.args.at.now.scope.now in
@@ -31,7 +31,7 @@ flat_sequence-returns t c =
 pub flat_statement-returns : goal.flat_statement-returns
 flat_statement-returns t c =
     let l = c.args.at.now.linker.now in
-    let ps = map program_of l.heads.now in
+    let ps = map program_of l.modules.now in
     let bodies = bodies_of l.bodies.now in
     let p = program_of l.home.now in
     let bs = binders_of c.args.at.now.scope.now in

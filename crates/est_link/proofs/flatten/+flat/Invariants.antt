@@ -13,7 +13,7 @@ invariant-flat_sequence-loop-left l =
       within : l.left ≤ length l.units;
       done : option_map boxed_body l.rest
           ≡ chained seq
-          (unit_linked (map program_of l.at.linker.now.heads.now) (bodies_of l.at.linker.now.bodies.now)
+          (unit_linked (map program_of l.at.linker.now.modules.now) (bodies_of l.at.linker.now.bodies.now)
           (program_of l.at.linker.now.home.now) (binders_of l.at.scope.now)) (drop l.left l.units);
     }
 
@@ -26,7 +26,7 @@ invariant-flat_statement-loop-left l =
       within : l.left ≤ length l.sequences;
       done : option_map boxed_body l.rest
           ≡ chained par
-          (sequence_linked (map program_of l.at.linker.now.heads.now) (bodies_of l.at.linker.now.bodies.now)
+          (sequence_linked (map program_of l.at.linker.now.modules.now) (bodies_of l.at.linker.now.bodies.now)
           (program_of l.at.linker.now.home.now) (binders_of l.at.scope.now)) (drop l.left l.sequences);
     }
 

@@ -18,24 +18,24 @@ use Rattle.est_link.proofs.linked_module.linked_body.Goals as goal
 
 pub needed_places-requires-clause-main : goal.needed_places-requires-clause-main
 needed_places-requires-clause-main c =
-    let ps = map program_of c.args.heads.now in
+    let ps = map program_of c.args.modules.now in
     let here = placed ps c.args.main.now c.in-Some.place
-    (c.in-Some.ensures ∙ sym (place_found c.args.heads.now c.args.main.now)) in
-    omega (arith, slice_get_within ps c.in-Some.place here.home here.at, length-map c.args.heads.now program_of)
+    (c.in-Some.ensures ∙ sym (place_found c.args.modules.now c.args.main.now)) in
+    omega (arith, slice_get_within ps c.in-Some.place here.home here.at, length-map c.args.modules.now program_of)
 
 pub bodies_along-requires-clause-size : goal.bodies_along-requires-clause-size
 bodies_along-requires-clause-size c = ap (λ (xs : List Bool). length xs) c.deref.ensures.value
     ∙ c.in_ok-needed-in-Some.ensures.size
 
 pub bodies_along-requires-clause-complete : goal.bodies_along-requires-clause-complete
-bodies_along-requires-clause-complete c = subst (IsComplete (map program_of c.args.heads.now))
+bodies_along-requires-clause-complete c = subst (IsComplete (map program_of c.args.modules.now))
     (sym c.deref.ensures.value) c.in_ok-needed-in-Some.ensures.complete
 
 pub returns-in_ok-bodies-in-Some-clause-linked : goal.returns-in_ok-bodies-in-Some-clause-linked
 returns-in_ok-bodies-in-Some-clause-linked c =
-    let ps = map program_of c.args.heads.now in
+    let ps = map program_of c.args.modules.now in
     let main = c.args.main.now in
-    let at = c.in-Some.ensures ∙ sym (place_found c.args.heads.now main) in
+    let at = c.in-Some.ensures ∙ sym (place_found c.args.modules.now main) in
     let here = placed ps main c.in-Some.place at in
     let table = c.in_ok-bodies-in-Some.ensures in
     IfOk-weaker c.close.result (λ b. body_of b ≡ bodies_of c.in_ok-bodies-in-Some.bodies main)
@@ -47,9 +47,9 @@ returns-in_ok-bodies-in-Some-clause-linked c =
 
 pub returns-in_ok-bodies-in-Some-clause-bound : goal.returns-in_ok-bodies-in-Some-clause-bound
 returns-in_ok-bodies-in-Some-clause-bound c =
-    let ps = map program_of c.args.heads.now in
+    let ps = map program_of c.args.modules.now in
     let main = c.args.main.now in
-    let at = c.in-Some.ensures ∙ sym (place_found c.args.heads.now main) in
+    let at = c.in-Some.ensures ∙ sym (place_found c.args.modules.now main) in
     let table = c.in_ok-bodies-in-Some.ensures in
     IfOk-weaker c.close.result (λ b. body_of b ≡ bodies_of c.in_ok-bodies-in-Some.bodies main)
     (λ b. (em : List ℕ → List ℕ → Bool) (p : Program) → HasSoundNames ps em → program_named ps main ≡ Some p
@@ -62,5 +62,5 @@ returns-in_ok-bodies-in-Some-clause-bound c =
 
 pub returns-in-None-clause-linked : goal.returns-in-None-clause-linked
 returns-in-None-clause-linked c =
-    absurd (main_there (map program_of c.args.heads.now) c.args.main.now c.requires.there
-    (c.in-None.ensures ∙ sym (place_found c.args.heads.now c.args.main.now)))
+    absurd (main_there (map program_of c.args.modules.now) c.args.main.now c.requires.there
+    (c.in-None.ensures ∙ sym (place_found c.args.modules.now c.args.main.now)))

@@ -8,8 +8,8 @@ abbrev pub invariant-loop-left : goal.invariant-loop-left
 invariant-loop-left l =
     record {
       within : l.left ≤ length l.order;
-      size : length l.needed.items ≡ length l.heads;
-      complete : IsCompleteFrom (map program_of l.heads) l.order l.left l.needed.items;
+      size : length l.needed.items ≡ length l.modules;
+      complete : IsCompleteFrom (map program_of l.modules) l.order l.left l.needed.items;
       main : IsIn l.needed.items l.main;
     }
 

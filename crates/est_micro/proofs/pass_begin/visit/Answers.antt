@@ -1,5 +1,5 @@
 use Rattle.est_rounds.specs.Views.{env_of}
-use Rattle.est_micro.specs.Views.{IsBegun}
+use Rattle.est_micro.specs.Inner.Views.{IsBegun}
 use Rattle.est_micro.proofs.Passing.{sweep_passes}
 use Rattle.est_micro.proofs.pass_begin.visit.Goals as goal
 

@@ -7,7 +7,7 @@ use Rattle.est_meaning.specs.Environments.{Env}
 use Rattle.est_meaning.specs.declared.status.Status.{Status}
 use Rattle.est_net.specs.Layout.{output_count}
 use Rattle.est_micro.specs.Runs.{sheet_swept}
-use Rattle.est_micro.specs.Views.{IsBegun, IsResumed, IsSwept}
+use Rattle.est_micro.specs.Inner.Views.{IsBegun, IsResumed, IsSwept}
 use Rattle.est_micro.specs.declared.direction.Direction.{Direction}
 use Rattle.est_micro.specs.declared.cells.Swept.{Swept}
 use Rattle.est_micro.proofs.KernelNets.{root_fits, root_within, still_net}
@@ -26,13 +26,14 @@ sweep_begun-requires-clause-fits c = root_fits c.args.question.now.kernel.now _ 
 
 pub sweep_begun-requires-clause-within : goal.sweep_begun-requires-clause-within
 sweep_begun-requires-clause-within c =
-    root_within c.args.net.now c.args.question.now.kernel.now _ _ c.requires.net c.root-root.ensures c.outputs.ensures
+    root_within c.args.net.now c.args.question.now.kernel.now _ _ c.requires.net c.root-root.ensures
+        c.output_count.ensures
 
 pub returns-in-Fresh-clause-swept : goal.returns-in-Fresh-clause-swept
 unfolding IsBegun
 returns-in-Fresh-clause-swept c =
     rw c.in-Fresh.is (swept_at c.args.direction c.args.question.now.kernel.now Fresh _ _ _ _ _ _ c.root-root.ensures
-    (c.outputs.ensures ∙ c.requires.net.outputs) c.sweep_begun.ensures.swept)
+    (c.output_count.ensures ∙ c.requires.net.outputs) c.sweep_begun.ensures.swept)
 
 pub returns-in-Fresh-clause-net : goal.returns-in-Fresh-clause-net
 unfolding IsBegun
@@ -45,13 +46,14 @@ sweep_begun-requires-in-Done-clause-fits c = root_fits c.args.question.now.kerne
 
 pub sweep_begun-requires-in-Done-clause-within : goal.sweep_begun-requires-in-Done-clause-within
 sweep_begun-requires-in-Done-clause-within c =
-    root_within c.args.net.now c.args.question.now.kernel.now _ _ c.requires.net c.root-root.ensures c.outputs.ensures
+    root_within c.args.net.now c.args.question.now.kernel.now _ _ c.requires.net c.root-root.ensures
+        c.output_count.ensures
 
 pub returns-in-Done-clause-swept : goal.returns-in-Done-clause-swept
 unfolding IsBegun
 returns-in-Done-clause-swept c =
     rw c.in-Done.is (swept_at c.args.direction c.args.question.now.kernel.now Done _ _ _ _ _ _ c.root-root.ensures
-    (c.outputs.ensures ∙ c.requires.net.outputs) c.sweep_begun-in-Done.ensures.swept)
+    (c.output_count.ensures ∙ c.requires.net.outputs) c.sweep_begun-in-Done.ensures.swept)
 
 pub returns-in-Done-clause-net : goal.returns-in-Done-clause-net
 unfolding IsBegun
@@ -65,14 +67,15 @@ sweep_resumed-requires-clause-fits c = root_fits c.args.question.now.kernel.now 
 
 pub sweep_resumed-requires-clause-within : goal.sweep_resumed-requires-clause-within
 sweep_resumed-requires-clause-within c =
-    root_within c.args.net.now c.args.question.now.kernel.now _ _ c.requires.net c.root-root.ensures c.outputs.ensures
+    root_within c.args.net.now c.args.question.now.kernel.now _ _ c.requires.net c.root-root.ensures
+        c.output_count.ensures
 
 pub returns-in-Paused-clause-swept : goal.returns-in-Paused-clause-swept
 unfolding IsResumed
 returns-in-Paused-clause-swept c =
     rw c.in-Paused.is (swept_at c.args.direction c.args.question.now.kernel.now (Paused _) _ _ _ _ _ _
     c.root-root.ensures
-    (c.outputs.ensures ∙ c.requires.net.outputs) c.sweep_resumed.ensures.swept)
+    (c.output_count.ensures ∙ c.requires.net.outputs) c.sweep_resumed.ensures.swept)
 
 pub returns-in-Paused-clause-net : goal.returns-in-Paused-clause-net
 unfolding IsResumed

@@ -17,46 +17,48 @@ begin_present-returns-clause-swept t c = λ q a b asks.
     _ c.args.env.now _ _ _ _
     _ _
     _ _ _ asks
-    c.learn-go.ensures.learns c.learn-go.ensures.known c.and.ensures c.opposite.ensures c.and-2.ensures
+    c.tell_cell-go.ensures.learns c.tell_cell-go.ensures.known c.and.ensures c.opposite.ensures c.and-2.ensures
     c.sweep_begun-first.ensures.swept
-    c.sweep_begun-second.ensures.swept c.either-own.ensures c.leave.ensures.left
+    c.sweep_begun-second.ensures.swept c.either-own.ensures c.finish_statement.ensures.finished
 
 pub begin_suspend-returns-clause-swept : goal.begin_suspend-returns-clause-swept
 begin_suspend-returns-clause-swept t c = λ q a.
-    suspend_begun c.args.at.now q a c.args.p.now c.args.gate _ c.args.env.now _ _ _ _ _ _ c.learn-go.ensures.learns
-    c.learn-go.ensures.known c.sweep_begun-body.ensures.swept c.leave.ensures.left
+    suspend_begun c.args.at.now q a c.args.p.now c.args.gate _ c.args.env.now _ _ _ _ _ _ c.tell_cell-go.ensures.learns
+    c.tell_cell-go.ensures.known c.sweep_begun-body.ensures.swept c.finish_statement.ensures.finished
 
 pub begin_seq-returns-clause-swept : goal.begin_seq-returns-clause-swept
 begin_seq-returns-clause-swept t c = λ a b.
     seq_begun c.number_after.result c.args.at.now a c.args.p.now b c.args.q.now c.args.gate _ _ c.args.env.now _ _ _
     _ _ _ _ _ _ _
-    c.learn-go.ensures.learns c.learn-go.ensures.known c.ends-later.ensures c.with_emitted-inside.ensures
+    c.tell_cell-go.ensures.learns c.tell_cell-go.ensures.known c.ends-later.ensures c.with_emitted-inside.ensures
     c.sweep_begun-first.ensures.swept
     c.sweep_begun-second.ensures.swept
-    c.followed-own.ensures c.leave.ensures.left
+    c.followed-own.ensures c.finish_statement.ensures.finished
 
 pub begin_par-returns-clause-swept : goal.begin_par-returns-clause-swept
 begin_par-returns-clause-swept t c = λ a b.
     par_begun c.number_after.result c.args.at.now a c.args.p.now b c.args.q.now c.args.gate _ c.args.env.now _ _ _ _
     _ _ _ _ _ _
-    c.requires.direction c.learn-go.ensures.learns c.learn-go.ensures.known c.with_emitted-inside.ensures
+    c.requires.direction c.tell_cell-go.ensures.learns c.tell_cell-go.ensures.known c.with_emitted-inside.ensures
     c.sweep_begun-first.ensures.swept
     c.sweep_begun-second.ensures.swept
-    c.beside-own.ensures c.leave.ensures.left
+    c.beside-own.ensures c.finish_statement.ensures.finished
 
 pub begin_par_back-returns-clause-swept : goal.begin_par_back-returns-clause-swept
 begin_par_back-returns-clause-swept t c = λ a b.
     par_begun_back c.number_after.result c.args.at.now a c.args.p.now b c.args.q.now c.args.gate _ _ c.args.env.now _
     _ _ _ _ _ _ _ _ _
-    c.requires.direction c.learn-go.ensures.learns c.learn-go.ensures.known c.past.ensures c.with_emitted-inside.ensures
+    c.requires.direction c.tell_cell-go.ensures.learns c.tell_cell-go.ensures.known c.past.ensures
+        c.with_emitted-inside.ensures
     c.sweep_begun-second.ensures.swept
     c.sweep_begun-first.ensures.swept
-    c.beside-own.ensures c.leave.ensures.left
+    c.beside-own.ensures c.finish_statement.ensures.finished
 
 pub begin_trap-returns-clause-swept : goal.begin_trap-returns-clause-swept
 begin_trap-returns-clause-swept t c = λ a.
-    trap_begun c.args.at.now a c.args.p.now c.args.gate _ c.args.env.now _ _ _ _ _ _ _ c.learn-go.ensures.learns
-    c.learn-go.ensures.known c.sweep_begun-body.ensures.swept c.out_of_trap-own.ensures c.leave.ensures.left
+    trap_begun c.args.at.now a c.args.p.now c.args.gate _ c.args.env.now _ _ _ _ _ _ _ c.tell_cell-go.ensures.learns
+    c.tell_cell-go.ensures.known c.sweep_begun-body.ensures.swept c.out_of_trap-own.ensures
+        c.finish_statement.ensures.finished
 
 pub begin_again-returns-clause-swept : goal.begin_again-returns-clause-swept
 begin_again-returns-clause-swept t c = λ a.
@@ -64,8 +66,8 @@ begin_again-returns-clause-swept t c = λ a.
     c.args.at.now.cell c.args.at.now.traps a c.args.p.now
     c.args.gate _
     c.args.env.now _ _ _ _ _ _
-    c.requires.main c.learn-go.ensures.learns c.learn-go.ensures.known c.sweep_begun-body.ensures.swept
-    c.leave.ensures.left
+    c.requires.main c.tell_cell-go.ensures.learns c.tell_cell-go.ensures.known c.sweep_begun-body.ensures.swept
+    c.finish_statement.ensures.finished
 
 pub begin_loop-returns-clause-swept : goal.begin_loop-returns-clause-swept
 begin_loop-returns-clause-swept t c = λ a.
@@ -74,44 +76,44 @@ begin_loop-returns-clause-swept t c = λ a.
     c.args.gate _
     c.args.env.now _ _ _ _ _ _ _ _
     _
-    c.requires.main c.learn-go.ensures.learns c.learn-go.ensures.known c.sweep_begun-first.ensures.swept
+    c.requires.main c.tell_cell-go.ensures.learns c.tell_cell-go.ensures.known c.sweep_begun-first.ensures.swept
     c.sweep_begun-again.ensures.swept
-    c.emitting-own.ensures c.leave.ensures.left
+    c.emitting-own.ensures c.finish_statement.ensures.finished
 
 pub begin_local-returns-clause-swept : goal.begin_local-returns-clause-swept
 begin_local-returns-clause-swept t c = λ a.
     local_begun c.args.at.now c.args.s a c.args.p.now c.args.gate _ _ c.args.env.now _ _ _ _ _ _ _ _ _
-    c.learn-go.ensures.learns c.learn-go.ensures.known
+    c.tell_cell-go.ensures.learns c.tell_cell-go.ensures.known
     (c.set_local-inside.ensures ∙ ap (λ (v : Status). with_local (env_of c.args.env.now) c.args.s.index v)
     c.status.ensures)
-    c.sweep_begun-body.ensures.swept c.status_of.ensures c.learn.ensures.learns
-    c.hiding-own.ensures c.leave.ensures.left
+    c.sweep_begun-body.ensures.swept c.status_of.ensures c.tell_cell.ensures.learns
+    c.hiding-own.ensures c.finish_statement.ensures.finished
 
-pub begin_again-leave-requires-clause-within : goal.begin_again-leave-requires-clause-within
-begin_again-leave-requires-clause-within t c =
-    within_one _ _ c.args.net.now.cells.items _ _ _ _ _ _ _ c.requires.within c.learn-go.ensures.learns.size
+pub begin_again-finish_statement-requires-clause-within : goal.begin_again-finish_statement-requires-clause-within
+begin_again-finish_statement-requires-clause-within t c =
+    within_one _ _ c.args.net.now.cells.items _ _ _ _ _ _ _ c.requires.within c.tell_cell-go.ensures.learns.size
     c.sweep_begun-body.ensures.swept
 
-pub begin_suspend-leave-requires-clause-within : goal.begin_suspend-leave-requires-clause-within
-begin_suspend-leave-requires-clause-within t c =
-    within_one _ _ c.args.net.now.cells.items _ _ _ _ _ _ _ c.requires.within c.learn-go.ensures.learns.size
+pub begin_suspend-finish_statement-requires-clause-within : goal.begin_suspend-finish_statement-requires-clause-within
+begin_suspend-finish_statement-requires-clause-within t c =
+    within_one _ _ c.args.net.now.cells.items _ _ _ _ _ _ _ c.requires.within c.tell_cell-go.ensures.learns.size
     c.sweep_begun-body.ensures.swept
 
-pub begin_trap-leave-requires-clause-within : goal.begin_trap-leave-requires-clause-within
-begin_trap-leave-requires-clause-within t c =
-    within_one _ _ c.args.net.now.cells.items _ _ _ _ _ _ _ c.requires.within c.learn-go.ensures.learns.size
+pub begin_trap-finish_statement-requires-clause-within : goal.begin_trap-finish_statement-requires-clause-within
+begin_trap-finish_statement-requires-clause-within t c =
+    within_one _ _ c.args.net.now.cells.items _ _ _ _ _ _ _ c.requires.within c.tell_cell-go.ensures.learns.size
     c.sweep_begun-body.ensures.swept
 
-pub begin_loop-leave-requires-clause-within : goal.begin_loop-leave-requires-clause-within
-begin_loop-leave-requires-clause-within t c =
+pub begin_loop-finish_statement-requires-clause-within : goal.begin_loop-finish_statement-requires-clause-within
+begin_loop-finish_statement-requires-clause-within t c =
     within_two _ _ _ c.args.net.now.cells.items _ _ _ _ _ _ _ _ _ _ _ _ _ c.requires.within
-    c.learn-go.ensures.learns.size c.sweep_begun-first.ensures.swept
+    c.tell_cell-go.ensures.learns.size c.sweep_begun-first.ensures.swept
     c.sweep_begun-again.ensures.swept
 
-pub begin_seq-leave-requires-clause-within : goal.begin_seq-leave-requires-clause-within
-begin_seq-leave-requires-clause-within t c =
+pub begin_seq-finish_statement-requires-clause-within : goal.begin_seq-finish_statement-requires-clause-within
+begin_seq-finish_statement-requires-clause-within t c =
     within_two _ _ _ c.args.net.now.cells.items _ _ _ _ _ _ _ _ _ _ _ _ _ c.requires.within
-    c.learn-go.ensures.learns.size c.sweep_begun-first.ensures.swept
+    c.tell_cell-go.ensures.learns.size c.sweep_begun-first.ensures.swept
     c.sweep_begun-second.ensures.swept
 
 pub begin_seq-sweep_begun-second-requires : goal.begin_seq-sweep_begun-second-requires
@@ -120,21 +122,21 @@ begin_seq-sweep_begun-second-requires t c = (
   (
     c.requires.fits.1,
     (
-      still_at _ _ _ _ _ _ c.number_after.ensures (c.sweep_begun-first.ensures.kept ∙ c.learn-go.ensures.kept)
+      still_at _ _ _ _ _ _ c.number_after.ensures (c.sweep_begun-first.ensures.kept ∙ c.tell_cell-go.ensures.kept)
           c.requires.second_extents,
       (
         within_next c.args.net.now.cells.items _ _ _ _ _ _ _ _ c.sweep_begun-first.ensures.swept c.requires.within
-            c.learn-go.ensures.learns.size,
+            c.tell_cell-go.ensures.learns.size,
         c.requires.second_traps,
       ),
     ),
   ),
 )
 
-pub begin_par-leave-requires-clause-within : goal.begin_par-leave-requires-clause-within
-begin_par-leave-requires-clause-within t c =
+pub begin_par-finish_statement-requires-clause-within : goal.begin_par-finish_statement-requires-clause-within
+begin_par-finish_statement-requires-clause-within t c =
     within_two _ _ _ c.args.net.now.cells.items _ _ _ _ _ _ _ _ _ _ _ _ _ c.requires.within
-    c.learn-go.ensures.learns.size c.sweep_begun-first.ensures.swept
+    c.tell_cell-go.ensures.learns.size c.sweep_begun-first.ensures.swept
     c.sweep_begun-second.ensures.swept
 
 pub begin_par-sweep_begun-second-requires : goal.begin_par-sweep_begun-second-requires
@@ -143,21 +145,21 @@ begin_par-sweep_begun-second-requires t c = (
   (
     c.requires.fits.1,
     (
-      still_at _ _ _ _ _ _ c.number_after.ensures (c.sweep_begun-first.ensures.kept ∙ c.learn-go.ensures.kept)
+      still_at _ _ _ _ _ _ c.number_after.ensures (c.sweep_begun-first.ensures.kept ∙ c.tell_cell-go.ensures.kept)
           c.requires.second_extents,
       (
         within_next c.args.net.now.cells.items _ _ _ _ _ _ _ _ c.sweep_begun-first.ensures.swept c.requires.within
-            c.learn-go.ensures.learns.size,
+            c.tell_cell-go.ensures.learns.size,
         c.requires.second_traps,
       ),
     ),
   ),
 )
 
-pub begin_par_back-leave-requires-clause-within : goal.begin_par_back-leave-requires-clause-within
-begin_par_back-leave-requires-clause-within t c =
+pub begin_par_back-finish_statement-requires-clause-within : goal.begin_par_back-finish_statement-requires-clause-within
+begin_par_back-finish_statement-requires-clause-within t c =
     within_two _ _ _ c.args.net.now.cells.items _ _ _ _ _ _ _ _ _ _ _ _ _ c.requires.within
-    c.learn-go.ensures.learns.size c.sweep_begun-second.ensures.swept
+    c.tell_cell-go.ensures.learns.size c.sweep_begun-second.ensures.swept
     c.sweep_begun-first.ensures.swept
 
 pub begin_par_back-sweep_begun-second-requires : goal.begin_par_back-sweep_begun-second-requires
@@ -166,10 +168,10 @@ begin_par_back-sweep_begun-second-requires t c = (
   (
     c.requires.fits.1,
     (
-      still_at _ _ _ _ _ _ c.number_after.ensures (c.learn-go.ensures.kept) c.requires.second_extents,
+      still_at _ _ _ _ _ _ c.number_after.ensures (c.tell_cell-go.ensures.kept) c.requires.second_extents,
       (
         within_back _ _ _ _ c.args.net.now.cells.items _ c.past.ensures c.requires.within
-            c.learn-go.ensures.learns.size,
+            c.tell_cell-go.ensures.learns.size,
         c.requires.second_traps,
       ),
     ),
@@ -182,9 +184,9 @@ begin_par_back-sweep_begun-first-requires t c = (
   (
     c.requires.fits.0,
     (
-      still _ _ _ _ _ (c.sweep_begun-second.ensures.kept ∙ c.learn-go.ensures.kept) c.requires.first_extents,
+      still _ _ _ _ _ (c.sweep_begun-second.ensures.kept ∙ c.tell_cell-go.ensures.kept) c.requires.first_extents,
       (
-        within_one _ _ c.args.net.now.cells.items _ _ _ _ _ _ _ c.requires.within c.learn-go.ensures.learns.size
+        within_one _ _ c.args.net.now.cells.items _ _ _ _ _ _ _ c.requires.within c.tell_cell-go.ensures.learns.size
             c.sweep_begun-second.ensures.swept,
         c.requires.first_traps,
       ),
@@ -192,10 +194,10 @@ begin_par_back-sweep_begun-first-requires t c = (
   ),
 )
 
-pub begin_present-leave-requires-clause-within : goal.begin_present-leave-requires-clause-within
-begin_present-leave-requires-clause-within t c =
+pub begin_present-finish_statement-requires-clause-within : goal.begin_present-finish_statement-requires-clause-within
+begin_present-finish_statement-requires-clause-within t c =
     within_two _ _ _ c.args.net.now.cells.items _ _ _ _ _ _ _ _ _ _ _ _ _ c.requires.within
-    c.learn-go.ensures.learns.size c.sweep_begun-first.ensures.swept
+    c.tell_cell-go.ensures.learns.size c.sweep_begun-first.ensures.swept
     c.sweep_begun-second.ensures.swept
 
 pub begin_present-sweep_begun-second-requires : goal.begin_present-sweep_begun-second-requires
@@ -204,11 +206,11 @@ begin_present-sweep_begun-second-requires t c = (
   (
     c.requires.fits.1,
     (
-      still_at _ _ _ _ _ _ c.number_after.ensures (c.sweep_begun-first.ensures.kept ∙ c.learn-go.ensures.kept)
+      still_at _ _ _ _ _ _ c.number_after.ensures (c.sweep_begun-first.ensures.kept ∙ c.tell_cell-go.ensures.kept)
           c.requires.second_extents,
       (
         within_next c.args.net.now.cells.items _ _ _ _ _ _ _ _ c.sweep_begun-first.ensures.swept c.requires.within
-            c.learn-go.ensures.learns.size,
+            c.tell_cell-go.ensures.learns.size,
         c.requires.second_traps,
       ),
     ),
@@ -221,29 +223,29 @@ begin_loop-sweep_begun-again-requires t c = (
   (
     c.requires.fits,
     (
-      still _ _ _ _ _ (c.sweep_begun-first.ensures.kept ∙ c.learn-go.ensures.kept) c.requires.extents,
+      still _ _ _ _ _ (c.sweep_begun-first.ensures.kept ∙ c.tell_cell-go.ensures.kept) c.requires.extents,
       (
         within_next c.args.net.now.cells.items _ _ _ _ _ _ _ _ c.sweep_begun-first.ensures.swept
-            (rw c.requires.main c.requires.within) c.learn-go.ensures.learns.size,
+            (rw c.requires.main c.requires.within) c.tell_cell-go.ensures.learns.size,
         c.requires.traps,
       ),
     ),
   ),
 )
 
-pub begin_local-learn-requires : goal.begin_local-learn-requires
-begin_local-learn-requires t c =
+pub begin_local-tell_cell-requires : goal.begin_local-tell_cell-requires
+begin_local-tell_cell-requires t c =
     within_local (c.args.at.now.cell + c.args.at.now.traps) _ c.args.net.now.cells.items _ _ _ _ _ _ _
     c.requires.within
-    c.learn-go.ensures.learns.size c.sweep_begun-body.ensures.swept
+    c.tell_cell-go.ensures.learns.size c.sweep_begun-body.ensures.swept
 
-pub begin_local-leave-requires-clause-within : goal.begin_local-leave-requires-clause-within
-begin_local-leave-requires-clause-within t c =
+pub begin_local-finish_statement-requires-clause-within : goal.begin_local-finish_statement-requires-clause-within
+begin_local-finish_statement-requires-clause-within t c =
     within_told (c.args.at.now.cell + c.args.at.now.traps) _ c.args.net.now.cells.items _ _ _ _ _ _ _ _
     c.requires.within
-    c.learn-go.ensures.learns.size c.sweep_begun-body.ensures.swept c.learn.ensures.learns.size
+    c.tell_cell-go.ensures.learns.size c.sweep_begun-body.ensures.swept c.tell_cell.ensures.learns.size
 
 pub sweep_begun-returns-in-Some-clause-swept : goal.sweep_begun-returns-in-Some-clause-swept
 sweep_begun-returns-in-Some-clause-swept t c =
     idle_begun c.args.s.now c.args.at.now c.args.gate c.args.env.now c.args.net.now.cells.items _ _ _
-    (rw c.in-Some.is at c.past_idle.ensures) c.make_false.ensures.cells c.nothing.ensures.judged c.nothing.ensures.past
+    (rw c.in-Some.is at c.past_idle.ensures) c.fill_false.ensures.cells c.nothing.ensures.judged c.nothing.ensures.past

@@ -4,7 +4,7 @@ use Rattle.est_kernel.specs.declared.statement.Statement.TheVariants.{Emit}
 use Rattle.est_meaning.specs.declared.status.Status.{Status}
 use Rattle.est_cells.specs.Gates.{sure_code, may_code}
 use Rattle.est_cells.specs.Tables.{if_run, is_sure, is_possible}
-use Rattle.est_micro.specs.Views.{IsJudged}
+use Rattle.est_micro.specs.Inner.Views.{IsJudged}
 use Rattle.est_micro.proofs.BegunNodes.{leaf_begun}
 use Rattle.est_micro.proofs.sweep_begin.begin_emit.Goals as goal
 
@@ -12,6 +12,6 @@ pub returns-clause-swept : goal.returns-clause-swept
 returns-clause-swept c = λ e.
     leaf_begun (Emit c.args.signal) c.args.at.now c.args.gate e _ _ _ _ _ refl refl
     (subst (λ (z : Status). IsJudged (sure_code z 0) (may_code z 0) (if_run (is_sure z) (name_of c.args.signal))
-    (if_run (is_possible z) (name_of c.args.signal)) c.emission-own.result) c.learn-go.ensures.known
+    (if_run (is_possible z) (name_of c.args.signal)) c.emission-own.result) c.tell_cell-go.ensures.known
     c.emission-own.ensures)
-    c.learn-go.ensures.learns c.leave.ensures.left
+    c.tell_cell-go.ensures.learns c.finish_statement.ensures.finished

@@ -6,4 +6,4 @@ look-requires-clause-fits c = root_fits c.args.question.now.kernel.now _ c.root.
 
 pub look-requires-clause-within : goal.look-requires-clause-within
 look-requires-clause-within c =
-    root_within c.args.net.now c.args.question.now.kernel.now _ _ c.requires.net c.root.ensures c.outputs.ensures
+    root_within c.args.net.now c.args.question.now.kernel.now _ _ c.requires.net c.root.ensures c.output_count.ensures

@@ -8,7 +8,7 @@ use Rattle.est_modules.proofs.module_order.places_run.Goals as goal
 
 pub returns : goal.returns
 returns c =
-    let ps = map program_of c.args.heads.now in
+    let ps = map program_of c.args.modules.now in
     c.in_ok-walk_body.ensures ∙ gathered (λ (o : Occurrence). place_run ps o.act) _
     (occurrences [] (program_of c.args.home.now).body) ∙ ap
     (λ (xs : List ℕ). xs ++ flat_map (λ (o : Occurrence). place_run ps o.act)

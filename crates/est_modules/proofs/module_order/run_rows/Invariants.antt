@@ -5,5 +5,5 @@ use Rattle.est_modules.specs.ModuleOrders.{places_run}
 use Rattle.est_modules.proofs.module_order.run_rows.Given as goal
 
 abbrev pub invariant-loop-home : goal.invariant-loop-home
-invariant-loop-home l = rows_of l.rows.items ≡ map (λ h. places_run (map program_of l.heads) (program_of h))
-    (take l.home-index l.heads)
+invariant-loop-home l = rows_of l.rows.items ≡ map (λ h. places_run (map program_of l.modules) (program_of h))
+    (take l.home-index l.modules)

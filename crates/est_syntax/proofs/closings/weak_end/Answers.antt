@@ -1,7 +1,7 @@
 use Rattle.std.proofs.Common.{◌≡◌, ◌∙◌, ◌∷◌, ap, sym, subst, refl}
 use Rattle.est_text.specs.declared.token.Token.TheVariants.{Keyword}
 use Rattle.est_text.specs.declared.keyword.Keyword.TheVariants.{Weak}
-use Rattle.est_syntax.specs.Machine.{run, may_end_weak, kw_end, Skips}
+use Rattle.est_syntax.specs.Inner.Machine.{run, may_end_weak, kw_end, Skips}
 use Rattle.est_syntax.specs.declared.parse.TheConstants.{MOST_OPEN_UNITS}
 use Rattle.est_syntax.proofs.Reading.{weak_ends}
 use Rattle.est_syntax.proofs.closings.weak_end.Goals as goal

@@ -5,7 +5,7 @@ use Rattle.est_text.specs.declared.keyword.Keyword.TheVariants as keyword
 use Rattle.est_text.specs.declared.token.Symbol.TheVariants as symbol
 use Rattle.est_syntax.specs.Grammar.{relation_onto, later_relations_onto}
 use Rattle.est_syntax.specs.Views.{relation_view}
-use Rattle.est_syntax.specs.Machine.{run, one, declarations, later_relations}
+use Rattle.est_syntax.specs.Inner.Machine.{run, one, declarations, later_relations}
 use Rattle.est_syntax.specs.declared.parse.TheConstants.{MOST_OPEN_UNITS}
 use Rattle.est_syntax.proofs.declarations.declaration.Goals as goal
 

@@ -3,7 +3,7 @@ use Rattle.std.specs.Prelude.{Option}
 use Rattle.std.proofs.lemmas.List.{map-append}
 use Rattle.est_syntax.specs.declared.tree.Declaration.{Declaration}
 use Rattle.est_syntax.specs.Views.{declaration_view}
-use Rattle.est_syntax.specs.Parsing.{IsDeclared}
+use Rattle.est_syntax.specs.Inner.Parsing.{IsDeclared}
 use Rattle.est_syntax.proofs.Reading.{one_more_declaration}
 use Rattle.est_syntax.proofs.declarations.declarations.Goals as goal
 

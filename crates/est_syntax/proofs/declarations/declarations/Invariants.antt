@@ -1,8 +1,8 @@
 use Rattle.std.proofs.Common.{◌≡◌, ◌≤◌, ◌∷◌, List, length, map}
 use Rattle.est_syntax.specs.Grammar.{declarations_onto}
 use Rattle.est_syntax.specs.Views.{declaration_view}
-use Rattle.est_syntax.specs.Machine.{Want, run}
-use Rattle.est_syntax.specs.Machine.{declarations as declarations_want}
+use Rattle.est_syntax.specs.Inner.Machine.{Want, run}
+use Rattle.est_syntax.specs.Inner.Machine.{declarations as declarations_want}
 use Rattle.est_syntax.specs.declared.parse.TheConstants.{MOST_OPEN_UNITS}
 use Rattle.est_syntax.proofs.declarations.declarations.Given as goal
 

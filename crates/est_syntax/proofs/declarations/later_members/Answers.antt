@@ -2,7 +2,7 @@ use Rattle.std.proofs.Common.{◌≡◌, ◌∙◌, ◌∷◌, ap, List, length,
 use Rattle.est_text.specs.declared.token.Token.{Token}
 use Rattle.est_text.specs.declared.token.Token.TheVariants.{Symbol}
 use Rattle.est_text.specs.declared.token.Symbol.TheVariants.{Hash}
-use Rattle.est_syntax.specs.Machine.{run, later_members}
+use Rattle.est_syntax.specs.Inner.Machine.{run, later_members}
 use Rattle.est_syntax.specs.declared.parse.TheConstants.{MOST_OPEN_UNITS}
 use Rattle.est_syntax.proofs.Reading.{one_more_member}
 use Rattle.est_syntax.proofs.declarations.later_members.Goals as goal

@@ -5,7 +5,7 @@ use Rattle.est_text.specs.declared.token.Token.TheVariants.{Symbol}
 use Rattle.est_text.specs.declared.token.Symbol.TheVariants.{Comma}
 use Rattle.est_syntax.specs.declared.tree.Relation.{Relation}
 use Rattle.est_syntax.specs.Views.{relation_view}
-use Rattle.est_syntax.specs.Machine.{run, later_relations}
+use Rattle.est_syntax.specs.Inner.Machine.{run, later_relations}
 use Rattle.est_syntax.specs.declared.parse.TheConstants.{MOST_OPEN_UNITS}
 use Rattle.est_syntax.proofs.Reading.{one_more_relation}
 use Rattle.est_syntax.proofs.declarations.later_relations.Goals as goal

@@ -1,7 +1,7 @@
 use Rattle.std.proofs.Common.{◌≡◌, ◌≤◌, ◌∷◌, List, length, map}
 use Rattle.est_syntax.specs.Grammar.{later_relations_onto}
 use Rattle.est_syntax.specs.Views.{relation_view}
-use Rattle.est_syntax.specs.Machine.{Want, run, later_relations}
+use Rattle.est_syntax.specs.Inner.Machine.{Want, run, later_relations}
 use Rattle.est_syntax.specs.declared.parse.TheConstants.{MOST_OPEN_UNITS}
 use Rattle.est_syntax.proofs.declarations.later_relations.Given as goal
 

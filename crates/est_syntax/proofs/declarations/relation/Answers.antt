@@ -2,8 +2,8 @@ use Rattle.std.proofs.Common.{◌∙◌, ◌∷◌, [], ap, sym, refl}
 use Rattle.std.proofs.lemmas.Result.{err_from_is_err_and}
 use Rattle.est_text.specs.declared.token.Token.TheVariants.{Symbol}
 use Rattle.est_text.specs.declared.token.Symbol.TheVariants.{Hash}
-use Rattle.est_syntax.specs.Machine.{run, one, name, relation_tail, later_members}
-use Rattle.est_syntax.specs.Machine.{relation as relation_want}
+use Rattle.est_syntax.specs.Inner.Machine.{run, one, name, relation_tail, later_members}
+use Rattle.est_syntax.specs.Inner.Machine.{relation as relation_want}
 use Rattle.est_syntax.specs.declared.parse.TheConstants.{MOST_OPEN_UNITS}
 use Rattle.est_syntax.proofs.Reading.{fails_from, relation_is, relation_tail_is}
 use Rattle.est_syntax.proofs.declarations.relation.Goals as goal

@@ -12,9 +12,9 @@ use Rattle.est_syntax.specs.declared.tree.Conjunction.{Conjunction as Conjunctio
 use Rattle.est_syntax.specs.Tree.{LiteralTree, negated, enclosed, ConjunctionTree}
 use Rattle.est_syntax.specs.Grammar.{literal_onto, literal_depth}
 use Rattle.est_syntax.specs.Views.{literal_view, conjunction_view, expression_view, literals_of, conjunctions_of}
-use Rattle.est_syntax.specs.Machine.{run, Skips, name, literal, conjunction, conjunction_tail, expression}
-use Rattle.est_syntax.specs.Machine.{expression_tail}
-use Rattle.est_syntax.specs.Parsing.{IsPart}
+use Rattle.est_syntax.specs.Inner.Machine.{run, Skips, name, literal, conjunction, conjunction_tail, expression}
+use Rattle.est_syntax.specs.Inner.Machine.{expression_tail}
+use Rattle.est_syntax.specs.Inner.Parsing.{IsPart}
 use Rattle.est_syntax.specs.declared.parse.TheConstants.{MOST_OPEN_UNITS}
 use Rattle.est_syntax.proofs.Opening.{in_leaf, in_in}
 use Rattle.est_syntax.proofs.TestRuns.{conjunction_is, expression_is}

@@ -5,7 +5,7 @@ use Rattle.est_text.specs.declared.token.Token.{Token}
 use Rattle.est_syntax.specs.declared.tree.Module.{Module}
 use Rattle.est_syntax.specs.Tree.{ModuleTree}
 use Rattle.est_syntax.specs.Views.{module_view}
-use Rattle.est_syntax.specs.Modules.{AreModules}
+use Rattle.est_syntax.specs.Inner.Modules.{AreModules}
 use Rattle.est_syntax.proofs.Libraries.{no_modules_yet, one_more_module, more_modules_fail, modules_over}
 use Rattle.est_syntax.proofs.modules.later_modules.Goals as goal
 

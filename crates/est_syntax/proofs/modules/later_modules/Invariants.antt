@@ -1,6 +1,6 @@
 use Rattle.std.proofs.Common.{length, map}
 use Rattle.est_syntax.specs.Views.{module_view}
-use Rattle.est_syntax.specs.Modules.{AreModules}
+use Rattle.est_syntax.specs.Inner.Modules.{AreModules}
 use Rattle.est_syntax.proofs.modules.later_modules.Given as goal
 
 abbrev pub invariant-modules : goal.invariant-modules

@@ -3,7 +3,7 @@ use Rattle.std.proofs.lemmas.Result.{err_from_is_err_and}
 use Rattle.est_text.specs.declared.token.Token.TheVariants.{Keyword}
 use Rattle.est_text.specs.declared.keyword.Keyword.TheVariants as keyword
 use Rattle.est_syntax.specs.Views.{module_view}
-use Rattle.est_syntax.specs.Machine.{one}
+use Rattle.est_syntax.specs.Inner.Machine.{one}
 use Rattle.est_syntax.proofs.Libraries.{stops_from, wants, start, library_is, library_left}
 use Rattle.est_syntax.proofs.modules.library.Goals as goal
 

@@ -4,7 +4,7 @@ use Rattle.std.proofs.lemmas.Result.{err_from_is_err_and}
 use Rattle.est_text.specs.declared.token.Token.TheVariants.{Keyword}
 use Rattle.est_text.specs.declared.keyword.Keyword.TheVariants as keyword
 use Rattle.est_syntax.specs.Views.{declaration_view, statement_view}
-use Rattle.est_syntax.specs.Machine.{run, one, statement, modules, kw_end}
+use Rattle.est_syntax.specs.Inner.Machine.{run, one, statement, modules, kw_end}
 use Rattle.est_syntax.specs.declared.parse.TheConstants.{MOST_OPEN_UNITS}
 use Rattle.est_syntax.proofs.Libraries.{stops_from, stops_in, wants, behind, round_module, heading, headed, bodied}
 use Rattle.est_syntax.proofs.Libraries.{module_part}

@@ -1,6 +1,6 @@
 use Rattle.std.proofs.Common.{◌≡◌, ◌≤◌, ◌∷◌, List, length}
 use Rattle.est_syntax.specs.Grammar.{later_names_onto}
-use Rattle.est_syntax.specs.Machine.{Want, run, later_names}
+use Rattle.est_syntax.specs.Inner.Machine.{Want, run, later_names}
 use Rattle.est_syntax.specs.declared.parse.TheConstants.{MOST_OPEN_UNITS}
 use Rattle.est_syntax.proofs.names.later_names.Given as goal
 

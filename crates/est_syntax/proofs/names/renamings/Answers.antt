@@ -6,8 +6,8 @@ use Rattle.est_text.specs.declared.token.Token.{Token}
 use Rattle.est_text.specs.declared.token.Token.TheVariants.{Symbol}
 use Rattle.est_text.specs.declared.token.Symbol.TheVariants.{Comma, CloseBracket}
 use Rattle.est_syntax.specs.declared.tree.Renaming.{Renaming}
-use Rattle.est_syntax.specs.Machine.{run, later_renamings, one}
-use Rattle.est_syntax.specs.Machine.{renamings as renamings_want}
+use Rattle.est_syntax.specs.Inner.Machine.{run, later_renamings, one}
+use Rattle.est_syntax.specs.Inner.Machine.{renamings as renamings_want}
 use Rattle.est_syntax.specs.Views.{renaming_view}
 use Rattle.est_syntax.specs.declared.parse.TheConstants.{MOST_OPEN_UNITS}
 use Rattle.est_syntax.proofs.Runs.{later_renamings_over}

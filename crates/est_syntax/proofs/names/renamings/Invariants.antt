@@ -2,8 +2,8 @@ use Rattle.std.proofs.Common.{◌≡◌, ◌≤◌, ◌<◌, ◌∷◌, List, le
 use Rattle.est_text.specs.declared.token.Token.TheVariants.{Symbol}
 use Rattle.est_text.specs.declared.token.Symbol.TheVariants.{CloseBracket}
 use Rattle.est_syntax.specs.Views.{renaming_view}
-use Rattle.est_syntax.specs.Parsing.{renamings_so_far}
-use Rattle.est_syntax.specs.Machine.{Want, run, renamings, later_renamings, one}
+use Rattle.est_syntax.specs.Inner.Parsing.{renamings_so_far}
+use Rattle.est_syntax.specs.Inner.Machine.{Want, run, renamings, later_renamings, one}
 use Rattle.est_syntax.specs.declared.parse.TheConstants.{MOST_OPEN_UNITS}
 use Rattle.est_syntax.proofs.names.renamings.Given as goal
 

@@ -3,7 +3,7 @@ use Rattle.std.specs.Prelude.{Option, Some, None}
 use Rattle.std.proofs.lemmas.Result.{err_from_is_err_and, IfOk-weaker, IfErr-weaker}
 use Rattle.std.proofs.lemmas.List.{map-append}
 use Rattle.est_text.specs.declared.token.Token.{Token}
-use Rattle.est_syntax.specs.declared.fault.Fault.{Fault}
+use Rattle.est_syntax.specs.declared.fault.ParserStop.{ParserStop}
 use Rattle.est_syntax.specs.declared.tree.Branches.TheViews.{roll-Sequence, roll-Statement}
 use Rattle.est_syntax.specs.declared.tree.Branches.TheFolds.{the_lemmas}
 use Rattle.est_syntax.specs.declared.tree.Unit.{Unit as UnitValue}
@@ -14,10 +14,11 @@ use Rattle.est_syntax.specs.Tree.{sequence as sequence_tree, statement as statem
 use Rattle.est_syntax.specs.Grammar.{unit_onto, unit_depth, sequence_onto, sequence_depth, statement_onto}
 use Rattle.est_syntax.specs.Grammar.{statement_depth}
 use Rattle.est_syntax.specs.Views.{unit_view, sequence_view, statement_view, units_of, sequences_of}
-use Rattle.est_syntax.specs.Machine.{run, wrong, test, branches, leave, unit, sequence, sequence_tail, statement}
-use Rattle.est_syntax.specs.Machine.{statement_tail}
-use Rattle.est_syntax.specs.Frames.{IsPlain, IsOpened, IsTail, opener_token, opener_wants, frame_wants, head_wants}
-use Rattle.est_syntax.specs.Parsing.{IsPart, FailsIn}
+use Rattle.est_syntax.specs.Inner.Machine.{run, wrong, test, branches, leave, unit, sequence, sequence_tail, statement}
+use Rattle.est_syntax.specs.Inner.Machine.{statement_tail}
+use Rattle.est_syntax.specs.Inner.Frames.{IsPlain, IsOpened, IsTail, opener_token, opener_wants, frame_wants}
+use Rattle.est_syntax.specs.Inner.Frames.{head_wants}
+use Rattle.est_syntax.specs.Inner.Parsing.{IsPart, FailsIn}
 use Rattle.est_syntax.specs.declared.parse.TheConstants.{MOST_OPEN_UNITS}
 use Rattle.est_syntax.proofs.Runs.{sequence_is, statement_is}
 use Rattle.est_syntax.proofs.Opening.{in_in, round_tail, round_side, round_any, round_open, round_branches}
@@ -151,9 +152,9 @@ pub framed-returns-clause-err : goal.framed-returns-clause-err
 framed-returns-clause-err t c =
     let old = c.args.cursor.now in
     let body = statement_view c.in_ok-body.body in
-    IfErr-weaker c.tail.result (λ (x : Fault). FailsIn (suc c.args.room) (Some c.args.ends)
+    IfErr-weaker c.tail.result (λ (x : ParserStop). FailsIn (suc c.args.room) (Some c.args.ends)
     (head_wants c.in_ok-head.head) c.statement.new.cursor x)
-    (λ (x : Fault). FailsIn (suc c.args.room) (Some c.args.ends) (frame_wants c.args.frame) old x)
+    (λ (x : ParserStop). FailsIn (suc c.args.room) (Some c.args.ends) (frame_wants c.args.frame) old x)
     (λ x h. part.framed_tail_fails c.args.room c.args.ends c.args.frame c.in_ok-head.head c.takes_end.result body old
     c.head_of.new.cursor c.statement.new.cursor x c.in_ok-head.ensures.ok c.takes_end.ensures c.in_ok-body.ensures.ok
     h) c.tail.ensures.err
@@ -234,8 +235,8 @@ unit-returns-in-Test-clause-err t c =
     c.in_ok-plain.ensures.ok in
     let start : old ≡ first ∷ mid = c.in-Some.ensures ∙ ap (λ (l : List Token). first ∷ l) (sym plain.0) in
     let less : c.args.room ≡ suc (c.args.room - 1) = omega (arith, c.if-room-eq0.false) in
-    IfErr-weaker c.tested.result (λ (x : Fault). FailsIn (suc (c.args.room - 1)) None
-    (opener_wants opener.Test) mid x) (λ (x : Fault). FailsIn c.args.room (Some c.args.ends) (unit ∷ []) old x)
+    IfErr-weaker c.tested.result (λ (x : ParserStop). FailsIn (suc (c.args.room - 1)) None
+    (opener_wants opener.Test) mid x) (λ (x : ParserStop). FailsIn c.args.room (Some c.args.ends) (unit ∷ []) old x)
     (λ x h. part.opened_fails c.args.room (c.args.room - 1) c.args.ends None opener.Test first old mid x less start
     (c.in-Some-opener_of.ensures ∙ ap opener_token c.in-Test.is)
     (λ s r. round_any c.args.room (Some c.args.ends) s r) h) c.tested.ensures.err
@@ -270,8 +271,8 @@ unit-returns-in-Frame-clause-err t c =
     c.in_ok-plain.ensures.ok in
     let start : old ≡ first ∷ mid = c.in-Some.ensures ∙ ap (λ (l : List Token). first ∷ l) (sym plain.0) in
     let less : c.args.room ≡ suc (c.args.room - 1) = omega (arith, c.if-room-eq0.false) in
-    IfErr-weaker c.framed.result (λ (x : Fault). FailsIn (suc (c.args.room - 1)) (Some c.args.ends)
-    (opener_wants frame) mid x) (λ (x : Fault). FailsIn c.args.room (Some c.args.ends) (unit ∷ []) old x)
+    IfErr-weaker c.framed.result (λ (x : ParserStop). FailsIn (suc (c.args.room - 1)) (Some c.args.ends)
+    (opener_wants frame) mid x) (λ (x : ParserStop). FailsIn c.args.room (Some c.args.ends) (unit ∷ []) old x)
     (λ x h. part.opened_fails c.args.room (c.args.room - 1) c.args.ends
     (Some c.args.ends) frame first old mid x less start (c.in-Some-opener_of.ensures ∙ ap opener_token c.in-Frame.is)
     (λ s r. r) h) c.framed.ensures.err

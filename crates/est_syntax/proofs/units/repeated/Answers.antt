@@ -6,8 +6,8 @@ use Rattle.est_text.specs.declared.keyword.Keyword.TheVariants as keyword
 use Rattle.est_syntax.specs.declared.units.Head.TheVariants as head
 use Rattle.est_syntax.specs.Grammar.{statement_onto}
 use Rattle.est_syntax.specs.Views.{statement_view}
-use Rattle.est_syntax.specs.Machine.{one, may, leave, kw_end}
-use Rattle.est_syntax.specs.Frames.{head_onto, again_wants}
+use Rattle.est_syntax.specs.Inner.Machine.{one, may, leave, kw_end}
+use Rattle.est_syntax.specs.Inner.Frames.{head_onto, again_wants}
 use Rattle.est_syntax.specs.declared.parse.TheConstants.{MOST_OPEN_UNITS}
 use Rattle.est_syntax.proofs.Folding.{every_is}
 use Rattle.est_syntax.specs.Grammar.{unit_onto, unit_depth}

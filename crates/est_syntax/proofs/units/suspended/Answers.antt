@@ -7,9 +7,9 @@ use Rattle.est_text.specs.declared.keyword.Keyword.TheVariants as keyword
 use Rattle.est_syntax.specs.declared.units.Head.TheVariants as head
 use Rattle.est_syntax.specs.Grammar.{statement_onto, delay_onto}
 use Rattle.est_syntax.specs.Views.{statement_view, delay_view}
-use Rattle.est_syntax.specs.Machine.{leave, may_end}
-use Rattle.est_syntax.specs.Frames.{head_wants, head_onto}
-use Rattle.est_syntax.specs.Parts.{when_wants}
+use Rattle.est_syntax.specs.Inner.Machine.{leave, may_end}
+use Rattle.est_syntax.specs.Inner.Frames.{head_wants, head_onto}
+use Rattle.est_syntax.specs.Inner.Parts.{when_wants}
 use Rattle.est_syntax.specs.declared.parse.TheConstants.{MOST_OPEN_UNITS}
 use Rattle.est_syntax.proofs.Folding.{suspend_is}
 use Rattle.est_syntax.specs.Grammar.{unit_onto, unit_depth}

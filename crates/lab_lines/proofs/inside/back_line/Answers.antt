@@ -3,7 +3,7 @@ use Rattle.json.specs.Token.{Token}
 use Rattle.serde_json.specs.Data.{string}
 use Rattle.wire_lines.specs.Inner.ReplyTokens.{member_tokens, value_tokens}
 use Rattle.lab_lines.specs.Inside.{back_json}
-use Rattle.lab_lines.specs.LineParts.{members_in}
+use Rattle.lab_lines.specs.Inner.LineParts.{members_in}
 use Rattle.lab_lines.specs.TableJson.{state_json}
 use Rattle.lab_lines.proofs.LineLemmas.{two_pieces}
 use Rattle.lab_lines.proofs.inside.back_line.Goals as goal

@@ -4,7 +4,7 @@ use Rattle.serde_json.specs.Data.{string}
 use Rattle.lab_instant.specs.declared.seen.Instant.TheVariants.{Reaction}
 use Rattle.wire_lines.specs.Inner.ReplyTokens.{member_tokens, value_tokens}
 use Rattle.lab_lines.specs.Inside.{inside_json, locals_json, statements_json}
-use Rattle.lab_lines.specs.LineParts.{members_in}
+use Rattle.lab_lines.specs.Inner.LineParts.{members_in}
 use Rattle.lab_lines.specs.TableJson.{state_json}
 use Rattle.lab_lines.specs.FoundJson.{names_json}
 use Rattle.lab_lines.proofs.LineLemmas.{six_pieces}

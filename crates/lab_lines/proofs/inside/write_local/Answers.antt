@@ -1,6 +1,6 @@
 use Rattle.std.proofs.Common.{refl}
 use Rattle.lab_lines.specs.Inside.{local_json}
-use Rattle.lab_lines.specs.LineParts.{members_in}
+use Rattle.lab_lines.specs.Inner.LineParts.{members_in}
 use Rattle.lab_lines.proofs.LineLemmas.{object_is}
 use Rattle.lab_lines.proofs.inside.write_local.Goals as goal
 

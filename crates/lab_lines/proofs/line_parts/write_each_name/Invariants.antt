@@ -1,5 +1,5 @@
 use Rattle.std.proofs.Common.{◌≡◌, ◌++◌}
-use Rattle.lab_lines.specs.LineParts.{names_left}
+use Rattle.lab_lines.specs.Inner.LineParts.{names_left}
 use Rattle.lab_lines.proofs.line_parts.write_each_name.Given as goal
 
 abbrev pub invariant-loop-place : goal.invariant-loop-place

@@ -1,7 +1,7 @@
 use Rattle.std.proofs.Common.{◌≡◌, ◌∙◌, ◌+◌, ◌<◌, List, [], ◌++◌, OnOk, ap, arith, length, sym, subst}
 use Rattle.est_kernel.specs.declared.interface.Declaration.{Declaration}
 use Rattle.est_kernel.specs.declared.interface.Kind.TheVariants.{Input}
-use Rattle.lab_lines.specs.LineParts.{names_left}
+use Rattle.lab_lines.specs.Inner.LineParts.{names_left}
 use Rattle.lab_lines.proofs.LineLemmas.{name_later, name_there}
 use Rattle.lab_lines.proofs.line_parts.write_name_if.Goals as goal
 

@@ -1,5 +1,5 @@
 use Rattle.std.proofs.Common.{refl}
-use Rattle.lab_lines.specs.LineParts.{members_in}
+use Rattle.lab_lines.specs.Inner.LineParts.{members_in}
 use Rattle.lab_lines.specs.Ties.{tie_json}
 use Rattle.lab_lines.proofs.LineLemmas.{object_is}
 use Rattle.lab_lines.proofs.ties.write_tie.Goals as goal

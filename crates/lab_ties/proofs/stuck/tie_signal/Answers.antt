@@ -12,9 +12,9 @@ returns c =
     let n = c.args.place in
     let k = c.args.kernel.now in
     let f = cell_at c.args.net.now.cells.items in
-    let here : c.outputs.result ≡ output_count k.interface = c.outputs.ensures ∙ c.requires.outputs in
+    let here : c.output_count.result ≡ output_count k.interface = c.output_count.ensures ∙ c.requires.outputs in
     c.in_ok-tie.ensures.tied
     ∙ (ap (λ (s : Statement). c.args.found.now.items
-    ++ ties (outer n) (Interface n) true s 0 0 (sheet_in f true s c.outputs.result 0)) c.root.ensures
+    ++ ties (outer n) (Interface n) true s 0 0 (sheet_in f true s c.output_count.result 0)) c.root.ensures
     ∙ ap (λ (m : ℕ). c.args.found.now.items
     ++ ties (outer n) (Interface n) true k.root 0 0 (sheet_in f true k.root m 0)) here)

@@ -7,5 +7,5 @@ use Rattle.policy_board.proofs.sharing.boards_are_shared.Goals as goal
 pub returns : goal.returns
 returns g c =
     let sends : IsSend (publisher.the_row (param 0 g.row.B) g.B.BoardName) =
-    record { owned = c.may_cross.ensures.owned; leaving = λ k d w. tt } in
+    record { owned = c.assert_send.ensures.owned; leaving = λ k d w. tt } in
     board_shares (param 0 g.row.B) g.B.BoardName sends

@@ -1,6 +1,6 @@
 use Rattle.std.proofs.Common.{◌≡◌, ◌++◌, ◌∷◌, [], drop, fold}
 use Rattle.std.specs.Prelude.{None}
-use Rattle.rbac_policy.specs.Violations.{lesser, place_of_set, violation_of}
+use Rattle.rbac_policy.specs.Inner.Violations.{lesser, place_of_set, violation_of}
 use Rattle.rbac_policy.proofs.separation.first_violation.Given as goal
 
 abbrev pub invariant-loop-row : goal.invariant-loop-row

@@ -1,6 +1,6 @@
 use Rattle.std.proofs.Common.{◌≡◌, drop, fold}
 use Rattle.std.specs.Prelude.{None}
-use Rattle.rbac_policy.specs.Violations.{lesser, violator}
+use Rattle.rbac_policy.specs.Inner.Violations.{lesser, violator}
 use Rattle.rbac_policy.proofs.separation.least_violator.Given as goal
 
 abbrev pub invariant-loop-row : goal.invariant-loop-row

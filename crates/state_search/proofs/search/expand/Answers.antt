@@ -25,9 +25,9 @@ pub loop-step-preserved : goal.loop-step-preserved
 loop-step-preserved g c =
     let h = c.loop-step.invariant in
     let a = c.in_ok-add_row.ensures.adds in
-    let steps : AreSteps (g.M.TransitionSystem.is_state c.args.machine.now)
-    (g.M.TransitionSystem.does c.args.machine.now)
-    (g.M.TransitionSystem.covers c.args.machine.now) (g.M.TransitionSystem.apart c.args.machine.now) c.index.result.now
+    let steps : AreSteps (g.M.TransitionSystem.is_state c.args.system.now)
+    (g.M.TransitionSystem.does c.args.system.now)
+    (g.M.TransitionSystem.covers c.args.system.now) (g.M.TransitionSystem.apart c.args.system.now) c.index.result.now
     c.as_slice-step-items.result.now =
     rw c.as_slice-step-items.ensures.value (record {
       sound = c.in_ok-whole.ensures.sound;
@@ -36,14 +36,14 @@ loop-step-preserved g c =
     }) in
     let next = adding _ _ _ _ _ _ _ _ _ c.loop-step.step-index _ _ _ c.loop-step-test.true c.step-item.is steps
     h.expanding a in
-    let more = adds_one (g.M.TransitionSystem.is_state c.args.machine.now)
-    (g.M.TransitionSystem.does c.args.machine.now)
-    (g.M.TransitionSystem.covers c.args.machine.now) (g.M.TransitionSystem.apart c.args.machine.now) _ _ _ _ _ _ _ a in
+    let more = adds_one (g.M.TransitionSystem.is_state c.args.system.now)
+    (g.M.TransitionSystem.does c.args.system.now)
+    (g.M.TransitionSystem.covers c.args.system.now) (g.M.TransitionSystem.apart c.args.system.now) _ _ _ _ _ _ _ a in
     record {
       places = c.in_ok-add_row.ensures.places;
-      first = λ x k. adds_stay (g.M.TransitionSystem.is_state c.args.machine.now)
-          (g.M.TransitionSystem.does c.args.machine.now)
-          (g.M.TransitionSystem.covers c.args.machine.now) (g.M.TransitionSystem.apart c.args.machine.now) _ _ _ _ _
+      first = λ x k. adds_stay (g.M.TransitionSystem.is_state c.args.system.now)
+          (g.M.TransitionSystem.does c.args.system.now)
+          (g.M.TransitionSystem.covers c.args.system.now) (g.M.TransitionSystem.apart c.args.system.now) _ _ _ _ _
           _ _ a 0 x
           (h.first x k);
       done = h.done;

@@ -11,8 +11,8 @@ invariant-loop-step g l = record {
   done : l.found.done ≡ l.from;
   within : l.from < length l.found.nodes.items;
   count : length l.found.rows.items ≡ length l.fn.found.rows.items + l.step-index;
-  expanding : IsExpanding (g.M.TransitionSystem.is_state l.machine) (g.M.TransitionSystem.does l.machine)
-      (g.M.TransitionSystem.covers l.machine)
-      (g.M.TransitionSystem.apart l.machine) l.found.nodes.items l.found.rows.items l.from l.node
+  expanding : IsExpanding (g.M.TransitionSystem.is_state l.system) (g.M.TransitionSystem.does l.system)
+      (g.M.TransitionSystem.covers l.system)
+      (g.M.TransitionSystem.apart l.system) l.found.nodes.items l.found.rows.items l.from l.node
       (take l.step-index l.step-items);
 }

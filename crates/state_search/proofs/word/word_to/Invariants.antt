@@ -6,7 +6,7 @@ use Rattle.state_search.proofs.word.word_to.Given as goal
 abbrev pub invariant-loop-place : goal.invariant-loop-place
 invariant-loop-place g l = record {
   within : l.place < length l.found.nodes.items;
-  gone : (r : Row _) → GoneBack (g.M.TransitionSystem.does l.machine) l.found.nodes.items
+  gone : (r : Row _) → GoneBack (g.M.TransitionSystem.does l.system) l.found.nodes.items
       (slice_index_or l.found.rows.items l.fn.at r) l.place (reverse l.back.items);
 }
 

@@ -8,6 +8,6 @@ pub returns-in-Runs : goal.returns-in-Runs
 returns-in-Runs c =
     let check = c.args.self.now in
     subst
-    (λ act. IfOk c.refused_in_run.result (λ name. name ≡ refused_at (map program_of check.heads.now)
+    (λ act. IfOk c.refused_in_run.result (λ name. name ≡ refused_at (map program_of check.modules.now)
     (emitted_of check.table.now) (program_of check.home.now)
     (record { act = act_of act; around = binders_of c.args.scope.now }))) (sym c.in-Runs.is) c.refused_in_run.ensures

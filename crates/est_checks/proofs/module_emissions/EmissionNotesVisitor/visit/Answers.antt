@@ -10,7 +10,7 @@ use Rattle.est_checks.proofs.module_emissions.EmissionNotesVisitor.visit.Goals a
 pub returns-in-Emits : goal.returns-in-Emits
 returns-in-Emits c =
     let v = c.args.self.now in
-    let ps = map program_of v.heads.now in
+    let ps = map program_of v.modules.now in
     let em = emitted_of v.table.now in
     let bs = binders_of c.args.scope.now in
     on_ok_weaker c.note_name.result
@@ -20,7 +20,7 @@ returns-in-Emits c =
 
 pub returns-in-Tests : goal.returns-in-Tests
 returns-in-Tests c =
-    let ps = map program_of c.args.self.now.heads.now in
+    let ps = map program_of c.args.self.now.modules.now in
     let em = emitted_of c.args.self.now.table.now in
     let none = λ (s : List ℕ). λ (act : Act). emits_by ps em s (act_of act) ≡ false in
     none_noted ps em c.args.self.now.names.now c.args.seen.now (act_of c.args.act.now) (binders_of c.args.scope.now)
@@ -35,7 +35,7 @@ returns-in-Tests c =
 pub returns-in-Runs : goal.returns-in-Runs
 returns-in-Runs c =
     let v = c.args.self.now in
-    let ps = map program_of v.heads.now in
+    let ps = map program_of v.modules.now in
     let em = emitted_of v.table.now in
     let bs = binders_of c.args.scope.now in
     on_ok_weaker c.note_run.result

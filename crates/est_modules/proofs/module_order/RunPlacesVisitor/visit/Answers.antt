@@ -7,9 +7,9 @@ use Rattle.est_modules.proofs.module_order.RunPlacesVisitor.visit.Goals as goal
 
 pub returns-in-Runs : goal.returns-in-Runs
 returns-in-Runs c =
-    let heads = c.args.self.now.heads.now in
-    let noted : option_to_list c.place.result ≡ place_run (map program_of heads) (act_of c.args.act.now) =
-    ap option_to_list (c.place.ensures ∙ sym (place_found heads c.in-Runs.name))
-    ∙ ap (λ act. place_run (map program_of heads) (act_of act)) (sym c.in-Runs.is) in
+    let modules = c.args.self.now.modules.now in
+    let noted : option_to_list c.place.result ≡ place_run (map program_of modules) (act_of c.args.act.now) =
+    ap option_to_list (c.place.ensures ∙ sym (place_found modules c.in-Runs.name))
+    ∙ ap (λ act. place_run (map program_of modules) (act_of act)) (sym c.in-Runs.is) in
     subst (λ (xs : List ℕ). OnOk c.note.result (c.note.new.places.items ≡ c.args.seen.now.items ++ xs)) noted
     c.note.ensures

@@ -41,9 +41,9 @@ loop-emission-preserved c =
     let read : e ≡ get_or items at e = cc in
     let cells = cell_at c.args.self.now.cells.items in
     record {
-      sure = λ n. more is_sure cells items at n _ _ e _ within read c.known.ensures
+      sure = λ n. more is_sure cells items at n _ _ e _ within read c.status_or_absent.ensures
           (c.loop-emission.invariant.sure n) (c.beside-said.ensures.sure n);
-      possible = λ n. more is_possible cells items at n _ _ e _ within read c.known.ensures
+      possible = λ n. more is_possible cells items at n _ _ e _ within read c.status_or_absent.ensures
           (c.loop-emission.invariant.possible n) (c.beside-said.ensures.possible n);
     }
 

@@ -3,10 +3,10 @@ use Rattle.std.proofs.lemmas.List.{with_items_is}
 use Rattle.est_net.proofs.Ranges.{FewerOpen, fewer_open}
 use Rattle.est_net.proofs.net.Net.fill.Goals as goal
 
-fewer : (c : goal.After-self-1) → FewerOpen c.args.self.now.left_open (c.args.past - c.args.from) c.fill.new.cells
+fewer : (c : goal.After-self-1) → FewerOpen c.args.self.now.open_count (c.args.past - c.args.from) c.fill.new.cells
 fewer c =
     let more = c.fill.ensures.count in
-    fewer_open c.args.self.now.left_open (c.args.past - c.args.from) c.args.self.now.cells.items
+    fewer_open c.args.self.now.open_count (c.args.past - c.args.from) c.args.self.now.cells.items
     c.as_mut_slice.result.now c.fill.new.cells
     c.as_mut_slice.ensures.value (omega arith) c.fill.ensures.cells.size c.args.self.now.counted
 

@@ -4,9 +4,9 @@ use Rattle.est_net.specs.Cells.{known_as}
 use Rattle.est_net.proofs.Ranges.{FewerOpen, fewer_open}
 use Rattle.est_net.proofs.net.Net.write.Goals as goal
 
-fewer : (c : goal.After-self-1) → FewerOpen c.args.self.now.left_open 1 c.decide.new.cells
+fewer : (c : goal.After-self-1) → FewerOpen c.args.self.now.open_count 1 c.decide.new.cells
 fewer c =
-    fewer_open c.args.self.now.left_open 1 c.args.self.now.cells.items c.as_mut_slice.result.now c.decide.new.cells
+    fewer_open c.args.self.now.open_count 1 c.args.self.now.cells.items c.as_mut_slice.result.now c.decide.new.cells
     c.as_mut_slice.ensures.value c.decide.ensures.count
     (ap length c.decide.ensures.cells
     ∙ length-set c.as_mut_slice.result.now c.args.cell (known_as c.args.value)) c.args.self.now.counted

@@ -10,7 +10,7 @@ pub seen_in-requires : goal.seen_in-requires
 seen_in-requires c =
     let k = c.args.kernel.now in
     let after = c.run-reaction.ensures.net in
-    let outputs : c.net-net.result.now.outputs ≡ output_count k.interface
+    let outputs : c.net-net.result.now.output_count ≡ output_count k.interface
     = ap (λ (z : Net). z.outputs) c.net-net.ensures ∙ after.outputs in
     let cells : length c.net-net.result.now.cells.items ≡ cell_count k
     = ap (λ (z : Net). length z.cells.items) c.net-net.ensures ∙ after.size in

@@ -19,10 +19,10 @@ returns-clause-answer g c =
     let stands : StandsFor c.policy.result.now (journal ++ c.in-Ok.told ∷ []) =
     subst (StandsFor c.policy.result.now) (all ∙ ap (λ (x : Entry). journal ++ x ∷ []) (sym told)) c.policy.ensures in
     pass (record {}) (record {
-      acceptance = record { entry = c.in-Ok.told; list = c.front.result; session = c.session_made.result };
+      acceptance = record { entry = c.in-Ok.told; list = c.prefix.result; session = c.session_made.result };
       answered = refl;
       entry_is = told;
-      list_is = c.front.ensures ∙ (all ∙ sym c.in-Ok-push.ensures);
+      list_is = c.prefix.ensures ∙ (all ∙ sym c.in-Ok-push.ensures);
       session_is =
           c.session_made.ensures journal stands
           ∙ (ap (λ (x : Entry). session_made journal x) told

@@ -1,5 +1,5 @@
 use Rattle.std.proofs.Common.{◌^◌, ◌<◌, ◌≡◌, ◌↔◌, ◌+◌, ℕ, List, length, arith, sym, subst}
-use Rattle.rbac_closure.specs.declared.sets.TheConstants.{ROLES}
+use Rattle.rbac_closure.specs.declared.role_sets.TheConstants.{ROLES}
 use Rattle.rbac_closure.specs.Sets.{Has, IsFirstFrom}
 use Rattle.rbac_closure.specs.Inner.Rows.{IsInTable}
 use Rattle.rbac_closure.proofs.EdgeLemmas.{IsFound, found_begins, found_more, found_past, found_ends, below_in_table}

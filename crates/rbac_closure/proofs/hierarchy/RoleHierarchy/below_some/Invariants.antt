@@ -1,5 +1,5 @@
 use Rattle.std.proofs.Common.{ℕ, ◌↔◌, ◌≤◌, ◌-◌}
-use Rattle.rbac_closure.specs.declared.sets.TheConstants.{ROLES}
+use Rattle.rbac_closure.specs.declared.role_sets.TheConstants.{ROLES}
 use Rattle.rbac_closure.specs.Sets.{Has}
 use Rattle.rbac_closure.proofs.EdgeLemmas.{IsFound}
 use Rattle.rbac_closure.proofs.hierarchy.RoleHierarchy.below_some.Given as goal

@@ -1,6 +1,6 @@
 use Rattle.std.proofs.Common.{ℕ, sym, subst, refl}
 use Rattle.std.specs.Prelude.{replicate}
-use Rattle.rbac_closure.specs.declared.sets.TheConstants.{ROLES}
+use Rattle.rbac_closure.specs.declared.role_sets.TheConstants.{ROLES}
 use Rattle.rbac_closure.specs.Inner.Rows.{IsClosed}
 use Rattle.rbac_closure.proofs.EdgeLemmas.{closed_alone}
 use Rattle.rbac_closure.proofs.hierarchy.RoleHierarchy.new.Goals as goal

@@ -1,5 +1,5 @@
 use Rattle.std.proofs.Common.{◌≡◌, sym, subst, arith, ℕ, List, length}
-use Rattle.rbac_closure.specs.declared.sets.TheConstants.{ROLES}
+use Rattle.rbac_closure.specs.declared.role_sets.TheConstants.{ROLES}
 use Rattle.rbac_closure.proofs.EdgeLemmas.{HasSeniors, seniors_begin, seniors_end}
 use Rattle.rbac_closure.proofs.hierarchy.RoleHierarchy.rebuild.Goals as goal
 

@@ -1,7 +1,7 @@
 use Rattle.std.proofs.Common.{◌++◌, ◌∷◌, [], ◌∙◌, ℕ, ap}
 use Rattle.std.specs.Prelude.{Some}
 use Rattle.rbac_policy.specs.declared.rows.Session.{Session}
-use Rattle.rbac_policy.specs.Violations.{first_violation}
+use Rattle.rbac_policy.specs.Inner.Violations.{first_violation}
 use Rattle.rbac_policy.proofs.OfSeparation.LoggingIn.{login_violation}
 use Rattle.rbac_policy.proofs.policy.Policy.first_violated_by_login.Goals as goal
 

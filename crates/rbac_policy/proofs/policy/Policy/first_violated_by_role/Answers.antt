@@ -1,7 +1,7 @@
 use Rattle.std.proofs.Common.{◌++◌, ◌∷◌, [], ◌∙◌, ℕ, ap, sym}
 use Rattle.std.specs.Prelude.{Some}
 use Rattle.rbac_policy.specs.declared.rows.Session.{Session}
-use Rattle.rbac_policy.specs.Violations.{first_violation}
+use Rattle.rbac_policy.specs.Inner.Violations.{first_violation}
 use Rattle.rbac_policy.proofs.Asking.{no_role}
 use Rattle.rbac_policy.proofs.OfReaders.ReadingRoles.{no_live}
 use Rattle.rbac_policy.proofs.OfSeparation.ActivatingRole.{after_role}

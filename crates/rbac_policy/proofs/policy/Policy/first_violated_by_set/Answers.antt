@@ -2,7 +2,7 @@ use Rattle.std.proofs.Common.{◌++◌, ◌∷◌, [], ◌∙◌, ℕ, ap, subst
 use Rattle.std.specs.Prelude.{Some, None}
 use Rattle.rbac_policy.specs.declared.rows.DsdSet.{DsdSet}
 use Rattle.rbac_policy.specs.Tables.{At}
-use Rattle.rbac_policy.specs.Violations.{first_violation}
+use Rattle.rbac_policy.specs.Inner.Violations.{first_violation}
 use Rattle.rbac_policy.proofs.OfSeparation.Prospects.{after_set}
 use Rattle.rbac_policy.proofs.policy.Policy.first_violated_by_set.Goals as goal
 

@@ -1,0 +1,6 @@
+pub mod Hearing
+pub mod Outcomes
+pub mod Outputs
+pub mod Passes
+pub mod Pausing
+pub mod Views

@@ -1,0 +1,5 @@
+pub mod Frames
+pub mod Machine
+pub mod Modules
+pub mod Parsing
+pub mod Parts
