@@ -15,7 +15,7 @@ use crate::fault::LinkFault;
 use crate::limits::check_limits;
 use crate::module_emissions::emissions_along;
 use est_modules::library_modules::LibraryModules;
-use est_modules::module_order::order_modules;
+use est_modules::module_order::order_library;
 use est_modules::names::table::{NameTable, further_names, numbered};
 use est_order::order_fault::OrderFault;
 use est_order::place_order::Order;
@@ -28,7 +28,7 @@ fn order_of(alloc: Global, modules: &LibraryModules<'_>) -> Result<Order, LinkFa
     ensures ok { OnOk result (NoneIsRecursive (run_rows (map program_of modules.now))) }
     ensures err { IfErr result (IsOrderFault (map program_of modules.now)) }
 {
-    match order_modules(alloc, &*modules) {
+    match order_library(alloc, &*modules) {
         Ok(order) => Ok(order),
         Err(OrderFault::Recursive(place)) => Err(LinkFault::RecursiveRun(modules.name_at(place))),
         Err(OrderFault::Memory) => Err(LinkFault::Memory),

@@ -97,7 +97,7 @@ fn run_rows(alloc: Global, modules: &LibraryModules<'_>) -> Result<Vec<Vec<usize
 ///
 /// `Recursive` with the place of the first module, in the order of the text, from which a chain of
 /// runs leads back to it, where there is one; or memory was refused.
-pub fn order_modules(alloc: Global, modules: &LibraryModules<'_>) -> Result<Order, OrderFault>
+pub fn order_library(alloc: Global, modules: &LibraryModules<'_>) -> Result<Order, OrderFault>
     ensures order { IfOk result (λ order. IsOrderOf (map program_of modules.now) order) }
     ensures ok { OnOk result (NoneIsRecursive (run_rows (map program_of modules.now))) }
     ensures err { IfErr result (λ fault. IsFaultOf (run_rows (map program_of modules.now)) fault) }

@@ -4,7 +4,7 @@ use crate::told::expect_told;
 use est_checks::statement_count::count_statements;
 use est_modules::collecting::collect_modules;
 use est_modules::library_modules::LibraryModules;
-use est_modules::module_order::order_modules;
+use est_modules::module_order::order_library;
 use std::alloc::Global;
 use std::process::Abort;
 
@@ -24,7 +24,7 @@ const DOUBLING: &str = "module M: [run A; run A; run A; run A; run A; run A; run
 /// modules have no order.
 fn counted(rt: &impl Abort, alloc: Global, modules: &LibraryModules<'_>, place: usize) -> String {
     let main = modules.as_slice().get(place).expect(rt, "a module");
-    let words = match order_modules(alloc, &*modules) {
+    let words = match order_library(alloc, &*modules) {
         Ok(order) => {
             let count = count_statements(alloc, &*modules, &order, &main.name).expect(rt, "room");
             format!(in alloc; "{count:?}")

@@ -6,7 +6,7 @@ ghost use Rattle.est_modules.specs.Modules.{program_of};
 use est_kernel::kernel::Kernel;
 use est_link::link::link;
 use est_modules::library_modules::LibraryModules;
-use est_modules::module_order::order_modules;
+use est_modules::module_order::order_library;
 use est_order::place_order::Order;
 use est_reduce::flat::Flat;
 use est_reduce::reduce::reduce;
@@ -32,7 +32,7 @@ pub fn library_of(rt: &impl Abort, alloc: Global, text: &str) -> Library {
 pub fn order_of(rt: &impl Abort, alloc: Global, modules: &LibraryModules<'_>) -> Order
     ensures { IsOrderOf (map program_of modules.now) result }
 {
-    match order_modules(alloc, &*modules) {
+    match order_library(alloc, &*modules) {
         Ok(order) => order,
         Err(_) => None.expect(rt, "an order"),
     }

@@ -11,7 +11,7 @@ use crate::reports::write_report;
 use crate::server::serve as serve_socket;
 use access_core::single::Single;
 use client_loop::connections::finish_logout;
-use client_loop::serving::{End, serve};
+use client_loop::serving::{ServedEnd, serve};
 use log::sink::Writer;
 use log::{Level, Logged, info};
 use program_words::invocation::Invocation;
@@ -76,7 +76,7 @@ fn script<R: Wait, I: Read, O: Write, E: Write>(
     let Ok(mut desk) = Single::new(memory.allocator()) else {
         return Err(Fault::Memory);
     };
-    let End { why, left } = serve(memory, input, output, &mut desk);
+    let ServedEnd { why, left } = serve(memory, input, output, &mut desk);
     finish_logout(rt, &mut desk, left);
     if log {
         log_end(errors, why);

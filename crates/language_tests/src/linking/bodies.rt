@@ -4,7 +4,7 @@ use est_checks::duplicates::first_duplicate;
 use est_checks::missing_modules::first_missing;
 use est_modules::collecting::collect_modules;
 use est_modules::library_modules::LibraryModules;
-use est_modules::module_order::order_modules;
+use est_modules::module_order::order_library;
 use est_reduce::body::{Body, BoundSignal, BoundTest};
 use link_mistakes::bodies::linked_body;
 use std::alloc::Global;
@@ -101,7 +101,7 @@ fn last_act_of(rt: &impl Abort, alloc: Global, modules: &LibraryModules<'_>) -> 
             .expect(rt, "room")
             .is_none()
     );
-    let order = order_modules(alloc, &*modules).ok().expect(rt, "an order");
+    let order = order_library(alloc, &*modules).ok().expect(rt, "an order");
     let body = linked_body(alloc, &*modules, &order, &main).expect(rt, "room");
     last_act(&body)
 }
