@@ -1,7 +1,7 @@
 //! Machines, and what they answer to masks of inputs.
 
 use est_host::answering::answer;
-use est_host::loading::{Fault, start};
+use est_host::loading::{HostFault, start};
 use est_host::running::HostedMachine;
 use std::alloc::Global;
 use std::process::Abort;
@@ -175,7 +175,7 @@ fn machines_react(rt: HostRuntime) {
 }
 
 /// The fault of a text that is refused.
-fn fault_of(rt: &impl Abort, alloc: Global, text: &str) -> Fault {
+fn fault_of(rt: &impl Abort, alloc: Global, text: &str) -> HostFault {
     match start(alloc, b"M", text.as_bytes()) {
         Ok(_) => panic!(rt; "not refused"),
         Err(fault) => fault,

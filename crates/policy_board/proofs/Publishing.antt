@@ -82,7 +82,7 @@ publishes b place v x next before pending e book_prefix was accepted own list is
     let State : Type 0 = Policy × PrefixInBook in
     let s : State = (next.policy, next.book_prefix) in
     let now : s ≡ (absorbed x.policy e, book_prefix) = next_is x.policy x.book_prefix e book_prefix before pending s
-        was.resting is
+    was.resting is
     same in
     let t : next.book_prefix ≡ book_prefix = ap (λ (s : State). s.1) now in
     let after = publishing_more b x.policy x.book_prefix before e book_prefix was accepted own list in

@@ -130,7 +130,7 @@ condition_rules entries s (CreateSession user roles) = unauthorized_listed entri
     ▸ accept
 condition_rules entries s (AddActiveRole role) =
     RefuseUnless (HasAuthorized entries s role) (NotAuthorized role)
-        ▸ RefuseIf (AlreadyActive role) (HasActive entries s role)
+    ▸ RefuseIf (AlreadyActive role) (HasActive entries s role)
     ▸ accept
 condition_rules entries s (DropActiveRole role) = RefuseUnless (HasActive entries s role) (NotActive role) ▸ accept
 condition_rules entries s _ = accept

@@ -1,6 +1,6 @@
 //! The modules of the worked examples, and tests over their signals.
 
-use est_kernel::closed::is_complete;
+use est_kernel::closed::is_closed;
 use est_kernel::interface::{Declaration, Interface, Kind, MOST_SIGNALS};
 use est_kernel::kernel::Kernel;
 use est_kernel::statement::{InterfaceSignal, Signal, Statement, Test};
@@ -47,7 +47,7 @@ fn interface(rt: &impl Abort, alloc: Global) -> Interface {
 /// The kernel of a body over these signals.
 fn kernel(rt: &impl Abort, alloc: Global, body: Statement) -> Kernel {
     let interface = interface(rt, alloc);
-    assert!(rt; is_complete(&interface, &body));
+    assert!(rt; is_closed(&interface, &body));
     Kernel::build(interface, body).ok().expect(rt, "a kernel")
 }
 

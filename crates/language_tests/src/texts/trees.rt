@@ -29,7 +29,7 @@ const CLOSINGS: [(&str, &str); 17] = [
 ];
 
 /// Whether the last words that may be left out are written.
-fn is_complete(unit: &Unit) -> bool {
+fn is_closed(unit: &Unit) -> bool {
     match unit {
         Unit::Present(_, Branches::Then(_, again) | Branches::Else(_, again)) => *again,
         Unit::Present(_, Branches::Both(_, _, again)) => *again,
@@ -45,7 +45,7 @@ fn is_complete(unit: &Unit) -> bool {
 fn is_body_closed(rt: &impl Abort, alloc: Global, body: &str) -> bool {
     let text = module_of(rt, alloc, body);
     let library = library_of(rt, alloc, text.as_str());
-    is_complete(&library.first.body.first.first)
+    is_closed(&library.first.body.first.first)
 }
 
 /// Fails where a tree tells the last words of a unit otherwise, left out or written.

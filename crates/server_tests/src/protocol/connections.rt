@@ -3,7 +3,7 @@
 use crate::protocol::devices::{AMPLE, Calls, Input, Output, STEP};
 use access_core::single::Single;
 use client_loop::connections::finish_logout;
-use client_loop::serving::{End, serve};
+use client_loop::serving::{ServedEnd, serve};
 use rbac_policy::commands::SessionId;
 use rbac_policy::objects::{Object, Operation};
 use std::alloc::Global;
@@ -57,7 +57,7 @@ fn end_of<R: Abort + Wait>(
     writer: &mut MeteredWriter<Output>,
 ) -> EndReason {
     let mut desk = Single::new(memory.allocator()).ok().expect(rt, "a desk");
-    let End { why, left } = serve(memory, reader, writer, &mut desk);
+    let ServedEnd { why, left } = serve(memory, reader, writer, &mut desk);
     let is_left = left.is_some();
     finish_logout(rt, &mut desk, left);
     assert!(rt; !is_left);

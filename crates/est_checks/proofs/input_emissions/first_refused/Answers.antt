@@ -14,7 +14,7 @@ returns-in-Some c =
     let f = refused_at (map program_of c.args.modules.now) (emitted_of c.args.table.now) in
     let rest = first_in_bodies f (map program_of (drop (suc i) hs)) in
     let here = ap (λ (h : LibraryModule). first_of (f (program_of h)) (occurrences [] (program_of h).body))
-        (sym c.home-item.is)
+    (sym c.home-item.is)
     ∙ sym c.in_ok-name.ensures ∙ c.in-Some.is in
     sym (c.loop-home.invariant
     ∙ ap (λ (xs : List LibraryModule). first_in_bodies f (map program_of (drop i xs)))
@@ -29,7 +29,7 @@ loop-home-preserved c =
     let f = refused_at (map program_of c.args.modules.now) (emitted_of c.args.table.now) in
     let rest = first_in_bodies f (map program_of (drop (suc i) hs)) in
     let here = ap (λ (h : LibraryModule). first_of (f (program_of h)) (occurrences [] (program_of h).body))
-        (sym c.home-item.is)
+    (sym c.home-item.is)
     ∙ sym c.in_ok-name.ensures ∙ c.in_default.is in
     let next : suc i ≡ i + 1 = omega arith in
     c.loop-home.invariant

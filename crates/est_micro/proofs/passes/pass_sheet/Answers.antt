@@ -23,7 +23,7 @@ pass_begun-requires-clause-fits c = root_fits c.args.question.now.kernel.now _ c
 pub pass_begun-requires-clause-within : goal.pass_begun-requires-clause-within
 pass_begun-requires-clause-within c =
     root_within c.args.net.now c.args.question.now.kernel.now _ _ c.requires.net c.root-root.ensures
-        c.output_count.ensures
+    c.output_count.ensures
 
 pub returns-in-Fresh-clause-passes : goal.returns-in-Fresh-clause-passes
 returns-in-Fresh-clause-passes c =
@@ -41,7 +41,7 @@ pass_begun-requires-in-Done-clause-fits c = root_fits c.args.question.now.kernel
 pub pass_begun-requires-in-Done-clause-within : goal.pass_begun-requires-in-Done-clause-within
 pass_begun-requires-in-Done-clause-within c =
     root_within c.args.net.now c.args.question.now.kernel.now _ _ c.requires.net c.root-root.ensures
-        c.output_count.ensures
+    c.output_count.ensures
 
 pub returns-in-Done-clause-passes : goal.returns-in-Done-clause-passes
 returns-in-Done-clause-passes c =
@@ -60,7 +60,7 @@ pass_resumed-requires-clause-fits c = root_fits c.args.question.now.kernel.now _
 pub pass_resumed-requires-clause-within : goal.pass_resumed-requires-clause-within
 pass_resumed-requires-clause-within c =
     root_within c.args.net.now c.args.question.now.kernel.now _ _ c.requires.net c.root-root.ensures
-        c.output_count.ensures
+    c.output_count.ensures
 
 pub returns-in-Paused-clause-passes : goal.returns-in-Paused-clause-passes
 returns-in-Paused-clause-passes c =

@@ -32,7 +32,7 @@ loop-swept-init c =
     let h = subst
     (λ (z : List Status). AreSignalsUpdated i unasked inputs (bits c.in_doubt.result.must.signals.interface)
     (bits c.in_doubt.result.can.signals.interface) z c.update_signals-env.new.net.cells.items
-        c.update_signals-env.result)
+    c.update_signals-env.result)
     c.clear.ensures.cells
     c.update_signals-env.ensures.updated in
     record {
@@ -41,8 +41,11 @@ loop-swept-init c =
           (subst (λ (z : ℕ). HasEmissions k.root x (bits z)) (sym c.in_doubt.ensures.possible) possible)
           (update_by i unasked inputs _ _ _ _ _ c.requires.apart h others a) (length-replicate n Unknown))
           (round_by _ i unasked inputs _ _ _ _ _ _ _ c.requires.apart
-          (record { mid = _; sweep = c.sweep-swept.ensures.swept;
-              update_signals = c.update_signals-env-2.ensures.updated })
+          (record {
+            mid = _;
+            sweep = c.sweep-swept.ensures.swept;
+            update_signals = c.update_signals-env-2.ensures.updated;
+          })
           others a)
           (omega arith) c.steps-decided.ensures.count;
       net = c.update_signals-env-2.ensures.net;

@@ -27,7 +27,7 @@ sweep_begun-requires-clause-fits c = root_fits c.args.question.now.kernel.now _ 
 pub sweep_begun-requires-clause-within : goal.sweep_begun-requires-clause-within
 sweep_begun-requires-clause-within c =
     root_within c.args.net.now c.args.question.now.kernel.now _ _ c.requires.net c.root-root.ensures
-        c.output_count.ensures
+    c.output_count.ensures
 
 pub returns-in-Fresh-clause-swept : goal.returns-in-Fresh-clause-swept
 unfolding IsBegun
@@ -47,7 +47,7 @@ sweep_begun-requires-in-Done-clause-fits c = root_fits c.args.question.now.kerne
 pub sweep_begun-requires-in-Done-clause-within : goal.sweep_begun-requires-in-Done-clause-within
 sweep_begun-requires-in-Done-clause-within c =
     root_within c.args.net.now c.args.question.now.kernel.now _ _ c.requires.net c.root-root.ensures
-        c.output_count.ensures
+    c.output_count.ensures
 
 pub returns-in-Done-clause-swept : goal.returns-in-Done-clause-swept
 unfolding IsBegun
@@ -68,7 +68,7 @@ sweep_resumed-requires-clause-fits c = root_fits c.args.question.now.kernel.now 
 pub sweep_resumed-requires-clause-within : goal.sweep_resumed-requires-clause-within
 sweep_resumed-requires-clause-within c =
     root_within c.args.net.now c.args.question.now.kernel.now _ _ c.requires.net c.root-root.ensures
-        c.output_count.ensures
+    c.output_count.ensures
 
 pub returns-in-Paused-clause-swept : goal.returns-in-Paused-clause-swept
 unfolding IsResumed

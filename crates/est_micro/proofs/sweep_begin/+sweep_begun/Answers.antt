@@ -49,7 +49,7 @@ begin_par_back-returns-clause-swept t c = λ a b.
     par_begun_back c.number_after.result c.args.at.now a c.args.p.now b c.args.q.now c.args.gate _ _ c.args.env.now _
     _ _ _ _ _ _ _ _ _
     c.requires.direction c.tell_cell-go.ensures.learns c.tell_cell-go.ensures.known c.past.ensures
-        c.with_emitted-inside.ensures
+    c.with_emitted-inside.ensures
     c.sweep_begun-second.ensures.swept
     c.sweep_begun-first.ensures.swept
     c.beside-own.ensures c.finish_statement.ensures.finished
@@ -58,7 +58,7 @@ pub begin_trap-returns-clause-swept : goal.begin_trap-returns-clause-swept
 begin_trap-returns-clause-swept t c = λ a.
     trap_begun c.args.at.now a c.args.p.now c.args.gate _ c.args.env.now _ _ _ _ _ _ _ c.tell_cell-go.ensures.learns
     c.tell_cell-go.ensures.known c.sweep_begun-body.ensures.swept c.out_of_trap-own.ensures
-        c.finish_statement.ensures.finished
+    c.finish_statement.ensures.finished
 
 pub begin_again-returns-clause-swept : goal.begin_again-returns-clause-swept
 begin_again-returns-clause-swept t c = λ a.

@@ -23,16 +23,16 @@ pub returns-clause-nothing : goal.returns-clause-nothing
 returns-clause-nothing c = λ e k.
     leaf_begun Nothing c.args.at.now c.args.gate e _ _ _ _ _ refl refl
     (at_code _ _ _ _ _ k c.tell_cell-go.ensures.known c.leaf-own.ensures) c.tell_cell-go.ensures.learns
-        c.finish_statement.ensures.finished
+    c.finish_statement.ensures.finished
 
 pub returns-clause-pause : goal.returns-clause-pause
 returns-clause-pause c = λ e n k.
     leaf_begun (Pause n) c.args.at.now c.args.gate e _ _ _ _ _ refl refl
     (at_code _ _ _ _ _ k c.tell_cell-go.ensures.known c.leaf-own.ensures) c.tell_cell-go.ensures.learns
-        c.finish_statement.ensures.finished
+    c.finish_statement.ensures.finished
 
 pub returns-clause-exit : goal.returns-clause-exit
 returns-clause-exit c = λ e n k.
     leaf_begun (Exit n) c.args.at.now c.args.gate e _ _ _ _ _ refl refl
     (at_code _ _ _ _ _ k c.tell_cell-go.ensures.known c.leaf-own.ensures) c.tell_cell-go.ensures.learns
-        c.finish_statement.ensures.finished
+    c.finish_statement.ensures.finished

@@ -29,7 +29,7 @@ resume_present-returns-clause-swept t c = λ q a b asks.
     present_resumed c.args.at.now q a c.args.p.now b c.args.q.now c.args.pauses.now c.args.run c.args.asked _ _ _ _ _
     c.args.env.now
     _ _ _ _ _ _ _ _ _ asks c.is_live-is_on.ensures c.tell_cell-go.ensures.learns c.tell_cell-go.ensures.known
-        c.and.ensures
+    c.and.ensures
     c.opposite.ensures c.and-2.ensures c.part-first.ensures.swept c.part-second.ensures.swept c.either-own.ensures
     c.finish_statement.ensures.finished
 
@@ -81,7 +81,7 @@ pub resume_trap-returns-clause-swept : goal.resume_trap-returns-clause-swept
 resume_trap-returns-clause-swept t c = λ a.
     trap_resumed c.args.at.now a c.args.p.now c.args.pauses.now c.args.run c.args.env.now _ _ _ _ _ _ _
     c.tell_cell.ensures.learns c.sweep_resumed-body.ensures.swept c.out_of_trap-own.ensures
-        c.finish_statement.ensures.finished
+    c.finish_statement.ensures.finished
 
 pub resume_local-returns-clause-swept : goal.resume_local-returns-clause-swept
 resume_local-returns-clause-swept t c = λ a.

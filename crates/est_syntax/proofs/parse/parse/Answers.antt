@@ -17,14 +17,14 @@ overflow_sub-located c =
     wrong_in c.as_slice-located.result.now c.in-Err-Syntax.left
     (subst (λ (bs : List Token). Stops start bs (Syntax c.in-Err-Syntax.left)) c.new-cursor.ensures
     (subst (λ (e : ParserStop). Stops start c.new-cursor.result e) c.in-Err-Syntax.field-0-is
-        c.in-Err-Syntax.ensures.err))
+    c.in-Err-Syntax.ensures.err))
 
 pub overflow_sub-located-in-Err-TooDeep : goal.overflow_sub-located-in-Err-TooDeep
 overflow_sub-located-in-Err-TooDeep c =
     deep_in c.as_slice-located.result.now c.in-Err-TooDeep.left
     (subst (λ (bs : List Token). Stops start bs (TooDeep c.in-Err-TooDeep.left)) c.new-cursor.ensures
     (subst (λ (e : ParserStop). Stops start c.new-cursor.result e) c.in-Err-TooDeep.field-0-is
-        c.in-Err-TooDeep.ensures.err))
+    c.in-Err-TooDeep.ensures.err))
 
 pub returns-in-Err-Syntax-clause-fault : goal.returns-in-Err-Syntax-clause-fault
 returns-in-Err-Syntax-clause-fault c =
@@ -59,7 +59,7 @@ pub returns-in-Err-Syntax-clause-takes : goal.returns-in-Err-Syntax-clause-takes
 returns-in-Err-Syntax-clause-takes c = λ l e r.
     let stop = subst (λ (bs : List Token). Stops start bs (Syntax c.in-Err-Syntax.left)) c.new-cursor.ensures
     (subst (λ (x : ParserStop). Stops start c.new-cursor.result x) c.in-Err-Syntax.field-0-is
-        c.in-Err-Syntax.ensures.err) in
+    c.in-Err-Syntax.ensures.err) in
     absurd (never_wrong c.as_slice-located.result.now c.in-Err-Syntax.left l stop
     (ap tokens_of c.as_slice-located.ensures.same ∙ e) r)
 

@@ -25,7 +25,7 @@ returns-clause-after g c =
     let values = rw c.in-Ok.is at c.publish_as-writer.ensures.values in
     let now : next ≡ (absorbed x.policy c.args.entry, c.book_prefix.result) =
     next_is x.policy x.book_prefix c.args.entry c.book_prefix.result before _ next was.resting
-        c.append-writer.ensures.pending
+    c.append-writer.ensures.pending
     values.0 in
     rw (ap (λ (s : State). s.0) now, ap (λ (s : State). s.1) now, values.1)
     (publishing_more _ x.policy x.book_prefix before c.args.entry c.book_prefix.result was

@@ -40,7 +40,7 @@ returns-in_err-check_existence c =
     let right = checked (permission_rules L x k) (c.in_ok-check_permission.ensures L st g.given) in
     after_giver L s x k _ _ g (skip (permission_rules L x k) _ _ _ right
     (stop (existence_rules L k) _ _ _ _ _ (λ refusal is. cc) (λ is. absurd cc)
-        (c.in_err-check_existence.ensures L st))))
+    (c.in_err-check_existence.ensures L st))))
 
 pub returns-in_err-check_conditions : goal.returns-in_err-check_conditions
 returns-in_err-check_conditions c =

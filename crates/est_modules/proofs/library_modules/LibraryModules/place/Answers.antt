@@ -8,4 +8,4 @@ returns c =
     let hs = c.self.inside in
     rw (← c.self.view_is)
     (c.find.ensures ∙ place_is (λ (h : LibraryModule). h.name) hs.places hs.modules.items c.args.name.now
-        c.self.invariant)
+    c.self.invariant)

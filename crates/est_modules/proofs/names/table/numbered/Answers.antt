@@ -18,7 +18,7 @@ loop-home-init c = record {
 pub returns-clause-numbered : goal.returns-clause-numbered
 returns-clause-numbered c s h =
     let declared = λ (hs : List LibraryModule). list_any (λ (p : Program). is_declared p.interface s)
-        (map program_of hs) in
+    (map program_of hs) in
     c.loop-home.invariant.has s
     ∙ ap (λ (hs : List LibraryModule). is_numbered c.add_names.new.table s || declared hs)
     (take_all c.loop-home.home-index c.as_slice-home-items.result.now c.loop-home-test.false
