@@ -1,5 +1,5 @@
 pub mod CoverLemmas
-pub mod AllLawfulLemmas
+pub mod LawfulInputsLemmas
 pub mod OneAtMost
 pub mod PartLemmas
 pub mod ForcedLemmas

@@ -5,7 +5,7 @@
 //! the same where it was asked; else the part is split at a signal that was not asked.
 #![tactic(auto)]
 
-pub mod all_lawful;
+pub mod lawful_inputs;
 pub mod answered;
 mod cover;
 mod forced;

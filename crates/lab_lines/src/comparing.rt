@@ -8,7 +8,7 @@ ghost use Rattle.lab_lines.specs.Comparing.{IsComparison};
 ghost use Rattle.lab_lines.specs.FoundJson.{comparison_json};
 
 use crate::found_json::word_of_both_json;
-use est_cover::all_lawful::LawfulInputs;
+use est_cover::lawful_inputs::LawfulInputs;
 use est_explore::comparison::{Comparison, compare, explore_both};
 use est_explore::two_modules::{EnginePair, TwoModules};
 use est_kernel::interface::{Declaration, Interface};

@@ -12,7 +12,7 @@ ghost use Rattle.lab_lines.specs.TableJson.{place_json, row_json, state_json};
 use crate::found_json::names_json;
 use crate::pauses::pause_numbers;
 use crate::refusal::TOO_MANY_CODE;
-use est_cover::all_lawful::LawfulInputs;
+use est_cover::lawful_inputs::LawfulInputs;
 use est_cover::answered::AnsweredInputs;
 use est_explore::judge::explore;
 use est_explore::one_module::{Answer, OneModule, Position};

@@ -11,7 +11,7 @@ ghost use Rattle.lab_lines.specs.Requests.{Says, SaysNothing};
 ghost use Rattle.lab_lines.specs.Statements.{IsKernelTold};
 ghost use Rattle.lab_lines.specs.TableJson.{state_json};
 
-use est_cover::all_lawful::LawfulInputs;
+use est_cover::lawful_inputs::LawfulInputs;
 use est_explore::two_modules::{EnginePair, TwoModules};
 use est_explore::verdict::Verdict;
 use est_kernel::interface::Interface;

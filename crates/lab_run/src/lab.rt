@@ -19,7 +19,7 @@ ghost use Rattle.wire_lines.specs.Requests.{IsValue};
 use crate::stepped_module::{SteppedModule, refusal_of};
 use access_core::refusal::Refusal;
 use access_core::reply::Reply;
-use est_cover::all_lawful::LawfulInputs;
+use est_cover::lawful_inputs::LawfulInputs;
 use est_explore::one_module::OneModule;
 use est_explore::two_modules::{EnginePair, TwoModules};
 use est_micro::micro::Micro;

@@ -51,7 +51,7 @@ fn lesser(known: Option<SessionId>, found: Option<SessionId>) -> Option<SessionI
 }
 
 /// The least session of these that holds too many roles of the set.
-#[tactic(auto, unfolding(crate::specs::Violations::least_violator))]
+#[tactic(auto, unfolding(crate::specs::Inner::Violations::least_violator))]
 fn least_violator(
     set: &DsdSet,
     sessions: &[Option<Session>],
@@ -67,7 +67,7 @@ fn least_violator(
 }
 
 /// The same, with one more session beside those of the table.
-#[tactic(auto, unfolding(crate::specs::Violations::least_violator))]
+#[tactic(auto, unfolding(crate::specs::Inner::Violations::least_violator))]
 fn least_of_all(
     set: &DsdSet,
     sessions: &[Option<Session>],
@@ -121,7 +121,7 @@ fn earlier(known: Option<Violation>, found: Option<Violation>) -> Option<Violati
 
 /// The first of the sets, in order of creation, that one of the sessions or the coming one
 /// violates, and the least session that does.
-#[tactic(auto, unfolding(crate::specs::Violations::first_violation))]
+#[tactic(auto, unfolding(crate::specs::Inner::Violations::first_violation))]
 pub(crate) fn first_violation(
     sets: &[Option<DsdSet>],
     sessions: &[Option<Session>],
@@ -138,7 +138,7 @@ pub(crate) fn first_violation(
 }
 
 /// The same, with one more set beside those of the table.
-#[tactic(auto, unfolding(crate::specs::Violations::first_violation))]
+#[tactic(auto, unfolding(crate::specs::Inner::Violations::first_violation))]
 pub(crate) fn first_violation_with(
     sets: &[Option<DsdSet>],
     coming: &Option<DsdSet>,

@@ -53,7 +53,7 @@ fn earlier(known: Option<DsdSet>, found: Option<DsdSet>) -> Option<DsdSet>
 }
 
 /// The first separation set, in order of creation, of which the role at this place is a member.
-#[tactic(auto, unfolding(crate::specs::SetTables::first_set_with))]
+#[tactic(auto, unfolding(crate::specs::Inner::SetTables::first_set_with))]
 pub fn first_set_with(sets: &[Option<DsdSet>; SETS], place: usize) -> Option<DsdSet>
     requires { place < ROLES }
     ensures { result ≡ first_set_with place sets.now }

@@ -5,7 +5,7 @@ ghost use Rattle.std.specs.Prelude.{◌≡◌};
 use crate::lab::lines::expect_member;
 use crate::lab::modules::{A, B, O, both, is_absent, late, paradox};
 use crate::literature::loads::engine_of;
-use est_cover::all_lawful::LawfulInputs;
+use est_cover::lawful_inputs::LawfulInputs;
 use est_cover::answered::AnsweredInputs;
 use est_explore::claim::Claim;
 use est_explore::judge::{explore, judge};

@@ -2,7 +2,7 @@
 
 use crate::lab::modules::{both, late};
 use crate::literature::loads::engine_of;
-use est_cover::all_lawful::LawfulInputs;
+use est_cover::lawful_inputs::LawfulInputs;
 use est_explore::one_module::OneModule;
 use est_explore::verdict::Verdict;
 use est_kernel::interface::Interface;

@@ -1,9 +1,9 @@
 use Rattle.std.proofs.Common.{refl}
 use Rattle.std.proofs.lemmas.Result.{IfOk-weaker}
 use Rattle.est_kernel.specs.Bits.{bits}
-use Rattle.est_cover.proofs.AllLawfulLemmas.{on_ok, may_is, all_sound, all_whole}
+use Rattle.est_cover.proofs.LawfulInputsLemmas.{on_ok, may_is, all_sound, all_whole}
 use Rattle.est_cover.proofs.PartLemmas.{part_begins}
-use Rattle.est_cover.proofs.all_lawful.AllLawfulTransitionSystem.steps.Goals as goal
+use Rattle.est_cover.proofs.lawful_inputs.LawfulInputsTransitionSystem.steps.Goals as goal
 
 pub cover-requires-clause-part : goal.cover-requires-clause-part
 cover-requires-clause-part g c = part_begins (bits c.intersection-may.result) c.intersection-may.result refl
