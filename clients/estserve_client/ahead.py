@@ -12,8 +12,8 @@ import itertools
 import re
 import time
 
+from .cache import Known
 from .connection import Refusal, answer_of, line_of
-from .known import Known
 
 TYPE_CHECKING = False
 if TYPE_CHECKING:

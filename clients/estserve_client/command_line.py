@@ -7,7 +7,7 @@ import sys
 
 from .connection import CannotBeSent, Disconnected, Refusal, TimedOut
 from .commands import make_parser
-from .telling import TELLER
+from .messages import TELLER
 from .texts import Failed
 
 TYPE_CHECKING = False

@@ -12,7 +12,7 @@ import sys
 
 from . import __version__
 from .connection import READS
-from .telling import TELLER
+from .messages import TELLER
 
 TYPE_CHECKING = False
 if TYPE_CHECKING:

@@ -12,7 +12,7 @@ if TYPE_CHECKING:
     from typing import FrozenSet, Iterable, List, Optional, TextIO
 
     from .pictures import Instant, Seen
-    from .stage import Scenario
+    from .scenarios import Scenario
 
 PATIENCE, RENEWED = 1.0, 0.2  # seconds until progress is shown, and between two of its lines
 WIDE = 40  # characters of its bar

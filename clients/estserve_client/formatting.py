@@ -307,7 +307,7 @@ def format_files(arguments: argparse.Namespace) -> int:
     """Lays module texts out. Answers 1 where one is to change that isn't written, or can't be
     read.
     """
-    from .telling import TELLER
+    from .messages import TELLER
     from .texts import Placed
 
     is_same, is_read = True, True

@@ -9,8 +9,8 @@ import dataclasses
 from typing import Dict, List, Optional, Tuple
 
 from .fault_places import FAR, trapped
+from .signal_test_writing import written
 from .syntax_tree import ModuleTree, Node, Token, by_name
-from .words_of_tests import written
 
 MOST = 12  # steps of a path that are drawn
 

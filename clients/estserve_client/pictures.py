@@ -7,7 +7,7 @@ not be observed: it shows as `.`, and a VCD file leaves it out where no instant 
 """
 from __future__ import annotations
 
-from .known import MOST
+from .cache import MOST
 
 TYPE_CHECKING = False
 if TYPE_CHECKING:

@@ -7,10 +7,10 @@ import sys
 
 from .connection import Refusal, start
 from .drawing import Drawing, Progress
+from .messages import TELLER
 from .pictures import Seen
 from .programs import program_of
-from .stage import Refused, Scenario, SharedSlot, Stage, check_inputs, stopping
-from .telling import TELLER
+from .scenarios import Refused, Scenario, SharedSlot, Stage, check_inputs, stopping
 from .texts import Failed, Interrupted, read_library, read_text
 from .texts_beside import chosen_of
 
@@ -24,7 +24,7 @@ if TYPE_CHECKING:
     from .module_text import Module
     from .pictures import Instant, Signals
     from .scopes import Scope
-    from .until import Until
+    from .until_condition import Until
 
 
 def read_scenario(arguments: argparse.Namespace) -> Scenario:
@@ -130,7 +130,7 @@ def until_of(text: Optional[str], shown: Iterable[str], hidden: Iterable[str]) -
     """What a run goes on until, where that is asked for. Raises Failed."""
     if text is None:
         return None
-    from .until import Until
+    from .until_condition import Until
 
     return Until(text, shown, hidden)
 

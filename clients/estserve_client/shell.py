@@ -25,13 +25,13 @@ from .load_faults import load_fault
 from .module_text import Module, main_of
 from .pictures import KINDS, RARE, Seen, Table, present_of, table_lines
 from .running import instants_told
+from .scenarios import found_lab
 from .scopes import scopes_of
 from .seeing import module_for, see_slot
 from .sentences import Set as SeparationSet
 from .sentences import sentence
 from .session import roles_of, session_of
 from .shell_inside import InsideCommands
-from .stage import found_lab
 from .shell_words import (
     LEGEND,
     PLAIN,

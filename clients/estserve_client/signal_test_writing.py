@@ -1,4 +1,4 @@
-"""Tests of signals, as they could stand in a text."""
+"""Tests of signals, and the statements that ask them, written as they could stand in a text."""
 from __future__ import annotations
 
 from .syntax_tree import Node, Test

@@ -19,7 +19,7 @@ from .outcomes import FAILED, PASSED, Json, Outcome, Plain, Tap, told_in_xml
 from .pictures import Seen
 from .programs import program_of
 from .running import blessed, counted, play
-from .stage import Scenario, Stage, check_inputs
+from .scenarios import Scenario, Stage, check_inputs
 from .texts import Failed, read_library, read_text
 from .texts_beside import chosen_of, texts_beside
 

@@ -12,8 +12,8 @@ from .connection import NotText, Refusal, TooLong, start
 from .diagnosis import diagnose_load
 from .library_text import join_texts
 from .module_text import Module, main_of
+from .scenarios import LOGIN, grants_of
 from .sentences import sentence
-from .stage import LOGIN, grants_of
 
 if TYPE_CHECKING:
     from .connection import Path

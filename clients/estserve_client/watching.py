@@ -7,7 +7,7 @@ import time
 from typing import Callable, List, Optional, Sequence, Tuple
 
 from .connection import CannotBeSent, Disconnected, Refusal, TimedOut
-from .telling import TELLER
+from .messages import TELLER
 from .texts import Failed, Interrupted
 
 LOOKED = 0.2  # seconds between two looks at the files

@@ -10,7 +10,7 @@ import unittest.mock
 
 import support  # noqa: F401  (lets the package be found)
 
-from estserve_client import known
+from estserve_client import cache
 from estserve_client.ahead import Ahead
 from estserve_client.connection import ROOM, Client, Disconnected, Refusal
 from estserve_client.drawing import Drawing
@@ -109,7 +109,7 @@ class Answers(unittest.TestCase):
                 return {f"S{bit}": bool(number >> bit & 1) for bit in range(13)}
 
         program = Counter()
-        seen = instants_of(program, [()] * (known.MOST + 100))
+        seen = instants_of(program, [()] * (cache.MOST + 100))
         self.assertEqual(seen, program.instants)
         self.assertEqual(len({id(instant) for instant in seen}), len(seen))
 

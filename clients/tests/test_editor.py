@@ -25,7 +25,7 @@ from estserve_client.editor.renaming import edits_of
 from estserve_client.editor.server import EditorServer
 from estserve_client.editor.wire import Refused, read_message, write_message
 from estserve_client.module_text import main_of
-from estserve_client.stage import grants_of
+from estserve_client.scenarios import grants_of
 from estserve_client.syntax_tree import parse
 
 SECONDS = 60  # whatever is waited for comes in this time

@@ -22,10 +22,10 @@ from estserve_client.load_faults import load_fault
 from estserve_client.module_text import main_of
 from estserve_client.pictures import Seen, Table, table_lines, vcd_lines, wave_lines
 from estserve_client.policy_file import read_file
+from estserve_client.scenarios import Scenario, check_inputs, grants_of
 from estserve_client.scopes import scopes_of
 from estserve_client.shell import Shell
-from estserve_client.stage import Scenario, check_inputs, grants_of
-from estserve_client.words_of_tests import written
+from estserve_client.signal_test_writing import written
 from estserve_client.syntax_tree import KEYWORDS, parse
 from estserve_client.texts import Placed
 

@@ -19,7 +19,7 @@ from estserve_client.diagnosis import diagnose_load
 from estserve_client.library_text import join_texts
 from estserve_client.load_faults import load_fault
 from estserve_client.module_text import Module, main_of
-from estserve_client.stage import grants_of
+from estserve_client.scenarios import grants_of
 from estserve_client.syntax_faults import expected_at, spot_at
 from estserve_client.syntax_tree import parse, tokens_of
 

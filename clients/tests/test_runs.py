@@ -13,7 +13,7 @@ from estserve_client.drawing import Progress
 from estserve_client.library_text import join_texts
 from estserve_client.module_text import Module
 from estserve_client.running import play
-from estserve_client.stage import Scenario
+from estserve_client.scenarios import Scenario
 from estserve_client.texts import Interrupted
 
 COMMAND = [sys.executable, "-B", str(CLIENTS / "estserve.py")]

@@ -9,8 +9,8 @@ from support import WithProgram, needs_program, refusal_of, run_client
 
 from estserve_client.library_text import join_texts
 from estserve_client.load_faults import load_fault
-from estserve_client.stage import grants_of
 from estserve_client.module_text import Module
+from estserve_client.scenarios import grants_of
 from estserve_client.texts import Placed
 
 # Texts of which M is loaded, the fault that estserve answers, and the places that are drawn, the

@@ -2,9 +2,9 @@
 import asyncio
 from typing import Any, Dict, List
 
-from .counts import health
+from .answer_order import Asked
 from .lines import Request, request_of
-from .order import Asked
+from .metrics import health
 from .reads.rights import Rights
 from .reads.slot_model import JOURNAL, SLOTS, Slot
 from .refusals import failed, interrupted, not_a_word, not_allowed

@@ -13,16 +13,16 @@ from typing import Any, Callable, List, NoReturn, Optional
 
 from estserve_client.commands import add_program
 from estserve_client.connection import find_program
+from estserve_client.messages import TELLER
 from estserve_client.programs import program_of
-from estserve_client.telling import TELLER
 
-from . import HELP, keeping, page_process
-from .counts import CountsClient
+from . import HELP, page_process, record_words
 from .gateway import Gateway
 from .limits import Limits, add_limits, fit_to, read_limits
 from .listening import Listener
 from .log import fill_standard_streams, forward_all, write_now
 from .loop import Policy
+from .metrics import CountsClient
 from .page_process import PageProcess
 from .people import People, peer_uid, read_people
 from .places import Failed, Places, add_state, bind_socket, read_plain_file
@@ -64,7 +64,7 @@ def add_parser(subparsers: Any) -> None:
         help="a question to the gateway that runs on DIR; without one, serve the team",
     )
     add_words(subparsers)
-    keeping.add_words(subparsers)
+    record_words.add_words(subparsers)
     serving.add_word(subparsers)
 
 

@@ -14,13 +14,13 @@ import time
 from pathlib import Path
 from typing import Any, Callable, Dict, List, Optional, Set, Tuple
 
-from . import moments, overseeing, reads, visiting, words
+from . import administrator_words, fault_points, reads, visiting, words
+from .answer_order import Asked, Order
 from .answerer import Answerer
-from .counts import Counts
 from .limits import Accounts, Limits
 from .lines import Reader, Request
 from .log import Log, is_out_of_descriptors
-from .order import Asked, Order
+from .metrics import Counts
 from .people import People, Person
 from .places import Failed, Places
 from .record import POLICY, Connection, Entry, GivenUp, RecordWriter, remove_record
@@ -81,7 +81,7 @@ class Gateway:
         self.state, self.private, self.record_path = places.state, places.private, places.record
         self.name = self.state.name
         self.reader = Reader()
-        self.words = {**words.WORDS, **reads.WORDS, **visiting.WORDS, **overseeing.WORDS}
+        self.words = {**words.WORDS, **reads.WORDS, **visiting.WORDS, **administrator_words.WORDS}
         self.counts = Counts()
         self.slot_gate = SlotGate()
         self.turns = Turns()
@@ -485,7 +485,7 @@ class Gateway:
             except Exception as fault:  # it is this client's alone
                 self.log(f"a client could not be answered: {fault!r}", "fault")
                 client.close()
-        moments.reach(moments.RELEASED)
+        fault_points.reach(fault_points.RELEASED)
 
     # ---- start, restart, end
 

@@ -18,7 +18,7 @@ import sqlite3
 import time
 from typing import Any, Dict, Iterable, Iterator, List, NamedTuple, Optional, Sequence, Tuple
 
-from . import moments
+from . import fault_points
 from .chain import Block, Head, Tip, hash_of, hash_of_text, new_tip, row_of, sync_folder, text_of
 from .places import Failed, digest_of
 
@@ -307,7 +307,7 @@ class RecordWriter:
         given: Rows = []
         if givenup:
             tip, given_texts, given = after_givenup(tip, givenup)
-        moments.reach(moments.HASHED)
+        fault_points.reach(fault_points.HASHED)
         if self.head is not None:
             self._is_ahead = True
         block = Block(tip, texts, [text_of(row) for row in connections], given_texts)
@@ -318,7 +318,7 @@ class RecordWriter:
         self._waiting.givenup.extend(given)
         if not is_held:
             self._settle(tip)
-        moments.reach(moments.SYNCED)
+        fault_points.reach(fault_points.SYNCED)
 
     def flush(self) -> None:
         """Writes into the file what waits, in one transaction. Raises sqlite3.Error, with nothing
@@ -326,9 +326,9 @@ class RecordWriter:
         if self.has_waiting:
             with transaction(self._database) as database:
                 insert(database, self._waiting)
-                moments.reach(moments.INSERTED)
+                fault_points.reach(fault_points.INSERTED)
             self._waiting = NewRows([], [], [])
-            moments.reach(moments.COMMITTED)
+            fault_points.reach(fault_points.COMMITTED)
 
     def _settle(self, tip: Tip) -> None:
         """Has all of the record on the disk, and then the tip in the head, whose blocks count no

@@ -19,10 +19,10 @@ from typing import (
     cast,
 )
 
-from . import moments
+from . import fault_points
+from .answer_order import Asked
 from .lines import Request, cut_lines, request_of
 from .loop import begin
-from .order import Asked
 from .people import Person
 from .record import Connection
 from .refusals import id_taken, interrupted, on_shared
@@ -129,14 +129,14 @@ class Session(asyncio.Protocol):
             self._lines = []
             self.sends += 1 + len(text) // PIECE
             self._transport.write(text)
-            moments.reach(moments.ASKED)
+            fault_points.reach(fault_points.ASKED)
 
     def data_received(self, data: bytes) -> None:
         if self.is_over:
             return
         try:
             lines, self._held = cut_lines(self._held, data)
-            moments.reach(moments.ANSWERED)
+            fault_points.reach(fault_points.ANSWERED)
             for line in lines:
                 self._take(line)
         except Exception as fault:  # an answer is lost, whatever the cause is

@@ -5,11 +5,11 @@ import json
 from collections import deque
 from typing import Any, Deque, Dict, List, Optional
 
-from . import moments, words
+from . import fault_points, words
+from .answer_order import Asked
 from .gateway import Gateway
 from .line_client import LineClient
 from .lines import Request, read_plain
-from .order import Asked
 from .refusals import Refused, failed, not_a_word, not_you
 from .sessions import Session, SharedSession
 
@@ -64,7 +64,7 @@ class TeamClient(LineClient):
             self._put(item, TOO_LONG)
             return
         request = self.gateway.reader.understand(line)
-        moments.reach(moments.TAKEN)
+        fault_points.reach(fault_points.TAKEN)
         if request is None or (self.session is None and request.cmd != "login"):
             self.gateway.answerer.ask(line, lambda answer: self._put(item, answer))
         elif request.cmd == "login" and not self.person.may_be(request.keys["user"]):

@@ -24,7 +24,7 @@ from typing import Any, List, Optional, Union
 ROOT = pathlib.Path(__file__).resolve().parents[2]
 sys.path[:0] = [str(ROOT / "clients"), str(ROOT / "gateway")]
 from estserve_client import command_line  # noqa: E402
-from estserve_team import moments  # noqa: E402
+from estserve_team import fault_points  # noqa: E402
 
 NOBODY = 65_534
 FILLER = "filler"
@@ -115,7 +115,7 @@ class Fault:
         try:
             other.execute("BEGIN IMMEDIATE")
         except sqlite3.OperationalError:  # the gateway holds it: at the next moment
-            self.moment = moments.COMMITTED
+            self.moment = fault_points.COMMITTED
             return False
         self.held.append(other)
         return None
@@ -139,7 +139,7 @@ class Fault:
 def main() -> None:
     name, moment, *words = sys.argv[1:]
     state = pathlib.Path(words[words.index("--state") + 1])
-    moments.reach = Fault(name, moment, state).reach
+    fault_points.reach = Fault(name, moment, state).reach
     command_line.end(command_line.main(words))
 
 

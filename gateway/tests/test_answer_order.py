@@ -3,8 +3,8 @@ overtake each other."""
 import unittest
 
 import teams
+from estserve_team.answer_order import Asked, Inconsistent, Order
 from estserve_team.lines import request_of
-from estserve_team.order import Asked, Inconsistent, Order
 
 RUNS = 300
 STEPS = 250

@@ -21,8 +21,8 @@ import faulty
 import teams
 from teams import Team, line_of, login_line
 from estserve_client.connection import Disconnected
+from estserve_team.fault_points import MOMENTS
 from estserve_team.log import Log
-from estserve_team.moments import MOMENTS
 from estserve_team.replay import Talker
 from estserve_team.server import Lost
 

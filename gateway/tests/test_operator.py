@@ -18,8 +18,8 @@ from teams import Team, line_of, login_line
 from test_places import AS_USER, NOBODY
 from visitors import Visitor, visitor_of
 from estserve_client.connection import Disconnected
+from estserve_team.administrator_words import need_room
 from estserve_team.command import PEOPLE_BYTES
-from estserve_team.overseeing import need_room
 from estserve_team.reads.slot_model import JOURNAL, Slot
 from estserve_team.refusals import Refused
 

@@ -12,7 +12,7 @@ import unittest
 
 import teams
 from teams import Server, Team, line_of, login_line, program_file
-from test_order import Run
+from test_answer_order import Run
 from estserve_client.command_table import IDENTIFIERS, KEYS, NAMES, NUMBERS, OPERATIONS
 from estserve_team.lines import LONGEST_NUMBER, Reader, read_plain
 

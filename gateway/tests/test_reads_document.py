@@ -86,9 +86,9 @@ class Document(unittest.TestCase):
         self.assertEqual(told, Limits()._asdict())
 
     def test_the_table_of_words_is_that_of_the_gateway(self):
-        from estserve_team import overseeing, reads
+        from estserve_team import administrator_words, reads
 
-        words = {**reads.WORDS, **overseeing.WORDS}
+        words = {**reads.WORDS, **administrator_words.WORDS}
         table = (
             DOCUMENT.read_text().partition("## Answers on")[2].partition("\n## ")[0].splitlines()
         )

@@ -10,7 +10,7 @@ from ..connection import Client, Disconnected, NotText, Refusal, TimedOut, TooLo
 from ..diagnosis import Diagnosis, Mark, diagnose_load
 from ..library_text import LibraryText
 from ..module_text import Module, main_of, modules_of
-from ..stage import grants_of
+from ..scenarios import grants_of
 
 OF_MAIN = ("Semantics", "TooLarge", "InstantLoop")  # faults that another main module needn't have
 MOST = 16  # modules of a text are tried

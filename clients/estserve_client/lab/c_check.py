@@ -11,7 +11,7 @@ import tempfile
 from typing import Iterable, Iterator, List, Optional, Sequence
 
 from ..connection import start
-from ..stage import Refused, Scenario, Stage
+from ..scenarios import Refused, Scenario, Stage
 from ..texts import Failed
 from .c_cells import CellsCode
 from .c_code import NOT_INPUTS, OK, STUCK, Code, TableCode

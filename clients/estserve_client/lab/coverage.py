@@ -8,7 +8,7 @@ import sys
 from typing import Dict, FrozenSet, Iterator, List, Sequence, Set, Tuple
 
 from ..colours import Colours
-from ..stage import Scenario, check_inputs
+from ..scenarios import Scenario, check_inputs
 from ..syntax_tree import Node
 from ..testing import scenarios_of, texts_for
 from ..texts import Failed, Placed, read_text, write_lines

@@ -13,7 +13,7 @@ from typing import Tuple
 
 from ..circles import shortest_circle
 from ..connection import Disconnected, Refusal, TimedOut, TooLong
-from ..words_of_tests import headed, written
+from ..signal_test_writing import headed, written
 from ..texts import Failed
 from .asking import Lab, Subject
 from .cells import Cell, Cells, combined

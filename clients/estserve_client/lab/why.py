@@ -7,7 +7,7 @@ from __future__ import annotations
 
 from typing import Dict, Iterator, List, Optional, Set, Tuple
 
-from ..words_of_tests import headed, written
+from ..signal_test_writing import headed, written
 from ..texts import Failed
 from .cells import Cell, Cells
 from .inside import At, Inside, Look, Meant

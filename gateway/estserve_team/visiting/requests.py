@@ -3,7 +3,7 @@ import json
 from typing import TYPE_CHECKING, Any, Awaitable, Callable, Dict
 
 from .. import words
-from ..counts import health
+from ..metrics import health
 from ..reads.slot_model import SLOTS
 from ..refusals import Refused, not_a_word
 from . import Denied
