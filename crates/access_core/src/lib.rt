@@ -18,3 +18,4 @@ pub mod reply;
 mod shown;
 pub mod single;
 pub mod slot;
+pub mod slot_step;

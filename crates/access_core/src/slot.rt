@@ -1,10 +1,10 @@
-//! One slot, and the answer to a command on it.
-ghost use Rattle.std.specs.Prelude.{◌≡◌, ◌⊎◌, ℕ, List, true, false, MatchOption};
+//! One slot, and what each command does with it.
+ghost use Rattle.std.specs.Prelude.{◌≡◌, ◌⊎◌, List, true, false, MatchOption};
 ghost use Rattle.rbac_policy.specs.declared.commands.Entry.{Entry};
 ghost use Rattle.rbac_policy.specs.StandsFor.{StandsFor};
 ghost use Rattle.refusal_rules.specs.Rules.{accept, ◌▸◌};
 ghost use Rattle.access_core.specs.Answering.{ByRules, no_memory};
-ghost use Rattle.access_core.specs.SlotStep.{SlotStep, IsAdmitted, no_instant};
+ghost use Rattle.access_core.specs.SlotStep.{SlotStep, no_instant};
 ghost use Rattle.access_core.specs.SlotStep.{NamesUndecided, step_rules, slot_entry_rules};
 ghost use Rattle.access_core.specs.SlotStep.{stamp_of, Offers, AddsEntry, Steps};
 ghost use Rattle.access_core.specs.SlotStep.{Looks, Audits, Loads, tells_added};
@@ -12,7 +12,7 @@ ghost use Rattle.reactor_core.specs.Meaning.{is_loaded};
 ghost use Rattle.reactor_core.specs.Instants.{HasNoOutcome};
 ghost use Rattle.access_core.specs.Holding.{journal_of, IsHeldRight};
 
-use crate::admission::{admit_command, permission_of, stamp};
+use crate::admission::stamp;
 use crate::command::SlotCommand;
 use crate::refusal::Refusal;
 use crate::reply::{Added, Reply};
@@ -278,7 +278,7 @@ impl Slot {
         }
     }
 
-    fn load(&mut self, stamp: Stamp, load: Load) -> Reply
+    pub(crate) fn load(&mut self, stamp: Stamp, load: Load) -> Reply
         ensures number { self.new.number ≡ self.old.number }
         ensures step { ByRules (occupied self.old.journal ▸ accept)
             (Loads stamp load.main load.text)
@@ -372,7 +372,12 @@ impl Slot {
     }
 
     /// Makes the move, which the session may make.
-    fn make_move(&mut self, policy: &Policy, session: SessionId, asked: Move<()>) -> Reply
+    pub(crate) fn make_move(
+        &mut self,
+        policy: &Policy,
+        session: SessionId,
+        asked: Move<()>,
+    ) -> Reply
         ensures number { self.new.number ≡ self.old.number }
         ensures step { (entries : List Entry) → StandsFor policy.now entries
             → ByRules (journal_rules entries self.old.number session (SlotCommand.Move asked)
@@ -389,7 +394,7 @@ impl Slot {
         }
     }
 
-    fn audit(&self, policy: &Policy) -> Reply
+    pub(crate) fn audit(&self, policy: &Policy) -> Reply
         ensures { (entries : List Entry) → StandsFor policy.now entries
             → Audits entries self.now.journal result self.now.journal }
     {
@@ -404,7 +409,7 @@ impl Slot {
         }
     }
 
-    fn look(&self, policy: &Policy, session: SessionId, instant: u64) -> Reply
+    pub(crate) fn look(&self, policy: &Policy, session: SessionId, instant: u64) -> Reply
         ensures { (entries : List Entry) → StandsFor policy.now entries
             → ByRules (empty self.now.journal ▸ no_instant self.now.journal instant ▸ no_memory
             ▸ accept)
@@ -422,49 +427,5 @@ impl Slot {
                 instant,
             ),
         }
-    }
-}
-
-/// Answers a load of the slot, given what `admit_load` answered: as `decide_slot` answers it at
-/// that policy.
-pub fn load_admitted(admitted: Result<Stamp, Refusal>, slot: &mut Slot, load: Load) -> Reply
-    ensures number { slot.new.number ≡ slot.old.number }
-    ensures step { (entries : List Entry) → (session : ℕ)
-        → IsAdmitted entries slot.old.number session admitted
-        → SlotStep entries slot.old.number session
-        (SlotCommand.Move (Move.Load load)) slot.old.journal result
-        slot.new.journal }
-{
-    match admitted {
-        Ok(stamp) => slot.load(stamp, load),
-        Err(refusal) => Reply::Refused(refusal),
-    }
-}
-
-/// Answers a command, which this session gives to the slot, at the policy as it is.
-///
-/// The session has to live, and to have the command's permission: `load` on the slot for a load and
-/// an unload, `step` on it for a step and a discard, `offer` on the signal, `audit` on the policy.
-/// A look needs none, and shows what the session may observe. A refusal leaves the slot unchanged.
-/// An accepted command adds its one entry, but for a look and an audit, which add none.
-pub fn decide_slot(
-    policy: &Policy,
-    slot: &mut Slot,
-    session: SessionId,
-    command: SlotCommand,
-) -> Reply
-    ensures number { slot.new.number ≡ slot.old.number }
-    ensures step { (entries : List Entry) → StandsFor policy.now entries
-        → SlotStep entries slot.old.number session command slot.old.journal result
-        slot.new.journal }
-{
-    let needed = permission_of(slot.number(), &command);
-    if let Err(refusal) = admit_command(policy, session, needed) {
-        return Reply::Refused(refusal);
-    }
-    match command {
-        SlotCommand::Move(asked) => slot.make_move(policy, session, asked),
-        SlotCommand::Look { instant } => slot.look(policy, session, instant),
-        SlotCommand::Audit => slot.audit(policy),
     }
 }

@@ -8,7 +8,7 @@ ghost use Rattle.audit_report.specs.Findings.{IsPolicyFinding};
 ghost use Rattle.audit_report.specs.Inner.Openings.{is_root, is_opening};
 
 use crate::finding::Finding;
-use rbac_admin::decisions::decide;
+use rbac_admin::policy_step::decide;
 use rbac_admin::room::has_room;
 use rbac_policy::commands::{AdminCommand, Entry, SessionId};
 use rbac_policy::names::Name;

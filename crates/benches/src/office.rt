@@ -3,7 +3,7 @@ ghost use Rattle.std.specs.Prelude.{◌<◌};
 
 use anyhow::{Result, bail};
 use est_text::identifier::Identifier;
-use rbac_admin::decisions::decide;
+use rbac_admin::policy_step::decide;
 use rbac_policy::commands::{AdminCommand, SessionId};
 use rbac_policy::names::{LISTED_ROLES, Name, RoleNames};
 use rbac_policy::objects::{Object, Operation, SLOTS, SlotNumber};

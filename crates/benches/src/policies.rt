@@ -2,7 +2,7 @@
 
 use crate::office::{first, give, open_office, pair, role};
 use anyhow::{Result, bail};
-use rbac_admin::decisions::decide;
+use rbac_admin::policy_step::decide;
 use rbac_policy::commands::{AdminCommand, SessionId};
 use rbac_policy::names::Name;
 use rbac_policy::objects::{Object, Operation};

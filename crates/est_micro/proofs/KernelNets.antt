@@ -32,8 +32,8 @@ root_within net k root c h a b =
 abbrev kept_after : ℕ → Net → Kept
 kept_after n net = record {
   earlier = n;
-  signals = net.emittable;
-  outputs = net.output_count;
+  emittable = net.emittable;
+  output_count = net.output_count;
   reach = net.reach;
   extents = net.extents.items;
   emissions = net.emissions.items;

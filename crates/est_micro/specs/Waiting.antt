@@ -20,7 +20,7 @@ use Rattle.est_cells.specs.Whole.{Table}
 use Rattle.est_net.specs.Cells.{cell_at}
 use Rattle.est_net.specs.Layout.{sheet_in}
 use Rattle.est_micro.specs.Parts.{known_but}
-use Rattle.est_micro.specs.declared.waiting.Waits.{Waits}
+use Rattle.est_micro.specs.declared.waiting.Waited.{Waited}
 
 -- the signal, if it is one of the interface that is not asked
 abbrev pub if_unasked : (ℕ → Bool) → Name → Option ℕ
@@ -88,13 +88,13 @@ table_waits_for unasked i inputs s x T =
 
 -- what the cells of a statement from place c on say of it
 pub record IsWaiting (unasked : ℕ → Bool) (main : Bool) (s : Statement) (c traps : ℕ) (cells : List Status)
-    (from : ℕ → Bool) (r : Status) (e : Env) (w : Waits) : Type 0 where
+    (from : ℕ → Bool) (r : Status) (e : Env) (w : Waited) : Type 0 where
   pub input : w.input ≡ waits_for unasked main s from r e (sheet_in (cell_at cells) main s c traps)
   pub past : w.past ≡ c + sheet_size main s traps
 
 -- of two statements, the second after the first
 pub record AreWaiting (unasked : ℕ → Bool) (main : Bool) (p q : Statement) (c traps : ℕ) (cells : List Status)
-    (from : ℕ → Bool) (r : Status) (e : Env) (w : Waits) : Type 0 where
+    (from : ℕ → Bool) (r : Status) (e : Env) (w : Waited) : Type 0 where
   pub input : w.input ≡ option_or (waits_for unasked main p from r e (sheet_in (cell_at cells) main p c traps))
       (waits_for unasked main q from r e (sheet_in (cell_at cells) main q (c + sheet_size main p traps) traps))
   pub past : w.past ≡ c + sheet_size main p traps + sheet_size main q traps

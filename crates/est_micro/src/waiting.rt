@@ -32,9 +32,9 @@ use est_rounds::answer::answer_to;
 use est_rounds::resume::has_live;
 use est_rounds::signal_set::{self, Env};
 
-/// What a look for open tests reads.
+/// What the search for open tests reads.
 #[derive(Clone, Copy)]
-pub struct Sight<'a> {
+pub struct WaitContext<'a> {
     /// The cells.
     pub net: &'a Net,
     /// The pauses from which the statement goes on.
@@ -45,7 +45,7 @@ pub struct Sight<'a> {
 
 /// What the cells of a statement say of its open tests.
 #[derive(Clone, Copy)]
-pub struct Waits {
+pub struct Waited {
     /// The input, by its place in the interface.
     pub input: Option<u8>,
     /// The first place after the cells.
@@ -106,9 +106,9 @@ fn waits_at(unasked: u64, asked: Status, status: Status, test: &Test) -> Option<
 }
 
 /// What two parts wait for, the second after the first.
-#[cycle(look)]
-fn look_at_two(
-    sight: &Sight<'_>,
+#[cycle(find_waited)]
+fn find_in_two(
+    sight: &WaitContext<'_>,
     main: bool,
     cell: usize,
     traps: usize,
@@ -116,25 +116,25 @@ fn look_at_two(
     q: &Statement,
     run: Status,
     env: &Env,
-) -> Waits
+) -> Waited
     requires fits { FitsMasks p.now × FitsMasks q.now }
     requires within { cell + sheet_size main p.now traps + sheet_size main q.now traps
         ≤ length sight.now.net.now.cells.items }
     ensures { AreWaiting (bits sight.now.unasked) main p.now q.now cell traps
         sight.now.net.now.cells.items (pauses_of sight.now.pauses.now) run (env_of env.now) result }
 {
-    let first = look(sight, main, cell, traps, p, run, env);
-    let second = look(sight, main, first.past, traps, q, run, env);
-    Waits {
+    let first = find_waited(sight, main, cell, traps, p, run, env);
+    let second = find_waited(sight, main, first.past, traps, q, run, env);
+    Waited {
         input: first.input.or(second.input),
         past: second.past,
     }
 }
 
 /// What a `present` waits for.
-#[cycle(look)]
-fn look_at_present(
-    sight: &Sight<'_>,
+#[cycle(find_waited)]
+fn find_in_present(
+    sight: &WaitContext<'_>,
     main: bool,
     cell: usize,
     traps: usize,
@@ -143,7 +143,7 @@ fn look_at_present(
     q: &Statement,
     run: Status,
     env: &Env,
-) -> Waits
+) -> Waited
     requires fits { FitsMasks p.now × FitsMasks q.now }
     requires within { cell + traps + 3 + sheet_size main p.now traps + sheet_size main q.now traps
         ≤ length sight.now.net.now.cells.items }
@@ -153,8 +153,8 @@ fn look_at_present(
 {
     let go = sight.net.status(cell);
     let own = waits_at(sight.unasked, go, answer_to(env, test), test);
-    let parts = look_at_two(sight, main, cell + traps + 3, traps, p, q, run, env);
-    Waits {
+    let parts = find_in_two(sight, main, cell + traps + 3, traps, p, q, run, env);
+    Waited {
         input: own.or(parts.input),
         past: parts.past,
     }
@@ -172,9 +172,9 @@ fn asked(main: bool, p: &Statement, pauses: &PauseSet, run: Status) -> Status
 }
 
 /// What a `suspend` waits for.
-#[cycle(look)]
-fn look_at_suspend(
-    sight: &Sight<'_>,
+#[cycle(find_waited)]
+fn find_in_suspend(
+    sight: &WaitContext<'_>,
     main: bool,
     cell: usize,
     traps: usize,
@@ -182,7 +182,7 @@ fn look_at_suspend(
     p: &Statement,
     run: Status,
     env: &Env,
-) -> Waits
+) -> Waited
     requires fits { FitsMasks p.now }
     requires within { cell + traps + 3 + sheet_size main p.now traps
         ≤ length sight.now.net.now.cells.items }
@@ -194,24 +194,24 @@ fn look_at_suspend(
     let is_asked = asked(main, p, sight.pauses, run);
     let own = waits_at(sight.unasked, is_asked, status, test);
     let inside = run.and(status.opposite());
-    let body = look(sight, main, cell + traps + 3, traps, p, inside, env);
-    Waits {
+    let body = find_waited(sight, main, cell + traps + 3, traps, p, inside, env);
+    Waited {
         input: own.or(body.input),
         past: body.past,
     }
 }
 
 /// What a loop of the incarnation that can go on waits for.
-#[cycle(look)]
-fn look_at_loop(
-    sight: &Sight<'_>,
+#[cycle(find_waited)]
+fn find_in_loop(
+    sight: &WaitContext<'_>,
     main: bool,
     cell: usize,
     traps: usize,
     p: &Statement,
     run: Status,
     env: &Env,
-) -> Waits
+) -> Waited
     requires main { main ≡ true }
     requires fits { FitsMasks p.now }
     requires within { cell + traps + 3 + sheet_size true p.now traps + sheet_size false p.now traps
@@ -220,18 +220,18 @@ fn look_at_loop(
         cell traps sight.now.net.now.cells.items (pauses_of sight.now.pauses.now) run
         (env_of env.now) result }
 {
-    let first = look(sight, main, cell + traps + 3, traps, p, run, env);
-    let again = look(sight, false, first.past, traps, p, run, env);
-    Waits {
+    let first = find_waited(sight, main, cell + traps + 3, traps, p, run, env);
+    let again = find_waited(sight, false, first.past, traps, p, run, env);
+    Waited {
         input: first.input.or(again.input),
         past: again.past,
     }
 }
 
 /// What a local signal's binder waits for.
-#[cycle(look)]
-fn look_at_local(
-    sight: &Sight<'_>,
+#[cycle(find_waited)]
+fn find_in_local(
+    sight: &WaitContext<'_>,
     main: bool,
     cell: usize,
     traps: usize,
@@ -239,7 +239,7 @@ fn look_at_local(
     p: &Statement,
     run: Status,
     env: &Env,
-) -> Waits
+) -> Waited
     requires fits { (s.index < 64) × FitsMasks p.now }
     requires within { cell + traps + 4 + sheet_size main p.now traps
         ≤ length sight.now.net.now.cells.items }
@@ -248,20 +248,20 @@ fn look_at_local(
         (env_of env.now) result }
 {
     let inside = signal_set::set_local(env, s, sight.net.status(cell + traps + 3));
-    look(sight, main, cell + traps + 4, traps, p, run, &inside)
+    find_waited(sight, main, cell + traps + 4, traps, p, run, &inside)
 }
 
 /// What a statement whose cells begin at a place waits for.
-#[cycle(look)]
-pub fn look(
-    sight: &Sight<'_>,
+#[cycle(find_waited)]
+pub fn find_waited(
+    sight: &WaitContext<'_>,
     main: bool,
     cell: usize,
     traps: usize,
     s: &Statement,
     run: Status,
     env: &Env,
-) -> Waits
+) -> Waited
     requires fits { FitsMasks s.now }
     requires within { cell + sheet_size main s.now traps ≤ length sight.now.net.now.cells.items }
     ensures { IsWaiting (bits sight.now.unasked) main s.now cell traps
@@ -270,25 +270,25 @@ pub fn look(
     let parts = cell + traps + 3;
     match s {
         Statement::Nothing | Statement::Pause(_) | Statement::Emit(_) | Statement::Exit(_) =>
-            Waits {
+            Waited {
                 input: None,
                 past: parts,
             },
         Statement::Present(t, p, q) => {
-            look_at_present(sight, main, cell, traps, t, p, q, run, env)
+            find_in_present(sight, main, cell, traps, t, p, q, run, env)
         }
-        Statement::Suspend(t, p) => look_at_suspend(sight, main, cell, traps, t, p, run, env),
-        Statement::Seq(p, q) => look_at_two(sight, main, parts, traps, p, q, run, env),
-        Statement::Par(p, q) => look_at_two(sight, main, parts, traps, p, q, run, env),
+        Statement::Suspend(t, p) => find_in_suspend(sight, main, cell, traps, t, p, run, env),
+        Statement::Seq(p, q) => find_in_two(sight, main, parts, traps, p, q, run, env),
+        Statement::Par(p, q) => find_in_two(sight, main, parts, traps, p, q, run, env),
         Statement::Loop(p) => {
             if main {
-                look_at_loop(sight, main, cell, traps, p, run, env)
+                find_in_loop(sight, main, cell, traps, p, run, env)
             } else {
-                look(sight, main, parts, traps, p, run, env)
+                find_waited(sight, main, parts, traps, p, run, env)
             }
         }
-        Statement::Trap(p) => look(sight, main, parts, traps + 1, p, run, env),
-        Statement::Local(s, p) => look_at_local(sight, main, cell, traps, *s, p, run, env),
+        Statement::Trap(p) => find_waited(sight, main, parts, traps + 1, p, run, env),
+        Statement::Local(s, p) => find_in_local(sight, main, cell, traps, *s, p, run, env),
     }
 }
 
@@ -305,12 +305,12 @@ pub fn first_waited(net: &Net, question: &Question<'_>, env: &Env) -> Option<u8>
         State::Fresh | State::Done => &none,
         State::Paused(pauses) => pauses,
     };
-    let sight = Sight {
+    let sight = WaitContext {
         net,
         pauses,
         unasked: question.unasked,
     };
-    look(
+    find_waited(
         &sight,
         true,
         net.output_count(),

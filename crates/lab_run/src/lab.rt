@@ -378,10 +378,7 @@ impl Lab {
         ensures kept { IfErr result (λ _. self.new ≡ self.old) }
     {
         match &mut self.stepped {
-            Some(stepped) => {
-                let told = stepped.make(alloc, names)?;
-                Ok(told)
-            }
+            Some(stepped) => stepped.make(alloc, names),
             None => Ok(LabReply::Refused(Refusal::Empty)),
         }
     }
@@ -393,10 +390,7 @@ impl Lab {
         ensures kept { IfErr result (λ _. self.new ≡ self.old) }
     {
         match &mut self.stepped {
-            Some(stepped) => {
-                let told = stepped.try_instant(alloc, names)?;
-                Ok(told)
-            }
+            Some(stepped) => stepped.try_instant(alloc, names),
             None => Ok(LabReply::Refused(Refusal::Empty)),
         }
     }
@@ -407,10 +401,7 @@ impl Lab {
         ensures kept { IfErr result (λ _. self.new ≡ self.old) }
     {
         match &mut self.stepped {
-            Some(stepped) => {
-                let told = stepped.go_back(alloc, to)?;
-                Ok(told)
-            }
+            Some(stepped) => stepped.go_back(alloc, to),
             None => Ok(LabReply::Refused(Refusal::Empty)),
         }
     }

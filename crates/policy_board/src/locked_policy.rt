@@ -18,7 +18,7 @@ use crate::refusal::BoardRefusal;
 use crate::seat::{Acceptance, Seat};
 use history_receipts::mismatch::{Mismatch, POLICY_LIST};
 use history_receipts::receipt::Kept;
-use rbac_admin::decisions::decide;
+use rbac_admin::policy_step::decide;
 use rbac_admin::room::has_room;
 use rbac_policy::commands::{AdminCommand, Entry, SessionId};
 use rbac_policy::journal::PolicyJournal;

@@ -6,8 +6,8 @@
 //! for an entry.
 #![tactic(auto)]
 
-pub mod decisions;
 pub mod laws;
+pub mod policy_step;
 pub mod refusal;
 pub mod room;
 mod rules;

@@ -1,5 +1,4 @@
-//! What the public calls of `policy_board` and `slot_table` answer, by their contracts; and one
-//! call of `access_core`, `decide_slot`, which is lent the slot that lies under a lock.
+//! What the public calls of `policy_board` and `slot_table` answer, by their contracts.
 //!
 //! Each function makes one public call of these crates and has the contract of that call. A wrong
 //! body of must-fail/ makes a mistake in what is asked or answered there, and so shows that the

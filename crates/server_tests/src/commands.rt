@@ -1,5 +1,5 @@
 //! Policy commands, refusals and questions as text, so that a story of a policy is a table.
-use rbac_admin::decisions::decide;
+use rbac_admin::policy_step::decide;
 use rbac_admin::refusal::{PolicyRefusal, table_text};
 use rbac_policy::commands::{AdminCommand, Entry, SessionId};
 use rbac_policy::names::{LISTED_ROLES, Name, RoleNames};

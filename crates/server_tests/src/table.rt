@@ -1,5 +1,4 @@
 mod closing;
 mod commands;
-mod deciding;
 mod receipts;
 mod server;

@@ -65,11 +65,11 @@ puts_more why.Memory a m b text waits more left u p = up_to_more a m b text wait
 puts_more why.WriteFault a m b text waits more left u p = (p.0, up_to_more a m b text waits more p.0 u p.1)
 
 pub served : {A : Type 0} (tells : A → List ℕ → List ℕ → A → Type 0) (fails : A → List ℕ → A → Type 0)
-    (refusal : List ℕ) (before next : BetweenLines A) (y : EndReason) (desk : A) (a m b : Option (List ℕ))
+    (too_long_answer : List ℕ) (before next : BetweenLines A) (y : EndReason) (desk : A) (a m b : Option (List ℕ))
     (w waits left : List ℕ)
-    → Reaches tells before next a m w waits → Serves tells fails refusal next y desk m b waits left
-    → Serves tells fails refusal before y desk a b w left
-served tells fails refusal before next y desk a m b w waits left r s =
+    → Reaches tells before next a m w waits → Serves tells fails too_long_answer next y desk m b waits left
+    → Serves tells fails too_long_answer before y desk a b w left
+served tells fails too_long_answer before next y desk a m b w waits left r s =
     let same : (w ++ texts r.exchanges) ++ (texts s.exchanges ++ s.more) ≡ w
     ++ (texts (r.exchanges ++ s.exchanges) ++ s.more) =
     append_assoc w (texts r.exchanges) (texts s.exchanges ++ s.more)
@@ -101,20 +101,23 @@ puts_all why.ReadFault a b text p = p
 puts_all why.Memory a b text p = p
 puts_all why.WriteFault a b text p = ([], p)
 
-fault_ends : {A : Type 0} (fails : A → List ℕ → A → Type 0) (refusal : List ℕ) (last : BetweenLines A) (y : EndReason)
-    (desk : A) (more : List ℕ) → Ends fails refusal last y desk more → Ends fails refusal last why.WriteFault desk more
-fault_ends fails refusal last why.Closed desk more e = inl e.1
-fault_ends fails refusal last why.TooLong desk more e = inr (inl e)
-fault_ends fails refusal last why.ReadFault desk more e = inl e
-fault_ends fails refusal last why.Memory desk more e = inr (inr e)
-fault_ends fails refusal last why.WriteFault desk more e = e
+fault_ends : {A : Type 0} (fails : A → List ℕ → A → Type 0) (too_long_answer : List ℕ) (last : BetweenLines A)
+    (y : EndReason)
+    (desk : A) (more : List ℕ) → Ends fails too_long_answer last y desk more
+    → Ends fails too_long_answer last why.WriteFault desk more
+fault_ends fails too_long_answer last why.Closed desk more e = inl e.1
+fault_ends fails too_long_answer last why.TooLong desk more e = inr (inl e)
+fault_ends fails too_long_answer last why.ReadFault desk more e = inl e
+fault_ends fails too_long_answer last why.Memory desk more e = inr (inr e)
+fault_ends fails too_long_answer last why.WriteFault desk more e = e
 
 -- what waits is written at the end
 pub finished : {A : Type 0} (tells : A → List ℕ → List ℕ → A → Type 0) (fails : A → List ℕ → A → Type 0)
-    (refusal : List ℕ) (before : BetweenLines A) (y : EndReason) (desk : A) (a b c : Option (List ℕ)) (w left : List ℕ)
-    → (y ≡ why.WriteFault → ⊥) → Serves tells fails refusal before y desk a b w left → Appends b c left
-    → Serves tells fails refusal before y desk a c w []
-finished tells fails refusal before y desk a b c w left n s k =
+    (too_long_answer : List ℕ) (before : BetweenLines A) (y : EndReason) (desk : A) (a b c : Option (List ℕ))
+    (w left : List ℕ)
+    → (y ≡ why.WriteFault → ⊥) → Serves tells fails too_long_answer before y desk a b w left → Appends b c left
+    → Serves tells fails too_long_answer before y desk a c w []
+finished tells fails too_long_answer before y desk a b c w left n s k =
     let text = w ++ (texts s.exchanges ++ s.more) in
     let first : WritesUpTo a b text left = all_puts y a b text left n s.puts in
     let all : WritesUpTo a c text [] = record {
@@ -133,10 +136,11 @@ finished tells fails refusal before y desk a b c w left n s k =
 
 -- what waits is written at the end in part
 pub cut_short : {A : Type 0} (tells : A → List ℕ → List ℕ → A → Type 0) (fails : A → List ℕ → A → Type 0)
-    (refusal : List ℕ) (before : BetweenLines A) (y : EndReason) (desk : A) (a b c : Option (List ℕ)) (w left : List ℕ)
-    → (y ≡ why.WriteFault → ⊥) → Serves tells fails refusal before y desk a b w left → WritesFront b c left
-    → Serves tells fails refusal before why.WriteFault desk a c w []
-cut_short tells fails refusal before y desk a b c w left n s k =
+    (too_long_answer : List ℕ) (before : BetweenLines A) (y : EndReason) (desk : A) (a b c : Option (List ℕ))
+    (w left : List ℕ)
+    → (y ≡ why.WriteFault → ⊥) → Serves tells fails too_long_answer before y desk a b w left → WritesFront b c left
+    → Serves tells fails too_long_answer before why.WriteFault desk a c w []
+cut_short tells fails too_long_answer before y desk a b c w left n s k =
     let text = w ++ (texts s.exchanges ++ s.more) in
     let first : WritesUpTo a b text left = all_puts y a b text left n s.puts in
     let part : WritesUpTo a c text k.0 = record {
@@ -150,38 +154,40 @@ cut_short tells fails refusal before y desk a b c w left n s k =
       last = s.last;
       more = s.more;
       runs = s.runs;
-      ends = fault_ends fails refusal s.last y desk s.more s.ends;
+      ends = fault_ends fails too_long_answer s.last y desk s.more s.ends;
       puts = (k.0, part);
     }
 
 -- where a writing failed, what is left says nothing
 any_left : {A : Type 0} (tells : A → List ℕ → List ℕ → A → Type 0) (fails : A → List ℕ → A → Type 0)
-    (refusal : List ℕ) (before : BetweenLines A) (desk : A) (a b : Option (List ℕ)) (w left rest : List ℕ)
-    → Serves tells fails refusal before why.WriteFault desk a b w left
-    → Serves tells fails refusal before why.WriteFault desk a b w rest
-any_left tells fails refusal before desk a b w left rest s =
+    (too_long_answer : List ℕ) (before : BetweenLines A) (desk : A) (a b : Option (List ℕ)) (w left rest : List ℕ)
+    → Serves tells fails too_long_answer before why.WriteFault desk a b w left
+    → Serves tells fails too_long_answer before why.WriteFault desk a b w rest
+any_left tells fails too_long_answer before desk a b w left rest s =
     record { exchanges = s.exchanges; last = s.last; more = s.more; runs = s.runs; ends = s.ends; puts = s.puts }
 
 -- nothing is held and nothing waits at first
 pub from_nothing : {A : Type 0} (tells : A → List ℕ → List ℕ → A → Type 0) (fails : A → List ℕ → A → Type 0)
-    (refusal : List ℕ) (held : List ℕ) (ahead : Option (List ℕ)) (start : A) (y : EndReason) (desk : A)
+    (too_long_answer : List ℕ) (held : List ℕ) (ahead : Option (List ℕ)) (start : A) (y : EndReason) (desk : A)
     (a b : Option (List ℕ)) (w left : List ℕ)
-    → held ≡ [] → w ≡ [] → Serves tells fails refusal
+    → held ≡ [] → w ≡ [] → Serves tells fails too_long_answer
     (record { ahead = prepend_known held ahead; desk = start }) y desk a b w left
-    → Serves tells fails refusal (record { ahead = ahead; desk = start }) y desk a b [] left
-from_nothing {A} tells fails refusal held ahead start y desk a b w left e f s =
+    → Serves tells fails too_long_answer (record { ahead = ahead; desk = start }) y desk a b [] left
+from_nothing {A} tells fails too_long_answer held ahead start y desk a b w left e f s =
     let same : prepend_known held ahead ≡ ahead = ap (λ (h : List ℕ). prepend_known h ahead) e
     ∙ prepend_known-nil ahead in
-    subst (λ (x : Option (List ℕ)). Serves tells fails refusal (record { ahead = x; desk = start }) y desk a b [] left)
+    subst (λ (x : Option (List ℕ)). Serves tells fails too_long_answer
+    (record { ahead = x; desk = start }) y desk a b [] left)
     same
-    (subst (λ (x : List ℕ). Serves tells fails refusal
+    (subst (λ (x : List ℕ). Serves tells fails too_long_answer
     (record { ahead = prepend_known held ahead; desk = start }) y desk a b x left) f s)
 
 pub faulted : {A : Type 0} (tells : A → List ℕ → List ℕ → A → Type 0) (fails : A → List ℕ → A → Type 0)
-    (refusal : List ℕ) (held : List ℕ) (ahead : Option (List ℕ)) (start : A) (desk : A) (a b : Option (List ℕ))
+    (too_long_answer : List ℕ) (held : List ℕ) (ahead : Option (List ℕ)) (start : A) (desk : A) (a b : Option (List ℕ))
     (w left : List ℕ)
-    → held ≡ [] → w ≡ [] → Serves tells fails refusal
+    → held ≡ [] → w ≡ [] → Serves tells fails too_long_answer
     (record { ahead = prepend_known held ahead; desk = start }) why.WriteFault desk a b w left
-    → Serves tells fails refusal (record { ahead = ahead; desk = start }) why.WriteFault desk a b [] []
-faulted tells fails refusal held ahead start desk a b w left e f s = any_left tells fails refusal _ desk a b [] left
-    [] (from_nothing tells fails refusal held ahead start why.WriteFault desk a b w left e f s)
+    → Serves tells fails too_long_answer (record { ahead = ahead; desk = start }) why.WriteFault desk a b [] []
+faulted tells fails too_long_answer held ahead start desk a b w left e f s =
+    any_left tells fails too_long_answer _ desk a b [] left
+    [] (from_nothing tells fails too_long_answer held ahead start why.WriteFault desk a b w left e f s)

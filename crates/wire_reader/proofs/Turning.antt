@@ -58,9 +58,11 @@ one_text e = append-nil (e.text ++ []) ∙ append-nil e.text
 
 -- nothing comes after what waits
 pub silent : {A : Type 0} (tells : A → List ℕ → List ℕ → A → Type 0) (fails : A → List ℕ → A → Type 0)
-    (refusal : List ℕ) (before : BetweenLines A) (y : EndReason) (desk : A) (a b : Option (List ℕ)) (w left : List ℕ)
-    → Ends fails refusal before y desk [] → Puts y a b w left → Serves tells fails refusal before y desk a b w left
-silent tells fails refusal before y desk a b w left e p =
+    (too_long_answer : List ℕ) (before : BetweenLines A) (y : EndReason) (desk : A) (a b : Option (List ℕ))
+    (w left : List ℕ)
+    → Ends fails too_long_answer before y desk [] → Puts y a b w left
+    → Serves tells fails too_long_answer before y desk a b w left
+silent tells fails too_long_answer before y desk a b w left e p =
     record {
       exchanges = [];
       last = before;
@@ -72,18 +74,20 @@ silent tells fails refusal before y desk a b w left e p =
 
 -- the refusal comes after what waits
 pub refused : {A : Type 0} (tells : A → List ℕ → List ℕ → A → Type 0) (fails : A → List ℕ → A → Type 0)
-    (refusal : List ℕ) (before : BetweenLines A) (y : EndReason) (desk : A) (a b : Option (List ℕ)) (w left : List ℕ)
-    → Ends fails refusal before y desk refusal → Puts y a b (w ++ refusal) left
-    → Serves tells fails refusal before y desk a b w left
-refused tells fails refusal before y desk a b w left e p =
-    record { exchanges = []; last = before; more = refusal; runs = refl; ends = e; puts = p }
+    (too_long_answer : List ℕ) (before : BetweenLines A) (y : EndReason) (desk : A) (a b : Option (List ℕ))
+    (w left : List ℕ)
+    → Ends fails too_long_answer before y desk too_long_answer → Puts y a b (w ++ too_long_answer) left
+    → Serves tells fails too_long_answer before y desk a b w left
+refused tells fails too_long_answer before y desk a b w left e p =
+    record { exchanges = []; last = before; more = too_long_answer; runs = refl; ends = e; puts = p }
 
 -- an answer was written in part
 pub in_part : {A : Type 0} (tells : A → List ℕ → List ℕ → A → Type 0) (fails : A → List ℕ → A → Type 0)
-    (refusal : List ℕ) (before after : BetweenLines A) (line text : List ℕ) (a b : Option (List ℕ)) (w left : List ℕ)
+    (too_long_answer : List ℕ) (before after : BetweenLines A) (line text : List ℕ) (a b : Option (List ℕ))
+    (w left : List ℕ)
     → AnswersLine tells before line text after → WritesFront a b (w ++ text)
-    → Serves tells fails refusal before why.WriteFault after.desk a b w left
-in_part tells fails refusal before after line text a b w left answered p =
+    → Serves tells fails too_long_answer before why.WriteFault after.desk a b w left
+in_part tells fails too_long_answer before after line text a b w left answered p =
     let e : Exchange = record { line = line; text = text } in
     record {
       exchanges = e ∷ [];

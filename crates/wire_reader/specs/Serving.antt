@@ -69,10 +69,11 @@ pub record FindsNoMemory {A : Type 0} (fails : A → List ℕ → A → Type 0) 
   pub failed : fails last.desk line desk
 
 -- the next line is over its limit, is asked of no desk, and is refused by this text
-pub record RefusesLine {A : Type 0} (refusal : List ℕ) (last : BetweenLines A) (desk : A) (more : List ℕ) : Type 0 where
+pub record RefusesLine {A : Type 0} (too_long_answer : List ℕ) (last : BetweenLines A) (desk : A)
+    (more : List ℕ) : Type 0 where
   pub long : IsOverLong last.ahead
   pub same_desk : desk ≡ last.desk
-  pub refused : more ≡ refusal
+  pub refused : more ≡ too_long_answer
 
 -- nothing comes after the answers
 pub record IsSilent {A : Type 0} (last : BetweenLines A) (desk : A) (more : List ℕ) : Type 0 where
@@ -80,14 +81,16 @@ pub record IsSilent {A : Type 0} (last : BetweenLines A) (desk : A) (more : List
   pub nothing : more ≡ []
 
 -- how a connection ends after its last answer, and what more is to be written then
-abbrev pub Ends : {A : Type 0} → (fails : A → List ℕ → A → Type 0) → (refusal : List ℕ) → (last : BetweenLines A)
+abbrev pub Ends : {A : Type 0} → (fails : A → List ℕ → A → Type 0) → (too_long_answer : List ℕ)
+    → (last : BetweenLines A)
     → EndReason → (desk : A) → (more : List ℕ) → Type 0
-Ends fails refusal last Closed desk more = NothingAhead last.ahead × IsSilent last desk more
-Ends fails refusal last TooLong desk more = RefusesLine refusal last desk more
-Ends fails refusal last ReadFault desk more = IsSilent last desk more
-Ends fails refusal last WriteFault desk more =
-    IsSilent last desk more ⊎ (RefusesLine refusal last desk more ⊎ (FindsNoMemory fails last desk × (more ≡ [])))
-Ends fails refusal last Memory desk more = FindsNoMemory fails last desk × (more ≡ [])
+Ends fails too_long_answer last Closed desk more = NothingAhead last.ahead × IsSilent last desk more
+Ends fails too_long_answer last TooLong desk more = RefusesLine too_long_answer last desk more
+Ends fails too_long_answer last ReadFault desk more = IsSilent last desk more
+Ends fails too_long_answer last WriteFault desk more =
+    IsSilent last desk more
+    ⊎ (RefusesLine too_long_answer last desk more ⊎ (FindsNoMemory fails last desk × (more ≡ [])))
+Ends fails too_long_answer last Memory desk more = FindsNoMemory fails last desk × (more ≡ [])
 
 -- what is written: the text up to what waits, or a front of it where the writer failed
 abbrev pub Puts : EndReason → (before after : Option (List ℕ)) → (text left : List ℕ) → Type 0
@@ -97,11 +100,11 @@ Puts _ before after text left = WritesUpTo before after text left
 -- lines are answered, then the connection ends for this reason; everything that waited or was answered is written,
 -- except what is left
 pub record Serves {A : Type 0} (tells : A → List ℕ → List ℕ → A → Type 0) (fails : A → List ℕ → A → Type 0)
-    (refusal : List ℕ) (before : BetweenLines A) (why : EndReason) (desk : A) (written after : Option (List ℕ))
+    (too_long_answer : List ℕ) (before : BetweenLines A) (why : EndReason) (desk : A) (written after : Option (List ℕ))
     (waiting left : List ℕ) : Type 0 where
   pub exchanges : List Exchange
   pub last : BetweenLines A
   pub more : List ℕ
   pub runs : Runs tells before exchanges last
-  pub ends : Ends fails refusal last why desk more
+  pub ends : Ends fails too_long_answer last why desk more
   pub puts : Puts why written after (waiting ++ (texts exchanges ++ more)) left

@@ -102,10 +102,10 @@ fn answer_next<R: Read, W: Write, D, A: Answerer<D>>(
     writer: &mut MeteredWriter<W>,
     answerer: &mut A,
     desk: &mut D,
-    refusal: &[u8],
+    too_long_answer: &[u8],
 ) -> Result<(), EndReason>
     requires { IsSound lines.old.ending (held_bytes lines.old) (R.remaining reader.old.device) }
-    ensures turns { Turns A.tells A.fails refusal.now
+    ensures turns { Turns A.tells A.fails too_long_answer.now
         (between (prepend_known (held_bytes lines.old) (R.remaining reader.old.device))
         (answerer.old, desk.old))
         result
@@ -131,7 +131,7 @@ fn answer_next<R: Read, W: Write, D, A: Answerer<D>>(
         Ok(Ok(Line::End)) => return Err(EndReason::Closed),
         Ok(Err(LineFault::Read)) => return Err(EndReason::ReadFault),
         Ok(Err(LineFault::TooLong)) => {
-            let Ok(()) = replies.add(writer, refusal) else {
+            let Ok(()) = replies.add(writer, too_long_answer) else {
                 return Err(EndReason::WriteFault);
             };
             return Err(EndReason::TooLong);
@@ -156,10 +156,10 @@ fn answer_all<R: Read, W: Write, D, A: Answerer<D>>(
     writer: &mut MeteredWriter<W>,
     answerer: &mut A,
     desk: &mut D,
-    refusal: &[u8],
+    too_long_answer: &[u8],
 ) -> EndReason
     requires { IsSound lines.old.ending (held_bytes lines.old) (R.remaining reader.old.device) }
-    ensures serves { Serves A.tells A.fails refusal.now
+    ensures serves { Serves A.tells A.fails too_long_answer.now
         (between (prepend_known (held_bytes lines.old) (R.remaining reader.old.device))
         (answerer.old, desk.old))
         result (answerer.new, desk.new) (W.contents writer.old.device)
@@ -174,7 +174,14 @@ fn answer_all<R: Read, W: Write, D, A: Answerer<D>>(
 {
     loop {
         if let Err(why) = answer_next(
-            alloc, lines, replies, reader, writer, answerer, desk, refusal,
+            alloc,
+            lines,
+            replies,
+            reader,
+            writer,
+            answerer,
+            desk,
+            too_long_answer,
         ) {
             return why;
         }
@@ -191,10 +198,10 @@ pub fn answer_connection<R: Read, W: Write, D, A: Answerer<D>>(
     writer: &mut MeteredWriter<W>,
     answerer: &mut A,
     desk: &mut D,
-    refusal: &[u8],
+    too_long_answer: &[u8],
 ) -> EndReason
     // Serves, or (the second half) the allocator refused the buffers.
-    ensures serves { Serves A.tells A.fails refusal.now
+    ensures serves { Serves A.tells A.fails too_long_answer.now
         (between (R.remaining reader.old.device) (answerer.old, desk.old))
         result (answerer.new, desk.new) (W.contents writer.old.device)
         (W.contents writer.new.device) [] []
@@ -222,7 +229,7 @@ pub fn answer_connection<R: Read, W: Write, D, A: Answerer<D>>(
         writer,
         answerer,
         desk,
-        refusal,
+        too_long_answer,
     ) {
         EndReason::WriteFault => EndReason::WriteFault,
         why => {

@@ -33,9 +33,10 @@ pub record Answers {A : Type 0} (tells : A → List ℕ → List ℕ → A → T
 
 -- a turn answers a line, or is the end of the connection
 abbrev pub Turns : {A : Type 0} → (tells : A → List ℕ → List ℕ → A → Type 0) → (fails : A → List ℕ → A → Type 0)
-    → (refusal : List ℕ) → BetweenLines A → Result ⊤ EndReason → BetweenLines A → (written later : Option (List ℕ))
+    → (too_long_answer : List ℕ) → BetweenLines A → Result ⊤ EndReason → BetweenLines A
+    → (written later : Option (List ℕ))
     → (waiting left : List ℕ) → Type 0
-Turns tells fails refusal before (Ok _) after written later waiting left =
+Turns tells fails too_long_answer before (Ok _) after written later waiting left =
     Answers tells before after written later waiting left
-Turns tells fails refusal before (Err why) after written later waiting left =
-    Serves tells fails refusal before why after.desk written later waiting left
+Turns tells fails too_long_answer before (Err why) after written later waiting left =
+    Serves tells fails too_long_answer before why after.desk written later waiting left

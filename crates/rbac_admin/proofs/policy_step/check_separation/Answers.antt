@@ -7,7 +7,7 @@ use Rattle.rbac_admin.specs.PolicyStep.{existence_rules, condition_rules}
 use Rattle.rbac_admin.proofs.Answering.{tested}
 use Rattle.rbac_admin.proofs.Authorizing.{all_authorized}
 use Rattle.rbac_admin.proofs.Shaping.{all_roles}
-use Rattle.rbac_admin.proofs.decisions.check_separation.Goals as goal
+use Rattle.rbac_admin.proofs.policy_step.check_separation.Goals as goal
 
 pub returns-in-AddInheritance : goal.returns-in-AddInheritance
 returns-in-AddInheritance c = λ L st given names conditions.

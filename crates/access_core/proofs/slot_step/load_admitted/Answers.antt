@@ -1,7 +1,7 @@
 use Rattle.reactor_core.specs.declared.entry.Move.TheVariants.{Load}
 use Rattle.access_core.specs.declared.command.SlotCommand.TheVariants.{Move}
 use Rattle.access_core.proofs.Deciding.{allowed_step, denied_step}
-use Rattle.access_core.proofs.slot.load_admitted.Goals as goal
+use Rattle.access_core.proofs.slot_step.load_admitted.Goals as goal
 
 pub returns-in-Ok-clause-step : goal.returns-in-Ok-clause-step
 returns-in-Ok-clause-step c = λ entries session admitted.

@@ -1,6 +1,6 @@
 use Rattle.access_core.specs.declared.command.SlotCommand.TheVariants.{Move, Look, Audit}
 use Rattle.access_core.proofs.Deciding.{allowed_step, denied_step}
-use Rattle.access_core.proofs.slot.decide_slot.Goals as goal
+use Rattle.access_core.proofs.slot_step.decide_slot.Goals as goal
 
 pub returns-in-Err-clause-step : goal.returns-in-Err-clause-step
 returns-in-Err-clause-step c = λ entries stands.

@@ -3,7 +3,7 @@ use Rattle.std.proofs.lemmas.Result.{err_from_is_err_and}
 use Rattle.refusal_rules.proofs.RuleLemmas.{refuse, pass}
 use Rattle.rbac_admin.specs.PolicyStep.{unknown_role}
 use Rattle.rbac_admin.proofs.Answering.{tested}
-use Rattle.rbac_admin.proofs.decisions.check_existence.Goals as goal
+use Rattle.rbac_admin.proofs.policy_step.check_existence.Goals as goal
 
 pub returns-in_err-check_role_exists-in-AddInheritance : goal.returns-in_err-check_role_exists-in-AddInheritance
 returns-in_err-check_role_exists-in-AddInheritance c =

@@ -4,7 +4,7 @@ use Rattle.std.proofs.lemmas.Result.{err_from_is_err_and}
 use Rattle.rbac_policy.specs.Entries.{makes_session}
 use Rattle.refusal_rules.proofs.RuleLemmas.{refuse, pass}
 use Rattle.rbac_admin.proofs.Answering.{tested, tested_inactive, given_by, pass_authorized, refuse_authorized}
-use Rattle.rbac_admin.proofs.decisions.check_conditions.Goals as goal
+use Rattle.rbac_admin.proofs.policy_step.check_conditions.Goals as goal
 
 pub returns-in_err-check_roles_authorized-in-CreateSession :
     goal.returns-in_err-check_roles_authorized-in-CreateSession

@@ -5,7 +5,7 @@ use Rattle.refusal_rules.proofs.RuleLemmas.{accepted}
 use Rattle.rbac_admin.specs.PolicyStep.{session_rules, permission_rules, existence_rules, condition_rules}
 use Rattle.rbac_admin.specs.PolicyStep.{separation_rules, table_rules}
 use Rattle.rbac_admin.proofs.Answering.{checked, mapped, skip, stop, giver_of, after_giver}
-use Rattle.rbac_admin.proofs.decisions.decide.Goals as goal
+use Rattle.rbac_admin.proofs.policy_step.decide.Goals as goal
 
 pub returns-in_err-session : goal.returns-in_err-session
 returns-in_err-session c =
