@@ -72,7 +72,7 @@ silent tells fails too_long_answer before y desk a b w left e p =
       puts = subst (λ (l : List ℕ). Puts y a b l left) (sym (append-nil w)) p;
     }
 
--- the refusal comes after what waits
+-- the answer comes after what waits
 pub refused : {A : Type 0} (tells : A → List ℕ → List ℕ → A → Type 0) (fails : A → List ℕ → A → Type 0)
     (too_long_answer : List ℕ) (before : BetweenLines A) (y : EndReason) (desk : A) (a b : Option (List ℕ))
     (w left : List ℕ)

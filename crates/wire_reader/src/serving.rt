@@ -190,7 +190,7 @@ fn answer_all<R: Read, W: Write, D, A: Answerer<D>>(
 
 /// Answers a connection to its end: each line that the reader gives is answered by the desk, in
 /// turn. Answers wait until no whole line is held, or no more have room, and are written before the
-/// next read and before the end. An over-long line is answered by `refusal`, and ends the
+/// next read and before the end. An over-long line is answered by `too_long_answer`, and ends the
 /// connection.
 pub fn answer_connection<R: Read, W: Write, D, A: Answerer<D>>(
     memory: &mut MeteredMemory,
