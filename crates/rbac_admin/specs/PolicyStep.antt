@@ -1,5 +1,11 @@
 -- The policy step: for each command the rules of refusal in their order, and the entry where all of them let pass
 -- (this project's own form).
+--
+-- A command's rules stand in five lists, which are asked in this order: who gives it (session_rules, permission_rules),
+-- whether what it names is there or new (existence_rules), what it asks of that (condition_rules), separation
+-- (separation_rules), and room in its table (table_rules). The conditions themselves: rbac_admin specs/Conditions, and
+-- specs/Facts, Separation and Fits of rbac_policy. A full journal and want of memory come after all of them:
+-- specs/Room, AdminSteps.
 use Rattle.std.specs.Prelude.{◌≡◌, ℕ, if◌then◌else◌, List, [], ◌∷◌, ◌++◌, Option, None, Result, Ok, Err, Contains}
 use Rattle.refusal_rules.specs.Rules.{Rule, Rules, RefuseIf, RefuseUnless, RefuseNaming, accept, ◌▸◌, ◌▸▸◌, Answers}
 use Rattle.rbac_policy.specs.declared.objects.Operation.TheVariants.{Administer}

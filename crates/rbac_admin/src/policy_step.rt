@@ -211,27 +211,27 @@ fn check_tables(policy: &Policy, command: &AdminCommand) -> Result<(), PolicyRef
 ///
 /// The first refusal, in the order of the policy step:
 ///
+/// - of AddUser: NoSession, Permission, UserExists, Full of users;
+/// - of DeleteUser: NoSession, Permission, UnknownUser;
+/// - of AddRole: NoSession, Permission, RoleExists, Full of roles;
+/// - of DeleteRole: NoSession, Permission, UnknownRole, RoleInDsd (the set that was made first);
+/// - of AssignUser: NoSession, Permission, UnknownUser, UnknownRole, AlreadyAssigned;
+/// - of DeassignUser: NoSession, Permission, UnknownUser, UnknownRole, NotAssigned;
 /// - of GrantPermission: NoSession, Permission, UnknownRole, AlreadyGranted, Full of permissions;
+/// - of RevokePermission: NoSession, Permission, UnknownRole, NotGranted;
+/// - of AddInheritance: NoSession, Permission, UnknownRole (the senior, then the junior), Cycle,
+///   EdgeExists, DsdViolated;
+/// - of DeleteInheritance: NoSession, Permission, UnknownRole (the senior, then the junior),
+///   NoEdge;
+/// - of CreateDsdSet: NoSession, Permission, DsdExists, UnknownRole (the first listed), DsdShape,
+///   DsdViolated, Full of sets;
+/// - of DeleteDsdSet: NoSession, Permission, NoDsd;
 /// - of CreateSession: SessionsExhausted, UnknownUser, UnknownRole (the first listed),
 ///   NotAuthorized (the first listed), AlreadyActive (the first that stands a second time),
 ///   DsdViolated, Full of sessions;
 /// - of DeleteSession: NoSession;
-/// - of AddUser: NoSession, Permission, UserExists, Full of users;
-/// - of DeleteUser: NoSession, Permission, UnknownUser;
-/// - of AddRole: NoSession, Permission, RoleExists, Full of roles;
-/// - of AssignUser: NoSession, Permission, UnknownUser, UnknownRole, AlreadyAssigned;
-/// - of DeassignUser: NoSession, Permission, UnknownUser, UnknownRole, NotAssigned;
-/// - of RevokePermission: NoSession, Permission, UnknownRole, NotGranted;
-/// - of DeleteInheritance: NoSession, Permission, UnknownRole (the senior, then the junior),
-///   NoEdge;
 /// - of AddActiveRole: NoSession, UnknownRole, NotAuthorized, AlreadyActive, DsdViolated;
-/// - of DropActiveRole: NoSession, UnknownRole, NotActive;
-/// - of DeleteRole: NoSession, Permission, UnknownRole, RoleInDsd (the set that was made first);
-/// - of AddInheritance: NoSession, Permission, UnknownRole (the senior, then the junior), Cycle,
-///   EdgeExists, DsdViolated;
-/// - of CreateDsdSet: NoSession, Permission, DsdExists, UnknownRole (the first listed), DsdShape,
-///   DsdViolated, Full of sets;
-/// - of DeleteDsdSet: NoSession, Permission, NoDsd.
+/// - of DropActiveRole: NoSession, UnknownRole, NotActive.
 pub fn decide(
     policy: &Policy,
     session: Option<SessionId>,

@@ -105,15 +105,21 @@ const TRIES: u32 = 64;
 /// How long a thread waits between two tries.
 const PAUSES: u32 = 8;
 
+/// Lets a moment pass.
+#[inline(always)]
+fn pause() {
+    for _ in 0..PAUSES {
+        spin_loop();
+    }
+}
+
 /// Takes a lock. If it is taken, tries again a number of times, and then sleeps until it is free.
 fn lock_soon<'a, T, R: Wait>(rt: &R, lock: &'a Mutex<T>) -> MutexGuard<'a, T> {
     for _ in 0..TRIES {
         if let Some(guard) = lock.try_lock() {
             return guard;
         }
-        for _ in 0..PAUSES {
-            spin_loop();
-        }
+        pause();
     }
     lock.lock(rt)
 }
