@@ -35,8 +35,8 @@ pub fn check_before_order(
     main: &str,
 ) -> Result<Identifier, LinkFault>
     ensures name { IfOk result (λ name. name ≡ main.now) }
-    ensures found { Finds (λ found. found ≡ fault_before_order (map program_of modules.now) main.now)
-        result }
+    ensures found { Finds (λ found. found ≡ fault_before_order (map program_of modules.now)
+        main.now) result }
 {
     if let Some(name) = first_duplicate(alloc, &*modules)? {
         return Err(LinkFault::DuplicateName(name));

@@ -230,8 +230,8 @@ fn emissions_of<'a, 'b>(
         ≡ true → is_numbered names.now s ≡ true }
     requires known { first_of (unknown_at (map program_of modules.now) (program_of home.now))
         (occurrences [] (program_of home.now).body) ≡ None }
-    requires numbers { AreEmittedNumbers names.now (map program_of modules.now) (emitted_of table.now)
-        numbers.now }
+    requires numbers { AreEmittedNumbers names.now (map program_of modules.now)
+        (emitted_of table.now) numbers.now }
     ensures { IfOk result (λ set. (s : List ℕ)
         → has set s ≡ list_any (emits_here (map program_of modules.now)
         (emitted_of table.now) s) (occurrences [] (program_of home.now).body)) }
@@ -267,8 +267,8 @@ fn add_module<'a>(
     requires known { first_in_bodies (unknown_at (map program_of modules.now))
         (map program_of modules.now) ≡ None }
     requires distinct { first_duplicate (map program_of modules.now) ≡ None }
-    requires numbers { AreEmittedNumbers names.now (map program_of modules.now) (emitted_of table.old)
-        numbers.old }
+    requires numbers { AreEmittedNumbers names.now (map program_of modules.now)
+        (emitted_of table.old) numbers.old }
     ensures numbers { OnOk result (AreEmittedNumbers names.now (map program_of modules.now)
         (emitted_of table.new) numbers.new) }
     ensures emitted { OnOk result ((p : Program)

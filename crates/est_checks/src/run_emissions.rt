@@ -70,7 +70,8 @@ impl Choice for Emitted<'_, '_, '_> {
     ghost use Rattle.est_checks.specs.Emissions.{emitted_of};
     ghost use Rattle.est_checks.specs.Inner.Emitted.{names_emitted_by};
 
-    ghost chosen = { λ c. names_emitted_by (map program_of c.modules.now) (emitted_of c.table.now) };
+    ghost chosen = { λ c. names_emitted_by (map program_of c.modules.now)
+        (emitted_of c.table.now) };
 
     fn choose(&self, alloc: Global, name: &Identifier) -> Result<Vec<Identifier>, AllocError> {
         match self.modules.named(name) {

@@ -72,7 +72,8 @@ fn count_modules(
     order: &[usize],
 ) -> Result<Vec<u16>, AllocError>
     requires { IsOrderOf (map program_of modules.now) order.now }
-    ensures { IfOk result (λ numbers. IsFilled (map program_of modules.now) order.now numbers.items) }
+    ensures { IfOk result (λ numbers. IsFilled (map program_of modules.now) order.now
+        numbers.items) }
 {
     let mut numbers = vec![in alloc; 0; modules.as_slice().len()]?;
     for place in order {

@@ -5,9 +5,9 @@
 //! the same where it was asked; else the part is split at a signal that was not asked.
 #![tactic(auto)]
 
-pub mod lawful_inputs;
 pub mod answered;
 mod cover;
 mod forced;
+pub mod lawful_inputs;
 mod part;
 pub mod reactive;

@@ -13,8 +13,8 @@ ghost use Rattle.est_explore.specs.declared.two_modules.AnswerPair.{AnswerPair a
 
 use crate::one_module::Position;
 use crate::two_modules::{AnswerPair, EnginePair, PositionPair, TwoModules, agree};
-use est_cover::lawful_inputs::LawfulInputs;
 use est_cover::answered::AnsweredInputs;
+use est_cover::lawful_inputs::LawfulInputs;
 use est_kernel::state::State;
 use est_rounds::part_engine::PartEngine;
 use state_search::found::{Found, Row};

@@ -14,8 +14,8 @@ ghost use Rattle.est_explore.specs.declared.one_module.Answer.{Answer as AnswerV
 use crate::claim::Claim;
 use crate::one_module::{Answer, OneModule, Position};
 use crate::verdict::Verdict;
-use est_cover::lawful_inputs::LawfulInputs;
 use est_cover::answered::AnsweredInputs;
+use est_cover::lawful_inputs::LawfulInputs;
 use est_kernel::state::State;
 use est_rounds::part_engine::PartEngine;
 use state_search::found::{Found, Row};

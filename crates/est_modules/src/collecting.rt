@@ -107,8 +107,8 @@ fn add_module<'a>(
 ) -> Result<(), AllocError>
     requires { AreFirstPlaces places.old (map (λ h. h.name) modules.old.items) }
     ensures places { OnOk result (AreFirstPlaces places.new (map (λ h. h.name) modules.new.items)) }
-    ensures modules { OnOk result (map program_of modules.new.items ≡ map program_of modules.old.items
-        ++ module_program (module_view declared.now) ∷ []) }
+    ensures modules { OnOk result (map program_of modules.new.items
+        ≡ map program_of modules.old.items ++ module_program (module_view declared.now) ∷ []) }
 {
     places.add(&declared.name, modules.len())?;
     modules.push(library_module(alloc, declared)?)?;

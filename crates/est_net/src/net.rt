@@ -82,7 +82,8 @@ impl Net {
         ensures cells { IfOk result (λ net. net.cells.items
             ≡ replicate (cell_count kernel.now) Unknown) }
         ensures signals { IfOk result (λ net. bits net.emittable ≡ emittable kernel.now.interface) }
-        ensures outputs { IfOk result (λ net. net.output_count ≡ output_count kernel.now.interface) }
+        ensures outputs { IfOk result (λ net. net.output_count
+            ≡ output_count kernel.now.interface) }
         ensures reach { IfOk result (λ net. IsReachOf net.reach kernel.now.root) }
         ensures extents { IfOk result (λ net. HasExtents net.extents.items 0 0 kernel.now.root) }
         ensures emissions { IfOk result (λ net. net.emissions.items

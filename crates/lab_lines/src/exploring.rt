@@ -14,8 +14,8 @@ ghost use Rattle.lab_lines.specs.FoundJson.{exploration_json};
 
 use crate::asked_test::AskedTest;
 use crate::found_json::verdict_json;
-use est_cover::lawful_inputs::LawfulInputs;
 use est_cover::answered::AnsweredInputs;
+use est_cover::lawful_inputs::LawfulInputs;
 use est_explore::claim::Claim;
 use est_explore::judge::{explore, judge};
 use est_explore::one_module::{Answer, OneModule, Position};

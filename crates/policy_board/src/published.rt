@@ -70,7 +70,8 @@ impl<B: BoardName> Protocol<PublishedPolicy, LinkedList<Entry>> for PublishedRul
     ghost use Rattle.rbac_policy.specs.Opening.{opening_entries};
     ghost use Rattle.policy_board.specs.Rule.{IsKept};
 
-    ghost holds = { λ x views. (x.book_prefix.book ≡ B.book) × IsKept x.policy x.book_prefix.list views };
+    ghost holds = { λ x views. (x.book_prefix.book ≡ B.book)
+        × IsKept x.policy x.book_prefix.list views };
 
     ghost first = { opening_entries };
 }
@@ -85,7 +86,8 @@ impl<B: BoardName> Outcome<PublishedPolicy, LinkedList<Entry>> for SeenRule<B> {
     ghost use Rattle.std.specs.Prelude.{◌≡◌};
     ghost use Rattle.policy_board.specs.Rule.{IsSeen};
 
-    ghost then = { λ v x y w. (y.book_prefix.book ≡ B.book) × IsSeen v y.policy y.book_prefix.list w };
+    ghost then = { λ v x y w. (y.book_prefix.book ≡ B.book)
+        × IsSeen v y.policy y.book_prefix.list w };
 }
 
 pub type PolicyReader<B> = Reader<PublishedPolicy, LinkedList<Entry>, PublishedRule<B>>;

@@ -90,8 +90,8 @@ fn show<B: BoardName, R: Wait>(
     requires before { IsPublishing B.book writer.desk.shown.value.policy
         writer.desk.shown.value.book_prefix (drop writer.behind writer.log.items) }
     ensures shown { result.desk.shown.value.book_prefix ≡ prefix_in_book B.book prefix.now }
-    ensures after { IsPublishing B.book result.desk.shown.value.policy result.desk.shown.value.book_prefix
-        (drop result.behind result.log.items) }
+    ensures after { IsPublishing B.book result.desk.shown.value.policy
+        result.desk.shown.value.book_prefix (drop result.behind result.log.items) }
 {
     let publication = Publication::Add {
         entry,
@@ -116,8 +116,8 @@ impl<B: BoardName> Publisher<B> {
         writer: PolicyWriter<B>,
         head: SharedLength<B>,
     ) -> Result<Publisher<B>, PolicyWriter<B>>
-        requires { IsPublishing B.book writer.desk.shown.value.policy writer.desk.shown.value.book_prefix
-            (drop writer.behind writer.log.items) }
+        requires { IsPublishing B.book writer.desk.shown.value.policy
+            writer.desk.shown.value.book_prefix (drop writer.behind writer.log.items) }
         ensures { IfOk result (λ publisher. publisher ≡ writer.desk.shown.value.book_prefix.list) }
     {
         let mut writer = writer;
