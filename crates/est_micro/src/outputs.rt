@@ -121,7 +121,8 @@ pub fn update_signals(net: &mut Net, question: &Question<'_>, judged: &MustCan) 
     requires net { IsNetOf net.old question.now.kernel.now }
     ensures updated { AreSignalsUpdated question.now.kernel.now.interface
         (bits question.now.unasked) (bits question.now.inputs)
-        (bits judged.now.must.signals.interface) (bits judged.now.can.signals.interface) net.old.cells.items net.new.cells.items result }
+        (bits judged.now.must.signals.interface) (bits judged.now.can.signals.interface)
+        net.old.cells.items net.new.cells.items result }
     ensures net { IsNetOf net.new question.now.kernel.now }
     ensures kept { kept net.new ≡ kept net.old }
 {
