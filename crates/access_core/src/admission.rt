@@ -66,8 +66,8 @@ pub(crate) fn admit_command(
 /// Asks whether this session may load the slot, at the policy as it is. Answers the stamp that the
 /// load's entry gets.
 ///
-/// What a load does afterwards needs no policy: `load_admitted` (`slot`) does it, however long its
-/// text takes.
+/// What a load does afterwards needs no policy: `load_admitted` (`slot_step`) does it, however long
+/// its text takes.
 ///
 /// # Errors
 ///

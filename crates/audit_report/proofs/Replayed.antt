@@ -20,7 +20,7 @@ use Rattle.access_core.specs.declared.reply.Reply.TheVariants.{Refused}
 use Rattle.access_core.specs.SlotStep.{SlotStep, stamp_of}
 use Rattle.access_core.specs.Journals.{Judges, Adds}
 use Rattle.audit_report.specs.Findings.{ReactsOtherwise}
-use Rattle.audit_report.specs.Inner.Faults.{instant_in, last_instant, KeepsInstant, fault_of, IsFaultOf}
+use Rattle.audit_report.specs.Inner.Faults.{instant_in, last_instant, KeepsInstant, entry_fault_of, IsFaultOf}
 use Rattle.access_core.proofs.Legality.{ChangesJournal, IsTaken, moves, refused_stays, same_move}
 use Rattle.access_core.proofs.Legality.{also_none, steps_where}
 
@@ -55,7 +55,7 @@ not_kept wanted done stamp before not = by_instant (instant_of wanted) refl not 
 
 -- the fault of a refusal
 pub refused_fault : (judged : List Entry) (slot : ℕ) (before : List SlotEntry) (e : SlotEntry) (given : Refusal)
-    → Judges judged slot before e (Refused given) before → IsFaultOf judged slot before e (fault_of given)
+    → Judges judged slot before e (Refused given) before → IsFaultOf judged slot before e (entry_fault_of given)
 refused_fault judged slot before e refusal.Memory step = tt
 refused_fault judged slot before e given step =
     record { given = given; step = step; ample = λ same. absurd cc; numbered = refl }
@@ -138,7 +138,7 @@ judges judged slot session command before e reply after by is step =
 pub fault_is : (judged : List Entry) (slot : ℕ) (before : List SlotEntry) (e : SlotEntry) (given : Refusal)
     (after : List SlotEntry)
     → length judged ≡ e.stamp.version → Judges judged slot before e (Refused given) after
-    → IsFaultOf judged slot before e (fault_of given)
+    → IsFaultOf judged slot before e (entry_fault_of given)
 fault_is judged slot before e given after version step =
     refused_fault judged slot before e given
     (subst (Judges judged slot before e (Refused given))

@@ -7,8 +7,8 @@ ghost use Rattle.rbac_policy.specs.StandsFor.{StandsFor};
 ghost use Rattle.rbac_admin.specs.PolicyLists.{IsPolicyList};
 ghost use Rattle.access_core.specs.Journals.{IsLegal};
 ghost use Rattle.audit_report.specs.Findings.{IsFirstOfSlot};
-ghost use Rattle.audit_report.specs.Inner.Faults.{last_instant, KeepsInstant, fault_of, Replays};
-ghost use Rattle.audit_report.specs.Inner.Faults.{finding_of};
+ghost use Rattle.audit_report.specs.Inner.Faults.{last_instant, KeepsInstant, entry_fault_of};
+ghost use Rattle.audit_report.specs.Inner.Faults.{Replays, finding_of};
 
 use crate::finding::Finding;
 use crate::second_engine::opinion_of;
@@ -57,8 +57,8 @@ fn keeps_instant(entries: &[SlotEntry], done: &Move<PastInstant>) -> bool
 }
 
 /// The fault of an entry whose command is refused so.
-fn fault_of(refusal: &Refusal) -> EntryFault
-    ensures { result ≡ fault_of refusal.now }
+fn entry_fault_of(refusal: &Refusal) -> EntryFault
+    ensures { result ≡ entry_fault_of refusal.now }
 {
     match refusal {
         Refusal::TooLong
@@ -99,7 +99,7 @@ fn replay_entry<E: Engine>(
     one_module();
     let opinion = opinion_of(engine, slot, &entry.done);
     match decide_slot(policy, slot, session, SlotCommand::Move(asked)) {
-        Reply::Refused(refusal) => Err(fault_of(&refusal)),
+        Reply::Refused(refusal) => Err(entry_fault_of(&refusal)),
         _ => {
             let holds = opinion.holds_after(slot);
             if holds && keeps_instant(slot.journal().entries(), &entry.done) {

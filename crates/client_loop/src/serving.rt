@@ -35,7 +35,7 @@ fn too_long_line() -> &'static [u8]
 }
 
 /// Answers the lines of a connection to its end, and gives the login that it holds then.
-fn answer_lines<R: Read, W: Write, D: Desk, G: AnswerHook>(
+fn serve_lines<R: Read, W: Write, D: Desk, G: AnswerHook>(
     memory: &mut MeteredMemory,
     reader: &mut MeteredReader<R>,
     writer: &mut MeteredWriter<W>,
@@ -110,7 +110,7 @@ pub fn serve_hooked<R: Read, W: Write, D: Desk, G: AnswerHook>(
     ensures unfailed_writer { (result.why ≡ why.WriteFault → ⊥) →
         writer.new.faults ≡ writer.old.faults }
 {
-    let (why, held) = answer_lines(memory, reader, writer, desk, hook, worker);
+    let (why, held) = serve_lines(memory, reader, writer, desk, hook, worker);
     let left = leave(desk, held);
     ServedEnd { why, left }
 }

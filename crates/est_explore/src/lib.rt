@@ -6,9 +6,9 @@
 //! met, and nothing else. The definitions speak of terms of the semantics, not of states of an
 //! engine.
 //!
-//! `judge` judges claims on one module, `same` compares two. Both are one search of `state_search`
-//! over a system (`one_module`, `two_modules`); `est_cover` splits the inputs only where a
-//! reaction depends on them. `table` hands out what the search found: each state with its
+//! `judge` judges claims on one module, `comparison` compares two. Both are one search of
+//! `state_search` over a system (`one_module`, `two_modules`); `est_cover` splits the inputs only
+//! where a reaction depends on them. `table` hands out what the search found: each state with its
 //! reactions.
 #![tactic(auto)]
 

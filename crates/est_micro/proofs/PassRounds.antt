@@ -160,7 +160,7 @@ pass_round_ready unasked k x inputs e f old new a h ready =
     (λ n. inr (ap (λ (b : Bool). verdict b (h.possible n)) (h.sure_is n)
     ∙ ap (λ (b : Bool). verdict (emits is_sure true k.root
     (sheet_in (cell_at h.mid) true k.root (output_count k.interface) 0) (outer n)) b) (h.possible_is n)))
-    h.update_signals
+    h.updated
 
 pub pass_round_by : (i : List Declaration) (unasked inputs : ℕ → Bool) (s : Statement) (x : State) (e f : Known)
     (old new : List Status) → AreInputsAlone i unasked → IsPassRound i unasked inputs s x e f old new
@@ -172,13 +172,13 @@ pass_round_by i unasked inputs s x e f old new a h others agree = record {
   pass = h.pass;
   sure_is = h.sure_is;
   possible_is = h.possible_is;
-  update_signals = update_by i unasked inputs _ _ _ _ _ a h.update_signals others agree;
+  updated = update_by i unasked inputs _ _ _ _ _ a h.updated others agree;
 }
 
 pub pass_round_more : (i : List Declaration) (unasked inputs : ℕ → Bool) (s : Statement) (x : State) (e f : Known)
     (old new : List Status) → IsPassRound i unasked inputs s x e f old new → decided old ≤ decided new
 pass_round_more i unasked inputs s x e f old new h =
-    let a = h.update_signals.changes.more in
+    let a = h.updated.changes.more in
     let b = (pass_changes s x (output_count i) (env_of e) old h.mid h.pass).more in
     omega arith
 
@@ -199,5 +199,5 @@ pass_round_is k x inputs unasked e f old mid new j listed l h sure possible ex =
       ∙ sym (emitted_listed is_sure n true k.root (output_count k.interface) 0 (cell_at mid)));
   possible_is = λ n. possible n ∙ (ap (λ (z : List Emission). list_any (is_of is_possible (cell_at mid) n) z) l
       ∙ sym (emitted_listed is_possible n true k.root (output_count k.interface) 0 (cell_at mid)));
-  update_signals = ex;
+  updated = ex;
 }

@@ -136,9 +136,9 @@ pub round_sheet : (way : Direction) (i : List Declaration) (unasked inputs : ℕ
     (r : Swept) → (h : IsRound way i unasked inputs s x e f old new r)
     → sheet_in (cell_at new) true s (output_count i) 0 ≡ sheet_in (cell_at h.mid) true s (output_count i) 0
 round_sheet way i unasked inputs s x e f old new r h =
-    sheet_same (cell_at new) (cell_at h.mid) true s (output_count i) 0 (λ k l u. h.update_signals.changes.after k l)
+    sheet_same (cell_at new) (cell_at h.mid) true s (output_count i) 0 (λ k l u. h.updated.changes.after k l)
 
--- the signals' cells before the update_signals are those before the round
+-- the signals' cells before they are updated are those before the round
 pub before_round : (way : Direction) (i : List Declaration) (unasked inputs : ℕ → Bool) (s : Statement)
     (x : State) (e f : Known)
     (old new : List Status)
@@ -181,7 +181,7 @@ told_cell way i unasked inputs s x e f old new r h n l j =
     let b = bits r.judged.can.signals.interface in
     let S = sheet_in (cell_at h.mid) true s (output_count i) 0 in
     let found = h.sweep.found in
-    h.update_signals.told n l emitted
+    h.updated.told n l emitted
     ∙ (ap (λ (v : Status). learned v (output_gate inputs a b n))
     (before_round way i unasked inputs s x e f old new r h n (rank_within (emittable i) (length i) n l emitted))
     ∙ ap (λ (v : Status). learned (output_cells i old n) v)

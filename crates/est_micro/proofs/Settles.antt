@@ -68,7 +68,7 @@ stay_true : (way : Direction) (i : List Declaration) (unasked inputs : ℕ → B
 stay_true way i unasked inputs s x e f old new r h was n l o p =
     let a = bits r.judged.must.signals.interface in
     let b = bits r.judged.can.signals.interface in
-    h.update_signals.told n l o
+    h.updated.told n l o
     ∙ ap (λ (v : Status). learned v (output_gate inputs a b n))
     (before_round way i unasked inputs s x e f old new r h n (rank_within (emittable i) (length i) n l o) ∙ was n l o p)
 
@@ -84,15 +84,15 @@ round_made unasked way k x inputs e f old new r before now alone ready h before_
     let j = judged_signals k.interface inputs in
     let w = judged_within k.interface inputs in
     let sweep = h.sweep.changes in
-    let update_signals = h.update_signals.changes in
+    let updated = h.updated.changes in
     let p = sweep.more in
-    let q = update_signals.more in
+    let q = updated.more in
     record {
       ready = record {
-        size = update_signals.size ∙ (sweep.size ∙ ready.size);
+        size = updated.size ∙ (sweep.size ∙ ready.size);
         sound = round_sound way k.interface unasked inputs k.root x e f old new r w alone k.closed ready.knows h
             ready.sound;
-        knows = h.update_signals.knows;
+        knows = h.updated.knows;
         offered = stay_true way k.interface unasked inputs k.root x e f old new r h ready.offered;
       };
       counted = now_is;
@@ -101,7 +101,7 @@ round_made unasked way k x inputs e f old new r before now alone ready h before_
           (sym (round_sheet way k.interface unasked inputs k.root x e f old new r h)) h.sweep.found;
       rest = λ same.
           let m : h.mid ≡ old = sweep.quiet (omega arith) in
-          let n : new ≡ h.mid = update_signals.quiet (omega arith) in
+          let n : new ≡ h.mid = updated.quiet (omega arith) in
           subst (λ (z : List Status). IsClosedBut unasked k.interface inputs k.root x (table_of k.interface k.root z))
           (sym (n ∙ m))
           (round_quiet way k.interface unasked inputs k.root x e f old new r w alone k.closed

@@ -158,7 +158,7 @@ exchange_agrees i unasked inputs others sure possible old new e a h x = record {
   knows = x.knows ∙ known_agree unasked inputs others i (output_cells i new) h;
 }
 
--- an update_signals and a round by some inputs are those by all that agree
+-- an update of the signals and a round by some inputs are those by all that agree
 pub update_by : (i : List Declaration) (unasked inputs sure possible : ℕ → Bool) (old new : List Status)
     (e : Known) → AreInputsAlone i unasked → AreSignalsUpdated i unasked inputs sure possible old new e
     → (others : ℕ → Bool) → AgreeBut unasked inputs others → AreSignalsUpdated i unasked others sure possible old new e
@@ -172,5 +172,5 @@ pub round_by : (way : Direction) (i : List Declaration) (unasked inputs : ℕ �
 round_by way i unasked inputs s x e f old new r a y others h = record {
   mid = y.mid;
   sweep = y.sweep;
-  update_signals = exchange_agrees i unasked inputs others _ _ y.mid new f a h y.update_signals;
+  updated = exchange_agrees i unasked inputs others _ _ y.mid new f a h y.updated;
 }

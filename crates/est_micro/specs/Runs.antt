@@ -55,7 +55,7 @@ pub record IsRound (d : Direction) (i : List Declaration) (unasked inputs : ℕ 
     (r : Swept) : Type 0 where
   pub mid : List Status
   pub sweep : IsSwept true s (output_count i) 0 (sheet_swept d s x (env_of e)) old mid r
-  pub update_signals : AreSignalsUpdated i unasked inputs (bits r.judged.must.signals.interface)
+  pub updated : AreSignalsUpdated i unasked inputs (bits r.judged.must.signals.interface)
       (bits r.judged.can.signals.interface) mid new f
 
 -- the table of a kernel's statement that a list of cells stands for

@@ -19,7 +19,7 @@ ghost use Rattle.est_micro.specs.Inner.Views.{AddsBoth, AddsEmitted, IsRead};
 
 use crate::cells::{self, StatementPlace, Swept};
 use crate::extents::past;
-use crate::judging;
+use crate::must_can;
 use est_kernel::code_set::CodeSet;
 use est_kernel::statement::{LocalSignal, Signal, Statement};
 use est_net::net::Net;
@@ -35,7 +35,7 @@ fn add_emission(net: &Net, cell: usize, signal: Signal, emitted: &mut SignalSet)
         (if_run (is_sure (cell_at net.now.cells.items cell)) (name_of signal)) }
 {
     let is_emitted = cells::is_true(net.status(cell));
-    *emitted = signal_set::union_of(*emitted, judging::signal_if(is_emitted, signal));
+    *emitted = signal_set::union_of(*emitted, must_can::signal_if(is_emitted, signal));
 }
 
 /// Puts the emitted signals of two parts into the set, the second after the first. Answers the

@@ -5,15 +5,22 @@
 //! there is a reaction, and else exactly the undecided outputs. After an outcome each cell is
 //! decided, with its value in the reaction. A run takes no memory.
 //!
-//! A run (`settling`) goes over the statement in sweeps (`sweep_begin`, `sweep_resume`), and tells
-//! each open cell what follows from the others. Of a statement that goes on and whose cells are all
-//! decided, a later sweep only reads them (`decided`). A sweep goes in program order, or visits the
-//! second side of each `||` first. After each sweep the run tells the cells of the signals what is
-//! emitted (`outputs`). After a sweep that decided little, passes look again at what reads the
-//! signals that were just decided (`passes`, by `pass_begin` and `pass_resume`). A run ends as soon
-//! as every cell is decided, or after a sweep that decides nothing. That is enough: what a sweep or
-//! a pass decides is so, and where a sweep changes nothing, nothing more follows. The law of `laws`
-//! says that then nothing is missed.
+//! A run (`settling`) is asked a `question`. It goes over the statement in sweeps (`sweep_begin`,
+//! `sweep_resume`), and tells each open cell what follows from the others. A sweep goes in program
+//! order, or visits the second side of each `||` first (`direction`). Of a statement that goes on
+//! and whose cells are all decided, a later sweep only reads them (`decided`); one that takes no
+//! part is filled at once (`idle`, `extents`). After each sweep the run tells the cells of the
+//! signals what is emitted (`outputs`). After a sweep that decided little, passes look again at
+//! what reads the signals that were just decided (`passes`, by `pass_begin` and `pass_resume`).
+//!
+//! `learning` tells one cell, `cells` those of one statement; `must_can` puts together what is
+//! judged of a statement from what is judged of its parts. `micro` reads the outcome off the cells,
+//! and `next_pauses` the pauses. `part_reactions` reacts where only some inputs are known, and
+//! `waiting` finds an input that an open test waits for.
+//!
+//! A run ends as soon as every cell is decided, or after a sweep that decides nothing. That is
+//! enough: what a sweep or a pass decides is so, and where a sweep changes nothing, nothing more
+//! follows. The law of `laws` says that then nothing is missed.
 #![tactic(auto)]
 
 mod cells;
@@ -21,11 +28,11 @@ mod decided;
 mod direction;
 mod extents;
 mod idle;
-mod judging;
 pub mod laws;
 mod learning;
 pub mod micro;
-mod next;
+mod must_can;
+mod next_pauses;
 mod outputs;
 mod part_reactions;
 mod pass_begin;

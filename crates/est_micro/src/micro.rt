@@ -13,7 +13,7 @@ ghost use Rattle.est_micro.specs.Inner.Outcomes.{HasNoCode, IsOutcomeOf};
 
 use crate::cells::{StatementPlace, Swept};
 use crate::direction::Direction;
-use crate::next::collect;
+use crate::next_pauses::collect_pauses;
 use crate::question::Question;
 use crate::settling::decide_cells;
 use est_kernel::completion::Completion;
@@ -59,7 +59,7 @@ fn outcome(
             traps: 0,
         };
         let mut next = PauseSet::new();
-        collect(net, &place, kernel.root(), from, &mut next);
+        collect_pauses(net, &place, kernel.root(), from, &mut next);
         return Some(Outcome {
             outputs: must.signals.interface,
             next: State::Paused(next),
@@ -146,14 +146,14 @@ impl Micro {
             inputs: inputs.signals,
             unasked: 0,
         };
-        let settled = decide_cells(&mut self.net, &question, self.direction);
-        self.direction = settled.direction;
-        match read_outcome(&self.net, kernel, state, &settled.swept) {
+        let run_end = decide_cells(&mut self.net, &question, self.direction);
+        self.direction = run_end.direction;
+        match read_outcome(&self.net, kernel, state, &run_end.swept) {
             Some(outcome) => Ok(outcome),
             None => Err(Stuck {
                 undecided: mask::difference(
-                    settled.env.possible.interface,
-                    settled.env.present.interface,
+                    run_end.env.possible.interface,
+                    run_end.env.present.interface,
                 ),
             }),
         }

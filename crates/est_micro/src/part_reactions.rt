@@ -91,12 +91,12 @@ impl PartEngine for Micro {
             inputs: inputs.signals,
             unasked,
         };
-        let settled = decide_cells(&mut self.net, &question, self.direction);
-        self.direction = settled.direction;
-        match told_if_decided(&self.net, kernel, state, &settled.swept) {
+        let run_end = decide_cells(&mut self.net, &question, self.direction);
+        self.direction = run_end.direction;
+        match told_if_decided(&self.net, kernel, state, &run_end.swept) {
             Some(outcome) => Ok(outcome),
             None => Err(Unsettled {
-                waits_for: first_waited(&self.net, &question, &settled.env),
+                waits_for: first_waited(&self.net, &question, &run_end.env),
             }),
         }
     }

@@ -27,8 +27,8 @@ use crate::cells::{self, StatementPlace, Swept};
 use crate::direction::Direction;
 use crate::extents::{number_after, past};
 use crate::idle::past_idle;
-use crate::judging;
 use crate::learning::{fill_false, tell_cell};
+use crate::must_can;
 use est_kernel::completion::Completion;
 use est_kernel::statement::{LocalSignal, Signal, Statement};
 use est_meaning::status::Status;
@@ -51,7 +51,7 @@ fn begin_leaf(net: &mut Net, at: &StatementPlace, completion: Completion, gate: 
     ensures kept { kept net.new ≡ kept net.old }
 {
     let go = tell_cell(net, at.cell, gate);
-    let own = judging::leaf(go, completion);
+    let own = must_can::leaf(go, completion);
     cells::finish_statement(net, at, &own, at.cell + at.traps + 3)
 }
 
@@ -65,7 +65,7 @@ fn begin_emit(net: &mut Net, at: &StatementPlace, signal: Signal, gate: Status) 
     ensures kept { kept net.new ≡ kept net.old }
 {
     let go = tell_cell(net, at.cell, gate);
-    let own = judging::emission(go, signal);
+    let own = must_can::emission(go, signal);
     cells::finish_statement(net, at, &own, at.cell + at.traps + 3)
 }
 
@@ -112,7 +112,7 @@ fn begin_present(
         traps: at.traps,
     };
     let second = sweep_begun(net, &place, q, go.and(asked.opposite()), env);
-    let own = judging::either(&first.judged, &second.judged);
+    let own = must_can::either(&first.judged, &second.judged);
     cells::finish_statement(net, at, &own, second.past)
 }
 
@@ -184,8 +184,8 @@ fn begin_seq(
         traps: at.traps,
     };
     let first = sweep_begun(net, &place, p, go, env);
-    let inside = judging::with_emitted(env, first.judged.must.signals);
-    let later = judging::ends(&first.judged);
+    let inside = must_can::with_emitted(env, first.judged.must.signals);
+    let later = must_can::ends(&first.judged);
     let place = StatementPlace {
         number: number_after(net, &place, p),
         main: at.main,
@@ -194,7 +194,7 @@ fn begin_seq(
         traps: at.traps,
     };
     let second = sweep_begun(net, &place, q, later, &inside);
-    let own = judging::followed(&first.judged, &second.judged);
+    let own = must_can::followed(&first.judged, &second.judged);
     cells::finish_statement(net, at, &own, second.past)
 }
 
@@ -231,7 +231,7 @@ fn begin_loop(net: &mut Net, at: &StatementPlace, p: &Statement, gate: Status, e
         traps: at.traps,
     };
     let again = sweep_begun(net, &place, p, Status::Absent, env);
-    let own = judging::emitting(&first.judged, &again.judged);
+    let own = must_can::emitting(&first.judged, &again.judged);
     cells::finish_statement(net, at, &own, again.past)
 }
 
@@ -298,7 +298,7 @@ fn begin_par(
         traps: at.traps,
     };
     let first = sweep_begun(net, &place, p, go, env);
-    let inside = judging::with_emitted(env, first.judged.must.signals);
+    let inside = must_can::with_emitted(env, first.judged.must.signals);
     let place = StatementPlace {
         number: number_after(net, &place, p),
         main: at.main,
@@ -307,7 +307,7 @@ fn begin_par(
         traps: at.traps,
     };
     let second = sweep_begun(net, &place, q, go, &inside);
-    let own = judging::beside(&first.judged, &second.judged);
+    let own = must_can::beside(&first.judged, &second.judged);
     cells::finish_statement(net, at, &own, second.past)
 }
 
@@ -354,9 +354,9 @@ fn begin_par_back(
         traps: at.traps,
     };
     let second = sweep_begun(net, &later, q, go, env);
-    let inside = judging::with_emitted(env, second.judged.must.signals);
+    let inside = must_can::with_emitted(env, second.judged.must.signals);
     let first = sweep_begun(net, &place, p, go, &inside);
-    let own = judging::beside(&first.judged, &second.judged);
+    let own = must_can::beside(&first.judged, &second.judged);
     cells::finish_statement(net, at, &own, second.past)
 }
 
@@ -383,7 +383,7 @@ fn begin_trap(net: &mut Net, at: &StatementPlace, p: &Statement, gate: Status, e
         traps: at.traps + 1,
     };
     let body = sweep_begun(net, &place, p, go, env);
-    let own = judging::out_of_trap(&body.judged);
+    let own = must_can::out_of_trap(&body.judged);
     cells::finish_statement(net, at, &own, body.past)
 }
 
@@ -421,8 +421,8 @@ fn begin_local(
         traps: at.traps,
     };
     let body = sweep_begun(net, &place, p, go, &inside);
-    tell_cell(net, cell, judging::status_of(&body.judged, s));
-    let own = judging::hiding(&body.judged, s);
+    tell_cell(net, cell, must_can::status_of(&body.judged, s));
+    let own = must_can::hiding(&body.judged, s);
     cells::finish_statement(net, at, &own, body.past)
 }
 

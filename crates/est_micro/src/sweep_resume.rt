@@ -29,7 +29,7 @@ use crate::direction::Direction;
 use crate::extents::{is_live, number_after, past};
 use crate::learning::tell_cell;
 use crate::sweep_begin::sweep_begun;
-use crate::{decided, judging};
+use crate::{decided, must_can};
 use est_kernel::completion::Completion;
 use est_kernel::pause_set::PauseSet;
 use est_kernel::statement::{LocalSignal, Statement};
@@ -50,14 +50,14 @@ fn resume_pause(net: &mut Net, at: &StatementPlace, run: Status) -> Swept
     ensures kept { kept net.new ≡ kept net.old }
 {
     tell_cell(net, at.cell, Status::Absent);
-    let own = judging::leaf(run, Completion::End);
+    let own = must_can::leaf(run, Completion::End);
     cells::finish_statement(net, at, &own, at.cell + at.traps + 3)
 }
 
 /// Sweeps a part. If it is on (one of its pauses is set), it goes on where it is run; else the gate
 /// tells whether it is begun.
 #[cycle(sweep_resumed)]
-fn part(
+fn sweep_part(
     net: &mut Net,
     at: &StatementPlace,
     p: &Statement,
@@ -125,7 +125,7 @@ fn resume_present(
         traps: at.traps,
     };
     let is_on = is_live(net, place.number, at.traps, p, pauses);
-    let first = part(net, &place, p, pauses, is_on, go.and(asked), run, env);
+    let first = sweep_part(net, &place, p, pauses, is_on, go.and(asked), run, env);
     let place = StatementPlace {
         number: number_after(net, &place, p),
         main: at.main,
@@ -133,7 +133,7 @@ fn resume_present(
         cell: first.past,
         traps: at.traps,
     };
-    let second = part(
+    let second = sweep_part(
         net,
         &place,
         q,
@@ -143,7 +143,7 @@ fn resume_present(
         run,
         env,
     );
-    let own = judging::either(&first.judged, &second.judged);
+    let own = must_can::either(&first.judged, &second.judged);
     cells::finish_statement(net, at, &own, second.past)
 }
 
@@ -180,8 +180,8 @@ fn resume_suspend(
         traps: at.traps,
     };
     let body = sweep_resumed(net, &place, p, pauses, run.and(asked.opposite()), env);
-    let held = judging::leaf(run.and(asked), Completion::Pause);
-    let own = judging::with_codes(&body.judged, &held);
+    let held = must_can::leaf(run.and(asked), Completion::Pause);
+    let own = must_can::with_codes(&body.judged, &held);
     cells::finish_statement(net, at, &own, body.past)
 }
 
@@ -223,9 +223,9 @@ fn resume_seq(
         traps: at.traps,
     };
     let is_on = is_live(net, place.number, at.traps, p, pauses);
-    let first = part(net, &place, p, pauses, is_on, go, run, env);
-    let inside = judging::with_emitted(env, first.judged.must.signals);
-    let later = judging::ends(&first.judged);
+    let first = sweep_part(net, &place, p, pauses, is_on, go, run, env);
+    let inside = must_can::with_emitted(env, first.judged.must.signals);
+    let later = must_can::ends(&first.judged);
     let place = StatementPlace {
         number: number_after(net, &place, p),
         main: at.main,
@@ -233,8 +233,8 @@ fn resume_seq(
         cell: first.past,
         traps: at.traps,
     };
-    let second = part(net, &place, q, pauses, !is_on, later, run, &inside);
-    let own = judging::followed(&first.judged, &second.judged);
+    let second = sweep_part(net, &place, q, pauses, !is_on, later, run, &inside);
+    let own = must_can::followed(&first.judged, &second.judged);
     cells::finish_statement(net, at, &own, second.past)
 }
 
@@ -271,8 +271,8 @@ fn resume_loop(
         traps: at.traps,
     };
     let first = sweep_resumed(net, &place, p, pauses, run, env);
-    let inside = judging::with_emitted(env, first.judged.must.signals);
-    let later = judging::ends(&first.judged);
+    let inside = must_can::with_emitted(env, first.judged.must.signals);
+    let later = must_can::ends(&first.judged);
     let place = StatementPlace {
         number: at.number + 1,
         main: false,
@@ -281,12 +281,12 @@ fn resume_loop(
         traps: at.traps,
     };
     let again = sweep_begun(net, &place, p, later, &inside);
-    let own = judging::followed(&first.judged, &again.judged);
+    let own = must_can::followed(&first.judged, &again.judged);
     cells::finish_statement(net, at, &own, again.past)
 }
 
 /// What counts of a side of a `||`: one that has ended gives code 0 where the `||` is run.
-fn side(is_on: bool, swept: &Swept, run: Status) -> MustCan
+fn judge_side(is_on: bool, swept: &Swept, run: Status) -> MustCan
     ensures { IsJudged (cond is_on (codes_of swept.now.judged.must.codes) (sure_code run 0))
         (cond is_on (codes_of swept.now.judged.can.codes) (may_code run 0))
         (set_of swept.now.judged.must.signals) (set_of swept.now.judged.can.signals) result }
@@ -294,8 +294,8 @@ fn side(is_on: bool, swept: &Swept, run: Status) -> MustCan
     if is_on {
         swept.judged
     } else {
-        let ended = judging::leaf(run, Completion::End);
-        judging::giving(&ended, &swept.judged)
+        let ended = must_can::leaf(run, Completion::End);
+        must_can::giving(&ended, &swept.judged)
     }
 }
 
@@ -357,8 +357,8 @@ fn resume_par(
     let number = number_after(net, &place, p);
     let first_on = is_live(net, place.number, at.traps, p, pauses);
     let second_on = second_lives(net, number, at.traps, first_on, q, pauses);
-    let first = part(net, &place, p, pauses, first_on, go, run, env);
-    let inside = judging::with_emitted(env, first.judged.must.signals);
+    let first = sweep_part(net, &place, p, pauses, first_on, go, run, env);
+    let inside = must_can::with_emitted(env, first.judged.must.signals);
     let place = StatementPlace {
         number,
         main: at.main,
@@ -366,10 +366,10 @@ fn resume_par(
         cell: first.past,
         traps: at.traps,
     };
-    let second = part(net, &place, q, pauses, second_on, go, run, &inside);
-    let left = side(first_on, &first, run);
-    let right = side(second_on, &second, run);
-    let own = judging::beside(&left, &right);
+    let second = sweep_part(net, &place, q, pauses, second_on, go, run, &inside);
+    let left = judge_side(first_on, &first, run);
+    let right = judge_side(second_on, &second, run);
+    let own = must_can::beside(&left, &right);
     cells::finish_statement(net, at, &own, second.past)
 }
 
@@ -421,12 +421,12 @@ fn resume_par_back(
         cell: past(net, &place, p),
         traps: at.traps,
     };
-    let second = part(net, &later, q, pauses, second_on, go, run, env);
-    let inside = judging::with_emitted(env, second.judged.must.signals);
-    let first = part(net, &place, p, pauses, first_on, go, run, &inside);
-    let left = side(first_on, &first, run);
-    let right = side(second_on, &second, run);
-    let own = judging::beside(&left, &right);
+    let second = sweep_part(net, &later, q, pauses, second_on, go, run, env);
+    let inside = must_can::with_emitted(env, second.judged.must.signals);
+    let first = sweep_part(net, &place, p, pauses, first_on, go, run, &inside);
+    let left = judge_side(first_on, &first, run);
+    let right = judge_side(second_on, &second, run);
+    let own = must_can::beside(&left, &right);
     cells::finish_statement(net, at, &own, second.past)
 }
 
@@ -462,7 +462,7 @@ fn resume_trap(
         traps: at.traps + 1,
     };
     let body = sweep_resumed(net, &place, p, pauses, run, env);
-    let own = judging::out_of_trap(&body.judged);
+    let own = must_can::out_of_trap(&body.judged);
     cells::finish_statement(net, at, &own, body.past)
 }
 
@@ -502,8 +502,8 @@ fn resume_local(
         traps: at.traps,
     };
     let body = sweep_resumed(net, &place, p, pauses, run, &inside);
-    tell_cell(net, cell, judging::status_of(&body.judged, s));
-    let own = judging::hiding(&body.judged, s);
+    tell_cell(net, cell, must_can::status_of(&body.judged, s));
+    let own = must_can::hiding(&body.judged, s);
     cells::finish_statement(net, at, &own, body.past)
 }
 

@@ -108,7 +108,7 @@ fn waits_at(unasked: u64, asked: Status, status: Status, test: &Test) -> Option<
 /// What two parts wait for, the second after the first.
 #[cycle(find_waited)]
 fn find_in_two(
-    sight: &WaitContext<'_>,
+    context: &WaitContext<'_>,
     main: bool,
     cell: usize,
     traps: usize,
@@ -119,12 +119,13 @@ fn find_in_two(
 ) -> Waited
     requires fits { FitsMasks p.now × FitsMasks q.now }
     requires within { cell + sheet_size main p.now traps + sheet_size main q.now traps
-        ≤ length sight.now.net.now.cells.items }
-    ensures { AreWaiting (bits sight.now.unasked) main p.now q.now cell traps
-        sight.now.net.now.cells.items (pauses_of sight.now.pauses.now) run (env_of env.now) result }
+        ≤ length context.now.net.now.cells.items }
+    ensures { AreWaiting (bits context.now.unasked) main p.now q.now cell traps
+        context.now.net.now.cells.items (pauses_of context.now.pauses.now) run
+        (env_of env.now) result }
 {
-    let first = find_waited(sight, main, cell, traps, p, run, env);
-    let second = find_waited(sight, main, first.past, traps, q, run, env);
+    let first = find_waited(context, main, cell, traps, p, run, env);
+    let second = find_waited(context, main, first.past, traps, q, run, env);
     Waited {
         input: first.input.or(second.input),
         past: second.past,
@@ -134,7 +135,7 @@ fn find_in_two(
 /// What a `present` waits for.
 #[cycle(find_waited)]
 fn find_in_present(
-    sight: &WaitContext<'_>,
+    context: &WaitContext<'_>,
     main: bool,
     cell: usize,
     traps: usize,
@@ -146,14 +147,14 @@ fn find_in_present(
 ) -> Waited
     requires fits { FitsMasks p.now × FitsMasks q.now }
     requires within { cell + traps + 3 + sheet_size main p.now traps + sheet_size main q.now traps
-        ≤ length sight.now.net.now.cells.items }
-    ensures { (a b : _) → IsWaiting (bits sight.now.unasked) main
-        (Present' test.now a p.now b q.now) cell traps sight.now.net.now.cells.items
-        (pauses_of sight.now.pauses.now) run (env_of env.now) result }
+        ≤ length context.now.net.now.cells.items }
+    ensures { (a b : _) → IsWaiting (bits context.now.unasked) main
+        (Present' test.now a p.now b q.now) cell traps context.now.net.now.cells.items
+        (pauses_of context.now.pauses.now) run (env_of env.now) result }
 {
-    let go = sight.net.status(cell);
-    let own = waits_at(sight.unasked, go, answer_to(env, test), test);
-    let parts = find_in_two(sight, main, cell + traps + 3, traps, p, q, run, env);
+    let go = context.net.status(cell);
+    let own = waits_at(context.unasked, go, answer_to(env, test), test);
+    let parts = find_in_two(context, main, cell + traps + 3, traps, p, q, run, env);
     Waited {
         input: own.or(parts.input),
         past: parts.past,
@@ -161,7 +162,7 @@ fn find_in_present(
 }
 
 /// Whether the test of a `suspend` may be asked: whether it goes on and is run.
-fn asked(main: bool, p: &Statement, pauses: &PauseSet, run: Status) -> Status
+fn suspend_status(main: bool, p: &Statement, pauses: &PauseSet, run: Status) -> Status
     ensures { result ≡ cond (main && is_live p.now (pauses_of pauses.now)) run Absent }
 {
     if main && has_live(p, pauses) {
@@ -174,7 +175,7 @@ fn asked(main: bool, p: &Statement, pauses: &PauseSet, run: Status) -> Status
 /// What a `suspend` waits for.
 #[cycle(find_waited)]
 fn find_in_suspend(
-    sight: &WaitContext<'_>,
+    context: &WaitContext<'_>,
     main: bool,
     cell: usize,
     traps: usize,
@@ -185,16 +186,16 @@ fn find_in_suspend(
 ) -> Waited
     requires fits { FitsMasks p.now }
     requires within { cell + traps + 3 + sheet_size main p.now traps
-        ≤ length sight.now.net.now.cells.items }
-    ensures { (a : _) → IsWaiting (bits sight.now.unasked) main (Suspend' test.now a p.now)
-        cell traps sight.now.net.now.cells.items (pauses_of sight.now.pauses.now) run
+        ≤ length context.now.net.now.cells.items }
+    ensures { (a : _) → IsWaiting (bits context.now.unasked) main (Suspend' test.now a p.now)
+        cell traps context.now.net.now.cells.items (pauses_of context.now.pauses.now) run
         (env_of env.now) result }
 {
     let status = answer_to(env, test);
-    let is_asked = asked(main, p, sight.pauses, run);
-    let own = waits_at(sight.unasked, is_asked, status, test);
+    let is_asked = suspend_status(main, p, context.pauses, run);
+    let own = waits_at(context.unasked, is_asked, status, test);
     let inside = run.and(status.opposite());
-    let body = find_waited(sight, main, cell + traps + 3, traps, p, inside, env);
+    let body = find_waited(context, main, cell + traps + 3, traps, p, inside, env);
     Waited {
         input: own.or(body.input),
         past: body.past,
@@ -204,7 +205,7 @@ fn find_in_suspend(
 /// What a loop of the incarnation that can go on waits for.
 #[cycle(find_waited)]
 fn find_in_loop(
-    sight: &WaitContext<'_>,
+    context: &WaitContext<'_>,
     main: bool,
     cell: usize,
     traps: usize,
@@ -215,13 +216,13 @@ fn find_in_loop(
     requires main { main ≡ true }
     requires fits { FitsMasks p.now }
     requires within { cell + traps + 3 + sheet_size true p.now traps + sheet_size false p.now traps
-        ≤ length sight.now.net.now.cells.items }
-    ensures { (a : _) → IsWaiting (bits sight.now.unasked) main (Loop' a p.now)
-        cell traps sight.now.net.now.cells.items (pauses_of sight.now.pauses.now) run
+        ≤ length context.now.net.now.cells.items }
+    ensures { (a : _) → IsWaiting (bits context.now.unasked) main (Loop' a p.now)
+        cell traps context.now.net.now.cells.items (pauses_of context.now.pauses.now) run
         (env_of env.now) result }
 {
-    let first = find_waited(sight, main, cell + traps + 3, traps, p, run, env);
-    let again = find_waited(sight, false, first.past, traps, p, run, env);
+    let first = find_waited(context, main, cell + traps + 3, traps, p, run, env);
+    let again = find_waited(context, false, first.past, traps, p, run, env);
     Waited {
         input: first.input.or(again.input),
         past: again.past,
@@ -231,7 +232,7 @@ fn find_in_loop(
 /// What a local signal's binder waits for.
 #[cycle(find_waited)]
 fn find_in_local(
-    sight: &WaitContext<'_>,
+    context: &WaitContext<'_>,
     main: bool,
     cell: usize,
     traps: usize,
@@ -242,19 +243,19 @@ fn find_in_local(
 ) -> Waited
     requires fits { (s.index < 64) × FitsMasks p.now }
     requires within { cell + traps + 4 + sheet_size main p.now traps
-        ≤ length sight.now.net.now.cells.items }
-    ensures { (a : _) → IsWaiting (bits sight.now.unasked) main (Binder' s a p.now)
-        cell traps sight.now.net.now.cells.items (pauses_of sight.now.pauses.now) run
+        ≤ length context.now.net.now.cells.items }
+    ensures { (a : _) → IsWaiting (bits context.now.unasked) main (Binder' s a p.now)
+        cell traps context.now.net.now.cells.items (pauses_of context.now.pauses.now) run
         (env_of env.now) result }
 {
-    let inside = signal_set::set_local(env, s, sight.net.status(cell + traps + 3));
-    find_waited(sight, main, cell + traps + 4, traps, p, run, &inside)
+    let inside = signal_set::set_local(env, s, context.net.status(cell + traps + 3));
+    find_waited(context, main, cell + traps + 4, traps, p, run, &inside)
 }
 
 /// What a statement whose cells begin at a place waits for.
 #[cycle(find_waited)]
 pub fn find_waited(
-    sight: &WaitContext<'_>,
+    context: &WaitContext<'_>,
     main: bool,
     cell: usize,
     traps: usize,
@@ -263,9 +264,10 @@ pub fn find_waited(
     env: &Env,
 ) -> Waited
     requires fits { FitsMasks s.now }
-    requires within { cell + sheet_size main s.now traps ≤ length sight.now.net.now.cells.items }
-    ensures { IsWaiting (bits sight.now.unasked) main s.now cell traps
-        sight.now.net.now.cells.items (pauses_of sight.now.pauses.now) run (env_of env.now) result }
+    requires within { cell + sheet_size main s.now traps ≤ length context.now.net.now.cells.items }
+    ensures { IsWaiting (bits context.now.unasked) main s.now cell traps
+        context.now.net.now.cells.items (pauses_of context.now.pauses.now) run
+        (env_of env.now) result }
 {
     let parts = cell + traps + 3;
     match s {
@@ -275,20 +277,20 @@ pub fn find_waited(
                 past: parts,
             },
         Statement::Present(t, p, q) => {
-            find_in_present(sight, main, cell, traps, t, p, q, run, env)
+            find_in_present(context, main, cell, traps, t, p, q, run, env)
         }
-        Statement::Suspend(t, p) => find_in_suspend(sight, main, cell, traps, t, p, run, env),
-        Statement::Seq(p, q) => find_in_two(sight, main, parts, traps, p, q, run, env),
-        Statement::Par(p, q) => find_in_two(sight, main, parts, traps, p, q, run, env),
+        Statement::Suspend(t, p) => find_in_suspend(context, main, cell, traps, t, p, run, env),
+        Statement::Seq(p, q) => find_in_two(context, main, parts, traps, p, q, run, env),
+        Statement::Par(p, q) => find_in_two(context, main, parts, traps, p, q, run, env),
         Statement::Loop(p) => {
             if main {
-                find_in_loop(sight, main, cell, traps, p, run, env)
+                find_in_loop(context, main, cell, traps, p, run, env)
             } else {
-                find_waited(sight, main, parts, traps, p, run, env)
+                find_waited(context, main, parts, traps, p, run, env)
             }
         }
-        Statement::Trap(p) => find_waited(sight, main, parts, traps + 1, p, run, env),
-        Statement::Local(s, p) => find_in_local(sight, main, cell, traps, *s, p, run, env),
+        Statement::Trap(p) => find_waited(context, main, parts, traps + 1, p, run, env),
+        Statement::Local(s, p) => find_in_local(context, main, cell, traps, *s, p, run, env),
     }
 }
 
@@ -305,13 +307,13 @@ pub fn first_waited(net: &Net, question: &Question<'_>, env: &Env) -> Option<u8>
         State::Fresh | State::Done => &none,
         State::Paused(pauses) => pauses,
     };
-    let sight = WaitContext {
+    let context = WaitContext {
         net,
         pauses,
         unasked: question.unasked,
     };
     find_waited(
-        &sight,
+        &context,
         true,
         net.output_count(),
         0,

@@ -8,7 +8,7 @@ use Rattle.std.proofs.lemmas.List.Folds.{list_any-append}
 use Rattle.est_kernel.specs.Bits.{bits}
 use Rattle.est_kernel.specs.declared.interface.Declaration.{Declaration}
 use Rattle.est_relations.specs.declared.refusal.PendingRefusal.{PendingRefusal}
-use Rattle.lab_lines.specs.Offers.{AreNamed, AreNotNamed, IsNoOffer, MayOffer, has_name}
+use Rattle.lab_lines.specs.Offers.{AreNamed, FirstNotOfferable, IsNotOfferable, IsOfferable, has_name}
 
 -- the texts of a list, cut at a place
 pub cut_at : (xs : List (Bor (List ℕ))) (i : ℕ) (x : Bor (List ℕ)) → i < length xs
@@ -30,10 +30,10 @@ or_one_more a false = refl
 
 -- one name more
 named_more : (interface : List Declaration) (names : List (List ℕ)) (name : List ℕ) (old one new : ℕ)
-    → AreNamed interface names old → MayOffer interface name → ((n : ℕ) → bits one n ≡ has_name interface n name)
+    → AreNamed interface names old → IsOfferable interface name → ((n : ℕ) → bits one n ≡ has_name interface n name)
     → ((n : ℕ) → bits new n ≡ (bits old n || bits one n)) → AreNamed interface (names ++ name ∷ []) new
 named_more interface names name old one new are may is more = record {
-  offered = All-push (MayOffer interface) names name are.offered may;
+  offered = All-push (IsOfferable interface) names name are.offered may;
   only = λ n. more n ∙ ap (λ (b : Bool). b || bits one n) (are.only n)
       ∙ ap (λ (b : Bool). list_any (has_name interface n) names || b) (is n)
       ∙ or_one_more (list_any (has_name interface n) names) (has_name interface n name)
@@ -42,7 +42,7 @@ named_more interface names name old one new are may is more = record {
 
 pub named_next : (interface : List Declaration) (xs : List (Bor (List ℕ))) (i : ℕ) (x : Bor (List ℕ))
     (old one new : ℕ) → i < length xs → AreNamed interface (map (λ t. t.now) (take i xs)) old
-    → MayOffer interface (get_or xs i x).now → ((n : ℕ) → bits one n ≡ has_name interface n (get_or xs i x).now)
+    → IsOfferable interface (get_or xs i x).now → ((n : ℕ) → bits one n ≡ has_name interface n (get_or xs i x).now)
     → ((n : ℕ) → bits new n ≡ (bits old n || bits one n))
     → AreNamed interface (map (λ t. t.now) (take (i + 1) xs)) new
 named_next interface xs i x old one new within are may is more =
@@ -52,7 +52,7 @@ named_next interface xs i x old one new within are may is more =
 -- the names so far may be offered, and the next may not
 pub first_not_offered : (interface : List Declaration) (xs : List (Bor (List ℕ))) (i : ℕ) (x : Bor (List ℕ))
     (signals : ℕ) (fault : PendingRefusal) → i < length xs → AreNamed interface (map (λ t. t.now) (take i xs)) signals
-    → IsNoOffer interface (get_or xs i x).now fault → AreNotNamed interface (map (λ t. t.now) xs) fault
+    → IsNotOfferable interface (get_or xs i x).now fault → FirstNotOfferable interface (map (λ t. t.now) xs) fault
 first_not_offered interface xs i x signals fault within are why = record {
   earlier = map (λ t. t.now) (take i xs);
   name = (get_or xs i x).now;

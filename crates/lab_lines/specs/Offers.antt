@@ -19,27 +19,28 @@ abbrev pub has_name : List Declaration → ℕ → List ℕ → Bool
 has_name interface n name = is_place (position (is_named name) interface) n
 
 -- a signal of this name may be offered
-pub record MayOffer (interface : List Declaration) (name : List ℕ) : Type 0 where
+pub record IsOfferable (interface : List Declaration) (name : List ℕ) : Type 0 where
   pub place : ℕ
   pub there : position (is_named name) interface ≡ Some place
   pub input : offerable interface place ≡ true
 
 -- each is the name of a signal that may be offered, and these are the signals of these names and no others
 pub record AreNamed (interface : List Declaration) (names : List (List ℕ)) (signals : ℕ) : Type 0 where
-  pub offered : All (MayOffer interface) names
+  pub offered : All (IsOfferable interface) names
   pub only : (n : ℕ) → bits signals n ≡ list_any (has_name interface n) names
 
 -- why no signal of this name may be offered: it is no identifier, or no signal has it, or an output has
-pub data IsNoOffer (interface : List Declaration) (name : List ℕ) (fault : PendingRefusal) : Type 0 where
-  no_identifier : is_identifier name ≡ false → fault ≡ UnknownSignal → IsNoOffer interface name fault
-  unknown : (IsSignalName interface name → ⊥) → fault ≡ UnknownSignal → IsNoOffer interface name fault
-  output : IsOutputName interface name → fault ≡ NotInput → IsNoOffer interface name fault
+pub data IsNotOfferable (interface : List Declaration) (name : List ℕ) (fault : PendingRefusal) : Type 0 where
+  no_identifier : is_identifier name ≡ false → fault ≡ UnknownSignal → IsNotOfferable interface name fault
+  unknown : (IsSignalName interface name → ⊥) → fault ≡ UnknownSignal → IsNotOfferable interface name fault
+  output : IsOutputName interface name → fault ≡ NotInput → IsNotOfferable interface name fault
 
 -- the first of the names that is none of a signal that may be offered, and why
-pub record AreNotNamed (interface : List Declaration) (names : List (List ℕ)) (fault : PendingRefusal) : Type 0 where
+pub record FirstNotOfferable (interface : List Declaration) (names : List (List ℕ))
+    (fault : PendingRefusal) : Type 0 where
   pub earlier : List (List ℕ)
   pub name : List ℕ
   pub later : List (List ℕ)
   pub cut : names ≡ earlier ++ name ∷ later
-  pub offered : All (MayOffer interface) earlier
-  pub why : IsNoOffer interface name fault
+  pub offered : All (IsOfferable interface) earlier
+  pub why : IsNotOfferable interface name fault

@@ -6,7 +6,7 @@ ghost use Rattle.est_explore.specs.Inner.Pairs.{AreFor};
 ghost use Rattle.est_explore.specs.Views.{module_of};
 ghost use Rattle.lab_lines.specs.Comparing.{IsComparison};
 ghost use Rattle.lab_lines.specs.FoundJson.{verdict_json};
-ghost use Rattle.lab_lines.specs.Offers.{AreNamed, AreNotNamed};
+ghost use Rattle.lab_lines.specs.Offers.{AreNamed, FirstNotOfferable};
 ghost use Rattle.lab_lines.specs.Requests.{Says, SaysNothing};
 ghost use Rattle.lab_lines.specs.Statements.{IsKernelTold};
 ghost use Rattle.lab_lines.specs.TableJson.{state_json};
@@ -44,7 +44,7 @@ pub fn request_of<'v>(alloc: Global, value: &'v Value) -> Result<Option<Request<
 /// Where one of them is no signal, or may not be offered.
 pub fn signals_of_names(interface: &Interface, names: &[&str]) -> Result<u64, PendingRefusal>
     ensures named { IfOk result (AreNamed interface.now (map (λ t. t.now) names.now)) }
-    ensures fault { IfErr result (AreNotNamed interface.now (map (λ t. t.now) names.now)) }
+    ensures fault { IfErr result (FirstNotOfferable interface.now (map (λ t. t.now) names.now)) }
 {
     offers::signals_of_names(interface, names)
 }

@@ -21,7 +21,7 @@ use Rattle.wire_lines.specs.Replies.{line_of}
 use Rattle.wire_lines.specs.Requests.{IsValue}
 use Rattle.lab_lines.specs.Comparing.{IsComparison}
 use Rattle.lab_lines.specs.Exploring.{IsExploration}
-use Rattle.lab_lines.specs.Offers.{AreNamed, AreNotNamed}
+use Rattle.lab_lines.specs.Offers.{AreNamed, FirstNotOfferable}
 use Rattle.lab_lines.specs.Statements.{IsKernelTold}
 use Rattle.lab_lines.specs.TableJson.{IsTableTold, IsTooLarge}
 use Rattle.lab_lines.specs.FoundJson.{names_json}
@@ -74,7 +74,7 @@ Loads main text before (Line line) after = ⊥
 pub record IsNotOffered (interface : List Declaration) (names : List (List ℕ)) (given : Refusal) : Type 0 where
   pub fault : PendingRefusal
   pub told : given ≡ refusal.Module (of_module.Pending fault)
-  pub first : AreNotNamed interface names fault
+  pub first : FirstNotOfferable interface names fault
 
 -- the same of what is looked at
 abbrev pub IsNoScope : Module → SearchScope → (given : Refusal) → Type 0

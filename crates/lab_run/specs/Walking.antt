@@ -8,9 +8,10 @@ use Rattle.est_kernel.specs.declared.state.State.{State}
 use Rattle.est_kernel.specs.declared.state.State.TheVariants.{Fresh}
 use Rattle.est_meaning.specs.States.{IsState}
 use Rattle.est_meaning.specs.declared.status.Status.{Status}
-use Rattle.est_relations.specs.Offers.{PendingInputs, OfferAnswer, ReadyAnswer, pending_inputs}
+use Rattle.est_relations.specs.Offers.{PendingInputs, OfferAnswer, ReadyAnswer}
 use Rattle.est_relations.specs.declared.refusal.PendingRefusal.{PendingRefusal}
 use Rattle.est_relations.specs.declared.refusal.PendingRefusal.TheVariants.{UnknownSignal}
+use Rattle.reactor_core.specs.Standing.{inputs_of_module}
 use Rattle.reactor_core.specs.declared.kernel_module.Module.{Module}
 use Rattle.reactor_core.specs.declared.refusal.ModuleRefusal.TheVariants as of_module
 use Rattle.access_core.specs.declared.refusal.Refusal.{Refusal}
@@ -64,21 +65,17 @@ AreOffered p (name ∷ names) answer =
     ((next : PendingInputs) × NameAnswer p name (Ok (record {})) next × AreOffered next names answer)
     ⊎ ((fault : PendingRefusal) × (after : PendingInputs) × NameAnswer p name (Err fault) after × (answer ≡ Err fault))
 
--- nothing is pending of a module, or these inputs
-abbrev pub pending_of : Module → (inputs : ℕ) → PendingInputs
-pending_of m inputs = pending_inputs m.kernel.interface m.relations inputs
-
 -- an instant of the module may take these inputs, which have these names
 pub record MayTake (m : Module) (names : List (List ℕ)) (inputs : ℕ) : Type 0 where
   pub pending : PendingInputs
-  pub offered : AreOffered (pending_of m 0) names (Ok pending)
+  pub offered : AreOffered (inputs_of_module m 0) names (Ok pending)
   pub taken : inputs ≡ pending.inputs
 
 -- no instant of the module may take the inputs of these names, for this reason
 pub record MayNotTake (m : Module) (names : List (List ℕ)) (given : Refusal) : Type 0 where
   pub fault : PendingRefusal
   pub told : given ≡ refusal.Module (of_module.Pending fault)
-  pub first : AreOffered (pending_of m 0) names (Err fault)
+  pub first : AreOffered (inputs_of_module m 0) names (Err fault)
 
 -- ---- an instant
 

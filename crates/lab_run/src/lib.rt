@@ -6,8 +6,8 @@
 //! Where the program ends by itself, its status is that of `specs/Statuses`.
 //!
 //! `answer` takes a line to its answer. It stands on `lab`, which does what is asked of what is
-//! loaded, and `stepped`, which holds that, makes instants and goes back. `invocation` reads the
-//! words of the command line, `status` says how the program ends, and `run` is the program.
+//! loaded, and `stepped_module`, which holds that, makes instants and goes back. `invocation` reads
+//! the words of the command line, `status` says how the program ends, and `run` is the program.
 #![tactic(auto)]
 
 pub mod answer;

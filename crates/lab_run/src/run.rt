@@ -2,7 +2,7 @@
 
 ghost use Rattle.std.specs.Prelude.{◌≡◌, IfErr, IfOk, OnOk, map, string_bytes};
 ghost use Rattle.std.specs.Io.KnownBytes.{Appends};
-ghost use Rattle.lab_lines.specs.Offers.{AreNotNamed};
+ghost use Rattle.lab_lines.specs.Offers.{FirstNotOfferable};
 ghost use Rattle.lab_run.specs.Proving.{IsAmong, TellsOfModule, TellsOfText};
 ghost use Rattle.lab_run.specs.Runs.{Proves, ProvesText, Runs, ServesAll, TellsSo};
 ghost use Rattle.lab_run.specs.Runs.{status_of_end};
@@ -75,9 +75,9 @@ fn texts_of<'a>(alloc: Global, claims: &'a [String]) -> Result<Vec<&'a str>, All
 
 /// The signals that somebody may offer: those of these names, or without names all that may be
 /// offered.
-fn offered_of(interface: &Interface, names: &[&str]) -> Result<u64, PendingRefusal>
+fn offerable_of(interface: &Interface, names: &[&str]) -> Result<u64, PendingRefusal>
     ensures allowed { IfOk result (IsAmong interface.now (map (λ t. t.now) names.now)) }
-    ensures fault { IfErr result (AreNotNamed interface.now (map (λ t. t.now) names.now)) }
+    ensures fault { IfErr result (FirstNotOfferable interface.now (map (λ t. t.now) names.now)) }
 {
     if names.is_empty() {
         Ok(interface.offerable())
@@ -94,7 +94,7 @@ fn prove_module(
 ) -> Result<LabReply, AllocError>
     ensures { IfOk result (TellsOfModule loaded.now proof.now) }
 {
-    let allowed = match offered_of(loaded.kernel.interface(), proof.inputs.as_slice()) {
+    let allowed = match offerable_of(loaded.kernel.interface(), proof.inputs.as_slice()) {
         Ok(allowed) => allowed,
         Err(refused) => return Ok(LabReply::Refused(refusal_of(refused))),
     };

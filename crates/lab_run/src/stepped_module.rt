@@ -7,8 +7,9 @@ ghost use Rattle.est_meaning.specs.States.{IsState};
 ghost use Rattle.reactor_core.specs.declared.refusal.ModuleRefusal.TheVariants as of_module;
 ghost use Rattle.access_core.specs.declared.refusal.Refusal.TheVariants as refusal;
 ghost use Rattle.lab_instant.specs.Instants.{IsFor};
+ghost use Rattle.reactor_core.specs.Standing.{inputs_of_module};
 ghost use Rattle.lab_run.specs.Walking.{AreOffered, GoesBack, IsInstantAt, IsInstantOf, Makes};
-ghost use Rattle.lab_run.specs.Walking.{MayTake, NameAnswer, StandsAt, Tries, at_start, pending_of};
+ghost use Rattle.lab_run.specs.Walking.{MayTake, NameAnswer, StandsAt, Tries, at_start};
 ghost use Rattle.lab_run.specs.Walking.{states_after};
 
 use crate::lab::LabReply;
@@ -77,7 +78,7 @@ fn offer_name(pending: &mut Pending<'_>, name: &str) -> Result<(), PendingRefusa
 /// The inputs of these names, where an instant of the module may take them.
 fn inputs_of(loaded: &Module, names: &[&str]) -> Result<u64, PendingRefusal>
     ensures { MatchResult result (MayTake loaded.now (map (λ t. t.now) names.now))
-        (λ refused. AreOffered (pending_of loaded.now 0) (map (λ t. t.now) names.now)
+        (λ refused. AreOffered (inputs_of_module loaded.now 0) (map (λ t. t.now) names.now)
         (Err refused)) }
 {
     let mut pending = Pending::new(loaded.kernel.interface(), &loaded.relations);

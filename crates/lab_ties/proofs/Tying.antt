@@ -17,8 +17,8 @@ use Rattle.lab_instant.specs.declared.seen.Incarnation.{Incarnation}
 use Rattle.lab_ties.specs.Ties.{Adds, AddsAgain, AddsBoth, AreTied, AreTiedAgain, AreTiedBoth, AreTiedLocals}
 use Rattle.lab_ties.specs.Ties.{AreTiedLocalsAgain, after_part, again_at, is_in_doubt, is_unanswered, own_ties, reads}
 use Rattle.lab_ties.specs.Ties.{tie_if, ties_at}
-use Rattle.lab_ties.specs.declared.place.After.{After}
-use Rattle.lab_ties.specs.declared.place.Both.{Both}
+use Rattle.lab_ties.specs.declared.place.NextPlace.{NextPlace}
+use Rattle.lab_ties.specs.declared.place.TwoPlaces.{TwoPlaces}
 use Rattle.lab_ties.specs.declared.place.IncarnationPlace.{IncarnationPlace}
 use Rattle.lab_ties.specs.declared.tie.Tie.{Tie}
 use Rattle.lab_ties.specs.declared.tie.TieKind.TheVariants.{Waits}
@@ -48,7 +48,8 @@ then_added old mid new xs ys a b = rw (b, a, append_assoc old xs ys) refl
 
 -- two parts
 pub both_added : (L : (p : Statement) → IncarnationPlace → List Tie) (main : Bool) (i n c t : ℕ) (p q : Statement)
-    (old mid new : List Tie) (next end : After) → Adds p (place main i n c t) (L p (place main i n c t)) old mid next
+    (old mid new : List Tie) (next end : NextPlace) → Adds p (place main i n c t)
+    (L p (place main i n c t)) old mid next
     → Adds q (place main i next.statement next.cell t) (L q (place main i next.statement next.cell t)) mid new end
     → AddsBoth p q (place main i n c t)
     (L p (place main i n c t) ++ L q (after_part p (place main i n c t))) old new
@@ -75,7 +76,8 @@ both_added L main i n c t p q old mid new next end a b =
 
 -- a loop's body, and the body as the restart begins it
 pub again_added : (L : (p : Statement) → IncarnationPlace → List Tie) (main : Bool) (i n c t : ℕ) (p : Statement)
-    (old mid new : List Tie) (next end : After) → Adds p (place main i n c t) (L p (place main i n c t)) old mid next
+    (old mid new : List Tie) (next end : NextPlace) → Adds p (place main i n c t)
+    (L p (place main i n c t)) old mid next
     → Adds p (place false 1 n next.cell t) (L p (place false 1 n next.cell t)) mid new end
     → AddsAgain p (place main i n c t)
     (L p (place main i n c t) ++ L p (again_at p (place main i n c t))) old new end
@@ -97,7 +99,7 @@ again_added L main i n c t p old mid new next end a b =
 
 -- a loop that can go on
 pub loop_tied : (w : Wanted) (main : Bool) (i n c t : ℕ) (a : _) (p : Statement) (cells : List Status)
-    (old new : List Tie) (end : After) → main ≡ true
+    (old new : List Tie) (end : NextPlace) → main ≡ true
     → AreTiedAgain w p (place main i (n + 1) (c + t + 3) t) cells old new end
     → AreTied w (Loop' a p) (place main i n c t) cells old new end
 loop_tied w false i n c t a p cells old new end is_main h = let k : false ≡ true = is_main in cc
@@ -115,7 +117,7 @@ loop_tied w true i n c t a p cells old new end is_main h =
 
 -- the same of local signals
 pub local_loop_tied : (main : Bool) (i n c t : ℕ) (a : _) (p : Statement) (cells : List Status)
-    (old new : List Tie) (end : After) → main ≡ true
+    (old new : List Tie) (end : NextPlace) → main ≡ true
     → AreTiedLocalsAgain p (place main i (n + 1) (c + t + 3) t) cells old new end
     → AreTiedLocals (Loop' a p) (place main i n c t) cells old new end
 local_loop_tied false i n c t a p cells old new end is_main h = let k : false ≡ true = is_main in cc
@@ -133,7 +135,7 @@ local_loop_tied true i n c t a p cells old new end is_main h =
 
 -- the ties of the signal that a statement declares, and those inside
 pub local_tied : (main : Bool) (i n c t : ℕ) (s : LocalSignal) (a : _) (p : Statement) (cells : List Status)
-    (old mid new : List Tie) (end : After)
+    (old mid new : List Tie) (end : NextPlace)
     → mid ≡ old ++ own_ties s.index (record { statement = n; number = i }) (cell_at cells (c + t + 3)) p
     (place main i (n + 1) (c + t + 4) t) cells
     → AreTiedLocals p (place main i (n + 1) (c + t + 4) t) cells mid new end
@@ -152,7 +154,8 @@ local_tied main i n c t s a p cells old mid new end own h =
 
 -- `present`
 pub present_tied : (w : Wanted) (main : Bool) (i n c k : ℕ) (t : Test) (a : _) (p : Statement) (b : _) (q : Statement)
-    (cells : List Status) (old mid new : List Tie) (both : Both) (go first second : Status) (left_open is_tied : Bool)
+    (cells : List Status) (old mid new : List Tie) (both : TwoPlaces) (go first second : Status)
+    (left_open is_tied : Bool)
     → go ≡ cell_at cells c → first ≡ cell_at cells (c + k + 3) → second ≡ cell_at cells both.second
     → left_open ≡ is_unanswered go first second → is_tied ≡ (left_open && reads (name_of w.name) (query_of t))
     → AreTiedBoth w p q (place main i (n + 1) (c + k + 3) k) cells old mid both
@@ -206,7 +209,7 @@ maybe_pauses f c k v e =
 
 -- `suspend`
 pub suspend_tied : (w : Wanted) (main : Bool) (i n c k : ℕ) (t : Test) (a : _) (p : Statement) (cells : List Status)
-    (old mid new : List Tie) (end : After) (go pauses : Status) (left_open is_tied : Bool)
+    (old mid new : List Tie) (end : NextPlace) (go pauses : Status) (left_open is_tied : Bool)
     → go ≡ cell_at cells c → pauses ≡ cell_at cells (c + 2)
     → left_open ≡ is_in_doubt go (is_sure pauses) (is_possible pauses)
     → is_tied ≡ (left_open && reads (name_of w.name) (query_of t))

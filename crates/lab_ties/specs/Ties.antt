@@ -20,8 +20,8 @@ use Rattle.lab_ties.specs.declared.tie.OpenSignal.TheVariants as of_signal
 use Rattle.lab_ties.specs.declared.tie.TieKind.{TieKind}
 use Rattle.lab_ties.specs.declared.tie.TieKind.TheVariants.{Waits, MayEmit}
 use Rattle.lab_ties.specs.declared.tie.Tie.{Tie}
-use Rattle.lab_ties.specs.declared.place.After.{After}
-use Rattle.lab_ties.specs.declared.place.Both.{Both}
+use Rattle.lab_ties.specs.declared.place.NextPlace.{NextPlace}
+use Rattle.lab_ties.specs.declared.place.TwoPlaces.{TwoPlaces}
 use Rattle.lab_ties.specs.declared.place.IncarnationPlace.{IncarnationPlace}
 use Rattle.lab_ties.specs.declared.ties.Wanted.{Wanted}
 
@@ -121,7 +121,7 @@ own_ties m declared status p at cells = cond (is_unknown status)
 
 -- these ties of a statement at a place are added, and what follows it; there are more cells than statements
 pub record Adds (p : Statement) (at : IncarnationPlace) (added : List Tie) (old new : List Tie)
-    (after : After) : Type 0 where
+    (after : NextPlace) : Type 0 where
   pub tied : new ≡ old ++ added
   pub statement : after.statement ≡ at.at.statement + statements p
   pub cell : after.cell ≡ at.cell + sheet_size at.main p at.traps
@@ -129,10 +129,11 @@ pub record Adds (p : Statement) (at : IncarnationPlace) (added : List Tie) (old 
   pub later : at.cell + 3 ≤ after.cell
 
 -- what is tied to a signal is added; what is tied to local signals is
-abbrev pub AreTied : Wanted → (p : Statement) → IncarnationPlace → List Status → (old new : List Tie) → After → Type 0
+abbrev pub AreTied : Wanted → (p : Statement) → IncarnationPlace → List Status → (old new : List Tie) → NextPlace
+    → Type 0
 AreTied w p at cells old new after = Adds p at (ties_at w p at cells) old new after
 
-abbrev pub AreTiedLocals : (p : Statement) → IncarnationPlace → List Status → (old new : List Tie) → After → Type 0
+abbrev pub AreTiedLocals : (p : Statement) → IncarnationPlace → List Status → (old new : List Tie) → NextPlace → Type 0
 AreTiedLocals p at cells old new after = Adds p at (local_ties_at p at cells) old new after
 
 -- the place of a second part, which follows a first one
@@ -146,7 +147,7 @@ after_part p at = record {
 
 -- two parts of which the first stands at a place: their ties are added
 pub record AddsBoth (p q : Statement) (at : IncarnationPlace) (added : List Tie) (old new : List Tie)
-    (both : Both) : Type 0 where
+    (both : TwoPlaces) : Type 0 where
   pub tied : new ≡ old ++ added
   pub second : both.second ≡ at.cell + sheet_size at.main p at.traps
   pub statement : both.after.statement ≡ at.at.statement + statements p + statements q
@@ -155,12 +156,13 @@ pub record AddsBoth (p q : Statement) (at : IncarnationPlace) (added : List Tie)
   pub later : both.second + 3 ≤ both.after.cell
   pub first : at.cell + 3 ≤ both.second
 
-abbrev pub AreTiedBoth : Wanted → (p q : Statement) → IncarnationPlace → List Status → (old new : List Tie) → Both
+abbrev pub AreTiedBoth : Wanted → (p q : Statement) → IncarnationPlace → List Status → (old new : List Tie) → TwoPlaces
     → Type 0
 AreTiedBoth w p q at cells old new both =
     AddsBoth p q at (ties_at w p at cells ++ ties_at w q (after_part p at) cells) old new both
 
-abbrev pub AreTiedLocalsBoth : (p q : Statement) → IncarnationPlace → List Status → (old new : List Tie) → Both → Type 0
+abbrev pub AreTiedLocalsBoth : (p q : Statement) → IncarnationPlace → List Status → (old new : List Tie) → TwoPlaces
+    → Type 0
 AreTiedLocalsBoth p q at cells old new both =
     AddsBoth p q at (local_ties_at p at cells ++ local_ties_at q (after_part p at) cells) old new both
 
@@ -175,18 +177,19 @@ again_at p at = record {
 
 -- a loop's body that can go on, and the body as the restart begins it: their ties are added
 pub record AddsAgain (p : Statement) (at : IncarnationPlace) (added : List Tie) (old new : List Tie)
-    (after : After) : Type 0 where
+    (after : NextPlace) : Type 0 where
   pub tied : new ≡ old ++ added
   pub statement : after.statement ≡ at.at.statement + statements p
   pub cell : after.cell ≡ at.cell + sheet_size at.main p at.traps + sheet_size false p at.traps
   pub numbers : after.statement ≤ after.cell
   pub later : at.cell + 3 ≤ after.cell
 
-abbrev pub AreTiedAgain : Wanted → (p : Statement) → IncarnationPlace → List Status → (old new : List Tie) → After
+abbrev pub AreTiedAgain : Wanted → (p : Statement) → IncarnationPlace → List Status → (old new : List Tie) → NextPlace
     → Type 0
 AreTiedAgain w p at cells old new after =
     AddsAgain p at (ties_at w p at cells ++ ties_at w p (again_at p at) cells) old new after
 
-abbrev pub AreTiedLocalsAgain : (p : Statement) → IncarnationPlace → List Status → (old new : List Tie) → After → Type 0
+abbrev pub AreTiedLocalsAgain : (p : Statement) → IncarnationPlace → List Status → (old new : List Tie) → NextPlace
+    → Type 0
 AreTiedLocalsAgain p at cells old new after =
     AddsAgain p at (local_ties_at p at cells ++ local_ties_at p (again_at p at) cells) old new after

@@ -10,7 +10,7 @@ ghost use Rattle.est_net.specs.Cells.{cell_at};
 ghost use Rattle.lab_ties.specs.Ties.{AreTiedLocals, AreTiedLocalsAgain, AreTiedLocalsBoth};
 ghost use Rattle.lab_ties.specs.Ties.{own_ties};
 
-use crate::place::{After, Both, IncarnationPlace};
+use crate::place::{IncarnationPlace, NextPlace, TwoPlaces};
 use crate::tie::{OpenSignal, Tie};
 use crate::ties::{Wanted, is_open, tie};
 use est_kernel::statement::{LocalSignal, Signal, Statement};
@@ -26,7 +26,7 @@ fn tie_locals_of_two(
     p: &Statement,
     q: &Statement,
     found: &mut Vec<Tie>,
-) -> Result<Both, AllocError>
+) -> Result<TwoPlaces, AllocError>
     requires statement { first.at.statement ≤ first.cell }
     requires number { first.at.number ≤ first.cell }
     requires within { first.cell + sheet_size first.main p.now first.traps
@@ -45,7 +45,7 @@ fn tie_locals_of_two(
         traps: first.traps,
     };
     let end = tie_locals(net, second, q, found)?;
-    Ok(Both {
+    Ok(TwoPlaces {
         second: next.cell,
         after: end,
     })
@@ -58,7 +58,7 @@ fn tie_locals_of_loop(
     body: IncarnationPlace,
     p: &Statement,
     found: &mut Vec<Tie>,
-) -> Result<After, AllocError>
+) -> Result<NextPlace, AllocError>
     requires statement { body.at.statement ≤ body.cell }
     requires number { body.at.number ≤ body.cell }
     requires within { body.cell + sheet_size body.main p.now body.traps
@@ -104,7 +104,7 @@ fn tie_own(
             name: Signal::Local(name),
             signal: OpenSignal::Local(declared),
         };
-        tie(net, wanted, body, p, found)?;
+        add_ties(net, wanted, body, p, found)?;
     }
     Ok(())
 }
@@ -117,7 +117,7 @@ fn tie_local(
     name: LocalSignal,
     p: &Statement,
     found: &mut Vec<Tie>,
-) -> Result<After, AllocError>
+) -> Result<NextPlace, AllocError>
     requires statement { place.at.statement ≤ place.cell }
     requires number { place.at.number ≤ place.cell }
     requires within { place.cell + place.traps + 4 + sheet_size place.main p.now place.traps
@@ -148,7 +148,7 @@ pub fn tie_locals(
     place: IncarnationPlace,
     s: &Statement,
     found: &mut Vec<Tie>,
-) -> Result<After, AllocError>
+) -> Result<NextPlace, AllocError>
     requires statement { place.at.statement ≤ place.cell }
     requires number { place.at.number ≤ place.cell }
     requires within { place.cell + sheet_size place.main s.now place.traps
@@ -165,7 +165,7 @@ pub fn tie_locals(
         main: place.main,
         traps: place.traps,
     };
-    let next = After {
+    let next = NextPlace {
         statement: parts.at.statement,
         cell: parts.cell,
     };

@@ -17,7 +17,7 @@ pub struct IncarnationPlace {
 
 /// What follows a statement.
 #[derive(Clone, Copy)]
-pub struct After {
+pub struct NextPlace {
     /// The number of the next statement.
     pub statement: usize,
     /// The place of the next cell.
@@ -26,9 +26,9 @@ pub struct After {
 
 /// What follows two parts, and where the second begins.
 #[derive(Clone, Copy)]
-pub struct Both {
+pub struct TwoPlaces {
     /// The place of the first cell of the second.
     pub second: usize,
     /// What follows.
-    pub after: After,
+    pub after: NextPlace,
 }

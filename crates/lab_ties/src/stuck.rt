@@ -44,7 +44,7 @@ fn tie_signal(
         main: true,
         traps: 0,
     };
-    tie(net, wanted, root, kernel.root(), found)?;
+    add_ties(net, wanted, root, kernel.root(), found)?;
     Ok(())
 }
 

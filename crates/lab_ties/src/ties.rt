@@ -12,7 +12,7 @@ ghost use Rattle.est_meaning.specs.Environments.{is_unknown};
 ghost use Rattle.lab_ties.specs.Ties.{AreTied, AreTiedAgain, AreTiedBoth, is_in_doubt};
 ghost use Rattle.lab_ties.specs.Ties.{is_unanswered, reads, reads_of_joint, tie_if};
 
-use crate::place::{After, Both, IncarnationPlace};
+use crate::place::{IncarnationPlace, NextPlace, TwoPlaces};
 use crate::tie::{OpenSignal, Tie, TieKind};
 use est_kernel::statement::{Operands, Signal, Statement, Test};
 use est_meaning::status::Status;
@@ -133,7 +133,7 @@ fn add_if(
 }
 
 /// Adds the ties of two parts, the second after the first.
-#[cycle(tie)]
+#[cycle(add_ties)]
 fn tie_two(
     net: &Net,
     wanted: Wanted,
@@ -141,7 +141,7 @@ fn tie_two(
     p: &Statement,
     q: &Statement,
     found: &mut Vec<Tie>,
-) -> Result<Both, AllocError>
+) -> Result<TwoPlaces, AllocError>
     requires statement { first.at.statement ≤ first.cell }
     requires number { first.at.number ≤ first.cell }
     requires within { first.cell + sheet_size first.main p.now first.traps
@@ -149,7 +149,7 @@ fn tie_two(
     ensures { IfOk result (AreTiedBoth wanted p.now q.now first net.now.cells.items
         found.old.items found.new.items) }
 {
-    let next = tie(net, wanted, first, p, found)?;
+    let next = add_ties(net, wanted, first, p, found)?;
     let second = IncarnationPlace {
         at: Incarnation {
             statement: next.statement,
@@ -159,15 +159,15 @@ fn tie_two(
         main: first.main,
         traps: first.traps,
     };
-    let end = tie(net, wanted, second, q, found)?;
-    Ok(Both {
+    let end = add_ties(net, wanted, second, q, found)?;
+    Ok(TwoPlaces {
         second: next.cell,
         after: end,
     })
 }
 
 /// Adds the ties of a `present`.
-#[cycle(tie)]
+#[cycle(add_ties)]
 fn tie_present(
     net: &Net,
     wanted: Wanted,
@@ -176,7 +176,7 @@ fn tie_present(
     p: &Statement,
     q: &Statement,
     found: &mut Vec<Tie>,
-) -> Result<After, AllocError>
+) -> Result<NextPlace, AllocError>
     requires statement { place.at.statement ≤ place.cell }
     requires number { place.at.number ≤ place.cell }
     requires within { place.cell + place.traps + 3 + sheet_size place.main p.now place.traps
@@ -203,7 +203,7 @@ fn tie_present(
 }
 
 /// Adds the ties of a `suspend`.
-#[cycle(tie)]
+#[cycle(add_ties)]
 fn tie_suspend(
     net: &Net,
     wanted: Wanted,
@@ -211,7 +211,7 @@ fn tie_suspend(
     test: &Test,
     p: &Statement,
     found: &mut Vec<Tie>,
-) -> Result<After, AllocError>
+) -> Result<NextPlace, AllocError>
     requires statement { place.at.statement ≤ place.cell }
     requires number { place.at.number ≤ place.cell }
     requires within { place.cell + place.traps + 3 + sheet_size place.main p.now place.traps
@@ -228,7 +228,7 @@ fn tie_suspend(
         main: place.main,
         traps: place.traps,
     };
-    let end = tie(net, wanted, body, p, found)?;
+    let end = add_ties(net, wanted, body, p, found)?;
     let pauses = net.status(place.cell + 2);
     let left_open = is_in_doubt(net.status(place.cell), pauses);
     let is_tied = is_asked(left_open, wanted.name, test);
@@ -237,14 +237,14 @@ fn tie_suspend(
 }
 
 /// Adds the ties of the body of a loop that can go on, and of the body as the restart begins it.
-#[cycle(tie)]
+#[cycle(add_ties)]
 fn tie_loop(
     net: &Net,
     wanted: Wanted,
     body: IncarnationPlace,
     p: &Statement,
     found: &mut Vec<Tie>,
-) -> Result<After, AllocError>
+) -> Result<NextPlace, AllocError>
     requires statement { body.at.statement ≤ body.cell }
     requires number { body.at.number ≤ body.cell }
     requires within { body.cell + sheet_size body.main p.now body.traps
@@ -252,7 +252,7 @@ fn tie_loop(
     ensures { IfOk result (AreTiedAgain wanted p.now body net.now.cells.items
         found.old.items found.new.items) }
 {
-    let next = tie(net, wanted, body, p, found)?;
+    let next = add_ties(net, wanted, body, p, found)?;
     let again = IncarnationPlace {
         at: Incarnation {
             statement: body.at.statement,
@@ -262,19 +262,19 @@ fn tie_loop(
         main: false,
         traps: body.traps,
     };
-    let end = tie(net, wanted, again, p, found)?;
+    let end = add_ties(net, wanted, again, p, found)?;
     Ok(end)
 }
 
 /// Adds the ties of a statement, or memory was refused.
-#[cycle(tie)]
-pub fn tie(
+#[cycle(add_ties)]
+pub fn add_ties(
     net: &Net,
     wanted: Wanted,
     place: IncarnationPlace,
     s: &Statement,
     found: &mut Vec<Tie>,
-) -> Result<After, AllocError>
+) -> Result<NextPlace, AllocError>
     requires statement { place.at.statement ≤ place.cell }
     requires number { place.at.number ≤ place.cell }
     requires within { place.cell + sheet_size place.main s.now place.traps
@@ -291,7 +291,7 @@ pub fn tie(
         main: place.main,
         traps: place.traps,
     };
-    let next = After {
+    let next = NextPlace {
         statement: parts.at.statement,
         cell: parts.cell,
     };
@@ -333,7 +333,7 @@ pub fn tie(
                     },
                     ..parts
                 };
-                let after_body = tie(net, wanted, body, p, found)?;
+                let after_body = add_ties(net, wanted, body, p, found)?;
                 Ok(after_body)
             }
         }
@@ -342,7 +342,7 @@ pub fn tie(
                 traps: place.traps + 1,
                 ..parts
             };
-            let after_trap = tie(net, wanted, body, p, found)?;
+            let after_trap = add_ties(net, wanted, body, p, found)?;
             Ok(after_trap)
         }
         Statement::Local(_, p) => {
@@ -350,7 +350,7 @@ pub fn tie(
                 cell: parts.cell + 1,
                 ..parts
             };
-            let after_local = tie(net, wanted, body, p, found)?;
+            let after_local = add_ties(net, wanted, body, p, found)?;
             Ok(after_local)
         }
     }

@@ -66,7 +66,7 @@ impl<B: BoardName> Board<B> {
             × SeatAfter seat.old result after seat.new }
     {
         let mut policy = self.policy.lock(rt);
-        let answer = policy.answer_locked_policy(rt, seat, session, command);
+        let answer = policy.answer(rt, seat, session, command);
         MutexGuard::unlock(policy);
         answer
     }
@@ -105,24 +105,24 @@ impl<B: BoardName> Board<B> {
     }
 
     /// Ends the board.
-    pub fn close(self) -> Closed<B> {
+    pub fn close(self) -> ClosedBoard<B> {
         let Board {
             policy,
             tally: _,
             began: _,
         } = self;
-        Closed {
+        ClosedBoard {
             policy: policy.into_inner(),
         }
     }
 }
 
 /// A board that is closed. End it by `journal`.
-pub struct Closed<B: BoardName> {
+pub struct ClosedBoard<B: BoardName> {
     policy: LockedPolicy<B>,
 }
 
-impl<B: BoardName> Closed<B> {
+impl<B: BoardName> ClosedBoard<B> {
     /// Takes a reader back, if what it saw is a beginning of the policy journal.
     ///
     /// # Errors
@@ -143,7 +143,7 @@ impl<B: BoardName> Closed<B> {
         ensures same { result ≡ self.policy }
         ensures list { IsPolicyList result }
     {
-        let Closed { policy } = self;
+        let ClosedBoard { policy } = self;
         policy.into_journal(rt)
     }
 }

@@ -158,7 +158,7 @@ impl<B: BoardName> LockedPolicy<B> {
 
     /// Answers a policy command. An accepted one adds its entry at the end, and publishes it. The
     /// seat then knows the list, and keeps a receipt (`Kept`) of an accepted one.
-    pub fn answer_locked_policy<R: Wait>(
+    pub fn answer<R: Wait>(
         &mut self,
         rt: &R,
         seat: &mut Seat<B>,

@@ -75,7 +75,8 @@ impl<B: BoardName> IdleReader<B> {
     /// # Errors
     ///
     /// The reader as it was, where `left_right` refuses the read. It does so only once its writer
-    /// has ended, which is after all commands (`Closed::journal`); no clause of the kit says so.
+    /// has ended, which is after all commands (`ClosedBoard::journal`); no clause of the kit says
+    /// so.
     pub fn enter(self) -> Result<Reading<B>, IdleReader<B>>
         ensures { MatchResult result (λ reading. Begins self reading) (λ reader. reader ≡ self) }
     {

@@ -318,7 +318,7 @@ pub fn check_no_cycle(policy: &Policy, senior: &Name, junior: &Name) -> Result<(
     ensures { (entries : List Entry) → StandsFor policy.now entries
         → Tests (RefuseIf PolicyRefusal.Cycle (IsAtOrBelow entries senior.now junior.now)) result }
 {
-    if policy.lies_below(senior, junior) {
+    if policy.is_at_or_below(senior, junior) {
         Err(PolicyRefusal::Cycle)
     } else {
         Ok(())

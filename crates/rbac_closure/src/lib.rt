@@ -2,7 +2,7 @@
 //! above each.
 //!
 //! A role is named by its place in a table. How many places there are, and the word that a set of
-//! them fits in, stand in `sets` alone.
+//! them fits in, stand in `role_sets` alone.
 #![tactic(auto)]
 
 pub mod hierarchy;

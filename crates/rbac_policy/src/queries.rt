@@ -103,7 +103,7 @@ impl Policy {
     }
 
     /// Whether a chain of edges, possibly empty, leads from the senior to the junior.
-    pub fn lies_below(&self, junior: &Name, senior: &Name) -> bool
+    pub fn is_at_or_below(&self, junior: &Name, senior: &Name) -> bool
         ensures { (entries : List Entry) → StandsFor self.now entries
             → (IsTrue result ↔ IsAtOrBelow entries junior.now senior.now) }
     {

@@ -29,7 +29,7 @@ use Rattle.reactor_core.specs.Converting.{all_converted}
 use Rattle.reactor_core.specs.Faults.{refusal_of_pending}
 use Rattle.reactor_core.specs.Instants.{SettledInstant, AddsInstant, CommitAnswer, OpenAnswer}
 use Rattle.reactor_core.specs.Meaning.{Running, RunsAfter, pending_of, entry}
-use Rattle.reactor_core.specs.Standing.{pending_inputs, JoinsAs, RefusesJoining, RefusesInstant}
+use Rattle.reactor_core.specs.Standing.{inputs_of_module, OffersAs, RefusesOffering, RefusesInstant}
 use Rattle.reactor_core.proofs.Converting.{convert}
 use Rattle.reactor_core.proofs.Joining.{no_ok, same_err}
 
@@ -51,7 +51,7 @@ pub entry_passes : {Refused : ReactorRefusal → Type 0} {Accepted : Type 0} (jo
 entry_passes journal room h = pass room (pass (record {}) h)
 
 module _ (journal : List SlotEntry) (m : Module) (r : Running) (runs : RunsAfter journal r)
-    (is : pending_of r ≡ pending_inputs m r.pending) where
+    (is : pending_of r ≡ inputs_of_module m r.pending) where
   -- what is answered to an offer, and the journal afterwards
   abbrev Told : Result (Unit {0}) ReactorRefusal → List SlotEntry → ReactorRefusal → Type 0
   Told answer w refusal = (answer ≡ Err refusal) × (w ≡ journal)
@@ -61,27 +61,28 @@ module _ (journal : List SlotEntry) (m : Module) (r : Running) (runs : RunsAfter
 
   -- the same of the pending inputs
   abbrev Refused : Result (Unit {0}) PendingRefusal → PendingInputs → PendingRefusal → Type 0
-  Refused answer after refusal = (answer ≡ Err refusal) × (after ≡ pending_inputs m r.pending)
+  Refused answer after refusal = (answer ≡ Err refusal) × (after ≡ inputs_of_module m r.pending)
 
   abbrev Accepted : List ℕ → Result (Unit {0}) PendingRefusal → PendingInputs → Type 0
-  Accepted name answer after = (answer ≡ Ok (record {})) × Adds (pending_inputs m r.pending) name after
+  Accepted name answer after = (answer ≡ Ok (record {})) × Adds (inputs_of_module m r.pending) name after
 
   -- the rules of an offer to them
   same_rules : (name : List ℕ) (Known : Rules PendingRefusal → Type 0)
-      → Known (offer_rules (pending_inputs m r.pending) name) → Known (offer_rules (pending_of r) name)
+      → Known (offer_rules (inputs_of_module m r.pending) name) → Known (offer_rules (pending_of r) name)
   same_rules name Known h = subst (λ (p : PendingInputs). Known (offer_rules p name)) (sym is) h
 
   -- an offer that the pending inputs refuse
   pub offer_refused : (stamp : Stamp) (name : List ℕ) (e : ReactorRefusal) (w : List SlotEntry)
-      → RefusesJoining m r.pending name e → w ≡ journal → ReactorOfferAnswer journal stamp name (Err e) w
+      → RefusesOffering m r.pending name e → w ≡ journal → ReactorOfferAnswer journal stamp name (Err e) w
   offer_refused stamp name e w h same = record {
     running = r;
     runs = runs;
     given = same_rules name
         (λ rules. Answers (all_converted refusal_of_pending rules ▸▸ entry_rules journal) (Told (Err e) w)
         (Done stamp name (Err e) w))
-        (convert refusal_of_pending (offer_rules (pending_inputs m r.pending) name) (entry_rules journal)
-        (Refused (Err h.given) (pending_inputs m r.pending)) (Accepted name (Err h.given) (pending_inputs m r.pending))
+        (convert refusal_of_pending (offer_rules (inputs_of_module m r.pending) name) (entry_rules journal)
+        (Refused (Err h.given) (inputs_of_module m r.pending))
+        (Accepted name (Err h.given) (inputs_of_module m r.pending))
         (Told (Err e) w) (Done stamp name (Err e) w)
         (λ refusal told. (ap Err (h.told ∙ ap refusal_of_pending (same_err h.given refusal told.0)), same))
         (λ accepted. absurd (no_ok (record {}) h.given accepted.0)) h.answer);
@@ -89,7 +90,7 @@ module _ (journal : List SlotEntry) (m : Module) (r : Running) (runs : RunsAfter
 
   -- an offer that joins the pending inputs, by what its entry is answered
   pub offer_joins : (stamp : Stamp) (name : List ℕ) (after : ℕ) (answer : Result (Unit {0}) ReactorRefusal)
-      (w : List SlotEntry) → JoinsAs m r.pending name after
+      (w : List SlotEntry) → OffersAs m r.pending name after
       → Answers (entry_rules journal) (λ refusal. (answer ≡ Err refusal) × (w ≡ journal))
       ((answer ≡ Ok (record {})) × (w ≡ journal ++ entry stamp (Offer name) ∷ []))
       → ReactorOfferAnswer journal stamp name answer w
@@ -99,8 +100,9 @@ module _ (journal : List SlotEntry) (m : Module) (r : Running) (runs : RunsAfter
     given = same_rules name
         (λ rules. Answers (all_converted refusal_of_pending rules ▸▸ entry_rules journal) (Told answer w)
         (Done stamp name answer w))
-        (convert refusal_of_pending (offer_rules (pending_inputs m r.pending) name) (entry_rules journal)
-        (Refused (Ok (record {})) (pending_inputs m after)) (Accepted name (Ok (record {})) (pending_inputs m after))
+        (convert refusal_of_pending (offer_rules (inputs_of_module m r.pending) name) (entry_rules journal)
+        (Refused (Ok (record {})) (inputs_of_module m after))
+        (Accepted name (Ok (record {})) (inputs_of_module m after))
         (Told answer w) (Done stamp name answer w)
         (λ refusal told. absurd (no_fault (record {}) refusal told.0))
         (λ accepted. goes) h.answer);

@@ -10,7 +10,7 @@ use Rattle.est_relations.proofs.OffersKeep.{no_fault}
 use Rattle.refusal_rules.proofs.RuleLemmas.{all_passed, answered}
 use Rattle.reactor_core.specs.declared.kernel_module.Module.{Module}
 use Rattle.reactor_core.specs.Faults.{refusal_of_pending}
-use Rattle.reactor_core.specs.Standing.{pending_inputs, JoinsAs, RefusesJoining, RefusesInstant}
+use Rattle.reactor_core.specs.Standing.{inputs_of_module, OffersAs, RefusesOffering, RefusesInstant}
 
 pub no_ok : {A E : Type 0} (x : A) (e : E) → Err e ≡ Ok x → ⊥
 no_ok x e h = cc
@@ -36,33 +36,33 @@ stays_where p name e after h =
 
 -- the pending inputs with the signal of an accepted offer
 pub joins : (m : Module) (pending : ℕ) (name : List ℕ) (before after : PendingInputs) (mask : ℕ)
-    → before ≡ pending_inputs m pending → mask ≡ after.inputs
+    → before ≡ inputs_of_module m pending → mask ≡ after.inputs
     → KeepsExclusions after.interface after.relations after.inputs → OfferAnswer before name (Ok (record {})) after
-    → JoinsAs m pending name mask
+    → OffersAs m pending name mask
 joins m pending name before after mask is read kept h =
-    let answer : OfferAnswer (pending_inputs m pending) name (Ok (record {})) after =
+    let answer : OfferAnswer (inputs_of_module m pending) name (Ok (record {})) after =
     subst (λ (p : PendingInputs). OfferAnswer p name (Ok (record {})) after) is h in
-    let adds = adds_where (pending_inputs m pending) name after answer in
+    let adds = adds_where (inputs_of_module m pending) name after answer in
     let its : mask ≡ _ = read ∙ ap (λ (p : PendingInputs). p.inputs) adds.added in
-    let same : after ≡ pending_inputs m mask = adds.added ∙ ap (λ (n : ℕ). pending_inputs m n) (sym its) in
+    let same : after ≡ inputs_of_module m mask = adds.added ∙ ap (λ (n : ℕ). inputs_of_module m n) (sym its) in
     record {
-      answer = subst (λ (p : PendingInputs). OfferAnswer (pending_inputs m pending) name (Ok (record {})) p) same
+      answer = subst (λ (p : PendingInputs). OfferAnswer (inputs_of_module m pending) name (Ok (record {})) p) same
           answer;
       kept = subst (λ (p : PendingInputs). KeepsExclusions p.interface p.relations p.inputs) same kept;
     }
 
 -- why the name of a refused offer may not join them
 pub refuses : (m : Module) (pending : ℕ) (name : List ℕ) (before after : PendingInputs) (e : PendingRefusal)
-    → before ≡ pending_inputs m pending
-    → OfferAnswer before name (Err e) after → RefusesJoining m pending name (refusal_of_pending e)
+    → before ≡ inputs_of_module m pending
+    → OfferAnswer before name (Err e) after → RefusesOffering m pending name (refusal_of_pending e)
 refuses m pending name before after e is h =
-    let same : after ≡ pending_inputs m pending = stays_where before name e after h ∙ is in
-    let answer : OfferAnswer (pending_inputs m pending) name (Err e) after =
+    let same : after ≡ inputs_of_module m pending = stays_where before name e after h ∙ is in
+    let answer : OfferAnswer (inputs_of_module m pending) name (Err e) after =
     subst (λ (p : PendingInputs). OfferAnswer p name (Err e) after) is h in
     record {
       given = e;
       told = refl;
-      answer = subst (λ (p : PendingInputs). OfferAnswer (pending_inputs m pending) name (Err e) p) same answer;
+      answer = subst (λ (p : PendingInputs). OfferAnswer (inputs_of_module m pending) name (Err e) p) same answer;
     }
 
 -- an instant may take pending inputs that are ready
@@ -70,14 +70,14 @@ lawful_where : (p : PendingInputs) → ReadyAnswer p (Ok (record {})) → AreLaw
 lawful_where p (inl refused) = absurd (no_fault (record {}) refused.refusal refused.answered)
 lawful_where p (inr passes) = passes.next.1
 
-pub takes : (m : Module) (pending : ℕ) (before : PendingInputs) → before ≡ pending_inputs m pending
+pub takes : (m : Module) (pending : ℕ) (before : PendingInputs) → before ≡ inputs_of_module m pending
     → ReadyAnswer before (Ok (record {}))
     → AreLawful m.relations (bits pending)
-takes m pending before is h = lawful_where (pending_inputs m pending)
+takes m pending before is h = lawful_where (inputs_of_module m pending)
     (subst (λ (p : PendingInputs). ReadyAnswer p (Ok (record {}))) is h)
 
 -- why it may not
-lacks_where : (m : Module) (pending : ℕ) (e : PendingRefusal) → ReadyAnswer (pending_inputs m pending) (Err e)
+lacks_where : (m : Module) (pending : ℕ) (e : PendingRefusal) → ReadyAnswer (inputs_of_module m pending) (Err e)
     → RefusesInstant m pending (refusal_of_pending e)
 lacks_where m pending e (inl refused) = record {
   number = refused.given.0.0;
@@ -87,7 +87,8 @@ lacks_where m pending e (inl refused) = record {
 }
 lacks_where m pending e (inr passes) = absurd (no_ok (record {}) e passes.next.0)
 
-pub lacks : (m : Module) (pending : ℕ) (before : PendingInputs) (e : PendingRefusal) → before ≡ pending_inputs m pending
+pub lacks : (m : Module) (pending : ℕ) (before : PendingInputs) (e : PendingRefusal)
+    → before ≡ inputs_of_module m pending
     → ReadyAnswer before (Err e)
     → RefusesInstant m pending (refusal_of_pending e)
 lacks m pending before e is h = lacks_where m pending e (subst (λ (p : PendingInputs). ReadyAnswer p (Err e)) is h)

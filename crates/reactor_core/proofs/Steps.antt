@@ -28,7 +28,7 @@ use Rattle.reactor_core.specs.declared.refusal.ModuleRefusal.TheVariants.{NoInst
 use Rattle.reactor_core.specs.Meaning.{entry, instant, after_all, load_after, instants_after, offers_after, offers_of}
 use Rattle.reactor_core.specs.Meaning.{with_signal, mask_of, ModuleOf, Running, RunsAfter, Leaves, loaded, offered}
 use Rattle.reactor_core.specs.Meaning.{discarded, stepped, is_loaded}
-use Rattle.reactor_core.specs.Standing.{IsRunning, IsNext, AreKept, JoinsAs, given_by, pending_inputs}
+use Rattle.reactor_core.specs.Standing.{IsRunning, IsNext, AreKept, OffersAs, given_by, inputs_of_module}
 use Rattle.reactor_core.specs.Instants.{IsOutcome, HasNoOutcome, AddsInstant}
 use Rattle.reactor_core.specs.Left.{IsKernelOf, IsLeftOf}
 use Rattle.reactor_core.specs.Answers.{HasRoom, ShownAnswer, within_mask}
@@ -168,12 +168,12 @@ module _ {journal : List SlotEntry} {m : Module} {state : State} {pending : ℕ}
 
   -- an offer's entry keeps what a reactor is, with the signal pending
   pub offers : (i : IsRunning journal m state pending instants) (stamp : Stamp) (name : List ℕ) (after : ℕ)
-      → JoinsAs m pending name after
+      → OffersAs m pending name after
       → IsRunning (journal ++ entry stamp (Offer name) ∷ []) m state after instants
   offers i stamp name after h =
       let e : SlotEntry = entry stamp (Offer name) in
       let before : ℕ = mask_of m.kernel.interface (offers_of journal) in
-      let adds = adds_where (pending_inputs m pending) name (pending_inputs m after) h.answer in
+      let adds = adds_where (inputs_of_module m pending) name (inputs_of_module m after) h.answer in
       let mask : after ≡ with_place pending adds.place = ap (λ (p : PendingInputs). p.inputs) adds.added in
       record {
         load = i.load;

@@ -23,8 +23,8 @@ abbrev pub given_by : Module → GivenModule
 given_by m = record { interface = m.kernel.interface; relations = m.relations; term = term_of m.kernel.root }
 
 -- pending inputs of a module
-abbrev pub pending_inputs : Module → (mask : ℕ) → PendingInputs
-pending_inputs m inputs = record { interface = m.kernel.interface; relations = m.relations; inputs = inputs }
+abbrev pub inputs_of_module : Module → (mask : ℕ) → PendingInputs
+inputs_of_module m inputs = record { interface = m.kernel.interface; relations = m.relations; inputs = inputs }
 
 -- pending inputs of a module are inputs, and they keep each exclusion
 abbrev pub AreKept : Module → (mask : ℕ) → Type 0
@@ -60,19 +60,19 @@ abbrev pub HaveOutcome : Parts → Outcome → Type 0
 HaveOutcome p o = IsNext p.loaded p.state p.pending o.outputs o.next
 
 -- the pending inputs of a module with the input of this name are these
-pub record JoinsAs (m : Module) (pending : ℕ) (name : List ℕ) (after : ℕ) : Type 0 where
-  pub answer : OfferAnswer (pending_inputs m pending) name (Ok (record {})) (pending_inputs m after)
+pub record OffersAs (m : Module) (pending : ℕ) (name : List ℕ) (after : ℕ) : Type 0 where
+  pub answer : OfferAnswer (inputs_of_module m pending) name (Ok (record {})) (inputs_of_module m after)
   pub kept : AreKept m after
 
 -- why the input of this name may not join the pending inputs of a module
-pub record RefusesJoining (m : Module) (pending : ℕ) (name : List ℕ) (refusal : ReactorRefusal) : Type 0 where
+pub record RefusesOffering (m : Module) (pending : ℕ) (name : List ℕ) (refusal : ReactorRefusal) : Type 0 where
   pub given : PendingRefusal
   pub told : refusal ≡ refusal_of_pending given
-  pub answer : OfferAnswer (pending_inputs m pending) name (Err given) (pending_inputs m pending)
+  pub answer : OfferAnswer (inputs_of_module m pending) name (Err given) (inputs_of_module m pending)
 
 -- why an instant may not take the pending inputs of a module
 pub record RefusesInstant (m : Module) (pending : ℕ) (refusal : ReactorRefusal) : Type 0 where
   pub number : ℕ
   pub missing : List ℕ
   pub told : refusal ≡ implied number missing
-  pub first : IsFirstImplied (pending_inputs m pending) number missing
+  pub first : IsFirstImplied (inputs_of_module m pending) number missing

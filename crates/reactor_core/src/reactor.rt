@@ -19,7 +19,7 @@ use crate::entry::{Load, Move, PastInstant, SlotEntry, Stamp};
 use crate::journal::Journal;
 use crate::kernel_module::Module;
 use crate::reactor::instant::Instant;
-use crate::reactor::parts::{Parts, check_relations, join};
+use crate::reactor::parts::{Parts, check_relations, offer_input};
 use crate::reading::read_module;
 use crate::refusal::{ModuleRefusal, ReactorRefusal};
 use est_kernel::interface::Interface;
@@ -210,7 +210,7 @@ impl Reactor {
     pub fn offer(&mut self, stamp: Stamp, name: &Identifier) -> Result<(), ReactorRefusal>
         ensures { ReactorOfferAnswer self.old stamp name.now result self.new }
     {
-        let pending = match join(&self.parts.loaded, self.parts.pending, name) {
+        let pending = match offer_input(&self.parts.loaded, self.parts.pending, name) {
             Ok(pending) => pending,
             Err(refusal) => return Err(refusal),
         };

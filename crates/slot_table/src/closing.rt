@@ -13,7 +13,7 @@ use crate::slot::LockedSlot;
 use history_merge::compare::compare;
 use history_receipts::mismatch::Mismatch;
 use history_receipts::receipt_list::{Receipts, SEATS};
-use policy_board::board::{Board, Closed};
+use policy_board::board::{Board, ClosedBoard};
 use policy_board::board_name::BoardName;
 use policy_board::seat::Seat;
 use rbac_policy::journal::PolicyJournal;
@@ -34,7 +34,7 @@ pub struct Histories {
 /// The board of a server that is closing. The fault is that of a reader that was handed back to it
 /// and had seen more than the policy list has, if there was one.
 pub(crate) struct Closing<B: BoardName> {
-    board: Closed<B>,
+    board: ClosedBoard<B>,
     fault: Option<Mismatch>,
 }
 

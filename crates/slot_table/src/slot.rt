@@ -15,7 +15,7 @@ use access_core::reply::Reply;
 use access_core::slot::Slot;
 use access_core::slot_step::{decide_slot, load_admitted};
 use history_receipts::mismatch::Mismatch;
-use policy_board::board::{Board, Closed};
+use policy_board::board::{Board, ClosedBoard};
 use policy_board::board_name::BoardName;
 use policy_board::reader::{IdleReader, Reading};
 use policy_board::seat::Seat;
@@ -124,7 +124,7 @@ impl<B: BoardName, const NUMBER: u8> LockedSlot<B, NUMBER> {
 
     /// Answers a command on the policy as the slot's own reader reads it. The seat keeps a receipt
     /// of a reply that tells of an entry.
-    pub fn answer_locked_slot<R: Wait>(
+    pub fn answer<R: Wait>(
         &mut self,
         rt: &R,
         board: &Board<B>,
@@ -153,7 +153,7 @@ impl<B: BoardName, const NUMBER: u8> LockedSlot<B, NUMBER> {
 
     /// Hands the reader back to the board, and gives the journal. The journal is legal over the
     /// policy list, unless the reader has seen more entries than that list has.
-    pub fn end(self, board: &mut Closed<B>) -> (Journal, Result<(), Mismatch>)
+    pub fn end(self, board: &mut ClosedBoard<B>) -> (Journal, Result<(), Mismatch>)
         ensures journal { result.0 ≡ self.journal }
         ensures seen { IsLegal self.list NUMBER self.journal }
         ensures handed { MatchResult result.1

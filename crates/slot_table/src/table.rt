@@ -72,7 +72,7 @@ macro_rules! answer_at {
     ($table:ident, $at:ident, $rt:ident, $board:ident, $seat:ident, $session:ident, $command:ident;
         $($slot:ident $number:literal),*) => {
         match $at {
-            $($number => answer_on($rt, $board, &$table.$slot, $seat, $session, $command),)*
+            $($number => answer_under_lock($rt, $board, &$table.$slot, $seat, $session, $command),)*
             _ => refuse_number($seat, $session, $at),
         }
     };
@@ -125,7 +125,7 @@ fn lock_soon<'a, T, R: Wait>(rt: &R, lock: &'a Mutex<T>) -> MutexGuard<'a, T> {
 }
 
 /// Answers a command on the slot under this lock.
-fn answer_on<B: BoardName, const NUMBER: u8, R: Wait>(
+fn answer_under_lock<B: BoardName, const NUMBER: u8, R: Wait>(
     rt: &R,
     board: &Board<B>,
     slot: &Mutex<LockedSlot<B, NUMBER>>,
@@ -137,7 +137,7 @@ fn answer_on<B: BoardName, const NUMBER: u8, R: Wait>(
     ensures { IsAnswered NUMBER session command seat.old result seat.new }
 {
     let mut locked = lock_soon(rt, slot);
-    let reply = locked.answer_locked_slot(rt, board, seat, session, command);
+    let reply = locked.answer(rt, board, seat, session, command);
     MutexGuard::unlock(locked);
     reply
 }

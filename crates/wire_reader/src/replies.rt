@@ -1,4 +1,4 @@
-//! ReplyBuffer that wait to be written, in a fixed buffer.
+//! Replies that wait to be written, in a fixed buffer.
 //!
 //! They are written in order, and before a read that could wait. A writer may take a text in parts.
 ghost use Rattle.std.specs.Prelude.{◌≡◌, ◌≤◌, ◌+◌, ◌++◌, [], length, take, true, IfOk, OnOk, OnErr};
@@ -38,7 +38,7 @@ fn put<W: Write>(writer: &mut MeteredWriter<W>, text: &[u8]) -> Result<(), Write
 }
 
 /// Copies a text to a place.
-fn place(bytes: &mut Vec<u8>, at: usize, text: &[u8])
+fn copy_at(bytes: &mut Vec<u8>, at: usize, text: &[u8])
     requires { at + length text.now ≤ length bytes.old.items }
     ensures len { length bytes.new.items ≡ length bytes.old.items }
     ensures placed { take (at + length text.now) bytes.new.items
@@ -47,7 +47,7 @@ fn place(bytes: &mut Vec<u8>, at: usize, text: &[u8])
     bytes[at..at + text.len()].copy_from_slice(text);
 }
 
-/// ReplyBuffer that wait, in the order of their lines. The buffer never grows: what finds no room
+/// Replies that wait, in the order of their lines. The buffer never grows: what finds no room
 /// is written out.
 #[derive(Drop)]
 pub struct ReplyBuffer {
@@ -103,7 +103,7 @@ impl ReplyBuffer {
         requires { self.old.filled + length text.now ≤ REPLY_BUFFER_BYTES }
         ensures { waiting_bytes self.new ≡ waiting_bytes self.old ++ text.now }
     {
-        place(&mut self.bytes, self.filled, text);
+        copy_at(&mut self.bytes, self.filled, text);
         self.filled += text.len();
     }
 

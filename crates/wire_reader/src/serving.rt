@@ -147,7 +147,7 @@ fn answer_next<R: Read, W: Write, D, A: Answerer<D>>(
     Ok(())
 }
 
-/// Answers lines until the connection ends. ReplyBuffer that are not written by then still wait.
+/// Answers lines until the connection ends. Replies that are not written by then still wait.
 fn answer_all<R: Read, W: Write, D, A: Answerer<D>>(
     alloc: Global,
     lines: &mut LineReader,

@@ -30,20 +30,20 @@ abbrev pub KeepsInstant : List SlotEntry → PastMove → Type 0
 KeepsInstant entries done = MatchOption (instant_of done) (Unit {0}) (λ i. last_instant entries ≡ Some i)
 
 -- the fault of an entry whose command is refused so
-abbrev pub fault_of : Refusal → EntryFault
-fault_of refusal.TooLong = Refused (code_of refusal.TooLong)
-fault_of refusal.NotJson = Refused (code_of refusal.NotJson)
-fault_of refusal.NotARequest = Refused (code_of refusal.NotARequest)
-fault_of refusal.AlreadyLoggedIn = Refused (code_of refusal.AlreadyLoggedIn)
-fault_of (refusal.Policy given) = Refused (code_of (refusal.Policy given))
-fault_of (refusal.Module given) = Refused (code_of (refusal.Module given))
-fault_of (refusal.Stuck undecided) = Refused (code_of (refusal.Stuck undecided))
-fault_of refusal.NoSlot = Refused (code_of refusal.NoSlot)
-fault_of refusal.Occupied = Refused (code_of refusal.Occupied)
-fault_of refusal.Empty = Refused (code_of refusal.Empty)
-fault_of refusal.JournalFull = Refused (code_of refusal.JournalFull)
-fault_of (refusal.Behind found seen) = Refused (code_of (refusal.Behind found seen))
-fault_of refusal.Memory = Memory
+abbrev pub entry_fault_of : Refusal → EntryFault
+entry_fault_of refusal.TooLong = Refused (code_of refusal.TooLong)
+entry_fault_of refusal.NotJson = Refused (code_of refusal.NotJson)
+entry_fault_of refusal.NotARequest = Refused (code_of refusal.NotARequest)
+entry_fault_of refusal.AlreadyLoggedIn = Refused (code_of refusal.AlreadyLoggedIn)
+entry_fault_of (refusal.Policy given) = Refused (code_of (refusal.Policy given))
+entry_fault_of (refusal.Module given) = Refused (code_of (refusal.Module given))
+entry_fault_of (refusal.Stuck undecided) = Refused (code_of (refusal.Stuck undecided))
+entry_fault_of refusal.NoSlot = Refused (code_of refusal.NoSlot)
+entry_fault_of refusal.Occupied = Refused (code_of refusal.Occupied)
+entry_fault_of refusal.Empty = Refused (code_of refusal.Empty)
+entry_fault_of refusal.JournalFull = Refused (code_of refusal.JournalFull)
+entry_fault_of (refusal.Behind found seen) = Refused (code_of (refusal.Behind found seen))
+entry_fault_of refusal.Memory = Memory
 
 -- this is why the slot doesn't add the entry after those before it
 abbrev pub IsFaultOf : (judged : List Entry) → (slot : ℕ) → (before : List SlotEntry) → SlotEntry → EntryFault → Type 0

@@ -79,4 +79,4 @@ pub record IsPassRound (i : List Declaration) (unasked inputs : ℕ → Bool) (s
   pub sure_is : (n : ℕ) → sure n ≡ emits is_sure true s (sheet_in (cell_at mid) true s (output_count i) 0) (outer n)
   pub possible_is : (n : ℕ) → possible n
       ≡ emits is_possible true s (sheet_in (cell_at mid) true s (output_count i) 0) (outer n)
-  pub update_signals : AreSignalsUpdated i unasked inputs sure possible mid new f
+  pub updated : AreSignalsUpdated i unasked inputs sure possible mid new f

@@ -4,8 +4,8 @@ ghost use Rattle.est_kernel.specs.Bits.{bits};
 ghost use Rattle.est_kernel.specs.Term.{Term};
 ghost use Rattle.est_relations.specs.Keeping.{AreLawful};
 ghost use Rattle.reactor_core.specs.Meaning.{entry};
-ghost use Rattle.reactor_core.specs.Standing.{AreRunning, HaveOutcome, AreKept, JoinsAs};
-ghost use Rattle.reactor_core.specs.Standing.{RefusesJoining, RefusesInstant};
+ghost use Rattle.reactor_core.specs.Standing.{AreRunning, HaveOutcome, AreKept, OffersAs};
+ghost use Rattle.reactor_core.specs.Standing.{RefusesOffering, RefusesInstant};
 ghost use Rattle.reactor_core.specs.Instants.{AddsInstant};
 ghost use Rattle.reactor_core.specs.Answers.{HasRoom, RefusesEntry};
 
@@ -33,11 +33,11 @@ pub struct Parts {
 }
 
 /// The pending inputs of a module with the one of this name, where it may join them.
-pub fn join(loaded: &Module, pending: u64, name: &Identifier) -> Result<u64, ReactorRefusal>
+pub fn offer_input(loaded: &Module, pending: u64, name: &Identifier) -> Result<u64, ReactorRefusal>
     requires { AreKept loaded.now pending }
     ensures { MatchResult result
-        (JoinsAs loaded.now pending name.now)
-        (RefusesJoining loaded.now pending name.now) }
+        (OffersAs loaded.now pending name.now)
+        (RefusesOffering loaded.now pending name.now) }
 {
     let mut pending = Pending::resume(loaded.kernel.interface(), &loaded.relations, pending);
     pending.offer(name)?;

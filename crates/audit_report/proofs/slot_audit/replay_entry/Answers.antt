@@ -15,7 +15,7 @@ returns-in-Refused-clause-step g c = λ judged stands version.
     let step = judges judged slot.number c.new-session.result (Move c.in-Ok.asked) slot.journal e _
     c.decide_slot.new.slot.journal
     c.new-session.ensures (ap Move c.in-Ok.ensures) (c.in-Refused.ensures.step judged stands) in
-    subst (IsFaultOf judged slot.number slot.journal e) (sym c.fault_of.ensures)
+    subst (IsFaultOf judged slot.number slot.journal e) (sym c.entry_fault_of.ensures)
     (fault_is judged slot.number slot.journal e c.in-Refused.refusal c.decide_slot.new.slot.journal version step)
 
 pub returns-then-keeps_instant : goal.returns-then-keeps_instant

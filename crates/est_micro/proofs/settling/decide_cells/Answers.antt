@@ -44,7 +44,7 @@ loop-swept-init c =
           (record {
             mid = _;
             sweep = c.sweep-swept.ensures.swept;
-            update_signals = c.update_signals-env-2.ensures.updated;
+            updated = c.update_signals-env-2.ensures.updated;
           })
           others a)
           (omega arith) c.steps-decided.ensures.count;
@@ -67,7 +67,7 @@ loop-swept-preserved c =
           (record {
             mid = _;
             sweep = c.sweep-swept-in-loop-swept.ensures.swept;
-            update_signals = c.update_signals-env-in-loop-swept.ensures.updated;
+            updated = c.update_signals-env-in-loop-swept.ensures.updated;
           }) others a)
           (let count = c.steps-decided_before.ensures.count in omega arith)
           c.steps-decided-in-loop-swept.ensures.count;

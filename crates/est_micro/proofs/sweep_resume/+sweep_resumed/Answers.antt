@@ -9,14 +9,14 @@ use Rattle.est_micro.proofs.ResumedNodes.{loop_resumed, local_resumed, begun_cho
 use Rattle.est_micro.proofs.ResumedNodes.{resumed_two, resumed_next, resumed_local, resumed_told}
 use Rattle.est_micro.proofs.sweep_resume.+sweep_resumed.Goals as goal
 
-pub part-returns-then-is_on-clause-swept : goal.part-returns-then-is_on-clause-swept
-part-returns-then-is_on-clause-swept t c =
+pub sweep_part-returns-then-is_on-clause-swept : goal.sweep_part-returns-then-is_on-clause-swept
+sweep_part-returns-then-is_on-clause-swept t c =
     resumed_chosen c.args.at.now c.args.p.now c.args.pauses.now c.args.is_on c.args.gate c.args.run c.args.env.now _ _ _
     c.if-is_on.true
     c.sweep_resumed.ensures.swept
 
-pub part-returns-else-is_on-clause-swept : goal.part-returns-else-is_on-clause-swept
-part-returns-else-is_on-clause-swept t c =
+pub sweep_part-returns-else-is_on-clause-swept : goal.sweep_part-returns-else-is_on-clause-swept
+sweep_part-returns-else-is_on-clause-swept t c =
     begun_chosen c.args.at.now.number c.args.at.now.direction c.args.at.now.main c.args.at.now.cell
     c.args.at.now.traps c.args.p.now
     c.args.pauses.now
@@ -30,7 +30,8 @@ resume_present-returns-clause-swept t c = λ q a b asks.
     c.args.env.now
     _ _ _ _ _ _ _ _ _ asks c.is_live-is_on.ensures c.tell_cell-go.ensures.learns c.tell_cell-go.ensures.known
     c.and.ensures
-    c.opposite.ensures c.and-2.ensures c.part-first.ensures.swept c.part-second.ensures.swept c.either-own.ensures
+    c.opposite.ensures c.and-2.ensures c.sweep_part-first.ensures.swept c.sweep_part-second.ensures.swept
+    c.either-own.ensures
     c.finish_statement.ensures.finished
 
 pub resume_seq-returns-clause-swept : goal.resume_seq-returns-clause-swept
@@ -38,16 +39,18 @@ resume_seq-returns-clause-swept t c = λ a b.
     seq_resumed c.args.at.now a c.args.p.now b c.args.q.now c.args.pauses.now c.args.run _ _ _ c.args.env.now
     _ _ _ _ _ _ _ _ _ _ c.is_live-is_on.ensures c.tell_cell-go.ensures.learns c.tell_cell-go.ensures.known
     c.ends-later.ensures c.with_emitted-inside.ensures
-    c.part-first.ensures.swept c.part-second.ensures.swept c.followed-own.ensures c.finish_statement.ensures.finished
+    c.sweep_part-first.ensures.swept c.sweep_part-second.ensures.swept c.followed-own.ensures
+    c.finish_statement.ensures.finished
 
 pub resume_par-returns-clause-swept : goal.resume_par-returns-clause-swept
 resume_par-returns-clause-swept t c = λ a b.
     par_resumed c.args.at.now a c.args.p.now b c.args.q.now c.args.pauses.now c.args.run _ _ _ c.args.env.now
     _ _ _ _ _ _ _ _ _ _ _ _ c.requires.direction c.is_live-first_on.ensures c.second_lives-second_on.ensures
     c.tell_cell-go.ensures.learns
-    c.tell_cell-go.ensures.known c.part-first.ensures.swept c.with_emitted-inside.ensures c.part-second.ensures.swept
-    c.side-left.ensures
-    c.side-right.ensures
+    c.tell_cell-go.ensures.known c.sweep_part-first.ensures.swept c.with_emitted-inside.ensures
+    c.sweep_part-second.ensures.swept
+    c.judge_side-left.ensures
+    c.judge_side-right.ensures
     c.beside-own.ensures c.finish_statement.ensures.finished
 
 pub resume_par_back-returns-clause-swept : goal.resume_par_back-returns-clause-swept
@@ -55,11 +58,11 @@ resume_par_back-returns-clause-swept t c = λ a b.
     par_resumed_back c.args.at.now a c.args.p.now b c.args.q.now c.args.pauses.now c.args.run _ _ _ _ c.args.env.now
     _ _ _ _ _ _ _ _ _ _ _ _ c.requires.direction c.is_live-first_on.ensures c.second_lives-second_on.ensures
     c.tell_cell-go.ensures.learns
-    c.tell_cell-go.ensures.known (rw c.requires.main at c.past.ensures) c.part-second.ensures.swept
+    c.tell_cell-go.ensures.known (rw c.requires.main at c.past.ensures) c.sweep_part-second.ensures.swept
     c.with_emitted-inside.ensures
-    c.part-first.ensures.swept
-    c.side-left.ensures
-    c.side-right.ensures
+    c.sweep_part-first.ensures.swept
+    c.judge_side-left.ensures
+    c.judge_side-right.ensures
     c.beside-own.ensures c.finish_statement.ensures.finished
 
 pub resume_suspend-returns-clause-swept : goal.resume_suspend-returns-clause-swept

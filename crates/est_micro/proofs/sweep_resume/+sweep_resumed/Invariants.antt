@@ -8,8 +8,8 @@ decreases-sweep_resumed l = 4 * the_size l.s.now + 1
 abbrev pub decreases-resume_each : goal.decreases-resume_each
 decreases-resume_each l = 4 * the_size l.s.now
 
-abbrev pub decreases-part : goal.decreases-part
-decreases-part l = 4 * the_size l.p.now + 2
+abbrev pub decreases-sweep_part : goal.decreases-sweep_part
+decreases-sweep_part l = 4 * the_size l.p.now + 2
 
 abbrev pub decreases-resume_present : goal.decreases-resume_present
 decreases-resume_present l = 4 * max (the_size l.p.now) (the_size l.q.now) + 3

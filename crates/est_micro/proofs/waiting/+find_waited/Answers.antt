@@ -18,7 +18,7 @@ find_in_present-returns t c = λ a b.
 pub find_in_suspend-returns : goal.find_in_suspend-returns
 find_in_suspend-returns t c = λ a.
     suspend_waits _ c.args.main c.args.test.now a c.args.p.now c.args.cell c.args.traps _ _ _ _ _ _ _ _ _ _
-    c.asked-is_asked.ensures c.answer_to-status.ensures
+    c.suspend_status-is_asked.ensures c.answer_to-status.ensures
     (c.and-inside.ensures ∙ ap (λ (v : Status). and_status c.args.run v) c.opposite.ensures)
     c.waits_at-own.ensures c.find_waited-body.ensures c.or.ensures refl
 
@@ -53,4 +53,4 @@ find_waited-overflow_add-parts t c =
 pub find_waited-overflow_add-parts-2 : goal.find_waited-overflow_add-parts-2
 find_waited-overflow_add-parts-2 t c =
     let least = size_least c.args.main c.args.s.now c.args.traps in
-    omega (arith, least, c.requires.within, c.args.sight.now.net.now.cells.ok.0)
+    omega (arith, least, c.requires.within, c.args.context.now.net.now.cells.ok.0)

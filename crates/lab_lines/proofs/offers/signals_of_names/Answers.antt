@@ -2,13 +2,13 @@ use Rattle.std.proofs.Common.{[]}
 use Rattle.std.proofs.lemmas.List.Elements.{All-nil}
 use Rattle.std.proofs.lemmas.Result.{err_from_is_err_and}
 use Rattle.est_kernel.proofs.Masks.{bits_zero}
-use Rattle.lab_lines.specs.Offers.{MayOffer}
+use Rattle.lab_lines.specs.Offers.{IsOfferable}
 use Rattle.lab_lines.proofs.OfferLemmas.{first_not_offered, named_next}
 use Rattle.lab_lines.proofs.offers.signals_of_names.Goals as goal
 
 pub loop-name-init : goal.loop-name-init
 loop-name-init c = record {
-  offered = All-nil (MayOffer c.args.interface.now);
+  offered = All-nil (IsOfferable c.args.interface.now);
   only = λ n. bits_zero n;
 }
 

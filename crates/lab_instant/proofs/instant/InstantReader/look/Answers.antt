@@ -11,7 +11,7 @@ seen_in-requires c =
     let k = c.args.kernel.now in
     let after = c.run-reaction.ensures.net in
     let outputs : c.net-net.result.now.output_count ≡ output_count k.interface
-    = ap (λ (z : Net). z.outputs) c.net-net.ensures ∙ after.outputs in
+    = ap (λ (z : Net). z.output_count) c.net-net.ensures ∙ after.outputs in
     let cells : length c.net-net.result.now.cells.items ≡ cell_count k
     = ap (λ (z : Net). length z.cells.items) c.net-net.ensures ∙ after.size in
     let owners : length (cells_of c.as_slice.result.now) ≡ sheet_size true k.root 0

@@ -2,7 +2,7 @@ use Rattle.std.proofs.Common.{ap, ◌∙◌}
 use Rattle.est_cells.specs.Tables.{is_sure}
 use Rattle.est_net.specs.Cells.{cell_at}
 use Rattle.est_micro.proofs.Collecting.{pause_cell}
-use Rattle.est_micro.proofs.next.gives_pause.Goals as goal
+use Rattle.est_micro.proofs.next_pauses.gives_pause.Goals as goal
 
 pub returns : goal.returns
 returns c =

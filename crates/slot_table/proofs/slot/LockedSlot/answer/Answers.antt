@@ -4,7 +4,7 @@ use Rattle.rbac_policy.specs.declared.commands.Entry.{Entry}
 use Rattle.access_core.specs.Journals.{IsLegal}
 use Rattle.slot_table.specs.LockedState.{LockedState}
 use Rattle.slot_table.proofs.Legality.{command_legal, command_on}
-use Rattle.slot_table.proofs.slot.LockedSlot.answer_locked_slot.Goals as goal
+use Rattle.slot_table.proofs.slot.LockedSlot.answer.Goals as goal
 
 pub invariant_of-self : goal.invariant_of-self
 invariant_of-self g c = (

@@ -5,7 +5,7 @@ use Rattle.rbac_admin.specs.PolicyLists.{Begins}
 use Rattle.policy_board.specs.SeatState.{SeatState}
 use Rattle.policy_board.specs.PolicyCommands.{seat_after}
 use Rattle.policy_board.proofs.Receipts.{receipt_tells, seat_answered}
-use Rattle.policy_board.proofs.locked_policy.LockedPolicy.answer_locked_policy.Goals as goal
+use Rattle.policy_board.proofs.locked_policy.LockedPolicy.answer.Goals as goal
 
 pub note_known-requires-in-Ok : goal.note_known-requires-in-Ok
 note_known-requires-in-Ok g c =

@@ -1,9 +1,9 @@
 use Rattle.std.proofs.Common.{◌+◌, ◌*◌, max}
 use Rattle.est_kernel.proofs.statement.Statement.TheLaws.{the_size}
-use Rattle.lab_ties.proofs.ties.+tie.Given as goal
+use Rattle.lab_ties.proofs.ties.+add_ties.Given as goal
 
-abbrev pub decreases-tie : goal.decreases-tie
-decreases-tie l = 4 * the_size l.s.now
+abbrev pub decreases-add_ties : goal.decreases-add_ties
+decreases-add_ties l = 4 * the_size l.s.now
 
 abbrev pub decreases-tie_two : goal.decreases-tie_two
 decreases-tie_two l = 4 * max (the_size l.p.now) (the_size l.q.now) + 1

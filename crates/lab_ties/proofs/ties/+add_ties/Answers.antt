@@ -1,7 +1,7 @@
 use Rattle.std.proofs.Common.{arith, sym, append-nil}
 use Rattle.lab_ties.specs.Ties.{ties_at}
 use Rattle.lab_ties.proofs.Tying.{again_added, both_added, loop_tied, own_room, present_tied, suspend_tied}
-use Rattle.lab_ties.proofs.ties.+tie.Goals as goal
+use Rattle.lab_ties.proofs.ties.+add_ties.Goals as goal
 
 pub tie_two-returns : goal.tie_two-returns
 tie_two-returns t c =
@@ -33,8 +33,8 @@ tie_suspend-returns t c = λ x.
     c.status.ensures c.status-pauses.ensures c.is_in_doubt-left_open.ensures c.is_asked-is_tied.ensures
     c.in_ok-end.ensures c.in_ok-add_if.ensures
 
-pub tie-returns-in-Nothing : goal.tie-returns-in-Nothing
-tie-returns-in-Nothing t c =
+pub add_ties-returns-in-Nothing : goal.add_ties-returns-in-Nothing
+add_ties-returns-in-Nothing t c =
     let few = c.requires.statement in
     rw c.in-Nothing.is
     (record {
@@ -45,8 +45,8 @@ tie-returns-in-Nothing t c =
       later = omega arith;
     })
 
-pub tie-returns-in-Pause : goal.tie-returns-in-Pause
-tie-returns-in-Pause t c =
+pub add_ties-returns-in-Pause : goal.add_ties-returns-in-Pause
+add_ties-returns-in-Pause t c =
     let few = c.requires.statement in
     rw c.in-Pause.is
     (record {
@@ -57,8 +57,8 @@ tie-returns-in-Pause t c =
       later = omega arith;
     })
 
-pub tie-returns-in-Exit : goal.tie-returns-in-Exit
-tie-returns-in-Exit t c =
+pub add_ties-returns-in-Exit : goal.add_ties-returns-in-Exit
+add_ties-returns-in-Exit t c =
     let few = c.requires.statement in
     rw c.in-Exit.is
     (record {
@@ -69,34 +69,34 @@ tie-returns-in-Exit t c =
       later = omega arith;
     })
 
-pub tie-returns-in_ok-after_present-in-Present : goal.tie-returns-in_ok-after_present-in-Present
-tie-returns-in_ok-after_present-in-Present t c =
+pub add_ties-returns-in_ok-after_present-in-Present : goal.add_ties-returns-in_ok-after_present-in-Present
+add_ties-returns-in_ok-after_present-in-Present t c =
     rw (c.in-Present.is, sym c.deref-in-Present.ensures, sym c.deref.ensures)
     (c.in_ok-after_present-in-Present.ensures _ _)
 
-pub tie-returns-in_ok-after_suspend-in-Suspend : goal.tie-returns-in_ok-after_suspend-in-Suspend
-tie-returns-in_ok-after_suspend-in-Suspend t c =
+pub add_ties-returns-in_ok-after_suspend-in-Suspend : goal.add_ties-returns-in_ok-after_suspend-in-Suspend
+add_ties-returns-in_ok-after_suspend-in-Suspend t c =
     rw (c.in-Suspend.is, sym c.deref-in-Suspend.ensures)
     (c.in_ok-after_suspend-in-Suspend.ensures _)
 
-pub tie-returns-in_ok-after_loop-in-Loop : goal.tie-returns-in_ok-after_loop-in-Loop
-tie-returns-in_ok-after_loop-in-Loop t c =
+pub add_ties-returns-in_ok-after_loop-in-Loop : goal.add_ties-returns-in_ok-after_loop-in-Loop
+add_ties-returns-in_ok-after_loop-in-Loop t c =
     let a = c.args in
     rw (c.in-Loop.is, sym c.deref-then-main.ensures)
     (loop_tied a.wanted a.place.main a.place.at.number a.place.at.statement a.place.cell a.place.traps _ _
     a.net.now.cells.items a.found.now.items _ _ c.if-main.true c.in_ok-after_loop-in-Loop.ensures)
 
-pub tie-overflow_add-parts : goal.tie-overflow_add-parts
-tie-overflow_add-parts t c =
+pub add_ties-overflow_add-parts : goal.add_ties-overflow_add-parts
+add_ties-overflow_add-parts t c =
     let least = own_room c.args.place.main c.args.s.now c.args.place.traps c.args.place.cell _ c.requires.within in
     omega (arith, least, c.requires.statement, c.args.net.now.cells.ok.0)
 
-pub tie-overflow_add-parts-2 : goal.tie-overflow_add-parts-2
-tie-overflow_add-parts-2 t c =
+pub add_ties-overflow_add-parts-2 : goal.add_ties-overflow_add-parts-2
+add_ties-overflow_add-parts-2 t c =
     let least = own_room c.args.place.main c.args.s.now c.args.place.traps c.args.place.cell _ c.requires.within in
     omega (arith, least, c.requires.statement, c.args.net.now.cells.ok.0)
 
-pub tie-overflow_add-parts-3 : goal.tie-overflow_add-parts-3
-tie-overflow_add-parts-3 t c =
+pub add_ties-overflow_add-parts-3 : goal.add_ties-overflow_add-parts-3
+add_ties-overflow_add-parts-3 t c =
     let least = own_room c.args.place.main c.args.s.now c.args.place.traps c.args.place.cell _ c.requires.within in
     omega (arith, least, c.requires.statement, c.args.net.now.cells.ok.0)

@@ -38,7 +38,7 @@ fn both(a: bool, b: bool) -> bool
 }
 
 /// Puts a pause into the set, if it is to be in it.
-fn put(next: &mut PauseSet, n: PauseIndex, is_in: bool)
+fn put_pause(next: &mut PauseSet, n: PauseIndex, is_in: bool)
     ensures { (i : ℕ)
         → pauses_of next.new i ≡ (pauses_of next.old i || (is_in && nat_eq n.index i)) }
 {
@@ -48,19 +48,25 @@ fn put(next: &mut PauseSet, n: PauseIndex, is_in: bool)
 }
 
 /// Puts those pauses of two statements into `next` that are in `pauses`, if they are on.
-#[cycle(keep)]
-fn keep_two(on: bool, p: &Statement, q: &Statement, pauses: &PauseSet, next: &mut PauseSet)
+#[cycle(keep_pauses)]
+fn keep_pauses_of_two(
+    on: bool,
+    p: &Statement,
+    q: &Statement,
+    pauses: &PauseSet,
+    next: &mut PauseSet,
+)
     ensures { (i : ℕ) → pauses_of next.new i
         ≡ (pauses_of next.old i
         || (on && ((has_pause p.now i || has_pause q.now i) && pauses_of pauses.now i))) }
 {
-    keep(on, p, pauses, next);
-    keep(on, q, pauses, next);
+    keep_pauses(on, p, pauses, next);
+    keep_pauses(on, q, pauses, next);
 }
 
 /// Puts those pauses of a statement into `next` that are in `pauses`, if it is on.
-#[cycle(keep)]
-fn keep(on: bool, s: &Statement, pauses: &PauseSet, next: &mut PauseSet)
+#[cycle(keep_pauses)]
+fn keep_pauses(on: bool, s: &Statement, pauses: &PauseSet, next: &mut PauseSet)
     ensures { (i : ℕ) → pauses_of next.new i
         ≡ (pauses_of next.old i || (on && (has_pause s.now i && pauses_of pauses.now i))) }
 {
@@ -68,20 +74,20 @@ fn keep(on: bool, s: &Statement, pauses: &PauseSet, next: &mut PauseSet)
         Statement::Nothing => {}
         Statement::Emit(_) => {}
         Statement::Exit(_) => {}
-        Statement::Pause(n) => put(next, *n, both(on, pauses.has(*n))),
-        Statement::Present(_, p, q) => keep_two(on, p, q, pauses, next),
-        Statement::Seq(p, q) => keep_two(on, p, q, pauses, next),
-        Statement::Par(p, q) => keep_two(on, p, q, pauses, next),
-        Statement::Suspend(_, p) => keep(on, p, pauses, next),
-        Statement::Loop(p) => keep(on, p, pauses, next),
-        Statement::Trap(p) => keep(on, p, pauses, next),
-        Statement::Local(_, p) => keep(on, p, pauses, next),
+        Statement::Pause(n) => put_pause(next, *n, both(on, pauses.has(*n))),
+        Statement::Present(_, p, q) => keep_pauses_of_two(on, p, q, pauses, next),
+        Statement::Seq(p, q) => keep_pauses_of_two(on, p, q, pauses, next),
+        Statement::Par(p, q) => keep_pauses_of_two(on, p, q, pauses, next),
+        Statement::Suspend(_, p) => keep_pauses(on, p, pauses, next),
+        Statement::Loop(p) => keep_pauses(on, p, pauses, next),
+        Statement::Trap(p) => keep_pauses(on, p, pauses, next),
+        Statement::Local(_, p) => keep_pauses(on, p, pauses, next),
     }
 }
 
 /// Puts the pauses of two parts into `next`.
-#[cycle(collect)]
-fn collect_two(
+#[cycle(collect_pauses)]
+fn collect_pauses_of_two(
     net: &Net,
     at: &StatementPlace,
     p: &Statement,
@@ -110,7 +116,7 @@ fn collect_two(
         cell: at.cell + at.traps + 3,
         traps: at.traps,
     };
-    collect(net, &first, p, pauses, next);
+    collect_pauses(net, &first, p, pauses, next);
     let second = StatementPlace {
         number: number_after(net, &first, p),
         main: at.main,
@@ -118,13 +124,13 @@ fn collect_two(
         cell: past(net, &first, p),
         traps: at.traps,
     };
-    collect(net, &second, q, pauses, next);
+    collect_pauses(net, &second, q, pauses, next);
 }
 
 /// Puts the pauses of a suspended statement into `next`: where the suspension alone pauses, those
 /// that it had.
-#[cycle(collect)]
-fn collect_suspend(
+#[cycle(collect_pauses)]
+fn collect_pauses_of_suspend(
     net: &Net,
     at: &StatementPlace,
     p: &Statement,
@@ -145,15 +151,15 @@ fn collect_suspend(
         traps: at.traps,
     };
     if gives_pause(net, body.cell, at.traps) {
-        collect(net, &body, p, pauses, next);
+        collect_pauses(net, &body, p, pauses, next);
     } else {
-        keep(true, p, pauses, next);
+        keep_pauses(true, p, pauses, next);
     }
 }
 
 /// Puts the pauses of a loop's body into `next`, and those of its restart.
-#[cycle(collect)]
-fn collect_loop(
+#[cycle(collect_pauses)]
+fn collect_pauses_of_loop(
     net: &Net,
     at: &StatementPlace,
     p: &Statement,
@@ -175,7 +181,7 @@ fn collect_loop(
         cell: at.cell + at.traps + 3,
         traps: at.traps,
     };
-    collect(net, &body, p, pauses, next);
+    collect_pauses(net, &body, p, pauses, next);
     let again = StatementPlace {
         number: at.number + 1,
         main: false,
@@ -183,12 +189,18 @@ fn collect_loop(
         cell: past(net, &body, p),
         traps: at.traps,
     };
-    collect(net, &again, p, pauses, next);
+    collect_pauses(net, &again, p, pauses, next);
 }
 
 /// Puts the pauses of a statement that gives code 1 into `next`.
-#[cycle(collect)]
-fn collect_in(net: &Net, at: &StatementPlace, s: &Statement, pauses: &PauseSet, next: &mut PauseSet)
+#[cycle(collect_pauses)]
+fn collect_pauses_inside(
+    net: &Net,
+    at: &StatementPlace,
+    s: &Statement,
+    pauses: &PauseSet,
+    next: &mut PauseSet,
+)
     requires extents { HasExtents net.now.extents.items at.now.number at.now.traps s.now }
     requires within { at.now.cell + sheet_size at.now.main s.now at.now.traps
         ≤ length net.now.cells.items }
@@ -206,16 +218,16 @@ fn collect_in(net: &Net, at: &StatementPlace, s: &Statement, pauses: &PauseSet, 
         Statement::Nothing => {}
         Statement::Emit(_) => {}
         Statement::Exit(_) => {}
-        Statement::Pause(n) => put(next, *n, true),
-        Statement::Present(_, p, q) => collect_two(net, at, p, q, pauses, next),
-        Statement::Seq(p, q) => collect_two(net, at, p, q, pauses, next),
-        Statement::Par(p, q) => collect_two(net, at, p, q, pauses, next),
-        Statement::Suspend(_, p) => collect_suspend(net, at, p, pauses, next),
+        Statement::Pause(n) => put_pause(next, *n, true),
+        Statement::Present(_, p, q) => collect_pauses_of_two(net, at, p, q, pauses, next),
+        Statement::Seq(p, q) => collect_pauses_of_two(net, at, p, q, pauses, next),
+        Statement::Par(p, q) => collect_pauses_of_two(net, at, p, q, pauses, next),
+        Statement::Suspend(_, p) => collect_pauses_of_suspend(net, at, p, pauses, next),
         Statement::Loop(p) => {
             if at.main {
-                collect_loop(net, at, p, pauses, next);
+                collect_pauses_of_loop(net, at, p, pauses, next);
             } else {
-                collect(net, &inside, p, pauses, next);
+                collect_pauses(net, &inside, p, pauses, next);
             }
         }
         Statement::Trap(p) => {
@@ -223,21 +235,21 @@ fn collect_in(net: &Net, at: &StatementPlace, s: &Statement, pauses: &PauseSet, 
                 traps: at.traps + 1,
                 ..inside
             };
-            collect(net, &body, p, pauses, next);
+            collect_pauses(net, &body, p, pauses, next);
         }
         Statement::Local(_, p) => {
             let body = StatementPlace {
                 cell: inside.cell + 1,
                 ..inside
             };
-            collect(net, &body, p, pauses, next);
+            collect_pauses(net, &body, p, pauses, next);
         }
     }
 }
 
 /// Puts the pauses at which a statement stands into `next`: none if it does not give code 1.
-#[cycle(collect)]
-pub fn collect(
+#[cycle(collect_pauses)]
+pub fn collect_pauses(
     net: &Net,
     at: &StatementPlace,
     s: &Statement,
@@ -251,6 +263,6 @@ pub fn collect(
         next.old next.new }
 {
     if gives_pause(net, at.cell, at.traps) {
-        collect_in(net, at, s, pauses, next);
+        collect_pauses_inside(net, at, s, pauses, next);
     }
 }

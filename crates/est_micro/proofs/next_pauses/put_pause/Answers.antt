@@ -1,6 +1,6 @@
 use Rattle.est_kernel.specs.Pauses.{pauses_of}
 use Rattle.est_micro.proofs.Collecting.{pause_put, no_pause_put}
-use Rattle.est_micro.proofs.next.put.Goals as goal
+use Rattle.est_micro.proofs.next_pauses.put_pause.Goals as goal
 
 pub returns-then-is_in : goal.returns-then-is_in
 returns-then-is_in c =

@@ -3,7 +3,7 @@ use Rattle.std.proofs.KnownBytes.{Keeps-refl}
 use Rattle.client_loop.specs.LineSteps.{Tells, TellsNothing}
 use Rattle.client_loop.specs.Inner.Clients.{seen_of}
 use Rattle.client_loop.proofs.MappedStates.{serves_map}
-use Rattle.client_loop.proofs.serving.answer_lines.Goals as goal
+use Rattle.client_loop.proofs.serving.serve_lines.Goals as goal
 
 pub returns-clause-serves : goal.returns-clause-serves
 returns-clause-serves g c =

@@ -4,7 +4,7 @@ use Rattle.est_kernel.specs.Term.{Name}
 use Rattle.est_kernel.specs.View.{name_of}
 use Rattle.est_meaning.specs.Signals.{no_signals, only}
 use Rattle.est_cells.specs.Tables.{if_run}
-use Rattle.est_micro.proofs.judging.signal_if.Goals as goal
+use Rattle.est_micro.proofs.must_can.signal_if.Goals as goal
 
 run_true : (n : Name) → only n ≡ if_run true n
 unfolding if_run

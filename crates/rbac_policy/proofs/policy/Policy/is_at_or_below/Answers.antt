@@ -5,7 +5,7 @@ use Rattle.rbac_closure.specs.Edges.{Chain, stay}
 use Rattle.rbac_policy.proofs.Asking.{no_role}
 use Rattle.rbac_policy.proofs.OfReaders.ReadingRoles.{role_is_there}
 use Rattle.rbac_policy.proofs.OfReaders.ReadingOrder.{below_test, below_role, below_none}
-use Rattle.rbac_policy.proofs.policy.Policy.lies_below.Goals as goal
+use Rattle.rbac_policy.proofs.policy.Policy.is_at_or_below.Goals as goal
 
 pub returns-in-Some-place_of : goal.returns-in-Some-place_of
 returns-in-Some-place_of c = λ L st.
