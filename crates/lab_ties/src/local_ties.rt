@@ -12,7 +12,7 @@ ghost use Rattle.lab_ties.specs.Ties.{own_ties};
 
 use crate::place::{IncarnationPlace, NextPlace, TwoPlaces};
 use crate::tie::{OpenSignal, Tie};
-use crate::ties::{Wanted, is_open, tie};
+use crate::ties::{Wanted, add_ties, is_open};
 use est_kernel::statement::{LocalSignal, Signal, Statement};
 use est_net::net::Net;
 use lab_instant::seen::Incarnation;

@@ -9,7 +9,7 @@ ghost use Rattle.lab_ties.specs.Stuck.{ties_of_signal};
 use crate::local_ties::tie_locals;
 use crate::place::IncarnationPlace;
 use crate::tie::{OpenSignal, Tie};
-use crate::ties::{Wanted, tie};
+use crate::ties::{Wanted, add_ties};
 use est_kernel::kernel::Kernel;
 use est_kernel::mask;
 use est_kernel::statement::{InterfaceSignal, Signal};

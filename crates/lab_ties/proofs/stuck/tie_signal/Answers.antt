@@ -13,7 +13,7 @@ returns c =
     let k = c.args.kernel.now in
     let f = cell_at c.args.net.now.cells.items in
     let here : c.output_count.result ≡ output_count k.interface = c.output_count.ensures ∙ c.requires.outputs in
-    c.in_ok-tie.ensures.tied
+    c.in_ok-add_ties.ensures.tied
     ∙ (ap (λ (s : Statement). c.args.found.now.items
     ++ ties (outer n) (Interface n) true s 0 0 (sheet_in f true s c.output_count.result 0)) c.root.ensures
     ∙ ap (λ (m : ℕ). c.args.found.now.items
