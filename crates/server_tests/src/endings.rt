@@ -173,10 +173,10 @@ const EDGES_GO: &[(&[Line], [bool; 4])] = &[
 fn order_of(rt: &impl Abort, policy: &Policy) -> [bool; 4] {
     let (a, b, c) = (name(rt, "a"), name(rt, "b"), name(rt, "c"));
     [
-        policy.lies_below(&a, &a),
-        policy.lies_below(&b, &a),
-        policy.lies_below(&c, &a),
-        policy.lies_below(&c, &b),
+        policy.is_at_or_below(&a, &a),
+        policy.is_at_or_below(&b, &a),
+        policy.is_at_or_below(&c, &a),
+        policy.is_at_or_below(&c, &b),
     ]
 }
 
