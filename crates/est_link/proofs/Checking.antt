@@ -11,7 +11,7 @@ use Rattle.est_checks.specs.Duplicates.{redeclared, redeclared_in, redeclared_at
 use Rattle.est_checks.specs.Duplicates.{first_duplicate}
 use Rattle.est_modules.specs.Visible.{stands_in}
 use Rattle.est_checks.specs.Emissions.{AreEmissions, first_refused, refused_at}
-use Rattle.est_checks.specs.FirstFaults.{IsFirstFault, limit_passed, module_limit_passed_by}
+use Rattle.est_checks.specs.FirstFaults.{IsFirstFault, module_limit_passed, module_limit_passed_by}
 use Rattle.est_kernel.specs.declared.limits.TheConstants.{MOST_STATEMENTS}
 use Rattle.est_link.specs.Inner.Checked.{IsChecked, IsSoundMain}
 use Rattle.est_checks.specs.LinkFaults.{number_over_outputs}
@@ -52,7 +52,7 @@ kept_limit : (b : Bool) (l : ModuleLimit) (o : Option ModuleLimit) → (if b the
 kept_limit true l o h = absurd (none-some l (sym h))
 kept_limit false l o h = (refl, h)
 
-within : (s r n : ℕ) → limit_passed s r n ≡ None → (s ≤ MOST_SIGNALS) × (r ≤ MOST_RELATIONS)
+within : (s r n : ℕ) → module_limit_passed s r n ≡ None → (s ≤ MOST_SIGNALS) × (r ≤ MOST_RELATIONS)
 within s r n h =
     let statements : Option ModuleLimit = if nat_lt MOST_STATEMENTS n then Some Statements else None in
     let one =
