@@ -26,7 +26,7 @@ use Rattle.history_events.specs.Runs.{WorldState, opening_world, Moment, EventSt
 use Rattle.history_events.specs.Runs.{wants_memory, has_seen, desk_of, version_rules, Administered, Judged, EndsIn}
 use Rattle.history_events.proofs.Enterings.{step_of}
 use Rattle.access_core.proofs.OneSlotStep.{OneLoad, IsWant, Same, one_slot_step}
-use Rattle.access_core.proofs.Settling.{AllSettled, settled_unless, settled_apart, both_answers}
+use Rattle.access_core.proofs.Settling.{AllDefiniteApart, settled_unless, settled_apart, both_answers}
 
 -- desks, and worlds, of the same parts
 same_desk : (a b : DeskState) → a.entries ≡ b.entries → a.slots ≡ b.slots → a ≡ b
@@ -59,7 +59,7 @@ same_moment m n before event reply after =
 module _ (modules : OneModule) (one_load : OneLoad) (r s : Reply) (ample : r ≡ Refused Memory → ⊥)
     (ample_too : s ≡ Refused Memory → ⊥) where
   -- what is answered by settled rules is one, where what follows them is
-  by_rules : {S : Type 0} (rules : Rules Refusal) → AllSettled IsWant rules
+  by_rules : {S : Type 0} (rules : Rules Refusal) → AllDefiniteApart IsWant rules
       → (Next : S → Reply → S → Type 0) (before a b : S)
       → (Next before r a → Next before s b → Same r s a b) → ByRules rules Next before r a
       → ByRules rules Next before s b → Same r s a b

@@ -24,7 +24,7 @@ use Rattle.access_core.specs.declared.reply.Reply.{Reply}
 use Rattle.access_core.specs.declared.reply.Reply.TheVariants.{Refused}
 use Rattle.access_core.specs.Refusals.{of_reactor}
 use Rattle.access_core.specs.Desk.{no_slot, list_full}
-use Rattle.access_core.specs.SlotStep.{no_session, no_permission, occupied, empty, no_instant, no_reaction, implied}
+use Rattle.access_core.specs.SlotStep.{no_session, no_permission, occupied, empty, no_instant, no_reaction, implied_refusal}
 use Rattle.access_core.specs.SlotStep.{journal_full}
 use Rattle.history_events.specs.declared.event.Event.{Event}
 use Rattle.history_events.specs.declared.event.Event.TheVariants.{Admin, OnSlot}
@@ -67,7 +67,7 @@ asked_rules entries slot session (Move (Offer signal)) journal =
 asked_rules entries slot session (Move Discard) journal =
     no_permission entries session ToStep (Slot slot) ▸ empty journal ▸ journal_full journal ▸ accept
 asked_rules entries slot session (Move (Step i)) journal =
-    no_permission entries session ToStep (Slot slot) ▸ empty journal ▸ not_ready implied journal
+    no_permission entries session ToStep (Slot slot) ▸ empty journal ▸ not_ready implied_refusal journal
     ▸ no_reaction entries slot session journal
     ▸ journal_full journal ▸ accept
 asked_rules entries slot session (Move Unload) journal =
