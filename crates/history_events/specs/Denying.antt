@@ -24,8 +24,8 @@ use Rattle.access_core.specs.declared.reply.Reply.{Reply}
 use Rattle.access_core.specs.declared.reply.Reply.TheVariants.{Refused}
 use Rattle.access_core.specs.Refusals.{of_reactor}
 use Rattle.access_core.specs.Desk.{no_slot, list_full}
-use Rattle.access_core.specs.SlotStep.{no_session, no_permission, occupied, empty, no_instant, no_reaction, implied_refusal}
-use Rattle.access_core.specs.SlotStep.{journal_full}
+use Rattle.access_core.specs.SlotStep.{no_session, no_permission, occupied, empty, no_instant, no_reaction}
+use Rattle.access_core.specs.SlotStep.{implied_refusal, journal_full}
 use Rattle.history_events.specs.declared.event.Event.{Event}
 use Rattle.history_events.specs.declared.event.Event.TheVariants.{Admin, OnSlot}
 use Rattle.history_events.specs.Runs.{WorldState, journal_at, version_rules}
