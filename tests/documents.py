@@ -8,7 +8,7 @@ walk in docs/ARCHITECTURE.md stands in its file; each refusal of docs/PROTOCOL.m
 each function of tests/MISTAKES.md stands in the crate of its wrong body, and each crate that a wrong body names in crates.txt; each script of
 examples/scripts has its answers and its row in examples/README.md, and the opening one is the stored run; each test
 that docs/EXAMPLES.md names is written; each link leads to a file and a heading, and each quoted block stands in its
-file; no line of code, definition or proof is too wide; docs/generated/LINES.md tells nearly as many lines as there are;
+file; each name in back-ticks of the documents that speak of code is one, and each of a crate's head one of that crate; no line of code, definition or proof is too wide; docs/generated/LINES.md tells nearly as many lines as there are;
 docs/DECISIONS.md has at most 40 short entries, which say what was rejected; no sentence is too long, and the documents
 have no more words than scripts/words.py allows; and the version is the same wherever it stands.
 Ends with status 1 after naming what differs.
@@ -34,6 +34,8 @@ import wrong_bodies  # noqa: E402
 README_LINES = 100  # at most
 ENTRIES = 40  # of docs/DECISIONS.md, at most
 ENTRY_WORDS = 72  # of an entry, at most
+CODE_DOCUMENTS = ("CONTRIBUTING.md", "docs/ARCHITECTURE.md", "docs/GLOSSARY.md", "docs/PROOFS.md", "docs/THEOREM.md")  # whose names are of code
+PROGRAM_WORDS = {"script", "serve", "run", "Stdin", "Stdout"}  # words of the command line, a statement of the language, types of the kit
 WIDTHS = {".rt": 100, ".antt": 120}  # characters of a line, at most
 
 
@@ -227,9 +229,34 @@ def wide_lines():
     ]
 
 
+def words_of_code(folders, suffixes=(".rt", ".antt")):
+    """The words of the files in these folders, without the lines that are comments."""
+    lines = [line for folder in folders for file in sorted(folder.rglob("*")) if file.suffix in suffixes for line in file.read_text().splitlines()]
+    return set(re.findall(r"\w+", "\n".join(line for line in lines if not line.lstrip().startswith(("//", "--")))))
+
+
+def stale_names():
+    """A line for each name in back-ticks that nothing has any more: in the documents of CODE_DOCUMENTS, and in the heads of crates."""
+    crates = sorted(folder for folder in (ROOT / "crates").iterdir() if (folder / "src").is_dir())
+    shared = set(re.findall(r"\w+", (ROOT / "crates.txt").read_text())) | {file.stem for file in ROOT.glob("crates/*/specs/**/*.antt")}
+    everywhere = shared | words_of_code(crates) | words_of_code([ROOT / "clients", ROOT / "gateway", ROOT / "scripts"], (".py",))
+    everywhere |= PROGRAM_WORDS | {part for file in ROOT.glob("tests/**/*") for part in (file.name, file.stem)} | {folder.name for folder in ROOT.iterdir()}
+    faults = []
+    for name in CODE_DOCUMENTS:
+        text = re.sub(r"```.*?```", "", (ROOT / name).read_text(), flags=re.DOTALL)
+        faults += [f"{name}: nothing is called {word}" for word in sorted(set(re.findall(r"`([A-Za-z_]\w*)`", text)) - everywhere)]
+    for crate in crates:
+        root = next(file for file in (crate / "src/lib.rt", crate / "src/main.rt") if file.exists())
+        head = "\n".join(line for line in root.read_text().splitlines() if line.startswith("//!"))
+        own = shared | words_of_code([crate]) | {file.stem for file in (crate / "src").rglob("*.rt")} | PROGRAM_WORDS
+        faults += [f"{root.relative_to(ROOT)}: nothing there is called {word}" for word in sorted(set(re.findall(r"`([A-Za-z_]\w*)`", head)) - own)]
+    return faults
+
+
 def main():
     faults = differing_tables() + missing_sentences() + missing_functions() + faulty_examples()
     faults += differing_refusals() + misnamed_mistakes() + unnamed_libraries() + long_readme() + nameless_crates() + missing_tests() + wide_lines()
+    faults += stale_names()
     faults += faulty_decisions() + proof_lines.stale_rows() + version.stale_places() + words.faults()
     for document in [*ROOT.glob("*.md"), *ROOT.glob("docs/**/*.md"), *ROOT.glob("examples/*.md"), *ROOT.glob("gateway/*.md")]:
         faults += broken_links(document) + broken_anchors(document) + stale_quotes(document)
