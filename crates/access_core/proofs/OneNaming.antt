@@ -62,10 +62,10 @@ one_implied p number other name text x y =
     same_Some (Implication x.lacking.condition x.lacking.missing) (Implication y.lacking.condition y.lacking.missing)
     (sym x.lacking.is ∙ at ∙ y.lacking.is) in
     let missing : x.lacking.missing ≡ y.lacking.missing = cc in
-    let place : x.implied_refusal ≡ y.implied_refusal = x.lacking.place ∙ ap (λ (s : InterfaceSignal). s.index) missing
+    let place : x.implied ≡ y.implied = x.lacking.place ∙ ap (λ (s : InterfaceSignal). s.index) missing
     ∙ sym y.lacking.place in (
       x.lacking.numbered ∙ ap (λ n. n + 1) index ∙ sym y.lacking.numbered,
-      same_name p.interface x.implied_refusal y.implied_refusal name text place x.named y.named,
+      same_name p.interface x.implied y.implied name text place x.named y.named,
     )
 
 -- the first exclusion that an offer would break is determined
