@@ -1,4 +1,4 @@
--- What a contract sees of a note of the policy list (this project's own form).
+-- What a contract sees of a prefix of the policy list (this project's own form).
 use Rattle.std.specs.Prelude.{List}
 use Rattle.logbook.specs.Pages.{Book}
 use Rattle.rbac_policy.specs.declared.commands.Entry.{Entry}

@@ -5,8 +5,8 @@
 --   publish   the shown policy takes in one entry, once, and the writer's view is the list with it
 --   enter     one reader's view becomes the list that is shown; what is shown stays
 --   leave     ends that reader's read; nothing that the rule speaks of changes
---   tell      an acceptance has a note of the writer's view
---   learn     a seat takes over such a note, where it is longer than what the seat knows
+--   tell      an acceptance has a prefix: the writer's view
+--   learn     a seat takes over such a prefix, where it is longer than what the seat knows
 --
 -- Besides, three locks are taken and released: the admin lock (its holder has writer and journal), the tally's lock
 -- (its holder has the number of the last slot command that was counted), and a slot's lock, which belongs to a crate

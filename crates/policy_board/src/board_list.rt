@@ -41,7 +41,7 @@ impl FreshList {
         }
     }
 
-    /// Gives the list the name of a board: what adds to it, and a note of its beginning.
+    /// Gives the list the name of a board: what adds to it, and its beginning as a prefix.
     pub(crate) fn named<B: BoardName>(self) -> (SharedLength<B>, BoardPrefix<B>)
         requires { self.seen.book ≡ B.book }
         ensures { result.1 ≡ opening_entries }

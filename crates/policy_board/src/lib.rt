@@ -8,8 +8,8 @@
 //! is Behind. Otherwise the list begins with all that the seat has seen and was told of. A slot's
 //! reader gives the policy itself, with the list that it stands for.
 //!
-//! There is one list (`board_list`): whoever holds a note of it holds a beginning of it. An
-//! acceptance has such a note, of which another seat may learn. No clause says that a wait ends, or
+//! There is one list (`board_list`): whoever holds a prefix of it knows how it begins. An
+//! acceptance has such a prefix, of which another seat may learn. No clause says that a wait ends, or
 //! that a read finds an entry of which the seat was not told.
 #![tactic(auto)]
 

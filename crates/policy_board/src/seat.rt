@@ -52,7 +52,7 @@ impl<B: BoardName> Acceptance<B> {
         self.session
     }
 
-    /// The list that ends with the entry: a note that another seat may learn.
+    /// The list that ends with the entry: a prefix that another seat may learn.
     pub fn list(&self) -> &BoardPrefix<B>
         ensures { result.now ≡ self.now.list }
     {
