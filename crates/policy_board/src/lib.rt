@@ -9,8 +9,8 @@
 //! reader gives the policy itself, with the list that it stands for.
 //!
 //! There is one list (`board_list`): whoever holds a prefix of it knows how it begins. An
-//! acceptance has such a prefix, of which another seat may learn. No clause says that a wait ends, or
-//! that a read finds an entry of which the seat was not told.
+//! acceptance has such a prefix, of which another seat may learn. No clause says that a wait ends,
+//! or that a read finds an entry of which the seat was not told.
 #![tactic(auto)]
 
 pub mod board;
