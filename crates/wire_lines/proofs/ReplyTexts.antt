@@ -9,7 +9,7 @@ use Rattle.reactor_core.specs.Meaning.{word_text, is_step}
 use Rattle.access_core.specs.declared.reply.PolicyWord.{PolicyWord}
 use Rattle.access_core.specs.declared.reply.PolicyWord.TheVariants as change
 use Rattle.access_core.specs.declared.reply.Reply.TheVariants.{Added, Changed, Check, Login, Audit}
-use Rattle.access_core.specs.Replies.{word_text}
+use Rattle.access_core.specs.Replies.{word_text as change_text}
 use Rattle.wire_lines.specs.Replies.{line_of}
 use Rattle.wire_lines.specs.Inner.Pieces.{added_begin}
 
@@ -55,7 +55,7 @@ pub audit_text : (entries instants version : ℕ)
 unfolding serde_json_on_literals digits
 audit_text entries instants version = simp append_assoc
 
-changed_text : (c : PolicyWord) (version : ℕ) → codes "{\"ok\":\"" ++ (word_of c ++ (codes "\"" ++ version_end version))
+changed_text : (c : PolicyWord) (version : ℕ) → codes "{\"ok\":\"" ++ (change_text c ++ (codes "\"" ++ version_end version))
     ≡ line_of (Changed c version)
 unfolding serde_json_on_literals digits
 changed_text change.AddUser version = simp append_assoc
@@ -74,7 +74,7 @@ changed_text change.DeleteSession version = simp append_assoc
 changed_text change.AddActiveRole version = simp append_assoc
 changed_text change.DropActiveRole version = simp append_assoc
 
-pub changed_word : (c : PolicyWord) (told : List ℕ) (version : ℕ) → told ≡ word_of c
+pub changed_word : (c : PolicyWord) (told : List ℕ) (version : ℕ) → told ≡ change_text c
     → codes "{\"ok\":\"" ++ (told ++ (codes "\"" ++ version_end version)) ≡ line_of (Changed c version)
 changed_word c told version same =
     ap (λ (w : List ℕ). codes "{\"ok\":\"" ++ (w ++ (codes "\"" ++ version_end version))) same ∙ changed_text c version

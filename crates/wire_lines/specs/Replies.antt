@@ -13,7 +13,7 @@ use Rattle.access_core.specs.declared.reply.Reply.{Reply}
 use Rattle.access_core.specs.declared.reply.Reply.TheVariants.{Refused, Login, Changed, Added, Look, Audit, Check}
 use Rattle.access_core.specs.declared.reply.ShownSignal.{ShownSignal}
 use Rattle.access_core.specs.Refusals.{row_of}
-use Rattle.access_core.specs.Replies.{word_text}
+use Rattle.access_core.specs.Replies.{word_text as change_text}
 use Rattle.wire_lines.specs.Requests.{text_member, number_member, texts_member}
 
 -- a refusal's number and name, and what it names
@@ -67,7 +67,7 @@ abbrev pub reply_members : Reply → Members
 reply_members (Refused r) = refusal_members r
 reply_members (Login session version) = text_member (codes "ok") (codes "login")
     (number_member (codes "session") session (number_member (codes "version") version no_members))
-reply_members (Changed change version) = text_member (codes "ok") (word_of change)
+reply_members (Changed change version) = text_member (codes "ok") (change_text change)
     (number_member (codes "version") version no_members)
 reply_members (Added added) =
     with_instant added.word added.instants
