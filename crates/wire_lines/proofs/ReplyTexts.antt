@@ -55,7 +55,8 @@ pub audit_text : (entries instants version : ℕ)
 unfolding serde_json_on_literals digits
 audit_text entries instants version = simp append_assoc
 
-changed_text : (c : PolicyWord) (version : ℕ) → codes "{\"ok\":\"" ++ (change_text c ++ (codes "\"" ++ version_end version))
+changed_text : (c : PolicyWord) (version : ℕ) → codes "{\"ok\":\""
+    ++ (change_text c ++ (codes "\"" ++ version_end version))
     ≡ line_of (Changed c version)
 unfolding serde_json_on_literals digits
 changed_text change.AddUser version = simp append_assoc
