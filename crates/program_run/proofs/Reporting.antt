@@ -8,16 +8,16 @@ use Rattle.wire_reader.specs.Writing.{WritesUpTo, WritesFront}
 pub rest_written : (a b c : Option (List ℕ)) (text left : List ℕ) → WritesUpTo a b text left → Appends b c left
     → Appends a c text
 rest_written a b c text left u more =
-    subst (Appends a c) (sym u.whole) (Appends-trans a b c u.prefix left u.written more)
+    subst (Appends a c) (sym u.whole) (Appends-trans a b c u.front left u.written more)
 
--- a prefix of what was left of the text is written
+-- a front of what was left of the text is written
 pub rest_begun : (a b c : Option (List ℕ)) (text left : List ℕ) → WritesUpTo a b text left → WritesFront b c left
     → WritesFront a c text
 rest_begun a b c text left u v = (
   v.0,
   record {
-    prefix = u.prefix ++ v.1.prefix;
-    whole = u.whole ∙ ap (λ (l : List ℕ). u.prefix ++ l) v.1.whole ∙ sym (append_assoc u.prefix v.1.prefix v.0);
-    written = Appends-trans a b c u.prefix v.1.prefix u.written v.1.written;
+    front = u.front ++ v.1.front;
+    whole = u.whole ∙ ap (λ (l : List ℕ). u.front ++ l) v.1.whole ∙ sym (append_assoc u.front v.1.front v.0);
+    written = Appends-trans a b c u.front v.1.front u.written v.1.written;
   },
 )

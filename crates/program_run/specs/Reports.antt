@@ -28,7 +28,7 @@ pub record IsCutShort (entries : List Entry) (slots : List (List SlotEntry))
     (written after : Option (List ℕ)) : Type 0 where
   pub text : List ℕ
   pub report : IsReport entries slots text
-  pub prefix : WritesFront written after text
+  pub front : WritesFront written after text
 
 -- the report is written; or memory was refused for it, and nothing is; or its writer failed, and a beginning of it is
 abbrev pub Reports : List Entry → (slots : List (List SlotEntry)) → (written : Option (List ℕ)) → Result ⊤ Fault

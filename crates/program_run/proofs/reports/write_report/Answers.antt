@@ -10,7 +10,7 @@ returns-in_default-write_out-clause-reports g c =
     record {
       text = waiting_bytes c.in-Ok-new.waiting ++ c.as_bytes.result.now;
       report = record { verdict = c.in-Ok.ensures.0; is = c.in-Ok.ensures.1; tells = held ∙ c.in-Ok.ensures.2 };
-      prefix = rest_begun _ _ _ _ _ c.in-Ok-add.ensures.ok c.in_default-write_out.ensures.err;
+      front = rest_begun _ _ _ _ _ c.in-Ok-add.ensures.ok c.in_default-write_out.ensures.err;
     }
 
 pub returns-clause-reports : goal.returns-clause-reports
