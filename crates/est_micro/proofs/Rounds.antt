@@ -57,7 +57,7 @@ sheet_swept_quiet way s Done e l T k z c q = swept_quiet way true s Absent Absen
 sheet_swept_quiet way s (Paused p) e l T k z c q =
     live_swept_quiet way s (pauses_of p) Present Present e l T (inr refl) k z c q
 
--- what is surely emitted is present in the last round, where the cells finish_statement it open
+-- what is surely emitted is present in the last round, where the cells leave it open
 pub last_heard : (j : JudgedSignals) → IsWithinPlaces j → (inputs : ℕ → Bool) (outputs : ℕ → Status) (s : Statement)
     (x : State)
     → let e = last_env j inputs (state_term s x) in

@@ -17,7 +17,7 @@ learned_below Present v w b c = b
 learned_below Absent v w b c = b
 learned_below Unknown v w b c = c
 
--- where nothing was learnt, there was nothing to tell_cell
+-- where nothing was learnt, there was nothing to learn
 pub nothing_learnt : (u v w : Status) → IsBelow u w → IsBelow v w → learned u v ≡ u → IsBelow v u
 nothing_learnt Present v w b c h = elim b [
   | inl z ↦ cc
