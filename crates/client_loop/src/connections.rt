@@ -5,10 +5,9 @@ ghost use Rattle.wire_reader.specs.declared.serving.EndReason.TheVariants as why
 ghost use Rattle.client_loop.specs.Connections.{LogsOutLeft, ServesConnection};
 ghost use Rattle.client_loop.specs.Logins.{session_of};
 
-use crate::answer_hook::AnswerHook;
 use crate::desk::Desk;
 use crate::login::Login;
-use crate::serving::{ServedEnd, serve_hooked};
+use crate::serving::{ServedEnd, serve};
 use crate::source::{Connection, Served};
 use std::alloc::Global;
 use std::io::{Read, Write};
@@ -28,16 +27,13 @@ pub fn finish_logout<R: Wait, D: Desk>(rt: &R, desk: &mut D, left: Option<Login>
     }
 }
 
-/// Serves a connection to its end over this desk, and has this worker go through the hook around
-/// each answer. If memory is refused for the logout at the end, the logout is asked again until it
-/// is done.
-pub fn serve_connection<R: Wait, I: Read + Drop, O: Write + Drop, D: Desk, G: AnswerHook>(
+/// Serves a connection to its end over this desk. If memory is refused for the logout at the end,
+/// the logout is asked again until it is done.
+pub fn serve_connection<R: Wait, I: Read + Drop, O: Write + Drop, D: Desk>(
     rt: &R,
     alloc: Global,
     connection: Connection<I, O>,
     desk: &mut D,
-    hook: &G,
-    worker: usize,
 ) -> Served<I, O>
     ensures serves { ServesConnection D.answers (has_failed 0 result.memory.refusals)
         (I.remaining connection.reader) desk.old result.why desk.new
@@ -51,14 +47,7 @@ pub fn serve_connection<R: Wait, I: Read + Drop, O: Write + Drop, D: Desk, G: An
     let mut memory = MeteredMemory::new(alloc);
     let mut input = MeteredReader::new(reader);
     let mut output = MeteredWriter::new(writer);
-    let ServedEnd { why, left } = serve_hooked(
-        &mut memory,
-        &mut input,
-        &mut output,
-        desk,
-        hook,
-        worker,
-    );
+    let ServedEnd { why, left } = serve(&mut memory, &mut input, &mut output, desk);
     finish_logout(rt, desk, left);
     Served {
         why,

@@ -7,11 +7,10 @@
 //!
 //! `desk` is what commands are asked of; `shared_desk` is the desk of a worker, at a board and a
 //! table that all workers share. `workers` runs a thread for each seat, which serves the
-//! connections of a `source` one after another. `answer_hook` is a hook for tests.
+//! connections of a `source` one after another.
 #![tactic(auto)]
 
 pub(crate) mod answer;
-pub mod answer_hook;
 pub mod connections;
 pub mod desk;
 pub(crate) mod line_answerer;

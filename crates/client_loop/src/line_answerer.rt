@@ -3,7 +3,6 @@ ghost use Rattle.client_loop.specs.LineSteps.{Tells, TellsNothing};
 ghost use Rattle.client_loop.specs.Inner.Clients.{seen_of};
 
 use crate::answer::{LineAnswer, respond};
-use crate::answer_hook::AnswerHook;
 use crate::desk::Desk;
 use crate::login::{Login, hold};
 use std::alloc::{AllocError, Global};
@@ -11,16 +10,13 @@ use wire_lines::reading::RequestReader;
 use wire_lines::reply::reply_text;
 use wire_reader::serving::{AnswerText, Answerer};
 
-/// The server's side of one connection: its login, if it holds one, what reads its lines, and the
-/// worker that answers them through a hook.
-pub(crate) struct LineAnswerer<'g, G> {
+/// The server's side of one connection: its login, if it holds one, and what reads its lines.
+pub(crate) struct LineAnswerer {
     pub(crate) login: Option<Login>,
     pub(crate) requests: RequestReader,
-    pub(crate) hook: &'g G,
-    pub(crate) worker: usize,
 }
 
-impl<'g, D: Desk, G: AnswerHook> Answerer<D> for LineAnswerer<'g, G> {
+impl<D: Desk> Answerer<D> for LineAnswerer {
     ghost tells = { λ before line text after.
         Tells D.answers line (seen_of before) text (seen_of after) };
 
@@ -33,11 +29,9 @@ impl<'g, D: Desk, G: AnswerHook> Answerer<D> for LineAnswerer<'g, G> {
         desk: &mut D,
         line: &[u8],
     ) -> Result<AnswerText, AllocError> {
-        self.hook.before(self.worker);
         let held = self.login.take();
         let LineAnswer { reply, login } = respond(alloc, &mut self.requests, desk, held, line);
         hold(&mut self.login, login);
-        self.hook.after(self.worker);
         reply_text(alloc, &reply)
     }
 }

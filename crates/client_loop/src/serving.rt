@@ -6,7 +6,6 @@ ghost use Rattle.client_loop.specs.LineSteps.{with_login};
 ghost use Rattle.client_loop.specs.Logins.{session_of, LogsOutHeld};
 ghost use Rattle.client_loop.specs.Serving.{too_long_text, ServesLines, ServesDesk};
 
-use crate::answer_hook::{AnswerHook, NoHook};
 use crate::desk::Desk;
 use crate::line_answerer::LineAnswerer;
 use crate::login::Login;
@@ -35,13 +34,11 @@ fn too_long_line() -> &'static [u8]
 }
 
 /// Answers the lines of a connection to its end, and gives the login that it holds then.
-fn serve_lines<R: Read, W: Write, D: Desk, G: AnswerHook>(
+fn serve_lines<R: Read, W: Write, D: Desk>(
     memory: &mut MeteredMemory,
     reader: &mut MeteredReader<R>,
     writer: &mut MeteredWriter<W>,
     desk: &mut D,
-    hook: &G,
-    worker: usize,
 ) -> (EndReason, Option<Login>)
     ensures serves { ServesLines D.answers (has_failed memory.old.refusals memory.new.refusals)
         (R.remaining reader.old.device) desk.old result.0
@@ -57,8 +54,6 @@ fn serve_lines<R: Read, W: Write, D: Desk, G: AnswerHook>(
     let mut answerer = LineAnswerer {
         login: None,
         requests: RequestReader::new(memory.allocator()),
-        hook,
-        worker,
     };
     let why = serving::answer_connection(
         memory,
@@ -68,12 +63,7 @@ fn serve_lines<R: Read, W: Write, D: Desk, G: AnswerHook>(
         desk,
         too_long_line(),
     );
-    let LineAnswerer {
-        login,
-        requests: _,
-        hook: _,
-        worker: _,
-    } = answerer;
+    let LineAnswerer { login, requests: _ } = answerer;
     (why, login)
 }
 
@@ -88,31 +78,6 @@ fn leave<D: Desk>(desk: &mut D, held: Option<Login>) -> Option<Login>
         Ok(_) => None,
         Err((_, login)) => Some(login),
     }
-}
-
-/// Serves a connection to its end over this desk, as `serve` does, and has this worker go through
-/// the hook around each answer.
-pub fn serve_hooked<R: Read, W: Write, D: Desk, G: AnswerHook>(
-    memory: &mut MeteredMemory,
-    reader: &mut MeteredReader<R>,
-    writer: &mut MeteredWriter<W>,
-    desk: &mut D,
-    hook: &G,
-    worker: usize,
-) -> ServedEnd
-    ensures serves { ServesDesk D.answers (has_failed memory.old.refusals memory.new.refusals)
-        (R.remaining reader.old.device) desk.old result.why desk.new (session_of result.left)
-        (W.contents writer.old.device) (W.contents writer.new.device) }
-    ensures read_fault { result.why ≡ why.ReadFault →
-        IsStopped (has_failed reader.old.faults reader.new.faults) reader.new.left }
-    ensures write_fault { result.why ≡ why.WriteFault →
-        has_failed writer.old.faults writer.new.faults ≡ true }
-    ensures unfailed_writer { (result.why ≡ why.WriteFault → ⊥) →
-        writer.new.faults ≡ writer.old.faults }
-{
-    let (why, held) = serve_lines(memory, reader, writer, desk, hook, worker);
-    let left = leave(desk, held);
-    ServedEnd { why, left }
 }
 
 /// Serves a connection to its end over this desk, and logs out the login that it holds then. Each
@@ -135,5 +100,7 @@ pub fn serve<R: Read, W: Write, D: Desk>(
     ensures unfailed_writer { (result.why ≡ why.WriteFault → ⊥) →
         writer.new.faults ≡ writer.old.faults }
 {
-    serve_hooked(memory, reader, writer, desk, &NoHook, 0)
+    let (why, held) = serve_lines(memory, reader, writer, desk);
+    let left = leave(desk, held);
+    ServedEnd { why, left }
 }

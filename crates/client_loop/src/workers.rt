@@ -6,7 +6,6 @@ ghost use Rattle.access_core.specs.declared.refusal.Refusal.TheVariants.{Memory}
 ghost use Rattle.server_threads.specs.Turns.{AreBack};
 ghost use Rattle.client_loop.specs.Workers.{ServesNext};
 
-use crate::answer_hook::AnswerHook;
 use crate::connections::serve_connection;
 use crate::shared_desk::SharedDesk;
 use crate::source::Source;
@@ -45,23 +44,16 @@ impl<B: BoardName> Lends<SlotTable<B>> for SlotTable<B> {
 }
 
 /// What workers share: the board, the table, and where connections come from.
-struct ConnectionServer<'a, B: BoardName, L, T, S, G> {
+struct ConnectionServer<'a, B: BoardName, L, T, S> {
     alloc: Global,
     board: &'a L,
     table: &'a T,
     source: &'a S,
-    hook: &'a G,
     of: PhantomData<B>,
 }
 
-impl<
-    'a,
-    B: BoardName + Send,
-    L: Lends<Board<B>>,
-    T: Lends<SlotTable<B>>,
-    S: Source,
-    G: AnswerHook,
-> Work for ConnectionServer<'a, B, L, T, S, G> {
+impl<'a, B: BoardName + Send, L: Lends<Board<B>>, T: Lends<SlotTable<B>>, S: Source> Work
+    for ConnectionServer<'a, B, L, T, S> {
     type Seat = Seat<B>;
 
     ghost turn = { λ worker number before after. ServesNext S.Reader.remaining S.Writer.contents
@@ -84,7 +76,7 @@ impl<
             seat,
         };
         // Whatever the reason for which it ended, the worker goes on with the next one.
-        let served = serve_connection(rt, self.alloc, connection, &mut desk, self.hook, worker);
+        let served = serve_connection(rt, self.alloc, connection, &mut desk);
         self.source.take_back(worker, number, served);
         let SharedDesk {
             rt: _,
@@ -109,10 +101,9 @@ fn run_server<
     T: Lends<SlotTable<B>> + Sync,
     R: Threads + Wait + Sync,
     S: Source + Sync,
-    G: AnswerHook + Sync,
 >(
     rt: &R,
-    server: &ConnectionServer<'_, B, L, T, S, G>,
+    server: &ConnectionServer<'_, B, L, T, S>,
     seats: Vec<Seat<B>>,
     connections: u64,
 ) -> Result<ReturnedSeats<Seat<B>>, AllocError>
@@ -133,19 +124,13 @@ fn run_server<
 ///
 /// Memory, where a thread could not be started, or memory was refused for that: then nothing was
 /// accepted, and the seats are dropped.
-pub fn run_workers<
-    B: BoardName + Send + Sync,
-    R: Threads + Wait + Sync,
-    S: Source + Sync,
-    G: AnswerHook + Sync,
->(
+pub fn run_workers<B: BoardName + Send + Sync, R: Threads + Wait + Sync, S: Source + Sync>(
     rt: &R,
     alloc: Global,
     table: &SlotTable<B>,
     board: &Board<B>,
     seats: Vec<Seat<B>>,
     source: &S,
-    hook: &G,
     connections: u64,
 ) -> Result<ReturnedSeats<Seat<B>>, Refusal>
     ensures { MatchResult result
@@ -159,7 +144,6 @@ pub fn run_workers<
         board,
         table,
         source,
-        hook,
         of: PhantomData,
     };
     boards_are_shared::<B>();
@@ -170,7 +154,6 @@ pub fn run_workers<
         board: _,
         table: _,
         source: _,
-        hook: _,
         of: _,
     } = server;
     match back {

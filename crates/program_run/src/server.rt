@@ -9,7 +9,6 @@ ghost use Rattle.program_run.specs.Serving.{ClosesServer, ServesSource, ServesOv
 use crate::fault::Fault;
 use crate::reports::write_report;
 use crate::socket::{ClosableSource, Socket, SocketSource};
-use client_loop::answer_hook::NoHook;
 use client_loop::workers::run_workers;
 use policy_board::board::Board;
 use policy_board::board_list::FreshList;
@@ -92,7 +91,7 @@ pub fn serve_source<
     };
     let table = SlotTable::open(alloc, readers);
     let quota = connections.unwrap_or(u64::MAX);
-    let served = run_workers(rt, alloc, &table, &board, seats, &source, &NoHook, quota);
+    let served = run_workers(rt, alloc, &table, &board, seats, &source, quota);
     source.close(rt);
     let fault = match served {
         Ok(back) if back.all_taken => return close(rt, alloc, board, table, back.seats, output),

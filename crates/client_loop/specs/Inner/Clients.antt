@@ -4,5 +4,5 @@ use Rattle.client_loop.specs.LineSteps.{DeskAndLogin, with_login}
 use Rattle.client_loop.specs.Logins.{session_of}
 
 -- the desk, and the session of the login that is held
-abbrev pub seen_of : {G D : Type 0} → (LineAnswerer G × D) → DeskAndLogin D
+abbrev pub seen_of : {D : Type 0} → (LineAnswerer × D) → DeskAndLogin D
 seen_of both = with_login both.1 (session_of both.0.login)

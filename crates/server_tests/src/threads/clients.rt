@@ -1,10 +1,12 @@
 //! Clients over memory: one for each worker.
 ghost use Rattle.std.specs.Prelude.{⊤};
 
+use crate::threads::meeting::Meeting;
 use client_loop::source::{Connection, Served, Source};
 use std::io;
 use std::io::{Read, Write};
 use std::sync::atomic::{AtomicBool, AtomicU64, Ordering};
+use std::time::Clock;
 use wire_reader::serving::EndReason;
 
 /// A client: what it sends, whether a worker has its connection, whether that was served to the end
@@ -44,23 +46,18 @@ impl Client {
     }
 }
 
-/// Gives the lines of a client, as many bytes as fit.
+/// Gives this worker the lines of a client, as many bytes as fit. Before each read the worker comes
+/// to the meeting.
 #[derive(Drop)]
-pub(crate) struct Lines {
+pub(crate) struct Lines<'a, R> {
     bytes: &'static [u8],
+    worker: usize,
+    meeting: &'a Meeting<'a, R>,
 }
 
-impl Lines {
-    /// All of these lines.
-    pub(crate) fn of(lines: &'static str) -> Lines {
-        Lines {
-            bytes: lines.as_bytes(),
-        }
-    }
-}
-
-impl Read for Lines {
+impl<R: Clock> Read for Lines<'_, R> {
     fn read(&mut self, buf: &mut [u8]) -> io::Result<usize> {
+        self.meeting.come_to_read(self.worker);
         let count = self.bytes.len().min(buf.len());
         let (prefix, rest) = self.bytes.split_at(count);
         buf[..count].copy_from_slice(prefix);
@@ -70,15 +67,17 @@ impl Read for Lines {
 }
 
 /// Counts the answers to a client: a refusal has a `"fault"`, and no other answer here has a text
-/// that begins with f.
+/// that begins with f. The meeting is told that this worker wrote them.
 #[derive(Drop)]
-pub(crate) struct Answers<'a> {
+pub(crate) struct Answers<'a, R> {
+    worker: usize,
+    meeting: &'a Meeting<'a, R>,
     client: &'a Client,
     is_refusal: bool,
     last: u8,
 }
 
-impl Answers<'_> {
+impl<R> Answers<'_, R> {
     /// Takes in one byte.
     fn take(&mut self, byte: u8) {
         if byte == b'\n' {
@@ -96,11 +95,12 @@ impl Answers<'_> {
     }
 }
 
-impl Write for Answers<'_> {
+impl<R: Clock> Write for Answers<'_, R> {
     fn write(&mut self, buf: &[u8]) -> io::Result<usize> {
         for byte in buf {
             self.take(*byte);
         }
+        self.meeting.note_answers(self.worker);
         Ok(buf.len())
     }
 
@@ -109,29 +109,40 @@ impl Write for Answers<'_> {
     }
 }
 
-/// Gives each worker the connection of its client, once.
-#[derive(Clone, Copy, Drop)]
-pub(crate) struct Clients<'a> {
+/// Gives each worker the connection of its client, once. All workers come to one meeting.
+#[derive(Drop)]
+pub(crate) struct Clients<'a, R> {
     pub clients: &'a [Client],
+    pub meeting: &'a Meeting<'a, R>,
 }
 
-impl<'a> Source for Clients<'a> {
-    type Reader = Lines;
+impl<'a, R: Clock + Sync> Source for Clients<'a, R> {
+    type Reader = Lines<'a, R>;
 
-    type Writer = Answers<'a>;
+    type Writer = Answers<'a, R>;
 
     ghost gave = { λ worker number connection. ⊤ };
 
     ghost took = { λ worker number served. ⊤ };
 
-    fn accept(&self, worker: usize, _number: u64) -> Option<Connection<Lines, Answers<'a>>> {
+    fn accept(
+        &self,
+        worker: usize,
+        _number: u64,
+    ) -> Option<Connection<Lines<'a, R>, Answers<'a, R>>> {
         let client = self.clients.get(worker)?;
         if client.is_served.swap(true, Ordering::SeqCst) {
             return None;
         }
         Some(Connection {
-            reader: Lines::of(client.lines),
+            reader: Lines {
+                bytes: client.lines.as_bytes(),
+                worker,
+                meeting: self.meeting,
+            },
             writer: Answers {
+                worker,
+                meeting: self.meeting,
                 client,
                 is_refusal: false,
                 last: 0,
@@ -139,7 +150,7 @@ impl<'a> Source for Clients<'a> {
         })
     }
 
-    fn take_back(&self, worker: usize, _number: u64, served: Served<Lines, Answers<'a>>)
+    fn take_back(&self, worker: usize, _number: u64, served: Served<Lines<'a, R>, Answers<'a, R>>)
         ensures { ⊤ }
     {
         if let Some(client) = self.clients.get(worker) {

@@ -1,5 +1,4 @@
-//! A gate at which one worker waits for another.
-use client_loop::answer_hook::AnswerHook;
+//! A meeting at which one worker waits for another.
 use std::sync::atomic::{AtomicBool, AtomicUsize, Ordering};
 use std::thread;
 use std::time::{Clock, Duration};
@@ -10,7 +9,7 @@ const NOBODY: usize = usize::MAX;
 /// How many milliseconds the first worker waits at most.
 const MOST_TURNS: u32 = 10_000;
 
-/// Holds the first answer of all until another worker has given one.
+/// Holds the worker that reads first until another one has written answers.
 #[derive(Drop)]
 pub(crate) struct Meeting<'a, R> {
     rt: &'a R,
@@ -20,7 +19,7 @@ pub(crate) struct Meeting<'a, R> {
 }
 
 impl<'a, R: Clock> Meeting<'a, R> {
-    /// A gate that no worker has come to.
+    /// A meeting that no worker has come to.
     pub(crate) fn new(rt: &'a R) -> Meeting<'a, R> {
         Meeting {
             rt,
@@ -30,12 +29,12 @@ impl<'a, R: Clock> Meeting<'a, R> {
         }
     }
 
-    /// Whether another worker gave an answer while the first was held.
+    /// Whether another worker wrote answers while the first was held.
     pub(crate) fn is_met(&self) -> bool {
         self.met.load(Ordering::SeqCst)
     }
 
-    /// Waits until another worker has given an answer, but no longer than ten seconds.
+    /// Waits until another worker has written answers, but no longer than ten seconds.
     fn hold(&self) {
         for _ in 0..MOST_TURNS {
             if self.other_answered.load(Ordering::SeqCst) {
@@ -45,10 +44,9 @@ impl<'a, R: Clock> Meeting<'a, R> {
             thread::sleep(self.rt, Duration::from_millis(1));
         }
     }
-}
 
-impl<R: Clock> AnswerHook for Meeting<'_, R> {
-    fn before(&self, worker: usize) {
+    /// This worker is about to read: the first that does so is held.
+    pub(crate) fn come_to_read(&self, worker: usize) {
         let is_first = self
             .first
             .compare_exchange(NOBODY, worker, Ordering::SeqCst, Ordering::SeqCst)
@@ -58,7 +56,8 @@ impl<R: Clock> AnswerHook for Meeting<'_, R> {
         }
     }
 
-    fn after(&self, worker: usize) {
+    /// This worker has written answers.
+    pub(crate) fn note_answers(&self, worker: usize) {
         if self.first.load(Ordering::SeqCst) != worker {
             self.other_answered.store(true, Ordering::SeqCst);
         }

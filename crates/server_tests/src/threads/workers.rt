@@ -56,8 +56,8 @@ const RECEIPTS: usize = 7;
 /// The least that a seat has seen after it served a client: the opening entries and that client's.
 const LEAST_SEEN: u64 = 8;
 
-/// Two workers serve two clients, each on a slot of its own. The first answer of all waits for one
-/// of the other worker. Then the server is closed; for each of its entries a seat has the receipt.
+/// Two workers serve two clients, each on a slot of its own. The worker that reads first waits until
+/// the other one has answered. Then the server is closed; for each of its entries a seat has the receipt.
 fn serve_two<B: BoardName + Send + Sync, R: Threads + Wait + Abort + Clock + Sync>(
     rt: &R,
     alloc: Global,
@@ -71,15 +71,18 @@ fn serve_two<B: BoardName + Send + Sync, R: Threads + Wait + Abort + Clock + Syn
         table,
     } = open::<B, R>(rt, alloc, fresh, 2);
     let clients = [Client::new(ON_SLOT_0), Client::new(ON_SLOT_1)];
-    let source = Clients { clients: &clients };
-    let gate = Meeting::new(rt);
-    let served = run_workers(rt, alloc, &table, &board, seats, &source, &gate, 1)
+    let meeting = Meeting::new(rt);
+    let source = Clients {
+        clients: &clients,
+        meeting: &meeting,
+    };
+    let served = run_workers(rt, alloc, &table, &board, seats, &source, 1)
         .ok()
         .expect(rt, "room for two workers");
-    assert!(rt; gate.is_met());
+    assert!(rt; meeting.is_met());
     assert!(rt; served.all_taken);
     // Each client has one connection: there is none for a second turn.
-    let back = run_workers(rt, alloc, &table, &board, served.seats, &source, &gate, 1)
+    let back = run_workers(rt, alloc, &table, &board, served.seats, &source, 1)
         .ok()
         .expect(rt, "room for two workers");
     assert!(rt; !back.all_taken);
@@ -134,7 +137,7 @@ fn given_by(policy: &PolicyJournal, session: u16) -> usize {
         .count()
 }
 
-/// Two answers are in work at once, each worker serves its own client, and the histories are what
+/// A worker that waits for its client holds up nobody, each worker serves its own client, and the histories are what
 /// the two clients did.
 #[test]
 fn two_at_once(rt: HostRuntime) -> Result<(), Fail> {
