@@ -8,7 +8,7 @@ use std::net::Net;
 use std::os::unix::net::UnixListener;
 
 /// Makes a socket at the path, and ends when it has served this number of clients.
-pub fn send_back<R: Files + Net>(rt: &R, path: &str, clients: u32) -> Result<()> {
+pub fn send_back<R: Files + Net>(rt: &R, path: &str, clients: u64) -> Result<()> {
     let listener = UnixListener::bind(rt, path)?;
     for _ in 0..clients {
         let (stream, _) = listener.accept()?;

@@ -34,15 +34,15 @@ use std::alloc::Global;
 use std::{env, io};
 
 /// A number of the command line or of a line of the input.
-fn number(word: &str) -> Result<u32> {
-    match word.parse::<u32>() {
-        Ok(number) => Ok(number),
-        Err(_) => bail!("{word} is no number"),
-    }
+fn number(word: &str) -> Result<u64> {
+    let Ok(number) = u64::from_str_radix(word, 10) else {
+        bail!("{word} is no number");
+    };
+    Ok(number)
 }
 
 /// Does a work as often as the count says, and prints its line.
-fn work(rt: &(impl Alloc<A = Global> + Print), word: &str, count: u32, text: &str) -> Result<()> {
+fn work(rt: &(impl Alloc<A = Global> + Print), word: &str, count: u64, text: &str) -> Result<()> {
     match word {
         "lex" | "parse" | "load" => read_again(rt, word, count, text),
         "plain" | "micro" => run_alone(rt, word, count, text),

@@ -92,7 +92,7 @@ fn ask(policy: &mut Policy, question: &Question) -> u64 {
 }
 
 /// Asks so often, and answers the sum of the answers.
-fn ask_often(policy: &mut Policy, question: &Question, repetitions: u32) -> u64 {
+fn ask_often(policy: &mut Policy, question: &Question, repetitions: u64) -> u64 {
     let mut sum = 0u64;
     for _ in 0..repetitions {
         sum = sum.wrapping_add(ask(policy, question));
@@ -112,7 +112,7 @@ fn ask_often(policy: &mut Policy, question: &Question, repetitions: u32) -> u64 
 pub fn ask_again(
     rt: &(impl Alloc<A = Global> + Print),
     word: &str,
-    repetitions: u32,
+    repetitions: u64,
 ) -> Result<()> {
     let Some(question) = question_of(word) else {
         bail!("{word} is no work");
