@@ -7,7 +7,7 @@ use std::process::Abort;
 
 /// A command: how often it is given, by which session or by none, its line, and what it is told the
 /// last time.
-type Row = (u8, u16, &'static str, &'static str);
+pub type Row = (u8, u16, &'static str, &'static str);
 
 const AS_BOTH: &str = "{\"cmd\":\"login\",\"roles\":[\"a\",\"b\"],\"user\":\"root\"}";
 
@@ -85,10 +85,15 @@ fn give(rt: &impl Abort, alloc: Global, desk: &mut Single, (count, session, line
     expect_told(rt, alloc, line, &reply, wanted);
 }
 
+/// The commands of the rows are given one after another.
+pub fn give_each(rt: &impl Abort, alloc: Global, desk: &mut Single, rows: &[Row]) {
+    for row in rows {
+        give(rt, alloc, desk, *row);
+    }
+}
+
 #[test]
 fn violated_before_full_of_sessions(rt: HostRuntime) {
     let mut desk = Single::new(rt.alloc()).ok().expect(&rt, "a desk");
-    for row in SESSIONS {
-        give(&rt, rt.alloc(), &mut desk, *row);
-    }
+    give_each(&rt, rt.alloc(), &mut desk, SESSIONS);
 }
