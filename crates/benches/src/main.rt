@@ -9,7 +9,7 @@
 //! - any other word is asked of a policy (src/policies.rt).
 //!
 //! `benches` alone takes each line of its input for a work, its count and its text.
-//! `benches echo PATH CLIENTS` sends back what comes over a socket (src/echo.rt).
+//! `benches echo` sends back what comes in (src/echo.rt).
 //!
 //! Proved: that it is safe, whatever its words and its input, that all but the echo ends, and that
 //! what it calls may be called so. No clause speaks of the printed lines, of how often a work is
@@ -62,19 +62,21 @@ fn work_line(rt: &(impl Alloc<A = Global> + Print), line: &str) -> Result<()> {
 
 fn main(rt: HostRuntime) -> Result<()> {
     let mut words = env::args(&rt)?.skip(1);
-    match (words.next(), words.next(), words.next()) {
-        (Some(word), Some(path), Some(clients)) => {
-            if word.as_str() != "echo" {
-                bail!("{word} takes a count alone");
+    let (first, second) = (words.next(), words.next());
+    match first {
+        Some(word) => match second {
+            Some(count) => {
+                let text = io::read_to_string(rt.alloc(), rt.reader())?;
+                work(&rt, word.as_str(), number(count.as_str())?, text.as_str())
             }
-            send_back(&rt, path.as_str(), number(clients.as_str())?)
-        }
-        (Some(word), Some(count), _) => {
-            let text = io::read_to_string(rt.alloc(), rt.reader())?;
-            work(&rt, word.as_str(), number(count.as_str())?, text.as_str())
-        }
-        (Some(word), None, _) => bail!("{word} takes a count"),
-        (None, ..) => {
+            None => {
+                if word.as_str() != "echo" {
+                    bail!("{word} takes a count");
+                }
+                send_back(&mut rt.reader(), &mut io::writer(&rt))
+            }
+        },
+        None => {
             let text = io::read_to_string(rt.alloc(), rt.reader())?;
             for line in text.as_str().lines() {
                 work_line(&rt, line)?;
