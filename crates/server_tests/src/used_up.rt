@@ -3,6 +3,7 @@ use crate::limits::{Row, give_each};
 use crate::lines::{LOGIN, LOGOUT, giver, policy_command};
 use access_core::single::Single;
 use rbac_policy::commands::{AdminCommand, SessionId};
+use rbac_policy::names::Name;
 use std::alloc::Global;
 use std::process::Abort;
 
@@ -56,12 +57,11 @@ const FULL: &[Row] = &[
 ];
 
 /// Root's session activates its role and drops it, in turn.
-fn fill(rt: &impl Abort, alloc: Global, desk: &mut Single) {
-    let there = policy_command(rt, alloc, ACTIVATE);
-    let back = policy_command(rt, alloc, DROP);
+fn fill(rt: &impl Abort, desk: &mut Single) {
+    let role = Name::from_bytes(b"x").expect(rt, "a name");
     for _ in 0..TURNS {
-        let _reply = desk.admin(giver(1), there.clone().expect(rt, "room"));
-        let _reply = desk.admin(giver(1), back.clone().expect(rt, "room"));
+        let _activated = desk.admin(giver(1), AdminCommand::AddActiveRole { role });
+        let _dropped = desk.admin(giver(1), AdminCommand::DropActiveRole { role });
     }
 }
 
@@ -69,7 +69,7 @@ fn fill(rt: &impl Abort, alloc: Global, desk: &mut Single) {
 fn a_full_policy_list_takes_logouts(rt: HostRuntime) {
     let mut desk = Single::new(rt.alloc()).ok().expect(&rt, "a desk");
     give_each(&rt, rt.alloc(), &mut desk, BEGUN);
-    fill(&rt, rt.alloc(), &mut desk);
+    fill(&rt, &mut desk);
     give_each(&rt, rt.alloc(), &mut desk, FULL);
 }
 
@@ -92,10 +92,9 @@ const USED_UP: &[Row] = &[
 
 /// Root logs in and out.
 fn come_and_go(rt: &impl Abort, alloc: Global, desk: &mut Single) {
-    let login = policy_command(rt, alloc, LOGIN);
     for number in 1..=SESSIONS {
-        let _reply = desk.admin(None, login.clone().expect(rt, "room"));
-        let _reply = desk.admin(Some(SessionId::new(number)), AdminCommand::DeleteSession);
+        let _entered = desk.admin(None, policy_command(rt, alloc, LOGIN));
+        let _left = desk.admin(Some(SessionId::new(number)), AdminCommand::DeleteSession);
     }
 }
 
