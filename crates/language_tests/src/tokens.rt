@@ -125,18 +125,25 @@ fn tokens_are_counted_and_placed(rt: HostRuntime) {
     expect_counts(&rt, rt.alloc(), &COUNTED);
 }
 
+/// The value of a token, in words.
+fn value_of(rt: &impl Abort, alloc: Global, token: &Token) -> String {
+    let words = match token {
+        Token::Keyword(word) => format!(in alloc; "{word:?}"),
+        Token::Symbol(sign) => format!(in alloc; "{sign:?}"),
+        Token::Identifier(_) => format!(in alloc; "Identifier"),
+    };
+    words.expect(rt, "room")
+}
+
 /// A token of a text, after what stands between it and the one before.
 fn told_of(rt: &impl Abort, alloc: Global, tokens: &Tokens<'_>, index: usize) -> String {
     let Place { line, column } = tokens.place(index);
     let bytes = tokens.text(index).expect(rt, "a token");
     let slice = str::from_utf8(bytes).ok().expect(rt, "characters");
+    let located = tokens.get(index).expect(rt, "a token");
+    let value = value_of(rt, alloc, &located.token);
     let before = if index == 0 { "" } else { ", " };
-    let told = match tokens.get(index).expect(rt, "a token").token {
-        Token::Keyword(word) => format!(in alloc; "{before}{line}:{column} {slice} {word:?}"),
-        Token::Symbol(sign) => format!(in alloc; "{before}{line}:{column} {slice} {sign:?}"),
-        Token::Identifier(_) => format!(in alloc; "{before}{line}:{column} {slice} Identifier"),
-    };
-    told.expect(rt, "room")
+    format!(in alloc; "{before}{line}:{column} {slice} {}", value.as_str()).expect(rt, "room")
 }
 
 /// The tokens of a text, with commas between them. There is no token after the last.

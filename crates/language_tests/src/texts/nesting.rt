@@ -139,26 +139,22 @@ fn mixed_units_are_counted(rt: HostRuntime) {
     }
 }
 
-/// How many `[`, the end after them, what the reader answers, and what the row shows.
-const GROUPS: [(usize, &str, Answer); 9] = [
+/// How many `[`, the end after them, and what the reader answers: a word, and a column.
+const GROUPS: [(usize, &str, &str, u64); 9] = [
     // The text ends too early.
-    (128, "", ("syntax", 1, 139)),
+    (128, "", "syntax", 139),
     // The unit too many is opened before the text ends.
-    (129, "", ("too large", 1, 139)),
-    (10_000, "", ("too large", 1, 139)),
+    (129, "", "too large", 139),
+    (10_000, "", "too large", 139),
     // A fault before the unit too many, and one after it.
-    (128, "; [pause", ("syntax", 1, 139)),
-    (129, ";", ("too large", 1, 139)),
+    (128, "; [pause", "syntax", 139),
+    (129, ";", "too large", 139),
     // A lexical fault goes before both.
-    (129, "?", ("lexical", 1, 140)),
+    (129, "?", "lexical", 140),
     // A unit that is closed does not count, but those around it do.
-    (
-        127,
-        "[pause]; [pause] || [pause; [pause",
-        ("too large", 1, 166),
-    ),
-    (127, "weak abort ", ("syntax", 1, 149)),
-    (128, "weak loop", ("too large", 1, 139)),
+    (127, "[pause]; [pause] || [pause; [pause", "too large", 166),
+    (127, "weak abort ", "syntax", 149),
+    (128, "weak loop", "too large", 139),
 ];
 
 /// Fails where that many `[` and an end have another answer.
@@ -170,8 +166,8 @@ fn expect_group(rt: &impl Abort, alloc: Global, count: usize, end: &str, answer:
 
 #[test]
 fn open_units_are_counted(rt: HostRuntime) {
-    for (count, end, answer) in &GROUPS {
-        expect_group(&rt, rt.alloc(), *count, end, *answer);
+    for (count, end, word, column) in &GROUPS {
+        expect_group(&rt, rt.alloc(), *count, end, (*word, 1, *column));
     }
 }
 

@@ -83,15 +83,20 @@ const SKETCHES: [(&str, &str); 3] = [
     ),
 ];
 
+/// Adds a renaming to a sketch, with its sides.
+fn add_renaming(rt: &impl Abort, sketch: &mut String, renaming: &Renaming) {
+    add(rt, sketch, ", outer ");
+    add(rt, sketch, renaming.outer.as_str());
+    add(rt, sketch, " inner ");
+    add(rt, sketch, renaming.inner.as_str());
+}
+
 /// Adds a run to a sketch, each renaming with its sides.
 fn add_run(rt: &impl Abort, sketch: &mut String, name: &Identifier, renamings: &[Renaming]) {
     add(rt, sketch, "run ");
     add(rt, sketch, name.as_str());
     for renaming in renamings {
-        add(rt, sketch, ", outer ");
-        add(rt, sketch, renaming.outer.as_str());
-        add(rt, sketch, " inner ");
-        add(rt, sketch, renaming.inner.as_str());
+        add_renaming(rt, sketch, renaming);
     }
 }
 
