@@ -76,12 +76,12 @@ const STEPS: [(&str, &str); 5] = [
 ];
 
 /// Its first instant.
-const FIRST: &str = "{\"began\":[[0,0],[1,0],[2,0]],\"locals\":[],\"next\":[0],\"ok\":\"instant\",\
+const FIRST: &str = "{\"began\":[0,1,2],\"locals\":[],\"next\":[0],\"ok\":\"instant\",\
     \"outputs\":[\"O\"],\"went\":[]}\n";
 
 /// Its second instant.
 const SECOND: &str = "{\"began\":[],\"locals\":[],\"next\":\"end\",\"ok\":\"instant\",\
-    \"outputs\":[],\"went\":[[0,0],[2,0]]}\n";
+    \"outputs\":[],\"went\":[0,2]}\n";
 
 /// What a step of a walk is answered.
 fn step_told(rt: &impl Abort, alloc: Global, walk: &mut SteppedModule, word: &str) -> LabReply {
