@@ -1,8 +1,8 @@
 //! What a lab is asked line by line, where a module stands after instants, and the status at the
 //! end.
 
+use lab_lines::reading::request_of;
 use lab_mistakes::obeying::{go_back, obey, status_of, try_instant};
-use lab_mistakes::telling::request_of;
 use lab_run::answer::line_of;
 use lab_run::lab::{Lab, LabReply};
 use lab_run::stepped_module::SteppedModule;
