@@ -74,12 +74,13 @@ def checks(count):
 
 
 class Connection:
-    """A connection to a server at a path, for lines."""
+    """A connection for lines: to a server at a path, or over a socket that is connected."""
 
-    def __init__(self, path):
-        self.socket = socket.socket(socket.AF_UNIX, socket.SOCK_STREAM)
+    def __init__(self, path, connected=None):
+        self.socket = connected or socket.socket(socket.AF_UNIX, socket.SOCK_STREAM)
         self.socket.settimeout(WAIT_SECONDS)
-        self.socket.connect(str(path))
+        if connected is None:
+            self.socket.connect(str(path))
 
     def __enter__(self):
         return self
@@ -142,6 +143,20 @@ def serving(path, words=None):
     finally:
         process.terminate()
         process.wait() if words else process.join()
+
+
+@contextlib.contextmanager
+def echoing(program):
+    """The echo in the kit's language, and a connection to it: the other end is its standard input and output."""
+    ours, theirs = socket.socketpair(socket.AF_UNIX, socket.SOCK_STREAM)
+    with theirs:
+        process = subprocess.Popen([program, "echo"], stdin=theirs, stdout=theirs)
+    try:
+        with Connection(None, ours) as connection:
+            yield process, connection
+    finally:
+        process.terminate()
+        process.wait()
 
 
 def processor_time(process):
@@ -216,15 +231,14 @@ def least(pairs):
 
 def times_of_trips(folder, program, benches, rounds):
     """Microseconds a line of one client, by the clock and of processor time: of round trips, and of lines sent ahead."""
-    path, kit, plain = folder / "trips", folder / "kit", folder / "plain"
+    path, plain = folder / "trips", folder / "plain"
     found = {"estserve": [], "the echo in the kit's language": [], "the echo in Python": []}
     many = []
     with (
         serving(path, [program, "serve", "--socket", str(path)]) as server,
-        serving(kit, [benches, "echo", str(kit), "1"]) as first,
+        echoing(benches) as (first, to_first),
         serving(plain) as second,
         prepare(path) as client,
-        Connection(kit) as to_first,
         Connection(plain) as to_second,
     ):
         asked = zip(found, [(server, client), (first, to_first), (second, to_second)])

@@ -1,5 +1,7 @@
 //! A module on one engine alone.
 
+ghost use Rattle.est_micro.specs.Engine.{IsNetOf};
+
 use crate::cases::Case;
 use anyhow::{Result, bail};
 use est_kernel::state::State;
@@ -11,7 +13,7 @@ use std::alloc::Global;
 
 /// Runs the kernel, begun again once it has ended, and answers the sum of the outputs: each sum is
 /// 31 times the one before, plus the outputs.
-fn sum_of<E: Engine>(engine: &mut E, case: &Case, instants: u32) -> Result<u64>
+fn sum_of<E: Engine>(engine: &mut E, case: &Case, instants: u64) -> Result<u64>
     requires { E.is_for engine.old case.now.kernel }
 {
     let mut state = State::Fresh;
@@ -31,48 +33,41 @@ fn sum_of<E: Engine>(engine: &mut E, case: &Case, instants: u32) -> Result<u64>
 
 /// What a run comes to: how many cells the kernel has, how many of them the last instant decided,
 /// and the sum of the outputs. The plain engine has no cells.
-#[derive(Clone, Copy)]
-struct Ran {
-    cells: usize,
-    decided: usize,
-    sum: u64,
-}
+type Ran = (usize, usize, u64);
 
 /// Runs a case on the plain engine.
-fn run_plain(alloc: Global, instants: u32, text: &str) -> Result<Ran> {
-    let case = Case::read(alloc, text)?;
-    let sum = sum_of(&mut Rounds::new(), &case, instants)?;
-    Ok(Ran {
-        cells: 0,
-        decided: 0,
-        sum,
-    })
+fn run_plain(case: &Case, instants: u64) -> Result<Ran> {
+    Ok((0, 0, sum_of(&mut Rounds::new(), case, instants)?))
+}
+
+/// Runs a case on a microstep engine for it.
+fn run_engine(engine: &mut Micro, case: &Case, instants: u64) -> Result<Ran>
+    requires { IsNetOf engine.old.net case.now.kernel }
+{
+    let sum = sum_of(&mut *engine, case, instants)?;
+    Ok((engine.net().cells(), engine.steps(), sum))
 }
 
 /// Runs a case on the microstep engine.
-fn run_microsteps(alloc: Global, instants: u32, text: &str) -> Result<Ran> {
-    let case = Case::read(alloc, text)?;
-    let mut engine = Micro::new(Net::build(alloc, &case.kernel)?);
-    let sum = sum_of(&mut engine, &case, instants)?;
-    Ok(Ran {
-        cells: engine.net().cells(),
-        decided: engine.steps(),
-        sum,
-    })
+fn run_microsteps(alloc: Global, case: &Case, instants: u64) -> Result<Ran> {
+    let net = Net::build(alloc, &case.kernel)?;
+    run_engine(&mut Micro::new(net), case, instants)
 }
 
 /// Runs a case on the engine of this name, and prints what that comes to.
 pub fn run_alone(
     rt: &(impl Alloc<A = Global> + Print),
     name: &str,
-    instants: u32,
+    instants: u64,
     text: &str,
 ) -> Result<()> {
+    let case = Case::read(rt.alloc(), text)?;
     let ran = if name == "plain" {
-        run_plain(rt.alloc(), instants, text)?
+        run_plain(&case, instants)
     } else {
-        run_microsteps(rt.alloc(), instants, text)?
+        run_microsteps(rt.alloc(), &case, instants)
     };
-    println!(rt; "{} {} {:016x}", ran.cells, ran.decided, ran.sum)?;
+    let (cells, decided, sum) = ran?;
+    println!(rt; "{cells} {decided} {sum:016x}")?;
     Ok(())
 }

@@ -46,7 +46,7 @@ impl Case {
     }
 
     /// The inputs of an instant: those of its mask's signals that may be offered.
-    pub fn inputs(&self, instant: u32) -> Inputs
+    pub fn inputs(&self, instant: u64) -> Inputs
         ensures { AreInputs self.now.kernel result }
     {
         let place = instant as usize % self.masks.len().max(1);

@@ -1,18 +1,12 @@
-//! What does a round trip over a Unix socket cost where nothing is done? Sends back what its
-//! clients send, one client after another. No clause speaks of what passes through a socket.
+//! What does a round trip over a Unix socket cost where nothing is done? Sends back what comes in,
+//! where standard input and output are a socket. No clause speaks of what passes.
 
 use anyhow::Result;
-use std::fs::Files;
 use std::io;
-use std::net::Net;
-use std::os::unix::net::UnixListener;
+use std::io::{Read, Write};
 
-/// Makes a socket at the path, and ends when it has served this number of clients.
-pub fn send_back<R: Files + Net>(rt: &R, path: &str, clients: u32) -> Result<()> {
-    let listener = UnixListener::bind(rt, path)?;
-    for _ in 0..clients {
-        let (stream, _) = listener.accept()?;
-        io::copy(&mut &stream, &mut &stream)?;
-    }
+/// Sends back what comes in, until that ends.
+pub fn send_back<R: Read, W: Write>(reader: &mut R, writer: &mut W) -> Result<()> {
+    io::copy(reader, writer)?;
     Ok(())
 }

@@ -9,7 +9,7 @@
 //! - any other word is asked of a policy (src/policies.rt).
 //!
 //! `benches` alone takes each line of its input for a work, its count and its text.
-//! `benches echo PATH CLIENTS` sends back what comes over a socket (src/echo.rt).
+//! `benches echo` sends back what comes in (src/echo.rt).
 //!
 //! Proved: that it is safe, whatever its words and its input, that all but the echo ends, and that
 //! what it calls may be called so. No clause speaks of the printed lines, of how often a work is
@@ -34,15 +34,15 @@ use std::alloc::Global;
 use std::{env, io};
 
 /// A number of the command line or of a line of the input.
-fn number(word: &str) -> Result<u32> {
-    match word.parse::<u32>() {
-        Ok(number) => Ok(number),
-        Err(_) => bail!("{word} is no number"),
-    }
+fn number(word: &str) -> Result<u64> {
+    let Ok(number) = u64::from_str_radix(word, 10) else {
+        bail!("{word} is no number");
+    };
+    Ok(number)
 }
 
 /// Does a work as often as the count says, and prints its line.
-fn work(rt: &(impl Alloc<A = Global> + Print), word: &str, count: u32, text: &str) -> Result<()> {
+fn work(rt: &(impl Alloc<A = Global> + Print), word: &str, count: u64, text: &str) -> Result<()> {
     match word {
         "lex" | "parse" | "load" => read_again(rt, word, count, text),
         "plain" | "micro" => run_alone(rt, word, count, text),
@@ -62,19 +62,21 @@ fn work_line(rt: &(impl Alloc<A = Global> + Print), line: &str) -> Result<()> {
 
 fn main(rt: HostRuntime) -> Result<()> {
     let mut words = env::args(&rt)?.skip(1);
-    match (words.next(), words.next(), words.next()) {
-        (Some(word), Some(path), Some(clients)) => {
-            if word.as_str() != "echo" {
-                bail!("{word} takes a count alone");
+    let (first, second) = (words.next(), words.next());
+    match first {
+        Some(word) => match second {
+            Some(count) => {
+                let text = io::read_to_string(rt.alloc(), rt.reader())?;
+                work(&rt, word.as_str(), number(count.as_str())?, text.as_str())
             }
-            send_back(&rt, path.as_str(), number(clients.as_str())?)
-        }
-        (Some(word), Some(count), _) => {
-            let text = io::read_to_string(rt.alloc(), rt.reader())?;
-            work(&rt, word.as_str(), number(count.as_str())?, text.as_str())
-        }
-        (Some(word), None, _) => bail!("{word} takes a count"),
-        (None, ..) => {
+            None => {
+                if word.as_str() != "echo" {
+                    bail!("{word} takes a count");
+                }
+                send_back(&mut rt.reader(), &mut io::writer(&rt))
+            }
+        },
+        None => {
             let text = io::read_to_string(rt.alloc(), rt.reader())?;
             for line in text.as_str().lines() {
                 work_line(&rt, line)?;

@@ -12,27 +12,27 @@ use est_rounds::engine::Engine;
 use est_rounds::rounds::Rounds;
 use std::alloc::Global;
 
-/// What an engine answers: the outputs in hexadecimal, and how the kernel goes on; or `?` and the
+/// How an engine's answer is told: what stands before a mask in hexadecimal, the mask, and what
+/// stands after it. Of a reaction that is its outputs and how the kernel goes on; else `?` and the
 /// undecided outputs.
-fn shown(alloc: Global, answer: &Result<Outcome, Stuck>) -> Result<String> {
-    let text = match answer {
+fn told(answer: &Result<Outcome, Stuck>) -> (&'static str, u64, &'static str) {
+    match answer {
         Ok(outcome) => match outcome.next {
-            State::Paused(_) => format!(in alloc; "{:x}", outcome.outputs)?,
-            State::Done => format!(in alloc; "{:x}.", outcome.outputs)?,
-            State::Fresh => format!(in alloc; "{:x}!", outcome.outputs)?,
+            State::Paused(_) => ("", outcome.outputs, ""),
+            State::Done => ("", outcome.outputs, "."),
+            State::Fresh => ("", outcome.outputs, "!"),
         },
-        Err(stuck) => format!(in alloc; "?{:x}", stuck.undecided)?,
-    };
-    Ok(text)
+        Err(stuck) => ("?", stuck.undecided, ""),
+    }
 }
 
 /// One instant on both engines. The state is then the plain engine's, or stays where it is stuck.
 fn instant(
-    rt: &(impl Alloc<A = Global> + Print),
+    rt: &impl Print,
     micro: &mut Micro,
     case: &Case,
     state: &mut State,
-    number: u32,
+    number: u64,
 ) -> Result<()>
     requires net { IsNetOf micro.old.net case.now.kernel }
     requires state { IsState case.now.kernel.root state.old }
@@ -44,8 +44,10 @@ fn instant(
     let wanted = plain.react(&case.kernel, &*state, &inputs);
     let found = micro.react(&case.kernel, &*state, &inputs);
     let same = if wanted == found { "=" } else { "!" };
-    let (left, right) = (shown(rt.alloc(), &wanted)?, shown(rt.alloc(), &found)?);
-    print!(rt; " {left}{same}{right}/{}", micro.steps())?;
+    let (before, left, after) = told(&wanted);
+    print!(rt; " {before}{left:x}{after}{same}")?;
+    let (before, right, after) = told(&found);
+    print!(rt; "{before}{right:x}{after}/{}", micro.steps())?;
     if let Ok(outcome) = wanted {
         *state = outcome.next;
     }
@@ -54,7 +56,7 @@ fn instant(
 
 /// Runs a case on both engines, and prints its line: the number of cells, and for each instant what
 /// the plain engine answers, what the microstep engine does, and how many cells this one decided.
-fn compare(rt: &(impl Alloc<A = Global> + Print), instants: u32, case: &Case) -> Result<()> {
+fn compare(rt: &(impl Alloc<A = Global> + Print), instants: u64, case: &Case) -> Result<()> {
     let mut micro = Micro::new(Net::build(rt.alloc(), &case.kernel)?);
     print!(rt; "{}", micro.net().cells())?;
     let mut state = State::Fresh;
@@ -66,7 +68,7 @@ fn compare(rt: &(impl Alloc<A = Global> + Print), instants: u32, case: &Case) ->
 }
 
 /// Reads a case, and compares both engines on it.
-pub fn run_pair(rt: &(impl Alloc<A = Global> + Print), instants: u32, text: &str) -> Result<()> {
+pub fn run_pair(rt: &(impl Alloc<A = Global> + Print), instants: u64, text: &str) -> Result<()> {
     let case = Case::read(rt.alloc(), text)?;
     compare(rt, instants, &case)
 }

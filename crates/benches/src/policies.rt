@@ -9,104 +9,95 @@ use rbac_policy::objects::{Object, Operation};
 use rbac_policy::policy::Policy;
 use std::alloc::Global;
 
-/// How many of `repetitions` checks are answered yes.
-fn count_checks(
-    policy: &Policy,
-    session: SessionId,
-    operation: Operation,
-    object: &Object,
-    repetitions: u32,
-) -> u64 {
-    let mut count = 0u64;
-    for _ in 0..repetitions {
-        if policy.may(session, &operation, object) {
-            count = count.wrapping_add(1);
-        }
+/// A change of the policy that can be taken back.
+#[derive(Drop)]
+enum Change {
+    /// A pair is granted to a role.
+    Grant(Name, (Operation, Object)),
+    /// A role is assigned to root.
+    Assign(Name),
+    /// An edge is added.
+    Edge(Name, Name),
+}
+
+/// What is asked of the policy.
+#[derive(Drop)]
+enum Question {
+    /// Whether a session may do this.
+    May(u16, (Operation, Object)),
+    /// Whether a change would be accepted.
+    Decided(Change),
+    /// A change is made, and taken back.
+    Made(Change),
+}
+
+/// The question of a word.
+fn question_of(word: &str) -> Option<Question> {
+    match word {
+        "held" => Some(Question::May(2, pair(0))),
+        "not-held" => Some(Question::May(2, pair(5))),
+        "no-session" => Some(Question::May(999, pair(0))),
+        "grant" => Some(Question::Made(Change::Grant(role(4, 1), pair(0)))),
+        "assign" => Some(Question::Made(Change::Assign(role(1, 1)))),
+        "edge-decided" => Some(Question::Decided(Change::Edge(role(0, 0), role(1, 2)))),
+        "edge" => Some(Question::Made(Change::Edge(role(0, 0), role(1, 2)))),
+        _ => None,
     }
-    count
 }
 
-/// Gives both commands in turn, and counts those that were accepted, which are all of them.
-fn count_given(
-    policy: &mut Policy,
-    there: &AdminCommand,
-    back: &AdminCommand,
-    repetitions: u32,
-) -> Result<u64> {
-    for _ in 0..repetitions {
-        give(policy, Some(first()), there.clone()?)?;
-        give(policy, Some(first()), back.clone()?)?;
-    }
-    Ok(2 * u64::from(repetitions))
-}
-
-/// Decides the command again and again, and counts how often it would be accepted.
-fn count_decided(policy: &Policy, command: &AdminCommand, repetitions: u32) -> Result<u64> {
-    let mut count = 0u64;
-    for _ in 0..repetitions {
-        match decide(policy, Some(first()), command.clone()?) {
-            Ok(_) => count = count.wrapping_add(1),
-            Err(refusal) => bail!("refused: {}", refusal.label().1),
-        }
-    }
-    Ok(count)
-}
-
-/// Asks whether a session of an upper role, or one that doesn't live, may do the pair of this
-/// number.
-fn check(
-    alloc: Global,
-    policy: &Policy,
-    session: u16,
-    number: u32,
-    repetitions: u32,
-) -> Result<u64> {
-    let (operation, object) = pair(alloc, number)?;
-    let session = SessionId::new(session);
-    Ok(count_checks(policy, session, operation, &object, repetitions))
-}
-
-/// Grants a pair to a second role, and revokes it.
-fn grant(alloc: Global, policy: &mut Policy, repetitions: u32) -> Result<u64> {
-    let role = role(alloc, 4, 1)?;
-    let (operation, object) = pair(alloc, 0)?;
-    let there = AdminCommand::GrantPermission {
-        role,
-        operation,
-        object,
-    };
-    let (operation, object) = pair(alloc, 0)?;
-    let back = AdminCommand::RevokePermission {
-        role,
-        operation,
-        object,
-    };
-    count_given(policy, &there, &back, repetitions)
-}
-
-/// Assigns a role to root, and takes it back.
-fn assign(alloc: Global, policy: &mut Policy, repetitions: u32) -> Result<u64> {
-    let role = role(alloc, 1, 1)?;
+/// The command of a change, or the one that takes it back.
+fn command(change: &Change, is_back: bool) -> AdminCommand {
     let user = Name::root();
-    let there = AdminCommand::AssignUser { user, role };
-    let back = AdminCommand::DeassignUser { user, role };
-    count_given(policy, &there, &back, repetitions)
+    match *change {
+        Change::Grant(role, (operation, object)) => if is_back {
+            AdminCommand::RevokePermission {
+                role,
+                operation,
+                object,
+            }
+        } else {
+            AdminCommand::GrantPermission {
+                role,
+                operation,
+                object,
+            }
+        },
+        Change::Assign(role) => if is_back {
+            AdminCommand::DeassignUser { user, role }
+        } else {
+            AdminCommand::AssignUser { user, role }
+        },
+        Change::Edge(senior, junior) => if is_back {
+            AdminCommand::DeleteInheritance { senior, junior }
+        } else {
+            AdminCommand::AddInheritance { senior, junior }
+        },
+    }
 }
 
-/// Adds an edge from the top to the next level, and takes it away.
-fn edge(alloc: Global, policy: &mut Policy, repetitions: u32) -> Result<u64> {
-    let senior = role(alloc, 0, 0)?;
-    let junior = role(alloc, 1, 2)?;
-    let there = AdminCommand::AddInheritance { senior, junior };
-    let back = AdminCommand::DeleteInheritance { senior, junior };
-    count_given(policy, &there, &back, repetitions)
+/// Asks once: whether the answer is yes, or how many of the commands are accepted.
+fn ask(policy: &mut Policy, question: &Question) -> u64 {
+    match question {
+        Question::May(session, (operation, object)) => {
+            u64::from(policy.may(SessionId::new(*session), operation, object))
+        }
+        Question::Decided(change) => {
+            u64::from(decide(policy, first(), command(change, false)).is_ok())
+        }
+        Question::Made(change) => {
+            let made = give(policy, command(change, false));
+            u64::from(made) + u64::from(give(policy, command(change, true)))
+        }
+    }
 }
 
-fn decide_edge(alloc: Global, policy: &Policy, repetitions: u32) -> Result<u64> {
-    let senior = role(alloc, 0, 0)?;
-    let junior = role(alloc, 1, 2)?;
-    let there = AdminCommand::AddInheritance { senior, junior };
-    count_decided(policy, &there, repetitions)
+/// Asks so often, and answers the sum of the answers.
+fn ask_often(policy: &mut Policy, question: &Question, repetitions: u64) -> u64 {
+    let mut sum = 0u64;
+    for _ in 0..repetitions {
+        sum = sum.wrapping_add(ask(policy, question));
+    }
+    sum
 }
 
 /// Asks the policy of the office `repetitions` times, and prints how many of the questions
@@ -118,27 +109,15 @@ fn decide_edge(alloc: Global, policy: &Policy, repetitions: u32) -> Result<u64> 
 ///   back;
 /// - `edge-decided`: an edge is decided, which asks 16 sets and 60 sessions; `edge`: it is added
 ///   and taken away.
-///
-/// # Errors
-///
-/// Where memory was refused, or a command was; on the policy of the office none is.
 pub fn ask_again(
     rt: &(impl Alloc<A = Global> + Print),
     word: &str,
-    repetitions: u32,
+    repetitions: u64,
 ) -> Result<()> {
-    let alloc = rt.alloc();
-    let mut policy = open_office(alloc)?;
-    let answered = match word {
-        "held" => check(alloc, &policy, 2, 0, repetitions)?,
-        "not-held" => check(alloc, &policy, 2, 5, repetitions)?,
-        "no-session" => check(alloc, &policy, 999, 0, repetitions)?,
-        "grant" => grant(alloc, &mut policy, repetitions)?,
-        "assign" => assign(alloc, &mut policy, repetitions)?,
-        "edge-decided" => decide_edge(alloc, &policy, repetitions)?,
-        "edge" => edge(alloc, &mut policy, repetitions)?,
-        _ => bail!("{word} is no work"),
+    let Some(question) = question_of(word) else {
+        bail!("{word} is no work");
     };
+    let answered = ask_often(&mut open_office(rt.alloc())?, &question, repetitions);
     println!(rt; "{word}: {repetitions} repetitions, {answered}")?;
     Ok(())
 }

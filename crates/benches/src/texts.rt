@@ -68,7 +68,7 @@ fn read_once(alloc: Global, word: &str, text: &str) -> Result<String> {
 pub fn read_again(
     rt: &(impl Alloc<A = Global> + Print),
     word: &str,
-    count: u32,
+    count: u64,
     text: &str,
 ) -> Result<()> {
     for _ in 1..count {

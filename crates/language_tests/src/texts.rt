@@ -3,19 +3,16 @@
 mod nesting;
 mod trees;
 
+use crate::told::expect_holds;
 use est_syntax::parse::{ParseFault, parse};
 use est_text::lex::{LexFault, lex};
 use std::alloc::Global;
 use std::process::Abort;
 
-/// What the reader answers to a text. A fault has its line and its column.
-#[derive(Clone, Copy, PartialEq, Eq, Debug)]
-enum Answer {
-    Accepted,
-    Lexical(u64, u64),
-    Syntax(u64, u64),
-    TooLarge(u64, u64),
-}
+/// What the reader answers to a text: a word, and of a fault its line and its column.
+type Answer = (&'static str, u64, u64);
+
+const ACCEPTED: Answer = ("accepted", 0, 0);
 
 /// The text of a module around a body.
 fn module_of(rt: &impl Abort, alloc: Global, body: &str) -> String {
@@ -23,21 +20,21 @@ fn module_of(rt: &impl Abort, alloc: Global, body: &str) -> String {
 }
 
 /// The answer to a text.
-fn answer_of(rt: &impl Abort, alloc: Global, text: &str) -> Answer {
+fn answer_of(alloc: Global, text: &str) -> Answer {
     let tokens = match lex(alloc, text) {
         Ok(tokens) => tokens,
-        Err(LexFault::Lexical(place)) => return Answer::Lexical(place.line, place.column),
-        Err(LexFault::Memory) => return None.expect(rt, "room"),
+        Err(LexFault::Lexical(place)) => return ("lexical", place.line, place.column),
+        Err(LexFault::Memory) => return ("memory", 0, 0),
     };
     match parse(alloc, &tokens) {
-        Ok(_) => Answer::Accepted,
-        Err(ParseFault::Syntax(place)) => Answer::Syntax(place.line, place.column),
-        Err(ParseFault::TooLarge(place)) => Answer::TooLarge(place.line, place.column),
-        Err(ParseFault::Memory) => None.expect(rt, "room"),
+        Ok(_) => ACCEPTED,
+        Err(ParseFault::Syntax(place)) => ("syntax", place.line, place.column),
+        Err(ParseFault::TooLarge(place)) => ("too large", place.line, place.column),
+        Err(ParseFault::Memory) => ("memory", 0, 0),
     }
 }
 
 /// Fails where a text has another answer.
 fn expect_answer(rt: &impl Abort, alloc: Global, text: &str, answer: Answer) {
-    assert_eq!(rt; answer_of(rt, alloc, text), answer, "{text}");
+    expect_holds(rt, answer_of(alloc, text) == answer, text);
 }

@@ -3,37 +3,38 @@ use crate::told::{add, expect_holds, expect_told};
 use est_text::identifier::Identifier;
 use est_text::lex::lex;
 use est_text::place::Place;
-use est_text::token::{Located, Token};
+use est_text::token::Token;
 use est_text::token_list::Tokens;
 use std::alloc::Global;
 use std::process::Abort;
 
-/// Texts, and the values of their tokens.
-const VALUES: [(&str, &str); 3] = [
+/// Texts, and of each of their tokens its line and column, its slice, and its value.
+const TOKENS: [(&str, &str); 3] = [
     (
-        "module end input output inputoutput relation nothing pause halt emit sustain present then \
-        else suspend when \
-         immediate loop each every do await abort weak trap in exit signal run and or not",
-        "Module End Input Output Inputoutput Relation Nothing Pause Halt Emit Sustain Present Then \
-        Else Suspend When \
-         Immediate Loop Each Every Do Await Abort Weak Trap In Exit Signal Run And Or Not",
+        "module end input output inputoutput relation nothing pause halt emit sustain present \
+        then else suspend when immediate loop each every do await abort weak trap in exit signal \
+        run and or not",
+        "1:1 module Module, 1:8 end End, 1:12 input Input, 1:18 output Output, \
+        1:25 inputoutput Inputoutput, 1:37 relation Relation, 1:46 nothing Nothing, \
+        1:54 pause Pause, 1:60 halt Halt, 1:65 emit Emit, 1:70 sustain Sustain, \
+        1:78 present Present, 1:86 then Then, 1:91 else Else, 1:96 suspend Suspend, \
+        1:104 when When, 1:109 immediate Immediate, 1:119 loop Loop, 1:124 each Each, \
+        1:129 every Every, 1:135 do Do, 1:138 await Await, 1:144 abort Abort, 1:150 weak Weak, \
+        1:155 trap Trap, 1:160 in In, 1:163 exit Exit, 1:168 signal Signal, 1:175 run Run, \
+        1:179 and And, 1:183 or Or, 1:186 not Not",
     ),
     (
         ":;,/[]()||#=>",
-        "Colon Semicolon Comma Slash OpenBracket CloseBracket OpenParenthesis CloseParenthesis \
-        Parallel Hash Implies",
+        "1:1 : Colon, 1:2 ; Semicolon, 1:3 , Comma, 1:4 / Slash, 1:5 [ OpenBracket, \
+        1:6 ] CloseBracket, 1:7 ( OpenParenthesis, 1:8 ) CloseParenthesis, 1:9 || Parallel, \
+        1:11 # Hash, 1:12 => Implies",
     ),
     (
         "run Run\n\truns=>end1 %x\nend",
-        "Run Identifier Identifier Implies Identifier End",
+        "1:1 run Run, 1:5 Run Identifier, 2:2 runs Identifier, 2:6 => Implies, \
+        2:8 end1 Identifier, 3:1 end End",
     ),
 ];
-
-/// Texts, and line, column and slice of each of their tokens.
-const SLICES: [(&str, &str); 1] = [(
-    "run Run\n\truns=>end1 %x\nend",
-    "1:1 run, 1:5 Run, 2:2 runs, 2:6 =>, 2:8 end1, 3:1 end",
-)];
 
 /// Texts, and whether each is an identifier.
 const NAMES: [(&str, bool); 9] = [
@@ -104,42 +105,6 @@ fn identifiers(rt: HostRuntime) {
     expect_names(&rt, &NAMES);
 }
 
-/// Adds the value of a token to a list of them.
-fn add_value(rt: &impl Abort, alloc: Global, values: &mut String, located: &Located) {
-    let value = match located.token {
-        Token::Keyword(keyword) => format!(in alloc; "{keyword:?}"),
-        Token::Symbol(symbol) => format!(in alloc; "{symbol:?}"),
-        Token::Identifier(_) => format!(in alloc; "Identifier"),
-    };
-    if !values.is_empty() {
-        add(rt, values, " ");
-    }
-    add(rt, values, value.expect(rt, "room").as_str());
-}
-
-/// The values of a text's tokens, with blanks between them.
-fn values_of(rt: &impl Abort, alloc: Global, text: &str) -> String {
-    let tokens = lex(alloc, text).expect(rt, "tokens");
-    let mut values = String::new(alloc);
-    for located in tokens.as_slice() {
-        add_value(rt, alloc, &mut values, located);
-    }
-    values
-}
-
-/// Fails where a text has other tokens.
-fn expect_values(rt: &impl Abort, alloc: Global, rows: &[(&str, &str)]) {
-    for (text, values) in rows {
-        let found = values_of(rt, alloc, text);
-        expect_told(rt, found.as_str(), values, text);
-    }
-}
-
-#[test]
-fn each_keyword_and_symbol_is_read(rt: HostRuntime) {
-    expect_values(&rt, rt.alloc(), &VALUES);
-}
-
 /// Fails where a text has another number of tokens, or another place just after them.
 fn expect_counts(rt: &impl Abort, alloc: Global, rows: &[(&str, usize, u64, u64)]) {
     for (text, count, line, column) in rows {
@@ -160,45 +125,37 @@ fn tokens_are_counted_and_placed(rt: HostRuntime) {
     expect_counts(&rt, rt.alloc(), &COUNTED);
 }
 
-/// Adds place and slice of the token of this number to a list of them.
-fn add_slice(
-    rt: &impl Abort,
-    alloc: Global,
-    slices: &mut String,
-    tokens: &Tokens<'_>,
-    index: usize,
-) {
-    let place = tokens.place(index);
+/// A token of a text, after what stands between it and the one before.
+fn told_of(rt: &impl Abort, alloc: Global, tokens: &Tokens<'_>, index: usize) -> String {
+    let Place { line, column } = tokens.place(index);
     let bytes = tokens.text(index).expect(rt, "a token");
     let slice = str::from_utf8(bytes).ok().expect(rt, "characters");
-    let separator = if index == 0 { "" } else { ", " };
-    let part = format!(in alloc; "{separator}{}:{} {slice}", place.line, place.column);
-    add(rt, slices, part.expect(rt, "room").as_str());
+    let before = if index == 0 { "" } else { ", " };
+    let told = match tokens.get(index).expect(rt, "a token").token {
+        Token::Keyword(word) => format!(in alloc; "{before}{line}:{column} {slice} {word:?}"),
+        Token::Symbol(sign) => format!(in alloc; "{before}{line}:{column} {slice} {sign:?}"),
+        Token::Identifier(_) => format!(in alloc; "{before}{line}:{column} {slice} Identifier"),
+    };
+    told.expect(rt, "room")
 }
 
-/// Places and slices of a text's tokens, with commas between them. There is no token after the
-/// last.
-fn slices_of(rt: &impl Abort, alloc: Global, text: &str) -> String {
+/// The tokens of a text, with commas between them. There is no token after the last.
+fn tokens_of(rt: &impl Abort, alloc: Global, text: &str) -> String {
     let tokens = lex(alloc, text).expect(rt, "tokens");
     let count = tokens.as_slice().len();
-    let mut slices = String::new(alloc);
+    let mut told = String::new(alloc);
     for index in 0..count {
-        add_slice(rt, alloc, &mut slices, &tokens, index);
+        add(rt, &mut told, told_of(rt, alloc, &tokens, index).as_str());
     }
     let ends = tokens.get(count).is_none() && tokens.text(count).is_none();
     expect_holds(rt, ends && tokens.source() == text, text);
-    slices
-}
-
-/// Fails where the tokens of a text lie elsewhere.
-fn expect_slices(rt: &impl Abort, alloc: Global, rows: &[(&str, &str)]) {
-    for (text, slices) in rows {
-        let found = slices_of(rt, alloc, text);
-        expect_told(rt, found.as_str(), slices, text);
-    }
+    told
 }
 
 #[test]
-fn texts_are_slices(rt: HostRuntime) {
-    expect_slices(&rt, rt.alloc(), &SLICES);
+fn each_token_is_read_where_it_stands(rt: HostRuntime) {
+    for (text, wanted) in &TOKENS {
+        let found = tokens_of(&rt, rt.alloc(), text);
+        expect_told(&rt, found.as_str(), wanted, text);
+    }
 }

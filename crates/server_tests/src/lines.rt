@@ -48,7 +48,7 @@ pub fn giver(number: u16) -> Option<SessionId> {
 }
 
 /// The policy command of the line.
-fn policy_command(rt: &impl Abort, alloc: Global, line: &str) -> AdminCommand {
+pub fn policy_command(rt: &impl Abort, alloc: Global, line: &str) -> AdminCommand {
     match asked(rt, alloc, line) {
         Request::Policy(command) => command,
         Request::Slot { .. } | Request::Check { .. } => None.expect(rt, "a policy command"),

@@ -1,6 +1,5 @@
 //! Units in one another: 128 may be open at once.
-use super::Answer::{self, Accepted, Lexical, Syntax, TooLarge};
-use super::{expect_answer, module_of};
+use super::{ACCEPTED, Answer, expect_answer, module_of};
 use crate::told::add;
 use std::alloc::Global;
 use std::process::Abort;
@@ -88,11 +87,11 @@ fn nested(rt: &impl Abort, alloc: Global, nest: Nest<'_>, depth: usize) -> Strin
 /// Fails unless as many as these are taken, and the last of one more is one too many.
 fn expect_most(rt: &impl Abort, alloc: Global, nest: Nest<'_>, most: usize) {
     let text = nested(rt, alloc, nest, most);
-    expect_answer(rt, alloc, text.as_str(), Accepted);
+    expect_answer(rt, alloc, text.as_str(), ACCEPTED);
     let text = nested(rt, alloc, nest, most.saturating_add(1));
     let openers = nest.open.len().saturating_mul(most);
     let column = openers.saturating_add(nest.before.len()).saturating_add(11);
-    expect_answer(rt, alloc, text.as_str(), TooLarge(1, column as u64));
+    expect_answer(rt, alloc, text.as_str(), ("too large", 1, column as u64));
 }
 
 /// 128 units of each kind, and one more.
@@ -128,9 +127,9 @@ fn words_of_tests_are_counted_as_open(rt: HostRuntime) {
 /// one too many.
 fn expect_mixed(rt: &impl Abort, alloc: Global, first: usize) {
     let (text, _) = mixed(rt, alloc, first, 128);
-    expect_answer(rt, alloc, text.as_str(), Accepted);
+    expect_answer(rt, alloc, text.as_str(), ACCEPTED);
     let (text, column) = mixed(rt, alloc, first, 129);
-    expect_answer(rt, alloc, text.as_str(), TooLarge(1, column));
+    expect_answer(rt, alloc, text.as_str(), ("too large", 1, column));
 }
 
 #[test]
@@ -143,19 +142,23 @@ fn mixed_units_are_counted(rt: HostRuntime) {
 /// How many `[`, the end after them, what the reader answers, and what the row shows.
 const GROUPS: [(usize, &str, Answer); 9] = [
     // The text ends too early.
-    (128, "", Syntax(1, 139)),
+    (128, "", ("syntax", 1, 139)),
     // The unit too many is opened before the text ends.
-    (129, "", TooLarge(1, 139)),
-    (10_000, "", TooLarge(1, 139)),
+    (129, "", ("too large", 1, 139)),
+    (10_000, "", ("too large", 1, 139)),
     // A fault before the unit too many, and one after it.
-    (128, "; [pause", Syntax(1, 139)),
-    (129, ";", TooLarge(1, 139)),
+    (128, "; [pause", ("syntax", 1, 139)),
+    (129, ";", ("too large", 1, 139)),
     // A lexical fault goes before both.
-    (129, "?", Lexical(1, 140)),
+    (129, "?", ("lexical", 1, 140)),
     // A unit that is closed does not count, but those around it do.
-    (127, "[pause]; [pause] || [pause; [pause", TooLarge(1, 166)),
-    (127, "weak abort ", Syntax(1, 149)),
-    (128, "weak loop", TooLarge(1, 139)),
+    (
+        127,
+        "[pause]; [pause] || [pause; [pause",
+        ("too large", 1, 166),
+    ),
+    (127, "weak abort ", ("syntax", 1, 149)),
+    (128, "weak loop", ("too large", 1, 139)),
 ];
 
 /// Fails where that many `[` and an end have another answer.
@@ -177,5 +180,5 @@ fn open_units_are_counted(rt: HostRuntime) {
 fn units_that_are_closed_do_not_count(rt: HostRuntime) {
     let body = "[pause]; ".repeat(rt.alloc(), 300).expect(&rt, "room");
     let text = module_of(&rt, rt.alloc(), body.as_str());
-    expect_answer(&rt, rt.alloc(), text.as_str(), Accepted);
+    expect_answer(&rt, rt.alloc(), text.as_str(), ACCEPTED);
 }
