@@ -109,8 +109,9 @@ SIGNS = {"waits": "?", "emits": "!"}
 
 
 def word_of(at):
-    """A statement and its incarnation."""
-    return f"{at[0]}.{at[1]}"
+    """A statement and its incarnation. In incarnation 0 it is told by its number alone."""
+    statement, incarnation = (at, 0) if isinstance(at, int) else at
+    return f"{statement}.{incarnation}"
 
 
 def words_of(ats):

@@ -87,16 +87,16 @@ class Look:
         return meant == TICK or meant in self.inputs or meant in self.outputs
 
 
-def pair(told: Sequence[int]) -> At:
-    """A statement in an incarnation, as it is told."""
-    return told[0], told[1]
+def at_of(told: Union[int, Sequence[int]]) -> At:
+    """A statement in an incarnation, as it is told: by its number alone in incarnation 0."""
+    return (told, 0) if isinstance(told, int) else (told[0], told[1])
 
 
 def tie_of(told: Dict[str, Any]) -> Tie:
     """A tie, as it is told."""
     signal = told["signal"]
-    named: Meant = signal if isinstance(signal, str) else pair(signal)
-    return Tie(pair(told["at"]), told["kind"] == "waits", named)
+    named: Meant = signal if isinstance(signal, str) else at_of(signal)
+    return Tie(at_of(told["at"]), told["kind"] == "waits", named)
 
 
 def look_of(before: State, inputs: Iterable[str], told: Answer) -> Look:
@@ -109,9 +109,9 @@ def look_of(before: State, inputs: Iterable[str], told: Answer) -> Look:
     return Look(
         before,
         frozenset(inputs),
-        frozenset(map(pair, told["began"])),
-        frozenset(map(pair, told["went"])),
-        {pair(local["at"]): local["present"] for local in told["locals"]},
+        frozenset(map(at_of, told["began"])),
+        frozenset(map(at_of, told["went"])),
+        {at_of(local["at"]): local["present"] for local in told["locals"]},
         frozenset(told.get("outputs", ())),
         before if is_stuck else state_of(told["next"]),
         tuple(told["undecided"]) if is_stuck else None,

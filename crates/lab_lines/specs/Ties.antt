@@ -1,5 +1,5 @@
 -- What is told of the statements that are tied to signals that are not decided (this project's own form).
-use Rattle.std.specs.Prelude.{ℕ, List, Option, Some, None, codes, map, slice_get}
+use Rattle.std.specs.Prelude.{ℕ, List, Option, Some, None, codes, if◌then◌else◌, map, nat_eq, slice_get}
 use Rattle.serde_json.specs.Data.{Data, null, number, unsigned, string, array, object, member, no_members}
 use Rattle.serde_json.specs.Data.{item, no_items}
 use Rattle.serde_json.specs.View.{items_of}
@@ -11,10 +11,14 @@ use Rattle.lab_ties.specs.declared.tie.Tie.{Tie}
 use Rattle.lab_ties.specs.declared.tie.TieKind.{TieKind}
 use Rattle.lab_ties.specs.declared.tie.TieKind.TheVariants.{Waits, MayEmit}
 
--- a statement in one of its incarnations: its number and that of the incarnation
-abbrev pub incarnation_json : Incarnation → Data
-incarnation_json a =
+-- a statement in an incarnation that a restart begins: its number and that of the incarnation
+abbrev pub restarted_json : Incarnation → Data
+restarted_json a =
     array (item (number (unsigned a.statement)) (item (number (unsigned a.number)) no_items))
+
+-- a statement in one of its incarnations: in incarnation 0 its number alone
+abbrev pub incarnation_json : Incarnation → Data
+incarnation_json a = if nat_eq a.number 0 then number (unsigned a.statement) else restarted_json a
 
 -- whether a statement waits for a signal or may emit it
 abbrev pub kind_text : TieKind → List ℕ

@@ -4,8 +4,8 @@ ghost use Rattle.std.specs.Prelude.{◌≡◌, ◌++◌, ◌∷◌, [], codes, O
 ghost use Rattle.wire_lines.specs.Inner.ReplyTokens.{item_tokens, member_tokens, value_tokens};
 ghost use Rattle.lab_ties.specs.declared.tie.OpenSignal.TheVariants as open_signal;
 ghost use Rattle.lab_lines.specs.Inner.LineParts.{members_in};
-ghost use Rattle.lab_lines.specs.Ties.{incarnation_json, kind_text, signal_json, tie_json};
-ghost use Rattle.lab_lines.specs.Ties.{ties_json};
+ghost use Rattle.lab_lines.specs.Ties.{incarnation_json, kind_text, restarted_json, signal_json};
+ghost use Rattle.lab_lines.specs.Ties.{tie_json, ties_json};
 
 use est_kernel::interface::Interface;
 use lab_instant::seen::Incarnation;
@@ -13,14 +13,27 @@ use lab_ties::tie::{OpenSignal, Tie, TieKind};
 use std::alloc::AllocError;
 use wire_lines::line_writer::LineWriter;
 
-/// Writes a statement in one of its incarnations.
-pub(crate) fn write_incarnation(line: &mut LineWriter, at: Incarnation) -> Result<(), AllocError>
-    ensures { OnOk result (line.new ≡ line.old ++ item_tokens incarnation_json (at ∷ [])) }
+/// Writes a statement in an incarnation that a restart begins: the list of its number and that of
+/// the incarnation.
+fn write_restarted(line: &mut LineWriter, at: Incarnation) -> Result<(), AllocError>
+    ensures { OnOk result (line.new ≡ line.old ++ item_tokens restarted_json (at ∷ [])) }
 {
     line.begin_array()?;
     line.number_value(at.statement as u64)?;
     line.number_value(at.number as u64)?;
     line.end_array()
+}
+
+/// Writes a statement in one of its incarnations: in incarnation 0 its number alone, as most
+/// statements of a line are.
+pub(crate) fn write_incarnation(line: &mut LineWriter, at: Incarnation) -> Result<(), AllocError>
+    ensures { OnOk result (line.new ≡ line.old ++ item_tokens incarnation_json (at ∷ [])) }
+{
+    if at.number == 0 {
+        line.number_value(at.statement as u64)
+    } else {
+        write_restarted(line, at)
+    }
 }
 
 /// Writes a statement in one of its incarnations under this key.

@@ -2,13 +2,12 @@
 ghost use Rattle.std.specs.Prelude.{IfErr, IfOk, map};
 ghost use Rattle.serde_json.specs.View.{view};
 ghost use Rattle.lab_lines.specs.Tests.{test_of};
-ghost use Rattle.lab_claims.specs.Claims.{AreClaimTexts, IsClaimText};
-ghost use Rattle.lab_claims.specs.Refused.{IsClaimFault, IsFirstBad};
+ghost use Rattle.lab_claims.specs.Claims.{IsClaimText};
+ghost use Rattle.lab_claims.specs.Refused.{IsClaimFault};
 ghost use Rattle.lab_run.specs.Answers.{TellsAmong};
 
 use est_kernel::interface::Interface;
 use lab_claims::claims;
-use lab_claims::claims::BadClaim;
 use lab_lines::asked_test::AskedTest;
 use lab_run::lab;
 use reactor_core::kernel_module::Module;
@@ -31,24 +30,6 @@ pub fn read_claim(
     ensures fault { IfErr result (IsClaimFault interface.now claim.now) }
 {
     claims::read_claim(alloc, interface, claim)
-}
-
-/// The tests of claims, or the first claim that can't be read.
-///
-/// # Errors
-///
-/// `AllocError` where memory is refused for the tests.
-pub fn read_claims(
-    alloc: Global,
-    interface: &Interface,
-    claims: &[&str],
-) -> Result<Result<Vec<AskedTest>, BadClaim>, AllocError>
-    ensures read { IfOk result (λ read. IfOk read (λ tests. AreClaimTexts interface.now
-        (map (λ t. t.now) claims.now) (map test_of tests.items))) }
-    ensures fault { IfOk result (λ read. IfErr read
-        (IsFirstBad interface.now (map (λ t. t.now) claims.now))) }
-{
-    claims::read_claims(alloc, interface, claims)
 }
 
 /// Judges claims of a module that is offered these inputs alone.

@@ -1,24 +1,33 @@
-//! Words and numbers that no command line comes to. Command lines are shown by `tests/socket` and
-//! `tests/faults`.
+//! Words and numbers that no command line comes to, and lines that wrong bodies answer wrongly.
+//! Other command lines are shown by `tests/socket` and `tests/faults`.
 use program_words::fault::WordFault;
 use program_words::invocation::{Invocation, WorkerCount};
+use server_mistakes::words::from_words;
 use std::alloc::Global;
 use std::process::Abort;
 
-/// What a list of no words comes to.
-fn kind_of_no_words(rt: &impl Abort, alloc: Global) -> String {
-    let words: [&str; 0] = [];
-    let told = match Invocation::from_words(alloc, words.as_slice()) {
+/// What these words come to: a fault of this kind, or a script with or without a log and a report.
+fn told_of(rt: &impl Abort, alloc: Global, words: &[&str]) -> String {
+    let told = match from_words(alloc, words) {
         Err(WordFault::Words(error)) => format!(in alloc; "{:?}", error.kind()),
-        _ => format!(in alloc; "an invocation"),
+        Ok(Invocation::Script { log, report }) => format!(in alloc; "script {log} {report}"),
+        _ => format!(in alloc; "another invocation"),
     };
     told.expect(rt, "room")
 }
 
+/// Words, and what they come to.
+const LINES: &[(&[&str], &str)] = &[
+    (&[], "MissingSubcommand"),
+    (&["estserve", "serve"], "MissingRequiredArgument"),
+    (&["estserve", "script", "--report"], "script false true"),
+];
+
 #[test]
-fn no_words_at_all_are_no_invocation(rt: HostRuntime) {
-    let kind = kind_of_no_words(&rt, rt.alloc());
-    assert_eq!(rt; kind.as_str(), "MissingSubcommand");
+fn what_words_come_to(rt: HostRuntime) {
+    for (words, wanted) in LINES {
+        assert_eq!(&rt; told_of(&rt, rt.alloc(), words).as_str(), *wanted);
+    }
 }
 
 #[test]

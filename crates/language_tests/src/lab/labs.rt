@@ -1,8 +1,8 @@
 //! What a lab is asked line by line, where a module stands after instants, and the status at the
 //! end.
 
+use lab_lines::reading::request_of;
 use lab_mistakes::obeying::{go_back, obey, status_of, try_instant};
-use lab_mistakes::telling::request_of;
 use lab_run::answer::line_of;
 use lab_run::lab::{Lab, LabReply};
 use lab_run::stepped_module::SteppedModule;
@@ -76,12 +76,12 @@ const STEPS: [(&str, &str); 5] = [
 ];
 
 /// Its first instant.
-const FIRST: &str = "{\"began\":[[0,0],[1,0],[2,0]],\"locals\":[],\"next\":[0],\"ok\":\"instant\",\
+const FIRST: &str = "{\"began\":[0,1,2],\"locals\":[],\"next\":[0],\"ok\":\"instant\",\
     \"outputs\":[\"O\"],\"went\":[]}\n";
 
 /// Its second instant.
 const SECOND: &str = "{\"began\":[],\"locals\":[],\"next\":\"end\",\"ok\":\"instant\",\
-    \"outputs\":[],\"went\":[[0,0],[2,0]]}\n";
+    \"outputs\":[],\"went\":[0,2]}\n";
 
 /// What a step of a walk is answered.
 fn step_told(rt: &impl Abort, alloc: Global, walk: &mut SteppedModule, word: &str) -> LabReply {

@@ -7,13 +7,13 @@ use est_explore::one_module::OneModule;
 use est_explore::verdict::Verdict;
 use est_kernel::interface::Interface;
 use est_kernel::kernel::Kernel;
-use est_kernel::state::State;
 use est_micro::micro::Micro;
 use est_relations::relations::Relations;
 use est_rounds::rounds::Rounds;
+use lab_lines::reading::request_of;
 use lab_lines::request::Request;
 use lab_lines::table_json::find_table;
-use lab_mistakes::telling::{kernel_json, request_of, signals_of_names, state_json, verdict_json};
+use lab_mistakes::telling::{kernel_json, signals_of_names, verdict_json};
 use reactor_core::reading::read_module;
 use serde_json::Value;
 use state_search::search::Limits;
@@ -135,14 +135,10 @@ fn states_of_a_table(rt: HostRuntime) {
     expect_member(&rt, alloc, &table, "states", "[\"start\",[0],[1],\"end\"]");
 }
 
-/// A module stands at its start or at its end; and a search that gave up says so.
+/// A search that gave up says so.
 #[test]
 fn words_of_answers(rt: HostRuntime) {
     let alloc = rt.alloc();
-    let start = state_json(alloc, &State::Fresh).expect(&rt, "room");
-    expect_text(&rt, alloc, &start, "\"start\"");
-    let end = state_json(alloc, &State::Done).expect(&rt, "room");
-    expect_text(&rt, alloc, &end, "\"end\"");
     let interface = Interface::new(alloc);
     let given = verdict_json(alloc, &interface, &Verdict::TooMany).expect(&rt, "room");
     expect_text(&rt, alloc, &given, "{\"verdict\":\"toomany\"}");

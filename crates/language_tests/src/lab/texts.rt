@@ -6,7 +6,7 @@ use crate::lab::modules::both;
 use est_explore::claim::Claim;
 use est_kernel::kernel::Kernel;
 use est_relations::relations::Relations;
-use lab_mistakes::claims::{explore_among, read_claim, read_claims};
+use lab_mistakes::claims::{explore_among, read_claim};
 use lab_run::lab::limits;
 use reactor_core::reading::read_module;
 use reactor_core::refusal::{ModuleRefusal, ReactorRefusal};
@@ -72,19 +72,6 @@ fn texts_of_claims(rt: HostRuntime) {
         let told = text_answered(&rt, alloc, &kernel, text);
         assert_eq!(rt; told.as_str(), wanted);
     }
-}
-
-/// Of several claims the first that is none is told by its number.
-#[test]
-fn the_first_bad_claim(rt: HostRuntime) {
-    let alloc = rt.alloc();
-    let kernel = both(&rt, alloc);
-    let claims = ["never O", "never A)", "maybe"];
-    let read = read_claims(alloc, kernel.interface(), claims.as_slice()).expect(&rt, "room");
-    let bad = read.err().expect(&rt, "a bad claim");
-    assert_eq!(rt; bad.number, 2);
-    let told = refusal_told(&rt, alloc, &bad.why);
-    assert_eq!(rt; told.as_str(), " 71 at 1:8");
 }
 
 /// Each of several claims has its own verdict.

@@ -6,13 +6,14 @@ use crate::audit::journals::{
 use audit_report::reports::report;
 use rbac_policy::commands::Entry;
 use reactor_core::entry::SlotEntry;
+use server_mistakes::audits::audit_journals;
 use std::alloc::Global;
 use std::process::Abort;
 
 /// Changes of the journals of the opening script, and what the audit then says.
 type Row = (&'static [Change], &'static str);
 
-/// The audit says this of the entries, in the last line of the report on them.
+/// The audit says this of the entries.
 fn expect_found(
     rt: &impl Abort,
     alloc: Global,
@@ -21,9 +22,11 @@ fn expect_found(
     wanted: &str,
 ) {
     let policy = policy_of(rt, alloc, policy);
-    let text = report(alloc, &policy, &journals_of_one(rt, alloc, slot)).expect(rt, "room");
-    let (_, said) = text.as_str().split_once("check: ").expect(rt, "a verdict");
-    assert_eq!(rt; said.strip_suffix("\n"), Some(wanted));
+    let said = match audit_journals(alloc, &policy, &journals_of_one(rt, alloc, slot)) {
+        Ok(()) => format!(in alloc; "ok"),
+        Err(finding) => format!(in alloc; "{finding}"),
+    };
+    assert_eq!(rt; said.expect(rt, "room").as_str(), wanted);
 }
 
 /// The audit says this of the journals of the opening script with these changes.

@@ -4,10 +4,10 @@ use est_kernel::pause_set::PauseSet;
 use est_kernel::state::State;
 use est_kernel::statement::{PauseIndex, Statement};
 use est_left::order::is_in_order;
-use est_left::states::is_same_state;
 use reactor_core::entry::Stamp;
 use reactor_core::journal::Journal;
 use reactor_core::reactor::Reactor;
+use server_mistakes::terms::is_same_state;
 use std::alloc::Global;
 use std::process::Abort;
 

@@ -1,7 +1,8 @@
 //! Workers over a count that they share.
 ghost use Rattle.std.specs.Prelude.{◌≤◌};
 
-use server_threads::workers::{Turn, Work, run_each};
+use server_mistakes::threads::run_each;
+use server_threads::workers::{Turn, Work};
 use std::sync::Wait;
 use std::sync::atomic::{AtomicU64, Ordering};
 use std::test::Fail;

@@ -56,8 +56,9 @@ const RECEIPTS: usize = 7;
 /// The least that a seat has seen after it served a client: the opening entries and that client's.
 const LEAST_SEEN: u64 = 8;
 
-/// Two workers serve two clients, each on a slot of its own. The worker that reads first waits until
-/// the other one has answered. Then the server is closed; for each of its entries a seat has the receipt.
+/// Two workers serve two clients, each on a slot of its own. The one that reads first waits until
+/// the other has answered. Then the server is closed; for each of its entries a seat has the
+/// receipt.
 fn serve_two<B: BoardName + Send + Sync, R: Threads + Wait + Abort + Clock + Sync>(
     rt: &R,
     alloc: Global,
@@ -137,8 +138,8 @@ fn given_by(policy: &PolicyJournal, session: u16) -> usize {
         .count()
 }
 
-/// A worker that waits for its client holds up nobody, each worker serves its own client, and the histories are what
-/// the two clients did.
+/// A worker that waits for its client holds up nobody, each worker serves its own client, and the
+/// histories are what the two clients did.
 #[test]
 fn two_at_once(rt: HostRuntime) -> Result<(), Fail> {
     let Histories { policy, slots } = serve_two::<Brand, _>(&rt, rt.alloc(), FreshList::new());
