@@ -1,5 +1,6 @@
 //! Commands and what they are told, as lines of the protocol.
 use access_core::reply::Reply;
+use access_core::single::Single;
 use rbac_policy::commands::{AdminCommand, Entry, SessionId};
 use std::alloc::Global;
 use std::process::Abort;
@@ -32,6 +33,10 @@ pub const GRANT_O: &str =
 
 pub const GRANT_P: &str =
     "{\"cmd\":\"grant\",\"object\":\"0.P\",\"op\":\"observe\",\"role\":\"root\"}";
+
+/// A command: how often it is given, by which session or by none, its line, and what it is told the
+/// last time.
+pub type Row = (u8, u16, &'static str, &'static str);
 
 /// What the line asks for.
 pub fn asked(rt: &impl Abort, alloc: Global, line: &str) -> Request {
@@ -70,4 +75,20 @@ pub fn expect_told(rt: &impl Abort, alloc: Global, line: &str, reply: &Reply, wa
         told.as_slice().strip_suffix(b"\n") == Some(wanted.as_bytes()),
         "{line}: not {wanted}"
     );
+}
+
+/// The command of a row is given so often, and is told what the row says.
+fn give(rt: &impl Abort, alloc: Global, desk: &mut Single, (count, session, line, wanted): Row) {
+    for _ in 1..count {
+        let _reply = desk.admin(giver(session), policy_command(rt, alloc, line));
+    }
+    let reply = desk.admin(giver(session), policy_command(rt, alloc, line));
+    expect_told(rt, alloc, line, &reply, wanted);
+}
+
+/// The commands of the rows are given one after another.
+pub fn give_each(rt: &impl Abort, alloc: Global, desk: &mut Single, rows: &[Row]) {
+    for row in rows {
+        give(rt, alloc, desk, *row);
+    }
 }

@@ -22,7 +22,8 @@ const UNAUTHORIZED: [&str; 3] = [
     LOGIN,
 ];
 
-/// A session without an authorization for its role ends with its entry, which no server accepts.
+/// A login in a role that its user is not authorized for, which no server accepts, makes a session
+/// that has ended at once.
 #[test]
 fn roles_of_sessions(rt: HostRuntime) {
     let mut policy = Policy::opening();

@@ -1,6 +1,5 @@
 //! The policy list is full, or no session number is left.
-use crate::limits::{Row, give_each};
-use crate::lines::{LOGIN, LOGOUT, giver, policy_command};
+use crate::lines::{LOGIN, LOGOUT, Row, give_each, giver, policy_command};
 use access_core::single::Single;
 use rbac_policy::commands::{AdminCommand, SessionId};
 use rbac_policy::names::Name;

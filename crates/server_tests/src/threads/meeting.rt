@@ -7,7 +7,7 @@ use std::time::{Clock, Duration};
 const NOBODY: usize = usize::MAX;
 
 /// How many milliseconds the first worker waits at most.
-const MOST_TURNS: u32 = 10_000;
+const MOST_MILLISECONDS: u32 = 10_000;
 
 /// Holds the worker that reads first until another one has written answers.
 #[derive(Drop)]
@@ -36,7 +36,7 @@ impl<'a, R: Clock> Meeting<'a, R> {
 
     /// Waits until another worker has written answers, but no longer than ten seconds.
     fn hold(&self) {
-        for _ in 0..MOST_TURNS {
+        for _ in 0..MOST_MILLISECONDS {
             if self.other_answered.load(Ordering::SeqCst) {
                 self.met.store(true, Ordering::SeqCst);
                 return;

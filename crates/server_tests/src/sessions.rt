@@ -1,13 +1,7 @@
 //! As many sessions as may live, which no server comes to: each of its workers holds one at a time.
 //! Full tables of users, roles, sets and permissions are stories of tests/journals.
-use crate::lines::{LOGIN, LOGOUT, expect_told, giver, policy_command};
+use crate::lines::{LOGIN, LOGOUT, Row, give_each};
 use access_core::single::Single;
-use std::alloc::Global;
-use std::process::Abort;
-
-/// A command: how often it is given, by which session or by none, its line, and what it is told the
-/// last time.
-pub type Row = (u8, u16, &'static str, &'static str);
 
 const AS_BOTH: &str = "{\"cmd\":\"login\",\"roles\":[\"a\",\"b\"],\"user\":\"root\"}";
 
@@ -15,7 +9,8 @@ const AS_ONE: &str = "{\"cmd\":\"login\",\"roles\":[\"a\"],\"user\":\"root\"}";
 
 const VIOLATED: &str = "{\"code\":20,\"fault\":\"DsdViolated\",\"session\":65,\"set\":\"d\"}";
 
-/// A login that would violate a set is refused for that, also where there is no room for it.
+/// A login that would violate a set is refused for that, also where there is no room for it. Here
+/// session 1 gives 63 logins; by the protocol a login is given by no session.
 const SESSIONS: &[Row] = &[
     (
         1,
@@ -55,7 +50,7 @@ const SESSIONS: &[Row] = &[
     ),
     (
         63,
-        0,
+        1,
         AS_ONE,
         "{\"ok\":\"login\",\"session\":64,\"version\":73}",
     ),
@@ -75,22 +70,6 @@ const SESSIONS: &[Row] = &[
         "{\"ok\":\"login\",\"session\":65,\"version\":75}",
     ),
 ];
-
-/// The command of a row is given so often, and is told what the row says.
-fn give(rt: &impl Abort, alloc: Global, desk: &mut Single, (count, session, line, wanted): Row) {
-    for _ in 1..count {
-        let _reply = desk.admin(giver(session), policy_command(rt, alloc, line));
-    }
-    let reply = desk.admin(giver(session), policy_command(rt, alloc, line));
-    expect_told(rt, alloc, line, &reply, wanted);
-}
-
-/// The commands of the rows are given one after another.
-pub fn give_each(rt: &impl Abort, alloc: Global, desk: &mut Single, rows: &[Row]) {
-    for row in rows {
-        give(rt, alloc, desk, *row);
-    }
-}
 
 #[test]
 fn violated_before_full_of_sessions(rt: HostRuntime) {
