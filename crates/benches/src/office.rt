@@ -44,7 +44,8 @@ const PARTS: [(Part, u32); 8] = [
     (Part::Set, 16),
 ];
 
-/// The name of a letter and two digits; the name root where that is none.
+/// The name of a letter and two digits. These always make a name; root stands where they don't, so
+/// that nothing can fail here.
 fn named(letter: u8, number: u32) -> Name {
     let digits = [
         letter,
@@ -76,19 +77,23 @@ pub fn pair(number: u32) -> (Operation, Object) {
     }
 }
 
+/// A login of a user in one role.
+fn login(alloc: Global, user: Name, role: Name) -> Result<AdminCommand, AllocError> {
+    Ok(AdminCommand::CreateSession {
+        user,
+        roles: RoleNames::from_vec(vec![in alloc; role]?)?,
+    })
+}
+
 /// The command that adds a part of this number.
 fn command(alloc: Global, part: &Part, number: u32) -> Result<AdminCommand, AllocError> {
-    let role_of_user = named(b'r', number % (LEVELS * WIDTH));
+    let (user, any_role) = (named(b'u', number), named(b'r', number % (LEVELS * WIDTH)));
     let lowest = role(LEVELS - 1, number);
     let (level, place) = (number / 2 / WIDTH % LEVELS, number / 2);
     let (operation, object) = pair(number);
-    let user = named(b'u', number);
     Ok(match part {
-        Part::Root => AdminCommand::CreateSession {
-            user: Name::root(),
-            roles: RoleNames::from_vec(vec![in alloc; Name::root()]?)?,
-        },
-        Part::Role => AdminCommand::AddRole { role: role_of_user },
+        Part::Root => login(alloc, Name::root(), Name::root())?,
+        Part::Role => AdminCommand::AddRole { role: any_role },
         Part::Edge => AdminCommand::AddInheritance {
             senior: role(level, place),
             junior: role(level + 1, place + number % 2),
@@ -101,12 +106,9 @@ fn command(alloc: Global, part: &Part, number: u32) -> Result<AdminCommand, Allo
         Part::User => AdminCommand::AddUser { user },
         Part::Assignment => AdminCommand::AssignUser {
             user,
-            role: role_of_user,
+            role: any_role,
         },
-        Part::Session => AdminCommand::CreateSession {
-            user,
-            roles: RoleNames::from_vec(vec![in alloc; role_of_user]?)?,
-        },
+        Part::Session => login(alloc, user, any_role)?,
         Part::Set => AdminCommand::CreateDsdSet {
             set: named(b's', number),
             count: 3,
@@ -120,13 +122,13 @@ fn command(alloc: Global, part: &Part, number: u32) -> Result<AdminCommand, Allo
 }
 
 /// The session of root, who administers the policy.
-pub fn first() -> Option<SessionId> {
+pub fn root_session() -> Option<SessionId> {
     Some(SessionId::new(1))
 }
 
 /// Decides the command, and takes its entry in. Whether it was accepted.
 pub fn give(policy: &mut Policy, command: AdminCommand) -> bool {
-    match decide(policy, first(), command) {
+    match decide(policy, root_session(), command) {
         Ok(entry) => {
             policy.absorb(&entry);
             true
@@ -144,11 +146,18 @@ fn add(alloc: Global, policy: &mut Policy, part: &Part, count: u32) -> Result<bo
     Ok(accepted)
 }
 
-/// The policy of the office, which is smaller if a part was refused.
-pub fn open_office(alloc: Global) -> Result<Policy, AllocError> {
-    let mut policy = Policy::opening();
+/// Adds all parts. Whether each was accepted.
+fn add_all(alloc: Global, policy: &mut Policy) -> Result<bool, AllocError> {
+    let mut accepted = true;
     for (part, count) in &PARTS {
-        add(alloc, &mut policy, part, *count)?;
+        accepted &= add(alloc, policy, part, *count)?;
     }
-    Ok(policy)
+    Ok(accepted)
+}
+
+/// The policy of the office; none if a part was refused.
+pub fn open_office(alloc: Global) -> Result<Option<Policy>, AllocError> {
+    let mut policy = Policy::opening();
+    let accepted = add_all(alloc, &mut policy)?;
+    Ok(if accepted { Some(policy) } else { None })
 }

@@ -1,6 +1,6 @@
 //! What is asked of a policy, and how often.
 
-use crate::office::{first, give, open_office, pair, role};
+use crate::office::{give, open_office, pair, role, root_session};
 use anyhow::{Result, bail};
 use rbac_admin::policy_step::decide;
 use rbac_policy::commands::{AdminCommand, SessionId};
@@ -82,7 +82,7 @@ fn ask(policy: &mut Policy, question: &Question) -> u64 {
             u64::from(policy.may(SessionId::new(*session), operation, object))
         }
         Question::Decided(change) => {
-            u64::from(decide(policy, first(), command(change, false)).is_ok())
+            u64::from(decide(policy, root_session(), command(change, false)).is_ok())
         }
         Question::Made(change) => {
             let made = give(policy, command(change, false));
@@ -117,7 +117,10 @@ pub fn ask_again(
     let Some(question) = question_of(word) else {
         bail!("{word} is no work");
     };
-    let answered = ask_often(&mut open_office(rt.alloc())?, &question, repetitions);
+    let Some(mut office) = open_office(rt.alloc())? else {
+        bail!("a part of the office is refused");
+    };
+    let answered = ask_often(&mut office, &question, repetitions);
     println!(rt; "{word}: {repetitions} repetitions, {answered}")?;
     Ok(())
 }
