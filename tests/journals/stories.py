@@ -1,7 +1,7 @@
 """Stories of a policy, whose answers were worked out by hand. Each begins with the opening policy.
 
 A part of a story is the number of the session that gives a command, or 0 where there is none; the command; and after a
-colon its refusal: its name, and the values of its keys in their order. A login has the next number if it is accepted, and
+colon its refusal: its name, and the values of its keys in the order of their names. A login has the next number if it is accepted, and
 each session a connection of its own. `1 may load 0` and `1 may not load 0` say what a session may do; `1 3 live` says
 which of all sessions live; `2 reaches 0 1`, which of the slots 0 to 5 a session may load, and no others.
 """
@@ -41,8 +41,9 @@ WRITTEN = """
 # A set counts what lies below a role: a user with the senior of both roles may act in one of the two at a
 # time.
 0 login root root; 1 addrole driver; 1 addrole judge; 1 addrole chief; 1 inherit chief driver;
-1 inherit chief judge; 1 dsd d1 2 driver judge; 1 adduser ann; 1 assign ann chief; 1 logout; 0 login ann;
-2 activate chief: DsdViolated 2 d1; 2 activate driver; 2 activate judge: DsdViolated 2 d1
+1 inherit chief judge; 1 dsd d1 2 driver judge; 1 adduser ann; 1 assign ann chief; 1 logout;
+0 login ann chief: DsdViolated 2 d1; 0 login ann; 2 activate chief: DsdViolated 2 d1; 2 activate driver;
+2 activate judge: DsdViolated 2 d1
 
 # An edge can make a living session violate a set.
 0 login root root; 1 addrole driver; 1 addrole judge; 1 addrole chief; 1 inherit chief driver;
@@ -173,7 +174,7 @@ def stories_of_what_is_taken():
     return [f"{GIVEN}; 1 {taken}; 2 may not load 0" for taken in TAKEN]
 
 
-# each with sessions 2 to 7 of root in the roles p0 to p5, of which each may load the slot of its number
+# sessions 2 to 7 are root's, in the roles p0 to p5; role pN may load slot N
 ORDERS = [
     # what lies below a new junior comes along, and every role above the senior takes it in
     """1 inherit p1 p2; 1 inherit p0 p1; 2 reaches 0 1 2; 3 reaches 1 2; 4 reaches 2; 7 reaches 5; 1 inherit p3 p4;
@@ -237,7 +238,8 @@ def command(words):
     word, *values = words
     keys = {}
     for key in FORMS[word].split():
-        keys[key.strip("*")] = values if key.endswith("*") else values.pop(0)
+        keys[key.strip("*")], values = (values, []) if key.endswith("*") else (values[0], values[1:])
+    assert not values, f"{word}: too many words"
     if "count" in keys:
         keys["count"] = int(keys["count"])
     return word, keys
@@ -260,7 +262,8 @@ class Story:
             self.add(words.split(), refusal)
 
     def add(self, words, refusal):
-        """Adds a part. What no session gives, and a login that is refused, have the connection 0."""
+        """Adds a part. Connection 0 holds no session: from there comes what no session gives, or one
+        that was never made, and a login that is refused."""
         if words[-1] == "live":
             living = [int(word) for word in words[:-1]]
             for session in range(1, self.made + 1):
@@ -274,8 +277,9 @@ class Story:
                 told = "may" if str(slot) in rest else "may not"
                 self.steps.append((*asked(connection, ("load", str(slot))), told))
         elif word == "may":
-            told = "may not" if rest[0] == "not" else "may"
-            self.steps.append((*asked(connection, rest[-2:]), told))
+            is_denied = rest[0] == "not"
+            told = "may not" if is_denied else "may"
+            self.steps.append((*asked(connection, rest[is_denied:]), told))
         else:
             if word == "login" and not refusal:
                 self.made += 1
