@@ -1,3 +1,4 @@
+pub mod InstantLineLemmas
 pub mod LineLemmas
 pub mod NameLemmas
 pub mod OfferLemmas

@@ -1,1 +1,2 @@
+pub mod InstantLines
 pub mod LineParts

@@ -2,6 +2,7 @@
 use Rattle.std.specs.Prelude.{◌≡◌, ◌+◌, ℕ, Some, List, codes, map, option_map}
 use Rattle.serde_json.specs.Data.{Data, number, unsigned, string, array, Members, member, no_members}
 use Rattle.serde_json.specs.Find.{as_object, get}
+use Rattle.serde_json.specs.Read.{read}
 use Rattle.serde_json.specs.View.{items_of}
 use Rattle.lab_lines.specs.declared.request.Request.{Request}
 use Rattle.lab_lines.specs.declared.request.Request.TheVariants.{Load, Kernel, Explore, Same, Table}
@@ -77,3 +78,9 @@ pub record Says (d : Data) (r : Request) : Type 0 where
 -- the value asks for nothing
 abbrev pub SaysNothing : Data → Type 0
 SaysNothing d = (r : Request) → Says d r → ⊥
+
+-- the text reads as a value that asks for this
+pub record Asks (text : List ℕ) (r : Request) : Type 0 where
+  pub value : Data
+  pub reads : read text ≡ Some value
+  pub says : Says value r

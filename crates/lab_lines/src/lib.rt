@@ -1,6 +1,7 @@
 //! What is asked about all runs of a module, and what is answered, as JSON.
 //!
-//! `reading` reads the request of a JSON value, and `offers` the signals that somebody may offer.
+//! `reading` reads the request of a JSON value, `instant_lines` that of an instant's line token by
+//! token, and `offers` the signals that somebody may offer.
 //! `asked_test` is a test over the signals of a module. `exploring` judges tests over all runs,
 //! `comparing` compares two modules, and `table_json` gives the closed table; each answers a JSON
 //! value, of which `found_json` makes the parts. `statements` lists the statements of a kernel.
@@ -14,6 +15,7 @@ pub mod comparing;
 pub mod exploring;
 pub mod found_json;
 pub mod inside;
+pub mod instant_lines;
 mod line_parts;
 pub mod offers;
 mod pauses;

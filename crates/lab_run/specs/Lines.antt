@@ -1,6 +1,7 @@
 -- What a lab answers to a line (this project's own form).
-use Rattle.std.specs.Prelude.{◌≡◌, ◌⊎◌, ◌++◌, ◌∷◌, [], ℕ, List, Option, Result, Ok, Err}
+use Rattle.std.specs.Prelude.{◌≡◌, ◌⊎◌, ◌++◌, ◌∷◌, [], ℕ, List, Option, Some, Result, Ok, Err}
 use Rattle.serde_json.specs.Data.{Data}
+use Rattle.serde_json.specs.Read.{read}
 use Rattle.serde_json.specs.View.{view}
 use Rattle.serde_json.specs.Written.{IsInOrder}
 use Rattle.serde_json.specs.declared.value.Value.{Value}
@@ -63,6 +64,13 @@ abbrev pub IsValueTold : (before : Option SteppedState) → (value : Data) → L
     → Type 0
 IsValueTold before value told after =
     IsDone before value told after ⊎ IsNoRequest before value told after
+
+-- the text reads as a value that asks for something, and that is done
+pub record IsAsked (before : Option SteppedState) (text : List ℕ) (told : LabReply)
+    (after : Option SteppedState) : Type 0 where
+  pub value : Data
+  pub reads : read text ≡ Some value
+  pub done : IsDone before value told after
 
 -- the line has a value, and what that is told
 pub record IsToldOfValue (before : Option SteppedState) (line : List ℕ) (told : LabReply)

@@ -1,14 +1,19 @@
 //! From a line to the line of its answer.
+//!
+//! A line of `instant` or `try` is read token by token where its keys stand in order. Of any other
+//! line the JSON value is read as a tree.
 
-ghost use Rattle.std.specs.Prelude.{◌≡◌, IfOk, IfErr};
+ghost use Rattle.std.specs.Prelude.{◌≡◌, IfOk, IfErr, MatchOption};
 ghost use Rattle.std.specs.Cow.{cow_slice_items};
 ghost use Rattle.serde_json.specs.View.{view};
 ghost use Rattle.lab_run.specs.Lines.{HasNoText, IsAnswer, IsLineOf, IsTextOf, IsTold};
-ghost use Rattle.lab_run.specs.Lines.{IsReadAs, IsValueTold};
+ghost use Rattle.lab_run.specs.Lines.{IsAsked, IsReadAs, IsValueTold};
 
 use crate::lab::{Lab, LabReply};
 use access_core::refusal::Refusal;
 use access_core::reply::Reply;
+use json::Scratch;
+use lab_lines::instant_lines::read_instant;
 use lab_lines::reading::request_of;
 use serde_json::Value;
 use serde_json::error::Category;
@@ -43,8 +48,8 @@ fn answer_value(alloc: Global, lab: &mut Lab, value: &Value) -> Result<LabReply,
     }
 }
 
-/// What a line is told.
-fn answer_line(alloc: Global, lab: &mut Lab, line: &[u8]) -> LabReply
+/// What a line is told whose value is read as a tree.
+fn answer_tree(alloc: Global, lab: &mut Lab, line: &[u8]) -> LabReply
     ensures { IsTold lab.old.stepped line.now result lab.new.stepped }
 {
     match value_of(alloc, line) {
@@ -53,6 +58,37 @@ fn answer_line(alloc: Global, lab: &mut Lab, line: &[u8]) -> LabReply
             Err(_) => LabReply::Refused(Refusal::Memory),
         },
         Err(refusal) => LabReply::Refused(refusal),
+    }
+}
+
+/// What a text is told that is read token by token; none where its value has to be read as a tree.
+fn answer_instant(
+    alloc: Global,
+    scratch: &mut Scratch,
+    lab: &mut Lab,
+    text: &str,
+) -> Result<Option<LabReply>, AllocError>
+    ensures done { IfOk result (λ read. MatchOption read (lab.new ≡ lab.old)
+        (λ told. IsAsked lab.old.stepped text.now told lab.new.stepped)) }
+    ensures kept { IfErr result (λ _. lab.new ≡ lab.old) }
+{
+    match read_instant(alloc, scratch, text)? {
+        Some(request) => Ok(Some(lab.obey(alloc, &request)?)),
+        None => Ok(None),
+    }
+}
+
+/// What a line is told.
+fn answer_line(alloc: Global, scratch: &mut Scratch, lab: &mut Lab, line: &[u8]) -> LabReply
+    ensures { IsTold lab.old.stepped line.now result lab.new.stepped }
+{
+    let Ok(text) = std::str::from_utf8(line) else {
+        return answer_tree(alloc, lab, line);
+    };
+    match answer_instant(alloc, scratch, lab, text) {
+        Ok(Some(told)) => told,
+        Ok(None) => answer_tree(alloc, lab, line),
+        Err(_) => LabReply::Refused(Refusal::Memory),
     }
 }
 
@@ -76,9 +112,21 @@ pub fn line_of(alloc: Global, told: LabReply) -> Result<AnswerText, AllocError>
     }
 }
 
-/// Answers the lines of a connection by the lab.
-#[derive(Clone, Copy, Drop)]
-pub struct LabAnswerer;
+/// Answers the lines of a connection by the lab. The memory that it took to read one line serves
+/// the next.
+#[derive(Drop)]
+pub struct LabAnswerer {
+    scratch: Scratch,
+}
+
+impl LabAnswerer {
+    /// An answerer that has read nothing. It takes no memory.
+    pub fn new(alloc: Global) -> LabAnswerer {
+        LabAnswerer {
+            scratch: Scratch::new(alloc),
+        }
+    }
+}
 
 impl Answerer<Lab> for LabAnswerer {
     ghost tells = { λ before line text after. IsAnswer before.1.stepped line text after.1.stepped };
@@ -91,7 +139,7 @@ impl Answerer<Lab> for LabAnswerer {
         lab: &mut Lab,
         line: &[u8],
     ) -> Result<AnswerText, AllocError> {
-        let told = answer_line(alloc, lab, line);
+        let told = answer_line(alloc, &mut self.scratch, lab, line);
         line_of(alloc, told)
     }
 }

@@ -49,7 +49,7 @@ fn serve<I: Read, O: Write>(
     let Ok(refusal) = line_of(memory.allocator(), LabReply::Refused(Refusal::TooLong)) else {
         return UNKNOWN;
     };
-    let mut answerer = LabAnswerer;
+    let mut answerer = LabAnswerer::new(memory.allocator());
     let mut lab = Lab::new();
     let why = answer_connection(
         memory,

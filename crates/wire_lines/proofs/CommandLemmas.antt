@@ -50,17 +50,17 @@ use Rattle.wire_lines.specs.declared.request.Request.TheVariants.{Policy, Slot, 
 -- ---- members, one after another
 
 -- the tokens after a command's word are read as these members
-record Reads (word : List ℕ) (ts : List Token) (members : Members) : Type 0 where
-  json : json.Members
-  same : ts ≡ members_tokens json
-  reads : of_members json (command_member word no_members) ≡ Some (command_member word members)
-  shallow : members_depth json ≤ 1
+pub record Reads (word : List ℕ) (ts : List Token) (members : Members) : Type 0 where
+  pub json : json.Members
+  pub same : ts ≡ members_tokens json
+  pub reads : of_members json (command_member word no_members) ≡ Some (command_member word members)
+  pub shallow : members_depth json ≤ 1
 
 no_member : (word : List ℕ) (ts : List Token) → ts ≡ token.end_object ∷ [] → Reads word ts no_members
 no_member word ts h = record { json = json.no_members; same = h; reads = refl; shallow = omega arith }
 
 -- the members stand in order: each key comes after `cmd`
-abbrev InOrder1 : List ℕ → Type 0
+abbrev pub InOrder1 : List ℕ → Type 0
 InOrder1 key = (w d : Data) → put key d (member (codes "cmd") w no_members) ≡ member (codes "cmd") w
     (member key d no_members)
 
@@ -74,7 +74,7 @@ InOrder3 first second third =
     (w d e f : Data) → put third f (put second e (put first d (member (codes "cmd") w no_members))) ≡ member
     (codes "cmd") w (member first d (member second e (member third f no_members)))
 
-one_member : (word key : List ℕ) (ts : List Token) (d : Data) → InOrder1 key → IsMember key ts d (token.end_object ∷ [])
+pub one_member : (word key : List ℕ) (ts : List Token) (d : Data) → InOrder1 key → IsMember key ts d (token.end_object ∷ [])
     → Reads word ts (member key d no_members)
 one_member word key ts d ordered m =
     record {
@@ -120,7 +120,7 @@ three_members word first second third ts mid late d e f ordered m n o =
     }
 
 -- a text whose first member is the word, and whose tokens are then read as these members
-whole_read : (text word : List ℕ) (ts : List Token) (members : Members)
+pub whole_read : (text word : List ℕ) (ts : List Token) (members : Members)
     → tokens text ≡ token.begin_object ∷ token.key (codes "cmd") ∷ token.string word ∷ ts → Reads word ts members
     → read text ≡ Some (object (command_member word members))
 whole_read text word ts rest is r =

@@ -27,7 +27,7 @@ use Rattle.rbac_policy.specs.declared.objects.Object.{Object}
 use Rattle.rbac_policy.proofs.OfNames.ObjectTexts.{operation_of-exact, object_of-exact, passed, chained}
 use Rattle.wire_lines.specs.Requests.{IsName, IsNumber, AreListed}
 use Rattle.wire_lines.specs.Inner.Members.{whole_of, after_key, front_text, front_number, begins_array, begins_object}
-use Rattle.wire_lines.specs.Inner.Members.{text_after, number_after, parsed_after, names_in}
+use Rattle.wire_lines.specs.Inner.Members.{text_after, number_after, parsed_after, list_after, names_in}
 use Rattle.wire_lines.specs.Inner.Members.{roles_after, no_more, ends, last}
 
 -- ---- tools
@@ -65,6 +65,14 @@ number_is _ found h = cc
 bracket_is : (ts left : List Token) → begins_array ts ≡ Some left → ts ≡ token.begin_array ∷ left
 bracket_is (token.begin_array ∷ rest) left h = ap (λ (l : List Token). token.begin_array ∷ l) (same_Some _ _ h)
 bracket_is _ left h = cc
+
+-- a key, and the bracket after it
+list_is : (name : List ℕ) (ts left : List Token) → list_after name ts ≡ Some left
+    → ts ≡ token.key name ∷ token.begin_array ∷ left
+unfolding list_after
+list_is name ts left h =
+    let p = chained _ _ left h in
+    key_is name ts p.0 p.1 ∙ ap (λ (l : List Token). token.key name ∷ l) (bracket_is p.0 left p.2)
 
 pub brace_is : (ts left : List Token) → begins_object ts ≡ Some left → ts ≡ token.begin_object ∷ left
 brace_is (token.begin_object ∷ rest) left h = ap (λ (l : List Token). token.begin_object ∷ l) (same_Some _ _ h)
@@ -239,21 +247,53 @@ pub number_back : (n : ℕ) → IsNumber n → whole_of (decimal n) ≡ Some n
 unfolding whole_of
 number_back n h = ap (option_and_then as_u64) (number_of-decimal n h)
 
+-- ---- lists of texts
+
+-- the tokens of texts up to the bracket after them, and what is left
+abbrev pub texts_before : List Token → List (List ℕ) → List Token
+texts_before left [] = token.end_array ∷ left
+texts_before left (text ∷ texts) = token.string text ∷ texts_before left texts
+
+-- the items of a list of texts
+abbrev text_items : List (List ℕ) → json.Items
+text_items [] = json.no_items
+text_items (text ∷ texts) = json.item (json.string text) (text_items texts)
+
+items_before : (texts : List (List ℕ)) (left : List Token)
+    → items_tokens (text_items texts) ++ left ≡ texts_before left texts
+items_before [] left = refl
+items_before (text ∷ texts) left = ap (λ (l : List Token). token.string text ∷ l) (items_before texts left)
+
+items_read : (texts : List (List ℕ)) → of_items (text_items texts) ≡ Some (items_of (map string texts))
+items_read [] = refl
+items_read (text ∷ texts) = ap (option_map (item (string text))) (items_read texts)
+
+items_flat : (texts : List (List ℕ)) → items_depth (text_items texts) ≤ 0
+items_flat [] = omega arith
+items_flat (text ∷ texts) = omega (arith, items_flat texts)
+
+pub texts_member_is : (name : List ℕ) (ts mid : List Token) (texts : List (List ℕ)) (left : List Token)
+    → list_after name ts ≡ Some mid → mid ≡ texts_before left texts
+    → IsMember name ts (array (items_of (map string texts))) left
+texts_member_is name ts mid texts left h e =
+    record {
+      json = json.array (text_items texts);
+      next = list_is name ts mid h
+          ∙ ap (λ (l : List Token). token.key name ∷ token.begin_array ∷ l) (e ∙ sym (items_before texts left));
+      reads = ap (option_map array) (items_read texts);
+      shallow = omega (arith, items_flat texts);
+    }
+
 -- ---- lists of roles
 
 abbrev pub AreNames : List (List ℕ) → Type 0
 AreNames names = AllByRecursion (λ name. IsName name) names
 
--- the tokens of names up to the bracket after them, and what is left
-abbrev names_before : List Token → List (List ℕ) → List Token
-names_before left [] = token.end_array ∷ left
-names_before left (name ∷ names) = token.string name ∷ names_before left names
-
 names_are : (ts : List Token) (found : List (List ℕ) × List Token) → names_in ts ≡ Some found
-    → (ts ≡ names_before found.1 found.0) × AreNames found.0
+    → (ts ≡ texts_before found.1 found.0) × AreNames found.0
 unfolding names_in
 names_are (token.end_array ∷ rest) found h =
-    subst (λ (q : List (List ℕ) × List Token). (token.end_array ∷ rest ≡ names_before q.1 q.0) × AreNames q.0)
+    subst (λ (q : List (List ℕ) × List Token). (token.end_array ∷ rest ≡ texts_before q.1 q.0) × AreNames q.0)
     (same_Some _ _ h) (refl, tt)
 names_are (token.string text ∷ rest) found h =
     let p = chained _ _ found h in
@@ -261,29 +301,11 @@ names_are (token.string text ∷ rest) found h =
     let e : text ≡ p.0 = same_Some _ _ g.1 in
     let m = mapped _ _ found p.2 in
     let r = names_are rest m.0 m.1 in
-    subst (λ (q : List (List ℕ) × List Token). (token.string text ∷ rest ≡ names_before q.1 q.0) × AreNames q.0) m.2 (
+    subst (λ (q : List (List ℕ) × List Token). (token.string text ∷ rest ≡ texts_before q.1 q.0) × AreNames q.0) m.2 (
       ap (λ (s : List ℕ). token.string s ∷ rest) e ∙ ap (λ (l : List Token). token.string p.0 ∷ l) r.0,
       (subst (λ (s : List ℕ). is_name s ≡ true) e g.0, r.1),
     )
 names_are _ found h = cc
-
--- the items of a list of names
-abbrev name_items : List (List ℕ) → json.Items
-name_items [] = json.no_items
-name_items (name ∷ names) = json.item (json.string name) (name_items names)
-
-items_before : (names : List (List ℕ)) (left : List Token)
-    → items_tokens (name_items names) ++ left ≡ names_before left names
-items_before [] left = refl
-items_before (name ∷ names) left = ap (λ (l : List Token). token.string name ∷ l) (items_before names left)
-
-items_read : (names : List (List ℕ)) → of_items (name_items names) ≡ Some (items_of (map string names))
-items_read [] = refl
-items_read (name ∷ names) = ap (option_map (item (string name))) (items_read names)
-
-items_flat : (names : List (List ℕ)) → items_depth (name_items names) ≤ 0
-items_flat [] = omega arith
-items_flat (name ∷ names) = omega (arith, items_flat names)
 
 pub roles_are : (ts : List Token) (roles : List (List ℕ)) (left : List Token) → roles_after ts ≡ Some (roles, left)
     → IsMember (codes "roles") ts (array (items_of (map string roles))) left × AreListed roles
@@ -293,16 +315,8 @@ roles_are ts roles left h =
     let g = passed (nat_le (length p.0.0) LISTED_ROLES) (Some p.0) (roles, left) p.2 in
     let e : p.0 ≡ (roles, left) = same_Some _ _ g.1 in
     let q = chained _ _ p.0 p.1 in
-    let s = chained _ _ q.0 q.1 in
     let n = names_are q.0 (roles, left) (q.2 ∙ ap Some e) in (
-      record {
-        json = json.array (name_items roles);
-        next = key_is (codes "roles") ts s.0 s.1
-            ∙ ap (λ (l : List Token). token.key (codes "roles") ∷ l) (bracket_is s.0 q.0 s.2
-            ∙ ap (λ (l : List Token). token.begin_array ∷ l) (n.0 ∙ sym (items_before roles left)));
-        reads = ap (option_map array) (items_read roles);
-        shallow = omega (arith, items_flat roles);
-      },
+      texts_member_is (codes "roles") ts q.0 roles left q.1 n.0,
       (
         leb-true (length roles) LISTED_ROLES (subst
             (λ (x : List (List ℕ) × List Token). nat_le (length x.0) LISTED_ROLES ≡ true) e g.0),
@@ -320,5 +334,5 @@ names_back (name ∷ names) left h = rw (h.0, names_back names left h.1) refl
 pub roles_back : (roles : List (List ℕ)) (left : List Token) → AreListed roles
     → roles_after (token.key (codes "roles") ∷ token.begin_array ∷
     (items_tokens (items_outline (items_of (map string roles))) ++ left)) ≡ Some (roles, left)
-unfolding roles_after after_key
+unfolding roles_after list_after after_key
 roles_back roles left h = rw (names_back roles left h.1, le-leb _ _ h.0) refl

@@ -12,7 +12,7 @@
 mod accepted;
 mod commands;
 pub mod line_writer;
-mod members;
+pub mod members;
 pub mod reading;
 pub mod reply;
 pub mod request;

@@ -2,7 +2,8 @@
 //! values.
 //!
 //! Each call takes one member, or answers that the next one is not of this key and kind. A line
-//! whose keys stand in another order is not read here.
+//! whose keys stand in another order is not read here. The public calls serve the lines of the lab
+//! too.
 ghost use Rattle.std.specs.Prelude.{◌≡◌, ◌==◌, ◌≤◌, slice_index, length, codes, IfOk, IfSome};
 ghost use Rattle.std.specs.Prelude.{option_map, option_and_then};
 ghost use Rattle.rbac_policy.specs.declared.names.TheConstants.{LISTED_ROLES};
@@ -10,8 +11,8 @@ ghost use Rattle.rbac_policy.specs.Texts.{operation_of, object_of};
 ghost use Rattle.wire_lines.specs.Inner.Members.{whole_of, after_key, front_text, front_number};
 ghost use Rattle.wire_lines.specs.Inner.Members.{begins_object, begins_array, text_after};
 ghost use Rattle.wire_lines.specs.Inner.Members.{number_after, name_of, identifier_of};
-ghost use Rattle.wire_lines.specs.Inner.Members.{parsed_after, names_in, listed, roles_after};
-ghost use Rattle.wire_lines.specs.Inner.Members.{ends, word_at};
+ghost use Rattle.wire_lines.specs.Inner.Members.{parsed_after, list_after, names_in, listed};
+ghost use Rattle.wire_lines.specs.Inner.Members.{roles_after, ends, word_at};
 
 use est_text::identifier::Identifier;
 use fast_float::Numeral;
@@ -91,7 +92,7 @@ fn begin_array(reader: &mut Reader<'_>) -> Option<()>
 
 /// Takes the brace that begins an object, and the word of its command, which is its first member.
 #[tactic(auto, unfolding(crate::specs::Inner::Members::word_at))]
-pub(crate) fn take_word<'a>(reader: &mut Reader<'a>) -> Option<&'a str>
+pub fn take_word<'a>(reader: &mut Reader<'a>) -> Option<&'a str>
     ensures { option_map (λ word. (word.now, reader.new)) result ≡ word_at reader.old }
 {
     begin_object(reader)?;
@@ -152,6 +153,15 @@ pub(crate) fn take_operation(reader: &mut Reader<'_>) -> Option<Operation>
     Operation::from_text(take_text(reader, "op")?)
 }
 
+/// Takes the bracket that comes next, under this key: a list begins.
+#[tactic(auto, unfolding(crate::specs::Inner::Members::list_after))]
+pub fn begin_list(reader: &mut Reader<'_>, name: &str) -> Option<()>
+    ensures { option_map (λ _. reader.new) result ≡ list_after name.now reader.old }
+{
+    take_key(reader, name)?;
+    begin_array(reader)
+}
+
 /// Takes the names that come next, and the bracket after them: no more names than a command may
 /// list.
 #[tactic(auto, unfolding(crate::specs::Inner::Members::names_in))]
@@ -185,7 +195,7 @@ pub(crate) fn take_roles(
     ensures { IfOk result (λ roles. option_map (λ r. (r, reader.new)) roles
         ≡ roles_after reader.old) }
 {
-    if take_key(reader, "roles").is_none() || begin_array(reader).is_none() {
+    if begin_list(reader, "roles").is_none() {
         return Ok(None);
     }
     match take_names(alloc, reader)? {
@@ -196,7 +206,7 @@ pub(crate) fn take_roles(
 
 /// Takes the last brace, after which the text has to end.
 #[tactic(auto, unfolding(crate::specs::Inner::Members::ends))]
-pub(crate) fn take_end(reader: &mut Reader<'_>) -> Option<()>
+pub fn take_end(reader: &mut Reader<'_>) -> Option<()>
     ensures { result ≡ ends reader.old }
 {
     let Some(Token::EndObject) = reader.next() else {

@@ -71,6 +71,10 @@ number_after name tokens = option_and_then (parsed whole_of) (option_and_then fr
 unfoldable pub parsed_after : {A : Type 0} → (List ℕ → Option A) → List ℕ → List Token → Option (A × List Token)
 parsed_after parse name tokens = option_and_then (parsed parse) (text_after name tokens)
 
+-- what follows the bracket that begins a list under this key
+unfoldable pub list_after : List ℕ → List Token → Option (List Token)
+list_after name tokens = option_and_then begins_array (after_key name tokens)
+
 -- names at the front
 abbrev pub with_front : List (List ℕ) → Option (List (List ℕ) × List Token) → Option (List (List ℕ) × List Token)
 with_front front names = option_map (λ found. (front ++ found.0, found.1)) names
@@ -89,7 +93,7 @@ listed found = if nat_le (length found.0) LISTED_ROLES then Some found else None
 -- the roles under the key `roles`
 unfoldable pub roles_after : List Token → Option (List (List ℕ) × List Token)
 roles_after tokens = option_and_then listed
-    (option_and_then names_in (option_and_then begins_array (after_key (codes "roles") tokens)))
+    (option_and_then names_in (list_after (codes "roles") tokens))
 
 -- nothing is left
 abbrev pub no_more : List Token → Option (Unit {0})

@@ -8,7 +8,7 @@ returns g c =
       | inl s ↦
           inl (record {
             why = c.answer_connection-why.result;
-            opened = (record {}, c.new-lab.result);
+            opened = (c.new-answerer.result, c.new-lab.result);
             empty = c.new-lab.ensures;
             closed = (c.answer_connection-why.new.answerer, c.answer_connection-why.new.desk);
             serves = s;
