@@ -124,3 +124,13 @@ common_place a b some =
 
 pub no_common_place : (a b : ℕ) → Meets a b → common a b ≡ 0 → ⊥
 no_common_place a b m e = none_in_empty m.0 (subst (λ n. Has n m.0) e ((has_common a b m.0).1 (m.1, m.2)))
+
+-- a set is within another where it adds nothing to it
+pub within_from_either : (a b : ℕ) → either a b ≡ b → (place : ℕ) → Has a place → Has b place
+within_from_either a b e p h = subst (λ n. Has n p) e ((has_either a b p).1 (inl h))
+
+pub either_from_within : (a b : ℕ) → ((place : ℕ) → Has a place → Has b place) → either a b ≡ b
+either_from_within a b h = same_set (either a b) b (λ p. (
+  λ x. elim ((has_either a b p).0 x) [ inl y ↦ h p y | inr y ↦ y ],
+  λ y. (has_either a b p).1 (inr y),
+))
