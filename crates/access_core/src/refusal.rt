@@ -71,13 +71,6 @@ impl Refusal {
     {
         self.label().0
     }
-
-    /// Its name.
-    pub fn name(&self) -> &'static str
-        ensures { result.now ≡ name_of self.now }
-    {
-        self.label().1
-    }
 }
 
 impl From<ReactorRefusal> for Refusal {

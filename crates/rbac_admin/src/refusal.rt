@@ -118,20 +118,6 @@ impl PolicyRefusal {
             PolicyRefusal::Full { .. } => (39, "Full"),
         }
     }
-
-    /// Its number.
-    pub fn code(&self) -> u8
-        ensures { result ≡ code_of self.now }
-    {
-        self.label().0
-    }
-
-    /// Its name.
-    pub fn name(&self) -> &'static str
-        ensures { result.now ≡ name_of self.now }
-    {
-        self.label().1
-    }
 }
 
 /// The word that a refusal uses for a table of the policy.

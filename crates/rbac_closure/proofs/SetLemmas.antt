@@ -8,7 +8,7 @@ use Rattle.std.proofs.lemmas.Bool.{cases_lt, cases_eq}
 use Rattle.std.proofs.lemmas.Nat.Bits.{bit_at_or, bit_at_and, bit_at_xor, bit_at-lt, bit_at-zero, bit_at_lowest}
 use Rattle.std.proofs.lemmas.Nat.Bits.{bit_at-suc, bit_at-pow_same, bit_at-pow_other, same_from_bits}
 use Rattle.rbac_closure.specs.declared.role_sets.TheConstants.{ROLES}
-use Rattle.rbac_closure.specs.Sets.{Has, Meets, IsWithin, either, common, with_place, without_place}
+use Rattle.rbac_closure.specs.Sets.{Has, Meets, either, common, with_place, without_place}
 
 -- what is made of two sets of the table fits the word too
 pub or_fits : (a b : ℕ) → a < 2 ^ ROLES → b < 2 ^ ROLES → bit_or a b < 2 ^ ROLES
@@ -126,10 +126,10 @@ pub no_common_place : (a b : ℕ) → Meets a b → common a b ≡ 0 → ⊥
 no_common_place a b m e = none_in_empty m.0 (subst (λ n. Has n m.0) e ((has_common a b m.0).1 (m.1, m.2)))
 
 -- a set is within another where it adds nothing to it
-pub within_from_either : (a b : ℕ) → either a b ≡ b → IsWithin a b
+pub within_from_either : (a b : ℕ) → either a b ≡ b → (place : ℕ) → Has a place → Has b place
 within_from_either a b e p h = subst (λ n. Has n p) e ((has_either a b p).1 (inl h))
 
-pub either_from_within : (a b : ℕ) → IsWithin a b → either a b ≡ b
+pub either_from_within : (a b : ℕ) → ((place : ℕ) → Has a place → Has b place) → either a b ≡ b
 either_from_within a b h = same_set (either a b) b (λ p. (
   λ x. elim ((has_either a b p).0 x) [ inl y ↦ h p y | inr y ↦ y ],
   λ y. (has_either a b p).1 (inr y),

@@ -18,10 +18,6 @@ pub record IsFirstFrom (set start place : ℕ) : Type 0 where
   pub after : start ≤ place
   pub first : (other : ℕ) → start ≤ other → other < place → ¬ (Has set other)
 
--- each place of the first set is in the second
-abbrev pub IsWithin : ℕ → ℕ → Type 0
-IsWithin a b = (place : ℕ) → Has a place → Has b place
-
 -- the places of either set
 abbrev pub either : ℕ → ℕ → ℕ
 either a b = bit_or a b

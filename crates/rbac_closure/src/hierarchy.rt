@@ -110,14 +110,6 @@ impl RoleHierarchy {
         self.below[role]
     }
 
-    /// The role, and all that lies above it.
-    pub fn above(&self, role: usize) -> RoleSet
-        requires { role < ROLES }
-        ensures { (place : ℕ) → Has result place ↔ IsAbove self.now place role }
-    {
-        self.above[role]
-    }
-
     /// The roles of the set, and all that lies below one of them.
     pub fn below_some(&self, roles: RoleSet) -> RoleSet
         ensures found { (place : ℕ) → Has result place ↔ IsBelowSome self.now roles place }

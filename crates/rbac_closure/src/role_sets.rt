@@ -1,7 +1,7 @@
 //! Sets of roles, each role being named by its place in a table.
 ghost use Rattle.std.specs.Prelude.{◌≡◌, ◌↔◌, ◌<◌, ◌≤◌, ◌^◌, ℕ, IsTrue, IfSome, MatchOption};
 ghost use Rattle.std.specs.Prelude.{length};
-ghost use Rattle.rbac_closure.specs.Sets.{Has, Meets, IsFirstFrom, IsWithin, with_place};
+ghost use Rattle.rbac_closure.specs.Sets.{Has, Meets, IsFirstFrom, with_place};
 ghost use Rattle.rbac_closure.specs.Sets.{without_place, either, common, places_of};
 
 use std::marker::Model;
@@ -133,12 +133,5 @@ impl RoleSet {
         ensures { IsTrue result ↔ Meets self other }
     {
         !self.common(other).is_empty()
-    }
-
-    /// Whether each place of this set is in the other.
-    pub fn is_subset(self, other: RoleSet) -> bool
-        ensures { IsTrue result ↔ IsWithin self other }
-    {
-        self.union(other) == other
     }
 }

@@ -149,15 +149,6 @@ impl Policy {
         }
     }
 
-    /// The first separation set, in order of creation, that some living session violates, and the
-    /// least session that does.
-    pub fn first_violated(&self) -> Option<Violation>
-        ensures { (entries : List Entry) → StandsFor self.now entries
-            → AnswersFirstViolated entries result }
-    {
-        first_violation(&self.sets, &self.sessions, &None, &self.juniors)
-    }
-
     /// The first separation set, in order of creation, that some session violates once the user has
     /// logged in with these roles, for which it is authorized, and the least session that does. The
     /// new session has the next number.
