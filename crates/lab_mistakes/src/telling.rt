@@ -1,17 +1,35 @@
 //! Names that a request has, and answers as JSON.
-ghost use Rattle.std.specs.Prelude.{◌≡◌, IfErr, IfOk, map};
+ghost use Rattle.std.specs.Prelude.{◌≡◌, IfErr, IfOk, IfSome, map};
 ghost use Rattle.serde_json.specs.View.{view};
 ghost use Rattle.lab_lines.specs.FoundJson.{verdict_json};
 ghost use Rattle.lab_lines.specs.Offers.{AreNamed, FirstNotOfferable};
+ghost use Rattle.lab_lines.specs.Requests.{Asks};
 ghost use Rattle.lab_lines.specs.Statements.{IsKernelTold};
 
 use est_explore::verdict::Verdict;
 use est_kernel::interface::Interface;
 use est_kernel::kernel::Kernel;
 use est_relations::refusal::PendingRefusal;
-use lab_lines::{found_json, offers, statements};
+use json::Scratch;
+use lab_lines::request::Request;
+use lab_lines::{found_json, instant_lines, offers, statements};
 use serde_json::Value;
 use std::alloc::{AllocError, Global};
+
+/// The request of a line of `instant` or `try` whose keys stand in order.
+///
+/// # Errors
+///
+/// `AllocError` where memory is refused.
+pub fn read_instant<'a>(
+    alloc: Global,
+    scratch: &'a mut Scratch,
+    text: &'a str,
+) -> Result<Option<Request<'a>>, AllocError>
+    ensures { IfOk result (λ read. IfSome read (Asks text.now)) }
+{
+    instant_lines::read_instant(alloc, scratch, text)
+}
 
 /// The signals of these names as a mask.
 ///

@@ -10,10 +10,11 @@ use est_kernel::kernel::Kernel;
 use est_micro::micro::Micro;
 use est_relations::relations::Relations;
 use est_rounds::rounds::Rounds;
+use json::Scratch;
 use lab_lines::reading::request_of;
 use lab_lines::request::Request;
 use lab_lines::table_json::find_table;
-use lab_mistakes::telling::{kernel_json, signals_of_names, verdict_json};
+use lab_mistakes::telling::{kernel_json, read_instant, signals_of_names, verdict_json};
 use reactor_core::reading::read_module;
 use serde_json::Value;
 use state_search::search::Limits;
@@ -67,6 +68,43 @@ fn requests(rt: HostRuntime) {
         let value = Value::from_str(alloc, line).ok().expect(&rt, "a value");
         let request = request_of(alloc, &value).expect(&rt, "room");
         assert_eq!(rt; word_told(&request), wanted);
+    }
+}
+
+/// Lines, what each asks for where it is read token by token, and the last of its inputs.
+const BY_TOKENS: [(&str, &str, &str); 6] = [
+    (
+        "{\"cmd\":\"instant\",\"inputs\":[\"A\",\"\\u0042\"]}",
+        "instant",
+        "B",
+    ),
+    (" {\"cmd\": \"try\", \"inputs\": []} ", "try", ""),
+    ("{\"cmd\":\"try\",\"inputs\":[],\"most\":9}", "nothing", ""),
+    ("{\"inputs\":[\"A\"],\"cmd\":\"instant\"}", "nothing", ""),
+    ("{\"cmd\":\"instant\",\"inputs\":[1]}", "nothing", ""),
+    ("{\"cmd\":\"back\",\"to\":0}", "nothing", ""),
+];
+
+/// The last input of a request.
+fn input_told<'v>(request: &Option<Request<'v>>) -> &'v str {
+    let (Some(Request::Instant(names)) | Some(Request::Try(names))) = request else {
+        return "";
+    };
+    match names.as_slice() {
+        [.., last] => *last,
+        [] => "",
+    }
+}
+
+/// A line of an instant is read token by token where its keys stand in order.
+#[test]
+fn instants_by_tokens(rt: HostRuntime) {
+    let alloc = rt.alloc();
+    let mut scratch = Scratch::new(alloc);
+    for (line, word, input) in BY_TOKENS {
+        let request = read_instant(alloc, &mut scratch, line).expect(&rt, "room");
+        assert_eq!(rt; word_told(&request), word);
+        assert_eq!(rt; input_told(&request), input);
     }
 }
 

@@ -9,6 +9,7 @@ use policy_board::board_name::BoardName;
 use policy_board::opening::Opened;
 use policy_board::reader::IdleReader;
 use policy_board::seat::Seat;
+use server_mistakes::boards;
 use std::alloc::Global;
 use std::process::Abort;
 use std::sync::Wait;
@@ -84,7 +85,7 @@ pub(crate) fn play<B: BoardName, R: Wait + Abort>(
         board,
         mut seats,
         readers,
-    } = Board::<B>::open(rt, alloc, fresh, 2)
+    } = boards::open::<B, R>(rt, alloc, fresh, 2)
         .ok()
         .expect(rt, "a board");
     run(rt, alloc, &board, seats.as_mut_slice(), example);
