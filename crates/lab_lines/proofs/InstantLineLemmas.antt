@@ -17,7 +17,8 @@ use Rattle.lab_lines.specs.Inner.InstantLines.{texts_in, inputs_at, AreAsked}
 
 -- the value that asks for these inputs by this word
 abbrev pub asking : (word : List ℕ) → List (List ℕ) → Data
-asking word names = object (command_member word (member (codes "inputs") (array (items_of (map string names))) no_members))
+asking word names =
+    object (command_member word (member (codes "inputs") (array (items_of (map string names))) no_members))
 
 texts_are : (ts : List Token) (found : List (List ℕ) × List Token) → texts_in ts ≡ Some found
     → ts ≡ texts_before found.1 found.0

@@ -74,8 +74,8 @@ InOrder3 first second third =
     (w d e f : Data) → put third f (put second e (put first d (member (codes "cmd") w no_members))) ≡ member
     (codes "cmd") w (member first d (member second e (member third f no_members)))
 
-pub one_member : (word key : List ℕ) (ts : List Token) (d : Data) → InOrder1 key → IsMember key ts d (token.end_object ∷ [])
-    → Reads word ts (member key d no_members)
+pub one_member : (word key : List ℕ) (ts : List Token) (d : Data) → InOrder1 key
+    → IsMember key ts d (token.end_object ∷ []) → Reads word ts (member key d no_members)
 one_member word key ts d ordered m =
     record {
       json = json.member key m.json json.no_members;
