@@ -267,6 +267,7 @@ def take_over(path: pathlib.Path, head: Head, record: str, is_accepted: bool) ->
             if is_accepted:
                 drop_strangers(database)
             make_anew(database, record, *rows)
+            check_connections(path, database)  # before the head knows what was accepted
             tip = last_tip(database, record)
             known = head.of(record)
             is_known = known is not None and known._replace(serial=0) == tip

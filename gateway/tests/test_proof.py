@@ -409,6 +409,16 @@ class Changed(Record):
             team.end()
         self.assertTrue(self.is_proven())
 
+    def test_what_cannot_be_accepted_stays_as_it_was(self):
+        login = "(SELECT min(number) FROM entries WHERE command = 'login')"
+        self.change(f"DELETE FROM entries WHERE number = {login}")
+        before = entries_at(self.record)
+        told = failed_start(Team("--accept", state=self.state))
+        self.assertIn("can't be accepted: its connections are not those of its logins", told)
+        self.assertNotIn("--accept", told)
+        self.assertEqual(entries_at(self.record), before)
+        self.refused("entry [0-9]+ is missing")
+
 
 class Hashes(unittest.TestCase):
     def test_no_two_rows_are_the_same_bytes(self):
