@@ -604,7 +604,8 @@ class WithoutTest(unittest.TestCase):
         with visitors.Team("--http", "127.0.0.1:0") as team:
             place = visitors.address_of(team)
             with visitors.Team("--http", place) as other:
-                self.assertIn("HTTP cannot be served: Address already in use", other.told())
+                told = f"HTTP cannot be served: Address already in use: {place}"
+                self.assertIn(told, other.told())
                 with other.root() as client:
                     self.assertEqual(client.addrole("driver")["ok"], "addrole")
                 teams.wait_for(lambda: "has not begun to serve" in other.told())
