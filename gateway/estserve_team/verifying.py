@@ -171,7 +171,7 @@ def verify_record(
         check_objects(path, database, schema)
         found = database.execute("PRAGMA integrity_check(1)").fetchone()[0]
         if found != "ok":
-            raise NotProven(path, f"the file is damaged: {found.splitlines()[0]}")
+            raise NotProven(path, f"the file is damaged: {found.splitlines()[-1]}")
         if tip is None:
             raise NotProven(path, "no head is beside it that knows it")
         givenup = check_givenup(path, database, tip, blocks)

@@ -392,6 +392,11 @@ class Changed(Record):
             file.write(b"torn")
         self.assertTrue(self.is_proven())
 
+    def test_a_file_that_was_cut_off_is_told_by_what_is_wrong_in_it(self):
+        settle(self.record)
+        os.truncate(self.record, self.record.stat().st_size * 2 // 3)
+        self.refused(r"the file is damaged: [^*\n]+;|the file cannot be opened: [^*\n]+;")
+
     def test_numbers_without_a_hole_are_the_tables_own_rule(self):
         with contextlib.closing(sqlite3.connect(self.record)) as database:
             row = database.execute("SELECT * FROM entries ORDER BY number DESC LIMIT 1").fetchone()
