@@ -75,6 +75,15 @@ SENTENCES = {
     "Memory": "the server found no memory",
 }
 
+OF_GATEWAY = {  # which stands before the server, at team.sock
+    "NotYou": "your Unix user may not log in as {user}",
+    "AllTaken": "each of the sixteen logins is held: `team who` tells by whom",
+    "UnknownPerson": "the gateway does not know the Unix user of the number {uid}",
+    "Stopping": "the gateway is stopping, or makes an archive: try again",
+    "NotUnderstood": "the program read the command otherwise: nothing was done",
+    "TooMany": "{what}: at most {most} may be had here now",
+}
+
 
 A_NAME = (NAME, "a name: 1 to 24 letters, digits, _ and -")
 AN_IDENTIFIER = (IDENTIFIER, "an identifier: a letter, then letters, digits and _, at most 48")
@@ -133,10 +142,13 @@ def sentence(
         fields["relation"] = f"{number} ({relations[number - 1]})"
     if "undecided" in fields:
         fields["undecided"] = " ".join(fields["undecided"]) or "none that may be observed"
+    if refusal.fault == "NoInstant" and refusal.command.get("instant") == 0:
+        return "NoInstant: the first instant is 1: look [SLOT] INSTANT"
     if refusal.fault == "NotARequest" and out_of_form(refusal.command):
         return f"{refusal.fault}: {out_of_form(refusal.command)}"
+    known = {**SENTENCES, **OF_GATEWAY}
     more = clash(refusal, sets or {}) if refusal.fault == "DsdViolated" else ""
     try:
-        return f"{refusal.fault}: {SENTENCES[refusal.fault].format(**fields)}{more}"
+        return f"{refusal.fault}: {known[refusal.fault].format(**fields)}{more}"
     except (KeyError, IndexError):
         return str(refusal)

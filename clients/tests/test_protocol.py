@@ -122,6 +122,22 @@ class Sentences(unittest.TestCase):
         told = "Excluded: relation 2 (A # B) excludes A, since B is pending"
         self.assertEqual(sentence(refusal, ["A => C", "A # B"]), told)
 
+    def test_a_refusal_of_the_gateway_is_told(self):
+        refusal = Refusal({"code": 1001, "fault": "NotYou", "user": "ann"})
+        self.assertEqual(sentence(refusal), "NotYou: your Unix user may not log in as ann")
+        refusal = Refusal({"code": 1003, "fault": "UnknownPerson", "uid": 7})
+        self.assertIn("the number 7", sentence(refusal))
+
+    def test_a_look_at_no_instant_says_what_is_the_first(self):
+        told = [
+            sentence(
+                Refusal({"code": 51, "fault": "NoInstant"}, {"cmd": "look", "instant": number})
+            )
+            for number in (0, 9)
+        ]
+        self.assertEqual(told[0], "NoInstant: the first instant is 1: look [SLOT] INSTANT")
+        self.assertEqual(told[1], "NoInstant: there was no such instant since the load")
+
     def test_a_word_out_of_form_is_told(self):
         wrong = {
             "user": "a.b",

@@ -22,16 +22,20 @@ SLOT_BYTES = 1_024  # of each of the two places of the head, which are written i
 BLOCKS_AT = 4_096  # where its blocks begin
 HEAD_BYTES = BLOCKS_AT + (1 << 18)  # all of which is written once, so that no later sync takes long
 BLOCK_STEP = 512  # each block begins at a multiple of this
-REMEDY = (
-    "`team restore FILE` puts a backup in its place; `--accept` takes what is there for the record"
-)
+REMEDY = "`team restore FILE` puts a backup in its place"
+ACCEPTANCE = "`--accept` takes what is there for the record"
 
 
 class NotProven(Failed):
     """The record is not what was written. Says where, and what can be done."""
 
     def __init__(self, path: pathlib.Path, why: str) -> None:
-        super().__init__(f"the record {path} can't be trusted: {why}; {REMEDY}")
+        super().__init__(f"the record {path} can't be trusted: {why}; {REMEDY}; {ACCEPTANCE}")
+        self.path, self.why = path, why
+
+    def after_accept(self) -> Failed:
+        """What is told where `--accept` was asked for, and the record can't be taken so either."""
+        return Failed(f"the record {self.path} can't be accepted: {self.why}; {REMEDY}")
 
 
 def first_hash(record: str) -> bytes:

@@ -169,6 +169,7 @@ async def run(
     gateway = Gateway(places, people, program, most, fit_to(limits, raise_descriptors()))
     gateway.watchdog = watchdog
     forward_all(gateway.log)
+    gateway.tell_doubts()
     for orphan in places.orphans:
         gateway.log(f"the process {orphan} of an earlier gateway was ended")
     if places.children.fault:

@@ -191,9 +191,15 @@ class Gateway:
         """Has other people from now on. Logins that they may no more have are ended."""
         self.people = people
         self.log("who may be whom was read anew", "people")
+        self.tell_doubts()
         for client in list(self.clients):
             self._tell(client.follow_people)
         self._tell(self.visiting.follow_people)
+
+    def tell_doubts(self) -> None:
+        """Tells the operator what of the file of people is probably a mistake."""
+        for doubt in self.people.doubts():
+            self.log(f"in the file of people: {doubt}", "people")
 
     @property
     def is_serving(self) -> bool:

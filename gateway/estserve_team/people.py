@@ -44,6 +44,15 @@ def peer_uid(connection: socket.socket) -> int:
     return int(CREDENTIALS.unpack(told)[1])
 
 
+def is_user(name: str) -> bool:
+    """Whether this machine has a Unix user of this name."""
+    try:
+        pwd.getpwnam(name)
+    except (KeyError, ValueError):
+        return False
+    return True
+
+
 class People:
     """All persons: by the table of a file, or each as the policy user of its own name."""
 
@@ -54,6 +63,17 @@ class People:
         unless it is said."""
         self._table = table
         self._owner = os.geteuid() if owner is None else owner
+
+    def doubts(self) -> List[str]:
+        """What of the file is probably a mistake, as sentences; what it says counts all the same."""
+        table = self._table or {}
+        names = {name for listed in table.values() for name in listed if not name.isdigit()}
+        found = [
+            f"no Unix user here is named {name}" for name in sorted(names) if not is_user(name)
+        ]
+        if self._table is not None and not table.get("root"):
+            found.append("nobody may be root, who alone may do something in a new record")
+        return found
 
     def of_uid(self, uid: int) -> Person:
         """The person of a Unix user's number. Raises Refused, where no user has it, and the file

@@ -46,8 +46,10 @@ def open_record(places: Places, program: str, is_accepted: bool = False) -> Reco
         if not is_accepted and any(places.old_records.glob("*.sqlite")):
             raise NotProven(places.record, "it is gone with its head, and older ones are there")
         return RecordWriter.make(places.record, program, head=head)
-    except BaseException:
+    except BaseException as fault:
         head.close()
+        if is_accepted and isinstance(fault, NotProven):
+            raise fault.after_accept() from fault
         raise
 
 

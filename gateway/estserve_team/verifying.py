@@ -171,7 +171,7 @@ def verify_record(
         check_objects(path, database, schema)
         found = database.execute("PRAGMA integrity_check(1)").fetchone()[0]
         if found != "ok":
-            raise NotProven(path, f"the file is damaged: {found.splitlines()[0]}")
+            raise NotProven(path, f"the file is damaged: {found.splitlines()[-1]}")
         if tip is None:
             raise NotProven(path, "no head is beside it that knows it")
         givenup = check_givenup(path, database, tip, blocks)
@@ -267,6 +267,7 @@ def take_over(path: pathlib.Path, head: Head, record: str, is_accepted: bool) ->
             if is_accepted:
                 drop_strangers(database)
             make_anew(database, record, *rows)
+            check_connections(path, database)  # before the head knows what was accepted
             tip = last_tip(database, record)
             known = head.of(record)
             is_known = known is not None and known._replace(serial=0) == tip

@@ -234,6 +234,16 @@ class Persons(unittest.TestCase):
                 ask()
             self.assertEqual(held.exception.fault, "UnknownPerson")
 
+    def test_what_is_probably_a_mistake_is_told(self):
+        nobody_is_root = "nobody may be root, who alone may do something in a new record"
+        for text, told in [
+            ('ann = ["far", "1234567"]\nroot = ["daemon"]', ["no Unix user here is named far"]),
+            ('ann = ["nobody"]', [nobody_is_root]),
+            ("root = []", [nobody_is_root]),
+        ]:
+            self.assertEqual(People(read_people(f"[people]\n{text}\n")).doubts(), told)
+        self.assertEqual(People().doubts(), [])
+
     def test_what_is_no_file_of_people_is_told_with_its_line(self):
         for text, line in [
             ("", 1),

@@ -392,6 +392,11 @@ class Changed(Record):
             file.write(b"torn")
         self.assertTrue(self.is_proven())
 
+    def test_a_file_that_was_cut_off_is_told_by_what_is_wrong_in_it(self):
+        settle(self.record)
+        os.truncate(self.record, self.record.stat().st_size * 2 // 3)
+        self.refused(r"the file is damaged: [^*\n]+;|the file cannot be opened: [^*\n]+;")
+
     def test_numbers_without_a_hole_are_the_tables_own_rule(self):
         with contextlib.closing(sqlite3.connect(self.record)) as database:
             row = database.execute("SELECT * FROM entries ORDER BY number DESC LIMIT 1").fetchone()
@@ -408,6 +413,16 @@ class Changed(Record):
             self.assertEqual(team.entries()[11].person, "eve")
             team.end()
         self.assertTrue(self.is_proven())
+
+    def test_what_cannot_be_accepted_stays_as_it_was(self):
+        login = "(SELECT min(number) FROM entries WHERE command = 'login')"
+        self.change(f"DELETE FROM entries WHERE number = {login}")
+        before = entries_at(self.record)
+        told = failed_start(Team("--accept", state=self.state))
+        self.assertIn("can't be accepted: its connections are not those of its logins", told)
+        self.assertNotIn("--accept", told)
+        self.assertEqual(entries_at(self.record), before)
+        self.refused("entry [0-9]+ is missing")
 
 
 class Hashes(unittest.TestCase):

@@ -11,6 +11,7 @@ import unittest
 
 import teams
 import visitors
+from estserve_team.reads.client import refusal_text
 from visitors import OwnTeam, SharedTeam, Visitor, link_of, visitor_of
 
 PAGE = teams.ROOT / "gateway" / "estserve_team" / "page"
@@ -597,14 +598,17 @@ class WithoutTest(unittest.TestCase):
     def test_without_http_there_is_no_link(self):
         with visitors.Team() as team:
             talker = team.words()
-            self.assertEqual(talker.word("link")["fault"], "NoHttp")
+            answer = talker.word("link")
+            self.assertEqual(answer["fault"], "NoHttp")
+            self.assertIn("estserve-page@TEAM", refusal_text(answer))
             talker.close()
 
     def test_a_place_that_is_taken_is_told_and_the_page_comes_once_it_is_free(self):
         with visitors.Team("--http", "127.0.0.1:0") as team:
             place = visitors.address_of(team)
             with visitors.Team("--http", place) as other:
-                self.assertIn("HTTP cannot be served: Address already in use", other.told())
+                told = f"HTTP cannot be served: Address already in use: {place}"
+                self.assertIn(told, other.told())
                 with other.root() as client:
                     self.assertEqual(client.addrole("driver")["ok"], "addrole")
                 teams.wait_for(lambda: "has not begun to serve" in other.told())

@@ -512,6 +512,8 @@ class SentencesTest(unittest.TestCase):
         self.assertEqual(
             taken, "AllTaken: each of the sixteen logins is held: ann of ann, bob of eve"
         )
+        told = sentence_of({"code": 1015, "fault": "IdTaken", "id": "a1"}, {})
+        self.assertTrue(told.startswith("IdTaken: another request has this id"), told)
 
 
 class Granted:

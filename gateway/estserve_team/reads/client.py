@@ -28,7 +28,8 @@ SENTENCES = {
     "NeedsLogin": "this needs a login: --as USER, and --role ROLE for each role",
     "Failed": "{why}",
     "TooMany": "{what}: at most {most} may be had here now",
-    "NoHttp": "the gateway serves no page: start it with --http",
+    "NoHttp": "no page serves now: the log of the gateway, or of `team page`, tells why; "
+    "if none was started, start one by --http, under systemd by estserve-page@TEAM",
 }
 
 

@@ -18,7 +18,12 @@ def bind_tcp(place: Tuple[str, int]) -> socket.socket:
     """A socket at a host and a port. Raises OSError."""
     one = socket.socket(socket.AF_INET6 if ":" in place[0] else socket.AF_INET, socket.SOCK_STREAM)
     one.setsockopt(socket.SOL_SOCKET, socket.SO_REUSEADDR, 1)
-    one.bind(place)
+    try:
+        one.bind(place)
+    except OSError as fault:
+        one.close()
+        told = f"{fault.strerror or fault}: {place[0]}:{place[1]}"
+        raise OSError(fault.errno, told) from fault
     return one
 
 

@@ -16,6 +16,7 @@ SENTENCES = {
     "NotAllowed": "{why}",
     "NeedsLogin": "this needs a login",
     "Failed": "{why}",
+    "IdTaken": "another request has this id, or it is not 1 to 64 printable ASCII characters",
     "TooMany": "{what}: at most {most} may be had here now",
     "NotHere": "roles are changed by a new login: others may share this one",
     "NoHttp": "the gateway serves no page",
