@@ -220,8 +220,15 @@ class Shell(InsideCommands, cmd.Cmd):
             first += f" (slot {self.slot}; `use` names another)"
         elif offered:
             stay = "stays" if len(offered) == 1 else "stay"
-            first += f"; {' '.join(offered)} {stay} pending: discard takes that away"
+            first += f"; {' '.join(offered)} {stay} pending" + self.taken_away(refusal)
         return "\n".join([first, *more])
+
+    def taken_away(self, refusal: Refusal) -> str:
+        """What is said of how pending inputs are taken away: nothing to who may not step, and so not
+        discard either.
+        """
+        is_denied = refusal.fault == "Permission" and refusal.command.get("cmd") == "step"
+        return "" if is_denied else ": discard takes that away"
 
     def instant_line(self, slot: int, instant: Instant) -> str:
         """What is said of an instant: its outputs and inputoutputs, or all that was present where

@@ -67,6 +67,12 @@ class Scripts(unittest.TestCase):
         self.assertEqual(status, 1)
         self.assertEqual(self.run_script("offer A\n;\nA;A\n")[0], 0)
 
+    def test_who_may_not_step_is_not_told_to_discard(self):
+        status, lines = self.run_script("revoke root step 0\nA;\ndiscard\n")
+        told = "Permission: needs step on 0"
+        wanted = [f"line 8: {told}; A stays pending", f"line 9: {told}"]
+        self.assertEqual((status, lines[1:]), (1, wanted))
+
     def test_the_slot_of_use(self):
         grants = (
             "".join(f"grant root {op} 3\n" for op in ("load", "step")) + "grant root offer 3.A\n"
