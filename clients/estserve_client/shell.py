@@ -22,7 +22,7 @@ from .instants import Instant
 from .lab.asking import Lab, lab_beside
 from .library_text import LibraryText
 from .load_faults import load_fault
-from .module_text import Module, main_of
+from .module_text import Module, main_of, no_module
 from .pictures import KINDS, RARE, Seen, Table, present_of, table_lines
 from .running import instants_told
 from .scenarios import found_lab
@@ -411,6 +411,9 @@ class Shell(InsideCommands, cmd.Cmd):
     def do_module(self, line: str) -> None:
         """module [SLOT] FILE.. [MODULE]: tells the shell which text another client has loaded"""
         slot, library, module = self.module_of(line)
+        wrong = no_module(library, module.name)
+        if wrong:
+            raise Failed(wrong)
         self.keep(slot, library, module)
         kinds = [kind for kind in KINDS if kind not in RARE or module.of_kind(kind)]
         told = [f"{kind}s {' '.join(module.of_kind(kind)) or 'none'}" for kind in kinds]

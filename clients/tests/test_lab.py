@@ -255,6 +255,9 @@ class Claims(OfLab):
             self.assertEqual(self.fault("prove", abro(), "--never", test), told)
         told = self.fault("prove", abro(), "--inputs", "A,O")
         self.assertEqual(told, "estserve.py: ABRO has no input O\n")
+        told = f"estserve.py: there is no module ABR0 in {abro()}; did you mean `ABRO`?\n"
+        for word in ("prove", "graph"):
+            self.assertEqual(self.fault(word, abro(), "--main", "ABR0", "--inputs", "A"), told)
         told = self.fault("prove", abro(), "--observer", "ABRA")
         self.assertIn(f"there is no module ABRA in {abro()}", told)
         path = self.file("m.strl", "module M: output O; emmit O end module")

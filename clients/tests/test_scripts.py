@@ -149,6 +149,12 @@ class Scripts(unittest.TestCase):
             ],
         )
 
+    def test_a_module_that_the_text_has_not(self):
+        team = EXAMPLES / "team" / "team.strl"
+        status, lines = self.run_script(f"module 0 {team} TEEM\nmodule 0 {team} TEAM\n")
+        told = f"line 7: there is no module TEEM in {team}; did you mean `TEAM`?"
+        self.assertEqual((status, lines), (1, [told, "TEAM: inputs A B R, outputs O"]))
+
     def test_help_says_what_a_command_does(self):
         ran = run_client(["shell"], "help adduser\nhelp step\nhelp\nhelp fly\n")
         lines = ran.printed.splitlines()
