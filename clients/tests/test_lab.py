@@ -171,6 +171,12 @@ class Proving(OfLab):
         self.assertIn("FAILED  never TWO: fails in instant 4\n", printed)
         self.assertIn("TWO      output _____________/‾\\\n", printed)
 
+    def test_an_observer_beside_a_module_of_the_longest_name(self):
+        name = "M" * 48
+        text = f"module {name}: input A; nothing end module\nmodule N: input A; output B; halt end module"
+        words = ["prove", self.file("m.strl", text), "--main", name, "--observer", "N"]
+        self.assertEqual(self.ran(*words)[1], 0)
+
     def test_two_modules_that_do_the_same(self):
         other = self.file("other.strl", abro().read_text().replace("await B", "await immediate B"))
         printed, status = self.ran("prove", abro(), "--same", abro())
