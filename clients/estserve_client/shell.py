@@ -7,6 +7,7 @@ import contextlib
 import functools
 import glob
 import os
+import re
 import sys
 import time
 from typing import Any, Callable, Dict, Iterable, List, Set, Tuple
@@ -51,6 +52,7 @@ UNKNOWN = {
     "UnknownRole": ("role", "role"),
     "NoDsd": ("set", "name"),
 }
+OF_A_SLOT = re.compile(r"[\w-]+\.\w+")  # a signal of a slot, as permissions write it
 WATCHED = 0.1  # seconds between two questions of `watch`
 
 
@@ -165,7 +167,9 @@ class Shell(InsideCommands, cmd.Cmd):
 
     def no_command(self, name: str) -> str:
         """What is said of a word that is no command."""
-        question = meant(name, self.commands())
+        if name in self.inputs_here():
+            return f"there is no command {name}: a line with `;` is an instant, as `{name};`"
+        question = "did you mean `quit`?" if name == "exit" else meant(name, self.commands())
         return f"there is no command {name}: {question or 'help lists them'}"
 
     def emptyline(self) -> bool:
@@ -178,6 +182,9 @@ class Shell(InsideCommands, cmd.Cmd):
             return True
         if name not in PLAIN:
             raise Usage(self.no_command(name))
+        if name == "offer" and OF_A_SLOT.fullmatch(words):
+            apart = words.replace(".", " ")
+            raise Usage(f"expected: [SLOT] SIGNAL, two words, as `offer {apart}`")
         keys = command_keys(name, words, self.slot)
         self.client.ask(name, **keys)
         if name == "offer":
@@ -216,6 +223,8 @@ class Shell(InsideCommands, cmd.Cmd):
         offered = names[: names.index(name)] if name in names else names
         first, *more = self.refusal_lines(refusal)
         first = f"{name}: {first}" if name else first
+        if name in self.commands() and name not in self.inputs_here():
+            first += f"; `{name}` is a command, which stands on a line without `;`"
         if refusal.fault in ("Empty", "NoSlot"):
             first += f" (slot {self.slot}; `use` names another)"
         elif offered:

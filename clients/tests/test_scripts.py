@@ -149,6 +149,18 @@ class Scripts(unittest.TestCase):
             ],
         )
 
+    def test_what_was_meant_by_a_line_of_another_form(self):
+        typed = "A\nexit\noffer 0.A\noffer A; step\nstep;\n"
+        apart = "is a command, which stands on a line without `;`"
+        wanted = [
+            "line 7: there is no command A: a line with `;` is an instant, as `A;`",
+            "line 8: there is no command exit: did you mean `quit`?",
+            "line 9: expected: [SLOT] SIGNAL, two words, as `offer 0 A`",
+            f"line 10: offer: Permission: needs offer on 0.offer; `offer` {apart}",
+            f"line 11: step: Permission: needs offer on 0.step; `step` {apart}",
+        ]
+        self.assertEqual(self.run_script(typed), (1, wanted))
+
     def test_a_module_that_the_text_has_not(self):
         team = EXAMPLES / "team" / "team.strl"
         status, lines = self.run_script(f"module 0 {team} TEEM\nmodule 0 {team} TEAM\n")
