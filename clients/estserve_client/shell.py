@@ -144,6 +144,8 @@ class Shell(InsideCommands, cmd.Cmd):
         relations = module.relations if module else ()
         if refusal.fault == "UnknownSignal" and module:
             chain = [meant(str(refusal.command.get("signal")), module.inputs())]
+        if refusal.fault == "NoSession" and self.user:
+            chain = [f"the session of {self.user} has ended: `logout`, then `login`"]
         if refusal.fault in UNKNOWN:
             field, kind = UNKNOWN[refusal.fault]
             chain = [meant(str(refusal.fields.get(field)), sorted(self.told[kind]))]
@@ -348,7 +350,12 @@ class Shell(InsideCommands, cmd.Cmd):
     def do_logout(self, line: str) -> None:
         """logout: ends the session"""
         keys_of((), line)
-        self.client.logout()
+        try:
+            self.client.logout()
+        except Refusal as refusal:
+            if refusal.fault == "NoSession":
+                self.set_prompt("")
+            raise
         print("logged out")
         self.set_prompt("")
 

@@ -161,6 +161,18 @@ class Scripts(unittest.TestCase):
         ]
         self.assertEqual(self.run_script(typed), (1, wanted))
 
+    def test_a_session_that_has_ended_says_how_to_go_on(self):
+        typed = "deassign root root\nstep\nlogout\nlogout\n"
+        status, lines = self.run_script(typed)
+        ended = "NoSession: there is no login, or its session has ended"
+        wanted = [
+            f"line 8: {ended}",
+            "the session of root has ended: `logout`, then `login`",
+            f"line 9: {ended}",
+            f"line 10: {ended}",
+        ]
+        self.assertEqual((status, lines[1:]), (1, wanted))
+
     def test_a_module_that_the_text_has_not(self):
         team = EXAMPLES / "team" / "team.strl"
         status, lines = self.run_script(f"module 0 {team} TEEM\nmodule 0 {team} TEAM\n")
