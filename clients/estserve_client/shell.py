@@ -25,6 +25,7 @@ from .library_text import LibraryText
 from .load_faults import load_fault
 from .module_text import Module, main_of, no_module
 from .pictures import KINDS, RARE, Seen, Table, present_of, table_lines
+from .policy_file import fits
 from .running import instants_told
 from .scenarios import found_lab
 from .scopes import scopes_of
@@ -32,6 +33,7 @@ from .seeing import module_for, see_slot
 from .sentences import Set as SeparationSet
 from .sentences import sentence
 from .session import roles_of, session_of
+from .shell_inside import UNKNOWN as UNKNOWN_TEXT
 from .shell_inside import InsideCommands
 from .shell_words import (
     LEGEND,
@@ -53,6 +55,8 @@ UNKNOWN = {
     "NoDsd": ("set", "name"),
 }
 OF_A_SLOT = re.compile(r"[\w-]+\.\w+")  # a signal of a slot, as permissions write it
+SPREAD = re.compile(r"[0-9]+\.\S*\*\S*")  # signals of a slot, as policy files write several
+UNDONE = {"grant": "AlreadyGranted", "revoke": "NotGranted"}  # where it is so already
 WATCHED = 0.1  # seconds between two questions of `watch`
 
 
@@ -188,6 +192,9 @@ class Shell(InsideCommands, cmd.Cmd):
             apart = words.replace(".", " ")
             raise Usage(f"expected: [SLOT] SIGNAL, two words, as `offer {apart}`")
         keys = command_keys(name, words, self.slot)
+        if name in UNDONE and SPREAD.fullmatch(keys["object"]):
+            self.spread(name, keys)
+            return False
         self.client.ask(name, **keys)
         if name == "offer":
             self.note_pending(keys["slot"], [keys["signal"]])
@@ -198,6 +205,26 @@ class Shell(InsideCommands, cmd.Cmd):
         wrong = self.unknown_signal(keys["object"]) if name == "grant" else ""
         print(PLAIN[name].said.format(**keys) + wrong)
         return False
+
+    def spread(self, name: str, keys: Dict[str, Any]) -> None:
+        """Grants or revokes for each signal that a pattern as `0.*` means, as policy files have it.
+        Raises Usage, Refusal.
+        """
+        slot, _, pattern = keys["object"].partition(".")
+        module = self.modules.get(int(slot))
+        if module is None:
+            raise Usage(UNKNOWN_TEXT.format(slot, slot))
+        names = module.inputs() if keys["op"] == "offer" else list(module.kinds())
+        objects = [f"{slot}.{signal}" for signal in names if fits(signal, pattern)]
+        if not objects:
+            raise Usage(f"{module.name} has no signal that {keys['object']} fits")
+        for object in objects:
+            try:
+                self.client.ask(name, **{**keys, "object": object})
+            except Refusal as refusal:
+                if refusal.fault != UNDONE[name]:
+                    raise
+        print(PLAIN[name].said.format(**{**keys, "object": " ".join(objects)}))
 
     # Instants.
 

@@ -149,6 +149,22 @@ class Scripts(unittest.TestCase):
             ],
         )
 
+    def test_a_grant_for_each_signal_of_a_text(self):
+        typed = "grant root observe 1.*\ngrant root observe 0.*\ngrant root offer 0.*\n"
+        typed += "grant root offer 0.X*\n;\nlook 1\nrevoke root observe 0.*\nlook 1\n"
+        status, lines = self.run_script(typed)
+        wanted = [
+            "line 7: the text of slot 1 isn't known here: `module 1 FILE` tells it",
+            "root may observe on 0.A 0.B 0.R 0.O",
+            "root may offer on 0.A 0.B 0.R",
+            "line 10: ABRO has no signal that 0.X* fits",
+            "instant 1: no output",
+            "A=0 B=0 R=0 O=0",
+            "root itself no longer has observe on 0.A 0.B 0.R 0.O",
+            "nothing that you may observe",
+        ]
+        self.assertEqual((status, lines), (1, wanted))
+
     def test_what_was_meant_by_a_line_of_another_form(self):
         typed = "A\nexit\noffer 0.A\noffer A; step\nstep;\n"
         apart = "is a command, which stands on a line without `;`"
