@@ -150,6 +150,8 @@ class Shell(InsideCommands, cmd.Cmd):
             chain = [meant(str(refusal.command.get("signal")), module.inputs())]
         if refusal.fault == "NoSession" and self.user:
             chain = [f"the session of {self.user} has ended: `logout`, then `login`"]
+        if refusal.fault == "Permission" and not self.client.roles:
+            chain = ["no role is active: `activate ROLE` makes one so"]
         if refusal.fault in UNKNOWN:
             field, kind = UNKNOWN[refusal.fault]
             chain = [meant(str(refusal.fields.get(field)), sorted(self.told[kind]))]

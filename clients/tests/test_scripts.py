@@ -177,6 +177,18 @@ class Scripts(unittest.TestCase):
         ]
         self.assertEqual(self.run_script(typed), (1, wanted))
 
+    def test_a_session_without_roles_says_so_where_it_is_denied(self):
+        status, lines = self.run_script("drop root\nstep\nactivate root\nstep\nstep 1\n")
+        wanted = [
+            "root is no longer active",
+            "line 8: Permission: needs step on 0",
+            "no role is active: `activate ROLE` makes one so",
+            "root is active",
+            "instant 1: no output",
+            "line 11: Permission: needs step on 1",
+        ]
+        self.assertEqual((status, lines), (1, wanted))
+
     def test_a_session_that_has_ended_says_how_to_go_on(self):
         typed = "deassign root root\nstep\nlogout\nlogout\n"
         status, lines = self.run_script(typed)
