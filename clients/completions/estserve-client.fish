@@ -21,7 +21,7 @@ complete -c estserve-client -n '__fish_seen_subcommand_from run' -s h -l help -d
 complete -c estserve-client -n '__fish_seen_subcommand_from run' -l main -x -d 'the module to run (default: the first that none runs)'
 complete -c estserve-client -n '__fish_seen_subcommand_from run' -l inputs -r -F -d 'the list of inputs, one instant a line (default: standard input)'
 complete -c estserve-client -n '__fish_seen_subcommand_from run' -l signals -x -d 'draw these signals, and no others'
-complete -c estserve-client -n '__fish_seen_subcommand_from run' -l locals -d 'draw local signals too, as MODULE.S'
+complete -c estserve-client -n '__fish_seen_subcommand_from run' -l locals -d 'draw local signals too; of a module that is run as MODULE.S'
 complete -c estserve-client -n '__fish_seen_subcommand_from run' -l trace -d 'say of each instant which lines of the text ran'
 complete -c estserve-client -n '__fish_seen_subcommand_from run' -l until -x -d 'stop at the first instant in which this holds, as `A and not B`'
 complete -c estserve-client -n '__fish_seen_subcommand_from run' -l table -d 'draw a table, a row for each instant (the default)'

@@ -120,7 +120,11 @@ def add_run(commands: Any) -> None:
         help="the list of inputs, one instant a line (default: standard input)",
     )
     add("--signals", action="append", metavar="A,B", help="draw these signals, and no others")
-    add("--locals", action="store_true", help="draw local signals too, as MODULE.S")
+    add(
+        "--locals",
+        action="store_true",
+        help="draw local signals too; of a module that is run as MODULE.S",
+    )
     add("--trace", action="store_true", help="say of each instant which lines of the text ran")
     help = "stop at the first instant in which this holds, as `A and not B`"
     add("--until", metavar="TEST", help=help)

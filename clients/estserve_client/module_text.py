@@ -6,9 +6,13 @@ declares.
 """
 from __future__ import annotations
 
+from .close_words import meant
+
 TYPE_CHECKING = False
 if TYPE_CHECKING:
     from typing import Dict, List, Optional, Tuple
+
+    from .library_text import LibraryText
 
 BEGIN, CLOSE, ARROW = "%", "}%", "=>"
 IN_PLACE = "\N{RIGHTWARDS DOUBLE ARROW}"  # of an arrow, while the text is cut
@@ -122,3 +126,12 @@ def main_of(text: str, named: Optional[str] = None) -> Module:
     if named is None:
         wanted += modules[:1]
     return wanted[0] if wanted else Module(named or "main", [], [], [])
+
+
+def no_module(library: LibraryText, name: str) -> str:
+    """What is said of the name of a module where a library has none of it; empty where it has."""
+    names = [module.name for module in modules_of(library.text)]
+    if name in names:
+        return ""
+    told, question = f"there is no module {name} in {' '.join(library.paths)}", meant(name, names)
+    return told + (f"; {question}" if question else "")

@@ -7,6 +7,7 @@ import contextlib
 import functools
 import glob
 import os
+import re
 import sys
 import time
 from typing import Any, Callable, Dict, Iterable, List, Set, Tuple
@@ -22,8 +23,9 @@ from .instants import Instant
 from .lab.asking import Lab, lab_beside
 from .library_text import LibraryText
 from .load_faults import load_fault
-from .module_text import Module, main_of
+from .module_text import Module, main_of, no_module
 from .pictures import KINDS, RARE, Seen, Table, present_of, table_lines
+from .policy_file import fits
 from .running import instants_told
 from .scenarios import found_lab
 from .scopes import scopes_of
@@ -31,6 +33,7 @@ from .seeing import module_for, see_slot
 from .sentences import Set as SeparationSet
 from .sentences import sentence
 from .session import roles_of, session_of
+from .shell_inside import UNKNOWN as UNKNOWN_TEXT
 from .shell_inside import InsideCommands
 from .shell_words import (
     LEGEND,
@@ -51,6 +54,9 @@ UNKNOWN = {
     "UnknownRole": ("role", "role"),
     "NoDsd": ("set", "name"),
 }
+OF_A_SLOT = re.compile(r"[\w-]+\.\w+")  # a signal of a slot, as permissions write it
+SPREAD = re.compile(r"[0-9]+\.\S*\*\S*")  # signals of a slot, as policy files write several
+UNDONE = {"grant": "AlreadyGranted", "revoke": "NotGranted"}  # where it is so already
 WATCHED = 0.1  # seconds between two questions of `watch`
 
 
@@ -142,6 +148,10 @@ class Shell(InsideCommands, cmd.Cmd):
         relations = module.relations if module else ()
         if refusal.fault == "UnknownSignal" and module:
             chain = [meant(str(refusal.command.get("signal")), module.inputs())]
+        if refusal.fault == "NoSession" and self.user:
+            chain = [f"the session of {self.user} has ended: `logout`, then `login`"]
+        if refusal.fault == "Permission" and not self.client.roles:
+            chain = ["no role is active: `activate ROLE` makes one so"]
         if refusal.fault in UNKNOWN:
             field, kind = UNKNOWN[refusal.fault]
             chain = [meant(str(refusal.fields.get(field)), sorted(self.told[kind]))]
@@ -165,7 +175,9 @@ class Shell(InsideCommands, cmd.Cmd):
 
     def no_command(self, name: str) -> str:
         """What is said of a word that is no command."""
-        question = meant(name, self.commands())
+        if name in self.inputs_here():
+            return f"there is no command {name}: a line with `;` is an instant, as `{name};`"
+        question = "did you mean `quit`?" if name == "exit" else meant(name, self.commands())
         return f"there is no command {name}: {question or 'help lists them'}"
 
     def emptyline(self) -> bool:
@@ -178,7 +190,13 @@ class Shell(InsideCommands, cmd.Cmd):
             return True
         if name not in PLAIN:
             raise Usage(self.no_command(name))
+        if name == "offer" and OF_A_SLOT.fullmatch(words):
+            apart = words.replace(".", " ")
+            raise Usage(f"expected: [SLOT] SIGNAL, two words, as `offer {apart}`")
         keys = command_keys(name, words, self.slot)
+        if name in UNDONE and SPREAD.fullmatch(keys["object"]):
+            self.spread(name, keys)
+            return False
         self.client.ask(name, **keys)
         if name == "offer":
             self.note_pending(keys["slot"], [keys["signal"]])
@@ -189,6 +207,26 @@ class Shell(InsideCommands, cmd.Cmd):
         wrong = self.unknown_signal(keys["object"]) if name == "grant" else ""
         print(PLAIN[name].said.format(**keys) + wrong)
         return False
+
+    def spread(self, name: str, keys: Dict[str, Any]) -> None:
+        """Grants or revokes for each signal that a pattern as `0.*` means, as policy files have it.
+        Raises Usage, Refusal.
+        """
+        slot, _, pattern = keys["object"].partition(".")
+        module = self.modules.get(int(slot))
+        if module is None:
+            raise Usage(UNKNOWN_TEXT.format(slot, slot))
+        names = module.inputs() if keys["op"] == "offer" else list(module.kinds())
+        objects = [f"{slot}.{signal}" for signal in names if fits(signal, pattern)]
+        if not objects:
+            raise Usage(f"{module.name} has no signal that {keys['object']} fits")
+        for object in objects:
+            try:
+                self.client.ask(name, **{**keys, "object": object})
+            except Refusal as refusal:
+                if refusal.fault != UNDONE[name]:
+                    raise
+        print(PLAIN[name].said.format(**{**keys, "object": " ".join(objects)}))
 
     # Instants.
 
@@ -216,12 +254,21 @@ class Shell(InsideCommands, cmd.Cmd):
         offered = names[: names.index(name)] if name in names else names
         first, *more = self.refusal_lines(refusal)
         first = f"{name}: {first}" if name else first
+        if name in self.commands() and name not in self.inputs_here():
+            first += f"; `{name}` is a command, which stands on a line without `;`"
         if refusal.fault in ("Empty", "NoSlot"):
             first += f" (slot {self.slot}; `use` names another)"
         elif offered:
             stay = "stays" if len(offered) == 1 else "stay"
-            first += f"; {' '.join(offered)} {stay} pending: discard takes that away"
+            first += f"; {' '.join(offered)} {stay} pending" + self.taken_away(refusal)
         return "\n".join([first, *more])
+
+    def taken_away(self, refusal: Refusal) -> str:
+        """What is said of how pending inputs are taken away: nothing to who may not step, and so not
+        discard either.
+        """
+        is_denied = refusal.fault == "Permission" and refusal.command.get("cmd") == "step"
+        return "" if is_denied else ": discard takes that away"
 
     def instant_line(self, slot: int, instant: Instant) -> str:
         """What is said of an instant: its outputs and inputoutputs, or all that was present where
@@ -332,7 +379,12 @@ class Shell(InsideCommands, cmd.Cmd):
     def do_logout(self, line: str) -> None:
         """logout: ends the session"""
         keys_of((), line)
-        self.client.logout()
+        try:
+            self.client.logout()
+        except Refusal as refusal:
+            if refusal.fault == "NoSession":
+                self.set_prompt("")
+            raise
         print("logged out")
         self.set_prompt("")
 
@@ -404,6 +456,9 @@ class Shell(InsideCommands, cmd.Cmd):
     def do_module(self, line: str) -> None:
         """module [SLOT] FILE.. [MODULE]: tells the shell which text another client has loaded"""
         slot, library, module = self.module_of(line)
+        wrong = no_module(library, module.name)
+        if wrong:
+            raise Failed(wrong)
         self.keep(slot, library, module)
         kinds = [kind for kind in KINDS if kind not in RARE or module.of_kind(kind)]
         told = [f"{kind}s {' '.join(module.of_kind(kind)) or 'none'}" for kind in kinds]

@@ -66,10 +66,12 @@ class InsideCommands:
             self.forget(slot)
 
     def do_back(self, line: str) -> None:
-        """back [INSTANT]: looks at an earlier instant again, for `where`, `why` and `try`"""
+        """back [INSTANT]: looks at an instant again, or the one before, for `where`, `why` and `try`"""
         explorer = self.explorer()
         last, words = len(explorer.word), line.split()
         number = number_of(words[0]) if words else explorer.inside.at - 1
+        if number < 0:
+            raise Usage("this is before instant 1 already")
         if len(words) > 1 or not 0 <= number <= last:
             raise Usage(f"expected: [INSTANT], from 0 to {last}")
         explorer.stand(number)

@@ -14,7 +14,8 @@ LEGEND = f"""  A B;: offers A and B in the slot of `use`, steps, and shows what 
   SLOT may be left out: then it is the slot of `use`, 0 at the start. % and # begin comments
   USER, ROLE, SENIOR, JUNIOR, NAME: 1 to 24 letters, digits, _ and -
   OP: {' '.join(OPERATIONS)}
-  OBJECT: policy, a slot as 0, or a signal of a slot as 0.A"""
+  OBJECT: policy, a slot as 0, or a signal of a slot as 0.A; for `grant` and `revoke` also 0.* or 0.A*,
+    each such signal of the text that was loaded, or that `module` told"""
 
 
 class Usage(Exception):

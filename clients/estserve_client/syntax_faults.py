@@ -27,6 +27,14 @@ JOINING = ("and", "or", ";", "||", ",", "#")  # what nearly any place can go on 
 CLOSING = ("then", "else", "end", "when", "each", "do", "in", "]", ")", "signal")
 WITH_END = ("present", "suspend", "abort", "weak", "loop", "every", "trap", "signal", "module")
 
+BEFORE = "declarations stand before the body"
+NO_STATEMENTS = {
+    **{word: BEFORE for word in DECLARATIONS},
+    "(": "statements are kept together by `[` and `]`",
+    "end": "a part that does nothing is written `nothing`",
+    "else": "a part that does nothing is written `nothing`",
+}  # what is said of what stands in the place of a statement
+
 
 # what stands in a text without a lexical fault: comments, blanks, words, symbols
 FITS = re.compile(
@@ -155,6 +163,10 @@ def advice_at(spot: Spot) -> str:
         return "renamings begin with the word `signal`: `[signal I/IN]`"
     if spot.wanted == ["module"] and last == "end" and len(spot.open) == 1:
         return "a module ends by `end module`"
+    if here == ";" and spot.wanted == ["module"] and last == "module":
+        return "no `;` stands after a module"
+    if A_STATEMENT in spot.wanted and here in NO_STATEMENTS:
+        return NO_STATEMENTS[here]
     if not here and spot.open:
         return "the text ends before it is closed"
     return perhaps_meant(spot)

@@ -137,6 +137,10 @@ class Compiling(OfLab):
         self.assertEqual(self.fault("compile", path, "--pairs", "39"), told)
         told = "estserve.py: a-b is no name in C: -o NAME gives one\n"
         self.assertEqual(self.fault("compile", path, "-o", "a-b"), told)
+        path_of_switch = self.folder / "switch.strl"
+        path_of_switch.write_text("module Switch: output O; emit O end module")
+        told = "estserve.py: switch is no name in C: -o NAME gives one\n"
+        self.assertEqual(self.fault("compile", path_of_switch), told)
         told = "estserve.py: there are more than 3 states or reactions: --most allows more\n"
         self.assertEqual(self.fault("compile", path, "--most", "3"), told)
         self.assertIn("cannot be written", self.fault("compile", path, "-o", "/nowhere/abro"))

@@ -263,14 +263,13 @@ class Shells(InAFolder):
         self.assertEqual(printed[-1], "instant 1: O")
 
     def test_what_is_refused_is_said(self):
-        lines = self.lines(
-            "try Q;", "try A; B;", "back 9", "why Q", "where 1", "revoke root observe 0.R"
-        )
+        lines = self.lines("try Q;", "try A; B;", "back 9", "why Q", "where 1", "back 0", "back")
         self.assertIn("UnknownSignal", lines[0])
         self.assertIn("one instant", lines[1])
         self.assertIn("from 0 to 2", lines[2])
         self.assertIn("ABRO has no signal Q", lines[3])
         self.assertIn("nothing after the command", lines[4])
+        self.assertIn("this is before instant 1 already", lines[6])
 
     def test_an_input_that_may_not_be_observed_hides_the_inside(self):
         lines = self.lines("revoke root observe 0.R", "B;", "where")

@@ -171,6 +171,12 @@ class Proving(OfLab):
         self.assertIn("FAILED  never TWO: fails in instant 4\n", printed)
         self.assertIn("TWO      output _____________/‾\\\n", printed)
 
+    def test_an_observer_beside_a_module_of_the_longest_name(self):
+        name = "M" * 48
+        text = f"module {name}: input A; nothing end module\nmodule N: input A; output B; halt end module"
+        words = ["prove", self.file("m.strl", text), "--main", name, "--observer", "N"]
+        self.assertEqual(self.ran(*words)[1], 0)
+
     def test_two_modules_that_do_the_same(self):
         other = self.file("other.strl", abro().read_text().replace("await B", "await immediate B"))
         printed, status = self.ran("prove", abro(), "--same", abro())
@@ -255,6 +261,9 @@ class Claims(OfLab):
             self.assertEqual(self.fault("prove", abro(), "--never", test), told)
         told = self.fault("prove", abro(), "--inputs", "A,O")
         self.assertEqual(told, "estserve.py: ABRO has no input O\n")
+        told = f"estserve.py: there is no module ABR0 in {abro()}; did you mean `ABRO`?\n"
+        for word in ("prove", "graph"):
+            self.assertEqual(self.fault(word, abro(), "--main", "ABR0", "--inputs", "A"), told)
         told = self.fault("prove", abro(), "--observer", "ABRA")
         self.assertIn(f"there is no module ABRA in {abro()}", told)
         path = self.file("m.strl", "module M: output O; emmit O end module")

@@ -91,6 +91,10 @@ ADVICE = [
     ("weak abort halt when A do emit O end", "`trap T in abort p; exit T when S; q end`"),
     ("do halt watching A timeout emit O end", "`trap T in abort p; exit T when S; q end`"),
     ("await A do emit O end", "`await S; p`"),
+    ("pause; output Q; emit Q", "declarations stand before the body"),
+    ("emit O; (await A || pause)", "statements are kept together by `[` and `]`"),
+    ("present A then else emit O end", "a part that does nothing is written `nothing`"),
+    ("pause end module; module N: pause", "no `;` stands after a module"),
 ]
 NAMES = [
     ("run N [signal I/A] end module module N: input I; pause", "write `A/I`"),

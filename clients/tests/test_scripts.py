@@ -67,6 +67,12 @@ class Scripts(unittest.TestCase):
         self.assertEqual(status, 1)
         self.assertEqual(self.run_script("offer A\n;\nA;A\n")[0], 0)
 
+    def test_who_may_not_step_is_not_told_to_discard(self):
+        status, lines = self.run_script("revoke root step 0\nA;\ndiscard\n")
+        told = "Permission: needs step on 0"
+        wanted = [f"line 8: {told}; A stays pending", f"line 9: {told}"]
+        self.assertEqual((status, lines[1:]), (1, wanted))
+
     def test_the_slot_of_use(self):
         grants = (
             "".join(f"grant root {op} 3\n" for op in ("load", "step")) + "grant root offer 3.A\n"
@@ -142,6 +148,64 @@ class Scripts(unittest.TestCase):
                 "PARADOX runs in slot 0",
             ],
         )
+
+    def test_a_grant_for_each_signal_of_a_text(self):
+        typed = "grant root observe 1.*\ngrant root observe 0.*\ngrant root offer 0.*\n"
+        typed += "grant root offer 0.X*\n;\nlook 1\nrevoke root observe 0.*\nlook 1\n"
+        status, lines = self.run_script(typed)
+        wanted = [
+            "line 7: the text of slot 1 isn't known here: `module 1 FILE` tells it",
+            "root may observe on 0.A 0.B 0.R 0.O",
+            "root may offer on 0.A 0.B 0.R",
+            "line 10: ABRO has no signal that 0.X* fits",
+            "instant 1: no output",
+            "A=0 B=0 R=0 O=0",
+            "root itself no longer has observe on 0.A 0.B 0.R 0.O",
+            "nothing that you may observe",
+        ]
+        self.assertEqual((status, lines), (1, wanted))
+
+    def test_what_was_meant_by_a_line_of_another_form(self):
+        typed = "A\nexit\noffer 0.A\noffer A; step\nstep;\n"
+        apart = "is a command, which stands on a line without `;`"
+        wanted = [
+            "line 7: there is no command A: a line with `;` is an instant, as `A;`",
+            "line 8: there is no command exit: did you mean `quit`?",
+            "line 9: expected: [SLOT] SIGNAL, two words, as `offer 0 A`",
+            f"line 10: offer: Permission: needs offer on 0.offer; `offer` {apart}",
+            f"line 11: step: Permission: needs offer on 0.step; `step` {apart}",
+        ]
+        self.assertEqual(self.run_script(typed), (1, wanted))
+
+    def test_a_session_without_roles_says_so_where_it_is_denied(self):
+        status, lines = self.run_script("drop root\nstep\nactivate root\nstep\nstep 1\n")
+        wanted = [
+            "root is no longer active",
+            "line 8: Permission: needs step on 0",
+            "no role is active: `activate ROLE` makes one so",
+            "root is active",
+            "instant 1: no output",
+            "line 11: Permission: needs step on 1",
+        ]
+        self.assertEqual((status, lines), (1, wanted))
+
+    def test_a_session_that_has_ended_says_how_to_go_on(self):
+        typed = "deassign root root\nstep\nlogout\nlogout\n"
+        status, lines = self.run_script(typed)
+        ended = "NoSession: there is no login, or its session has ended"
+        wanted = [
+            f"line 8: {ended}",
+            "the session of root has ended: `logout`, then `login`",
+            f"line 9: {ended}",
+            f"line 10: {ended}",
+        ]
+        self.assertEqual((status, lines[1:]), (1, wanted))
+
+    def test_a_module_that_the_text_has_not(self):
+        team = EXAMPLES / "team" / "team.strl"
+        status, lines = self.run_script(f"module 0 {team} TEEM\nmodule 0 {team} TEAM\n")
+        told = f"line 7: there is no module TEEM in {team}; did you mean `TEAM`?"
+        self.assertEqual((status, lines), (1, [told, "TEAM: inputs A B R, outputs O"]))
 
     def test_help_says_what_a_command_does(self):
         ran = run_client(["shell"], "help adduser\nhelp step\nhelp\nhelp fly\n")

@@ -14,7 +14,7 @@ from ..colours import has_colours
 from ..command_table import OF_TEXTS
 from ..connection import Client, Disconnected, Refusal, close_all, find_program
 from ..load_faults import load_fault
-from ..module_text import Module, main_of
+from ..module_text import Module, main_of, no_module
 from ..programs import unproved_program
 from ..texts import Failed, read_library
 from .table import Table
@@ -65,6 +65,9 @@ def verdict_of(told: Dict[str, Any]) -> Verdict:
 def read_subject(paths: Sequence[Path], main: Optional[str]) -> Subject:
     """The module that is asked for by files and a name. Raises Failed."""
     library = read_library(paths)
+    wrong = no_module(library, main) if main else ""
+    if wrong:
+        raise Failed(wrong)
     return Subject(library, main_of(library.text, main))
 
 

@@ -18,6 +18,11 @@ from .c_code import TableCode
 from .kernel import checked_kernel
 
 NAME = re.compile(r"[A-Za-z_][A-Za-z0-9_]*")
+KEYWORDS = frozenset(
+    "auto break case char const continue default do double else enum extern float for goto if inline int"
+    " long register restrict return short signed sizeof static struct switch typedef union unsigned void"
+    " volatile while".split()
+)  # of C99
 AnyCode = Union[TableCode, CellsCode]
 
 
@@ -70,7 +75,7 @@ def compile_module(arguments: argparse.Namespace) -> None:
     """Writes a module as C, and compares it where that is asked for. Raises Failed."""
     subject = read_subject(arguments.file, arguments.main)
     folder, name = os.path.split(arguments.out or subject.module.name.lower())
-    if not NAME.fullmatch(name):
+    if not NAME.fullmatch(name) or name in KEYWORDS:
         raise Failed(f"{name} is no name in C: -o NAME gives one")
     sys.setrecursionlimit(max(sys.getrecursionlimit(), DEEPEST))
     with lab_of(arguments) as lab:

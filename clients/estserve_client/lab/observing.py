@@ -56,7 +56,7 @@ def observed(subject: Subject, names: Sequence[str]) -> Subject:
     observers = [observer_of(subject, name) for name in names]
     library = subject.library
     text = library.text if library.text.endswith("\n") else library.text + "\n"
-    name = fresh_name(text, f"{subject.module.name}_OBSERVED"[:48])
+    name = fresh_name(text, f"{subject.module.name[:32]}_OBSERVED")  # a name has at most 48 bytes
     alarms = [(alarm, "output") for module in observers for alarm in module.outputs()]
     signals = list(dict.fromkeys([*subject.module.signals, *alarms]))
     runs = [subject.module.name, *names]
