@@ -47,7 +47,7 @@ SENTENCES = {
     "DsdExists": "the separation set {set} is there already",
     "NoDsd": "there is no separation set {set}",
     "DsdShape": "a role is listed twice, or the number is under 2 or over the number of roles",
-    "RoleInDsd": "the role is a member of the separation set {set}",
+    "RoleInDsd": "the role is a member of the separation set {set}: `undsd {set}` comes first",
     "Full": "the table of {table} is full",
     "Excluded": "relation {relation} excludes {offered}, since {signal} is pending",
     "Implied": "relation {relation} asks for {missing} too",

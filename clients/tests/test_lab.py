@@ -191,6 +191,11 @@ class Proving(OfLab):
         ])  # fmt: skip
         self.assertEqual((self.folder / "word").read_text().splitlines()[1:], ["B", "A"])
 
+    def test_a_module_of_another_name_is_compared(self):
+        other = self.file("other.strl", abro().read_text().replace("ABRO", "ABRO2"))
+        printed, status = self.ran("prove", abro(), "--main", "ABRO", "--same", other)
+        self.assertEqual((printed.splitlines()[1], status), (f"ok      the same as {other}", 0))
+
     def test_too_many_states_decide_nothing(self):
         printed, status = self.ran("prove", abro(), "--most", "3")
         self.assertEqual(status, 3)

@@ -71,6 +71,13 @@ def read_subject(paths: Sequence[Path], main: Optional[str]) -> Subject:
     return Subject(library, main_of(library.text, main))
 
 
+def read_other(path: Path, main: Optional[str]) -> Subject:
+    """The module to compare with: that of the same name, or the main one of its text. Raises Failed."""
+    library = read_library([path])
+    is_there = main is not None and not no_module(library, main)
+    return Subject(library, main_of(library.text, main if is_there else None))
+
+
 def end_search(child: subprocess.Popen[bytes]) -> None:
     """Ends the program at once, also in the midst of a search: nothing is kept in it."""
     child.kill()

@@ -10,7 +10,7 @@ from ..colours import Colours
 from ..outcomes import FAILED, PASSED, Outcome, told_in_xml
 from ..texts import Failed, read_text, write_lines
 from ..texts_beside import texts_beside
-from .asking import Lab, Subject, lab_of, read_subject
+from .asking import Lab, Subject, lab_of, read_other, read_subject
 from .claims import Claim, Claims, names_listed, read_claims
 from .judging import Finding, Found, Question, check_inputs, judge, sides_of
 from .observing import alarm_claims, observed
@@ -29,7 +29,7 @@ def question_of(paths: List[str], wanted: Claims, most: int) -> Question:
     module = read_subject(paths, wanted.main)
     subject = observed(module, wanted.observers)
     claims = [*wanted.claims, *alarm_claims(module, wanted.observers)]
-    same = [read_subject([path], wanted.main) for path in wanted.same]
+    same = [read_other(path, wanted.main) for path in wanted.same]
     return Question(module, subject, claims, check_inputs(module, wanted.inputs), same, most)
 
 
