@@ -1,22 +1,23 @@
 -- A line whose tokens are a word and inputs reads as the value that asks for them.
-use Rattle.std.proofs.Common.{◌≡◌, ◌∙◌, ℕ, List, [], ◌∷◌, codes, map, Some, refl, ap, subst}
-use Rattle.std.proofs.lemmas.Option.{same_Some}
+use Rattle.std.proofs.Common.{◌≡◌, ◌∙◌, ℕ, List, [], ◌∷◌, codes, map, Some, refl, ap, Bor, Vec, Global}
+use Rattle.std.proofs.lemmas.Option.{option_and_then_some, same_Some}
 use Rattle.json.specs.Token as token
 use Rattle.json.specs.Token.{Token}
 use Rattle.json.specs.Lex.{tokens}
 use Rattle.serde_json.specs.Data.{Data, string, array, object, member, no_members}
 use Rattle.serde_json.specs.Read.{read}
 use Rattle.serde_json.specs.View.{items_of}
-use Rattle.rbac_policy.proofs.OfNames.ObjectTexts.{chained}
 use Rattle.wire_lines.specs.Requests.{command_member}
-use Rattle.wire_lines.specs.Inner.Members.{word_at}
+use Rattle.wire_lines.specs.Inner.Members.{begins_object, list_after, text_after, word_at}
 use Rattle.wire_lines.proofs.CommandLemmas.{one_member, whole_read}
 use Rattle.wire_lines.proofs.MemberLemmas.{brace_is, last_is, mapped, text_is, texts_before, texts_member_is}
 use Rattle.wire_lines.proofs.MemberLemmas.{IsMember}
-use Rattle.lab_lines.specs.Inner.InstantLines.{texts_in, inputs_at, AreAsked}
+use Rattle.lab_lines.specs.Requests.{Asks}
+use Rattle.lab_lines.specs.Inner.InstantLines.{texts_in, inputs_at}
+use Rattle.lab_lines.specs.declared.request.Request.TheVariants.{Instant, Try}
 
 -- the value that asks for these inputs by this word
-abbrev pub asking : (word : List ℕ) → List (List ℕ) → Data
+abbrev asking : (word : List ℕ) → List (List ℕ) → Data
 asking word names =
     object (command_member word (member (codes "inputs") (array (items_of (map string names))) no_members))
 
@@ -35,16 +36,38 @@ inputs_are : (ts : List Token) (names : List (List ℕ)) → inputs_at ts ≡ So
     → IsMember (codes "inputs") ts (array (items_of (map string names))) (token.end_object ∷ [])
 unfolding inputs_at
 inputs_are ts names h =
-    let p = chained _ _ (names, token.end_object ∷ []) (last_is _ names h) in
-    texts_member_is (codes "inputs") ts p.0 names (token.end_object ∷ []) p.1 (texts_are p.0 _ p.2)
+    option_and_then_some texts_in (list_after (codes "inputs") ts) (names, token.end_object ∷ []) (last_is _ names h)
+    (λ mid list texts. texts_member_is (codes "inputs") ts mid names (token.end_object ∷ []) list
+    (texts_are mid _ texts))
 
 -- the text is read as that value
-pub asked_is : (text word : List ℕ) (names : List (List ℕ)) → AreAsked (tokens text) word names
+asked_is : (text word : List ℕ) (later : List Token) (names : List (List ℕ))
+    → word_at (tokens text) ≡ Some (word, later) → inputs_at later ≡ Some names
     → read text ≡ Some (asking word names)
 unfolding word_at
-asked_is text word names a =
-    let q = chained _ _ (word, a.later) a.begins in
-    let is = brace_is (tokens text) q.0 q.1 ∙ ap (λ (l : List Token). token.begin_object ∷ l)
-    (text_is (codes "cmd") q.0 (word, a.later) q.2) in
-    whole_read text word a.later _ is
-    (one_member word (codes "inputs") a.later _ (λ w d. refl) (inputs_are a.later names a.inputs))
+asked_is text word later names begins inputs =
+    option_and_then_some (text_after (codes "cmd")) (begins_object (tokens text)) (word, later) begins
+    (λ left brace first. whole_read text word later _
+    (brace_is (tokens text) left brace ∙ ap (λ (l : List Token). token.begin_object ∷ l)
+    (text_is (codes "cmd") left (word, later) first))
+    (one_member word (codes "inputs") later _ (λ w d. refl) (inputs_are later names inputs)))
+
+pub asks_instant : (text : List ℕ) (later : List Token) (names : Vec (Bor (List ℕ)) Global)
+    → word_at (tokens text) ≡ Some (codes "instant", later)
+    → inputs_at later ≡ Some (map (λ t. t.now) names.items) → Asks text (Instant names)
+asks_instant text later names begins inputs =
+    record {
+      value = asking (codes "instant") (map (λ t. t.now) names.items);
+      reads = asked_is text (codes "instant") later _ begins inputs;
+      says = record { word = refl; only = refl; parts = refl };
+    }
+
+pub asks_try : (text : List ℕ) (later : List Token) (names : Vec (Bor (List ℕ)) Global)
+    → word_at (tokens text) ≡ Some (codes "try", later)
+    → inputs_at later ≡ Some (map (λ t. t.now) names.items) → Asks text (Try names)
+asks_try text later names begins inputs =
+    record {
+      value = asking (codes "try") (map (λ t. t.now) names.items);
+      reads = asked_is text (codes "try") later _ begins inputs;
+      says = record { word = refl; only = refl; parts = refl };
+    }

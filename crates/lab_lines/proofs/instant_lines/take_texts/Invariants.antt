@@ -3,8 +3,8 @@ use Rattle.wire_lines.specs.Inner.Members.{with_front}
 use Rattle.lab_lines.specs.Inner.InstantLines.{texts_in}
 use Rattle.lab_lines.proofs.instant_lines.take_texts.Given as goal
 
-abbrev pub invariant-loop-reader : goal.invariant-loop-reader
-invariant-loop-reader l = with_front (map (λ t. t.now) l.texts.items) (texts_in l.reader) ≡ texts_in l.initial.reader
+abbrev pub invariant-loop-token : goal.invariant-loop-token
+invariant-loop-token l = with_front (map (λ t. t.now) l.texts.items) (texts_in l.reader) ≡ texts_in l.initial.reader
 
-abbrev pub decreases-loop-reader : goal.decreases-loop-reader
-decreases-loop-reader l = length l.reader
+abbrev pub decreases-loop-token : goal.decreases-loop-token
+decreases-loop-token l = length l.reader
