@@ -71,8 +71,14 @@ pub fn read_instant<'a>(
         return Ok(None);
     };
     match word {
-        "instant" => Ok(read_inputs(alloc, &mut reader)?.map(Request::Instant)),
-        "try" => Ok(read_inputs(alloc, &mut reader)?.map(Request::Try)),
+        "instant" => match read_inputs(alloc, &mut reader)? {
+            Some(names) => Ok(Some(Request::Instant(names))),
+            None => Ok(None),
+        },
+        "try" => match read_inputs(alloc, &mut reader)? {
+            Some(names) => Ok(Some(Request::Try(names))),
+            None => Ok(None),
+        },
         _ => Ok(None),
     }
 }
