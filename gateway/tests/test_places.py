@@ -1,5 +1,6 @@
 """Places, persons, children: the modes of folder and sockets, the lock, orphans, and what a login
 may name."""
+import contextlib
 import json
 import os
 import pathlib
@@ -14,9 +15,11 @@ import unittest
 
 import teams
 from teams import Team, line_of, login_line
+from estserve_client.connection import Disconnected
 from estserve_client.policy_file import BadPolicy
 from estserve_team.people import People, read_people, peer_uid
 from estserve_team.places import Failed, Places, start_child, start_time_of
+from estserve_team.reads.client import GatewayTalk
 from estserve_team.refusals import Refused
 
 NOBODY = 65_534
@@ -54,6 +57,18 @@ def asked_by(user, path, lines):
     if ran.returncode:
         raise AssertionError(ran.stderr.decode())
     return ran.stdout.splitlines()
+
+
+@contextlib.contextmanager
+def as_no_root():
+    """Has this process be nobody for a moment, where it is root, who may open everything."""
+    user = os.geteuid()
+    if user == 0:
+        os.seteuid(NOBODY)
+    try:
+        yield
+    finally:
+        os.seteuid(user)
 
 
 class TheFolder(unittest.TestCase):
@@ -100,6 +115,20 @@ class TheFolder(unittest.TestCase):
                         with Places(root / "team"):
                             pass
                     self.assertEqual((mode_of(victim), list(victim.iterdir())), (0o755, []))
+
+    def test_one_who_is_not_in_its_group_is_told_so(self):
+        with tempfile.TemporaryDirectory() as folder, socket.socket(socket.AF_UNIX) as listening:
+            os.chmod(folder, 0o711)
+            state = pathlib.Path(folder) / "team"
+            state.mkdir(mode=0o755)
+            listening.bind(str(state / "gateway.sock"))
+            listening.listen()
+            for path in (state / "gateway.sock", state):
+                path.chmod(0)
+                with as_no_root(), self.assertRaises(Disconnected) as held:
+                    GatewayTalk(state)
+                told = f"{state}/gateway.sock may not be opened: .* for the folder's group"
+                self.assertRegex(str(held.exception), told)
 
 
 class TheLock(unittest.TestCase):
