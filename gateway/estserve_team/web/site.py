@@ -42,6 +42,8 @@ DENIALS = {  # by what there isn't: the status, and the sentence
     "person": (401, "This person is not known on the machine."),
     "seat": (410, "The page's login is over."),
     "link": (401, "This link was used, or its five minutes are over: ask for another."),
+    # to those alone whom the proxy names; and no 401, since no link helps
+    "proxy": (403, "The gateway does not believe the proxy: start it with --page-names."),
 }
 Handler = Callable[[web.Request], Awaitable[web.StreamResponse]]
 Told = Dict[str, Any]
