@@ -238,6 +238,8 @@ class Site:
             raise web.HTTPNotFound(text="There is nothing of this name to read.")
         try:
             return await self._reads[name](seat, request.query)
+        except asking.NoSlot:
+            raise web.HTTPBadRequest(text=f"Slots are 0 to {asking.SLOTS - 1}.") from None
         except ValueError:
             raise web.HTTPBadRequest(text="A number is expected.") from None
 
