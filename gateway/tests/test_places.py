@@ -18,7 +18,7 @@ from teams import Team, line_of, login_line
 from estserve_client.connection import Disconnected
 from estserve_client.policy_file import BadPolicy
 from estserve_team.people import People, read_people, peer_uid
-from estserve_team.places import Failed, Places, start_child, start_time_of
+from estserve_team.places import Failed, Places, bind_socket, start_child, start_time_of
 from estserve_team.reads.client import GatewayTalk
 from estserve_team.refusals import Refused
 
@@ -115,6 +115,37 @@ class TheFolder(unittest.TestCase):
                         with Places(root / "team"):
                             pass
                     self.assertEqual((mode_of(victim), list(victim.iterdir())), (0o755, []))
+
+    def test_what_stands_in_the_place_of_a_socket_and_is_none_stays(self):
+        for name, make in [
+            ("team.sock", lambda path: path.write_text("mine")),
+            ("gateway.sock", lambda path: path.symlink_to("none")),
+            ("metrics.sock", lambda path: path.mkdir()),
+        ]:
+            with tempfile.TemporaryDirectory() as folder, self.subTest(name):
+                state = pathlib.Path(folder) / "team"
+                state.mkdir()
+                path = state / name
+                make(path)
+                before = path.lstat()
+                team = Team(state=state)
+                self.addCleanup(team.__exit__)
+                words = team.command()
+                ran = subprocess.run(words, capture_output=True, text=True, timeout=60)
+                self.assertEqual(ran.returncode, 1)
+                self.assertIn(f"{path} is no socket, and is kept: move it away", ran.stderr)
+                self.assertNotIn("Traceback", ran.stderr)
+                after = path.lstat()
+                self.assertEqual((after.st_ino, after.st_mode), (before.st_ino, before.st_mode))
+                if path.is_file():
+                    self.assertEqual(path.read_text(), "mine")
+
+    def test_a_socket_that_was_left_is_taken_away(self):
+        with tempfile.TemporaryDirectory() as folder:
+            path = pathlib.Path(folder) / "team.sock"
+            for _ in range(2):  # the second finds what the first has left
+                bind_socket(path).close()
+                self.assertTrue(path.is_socket())
 
     def test_one_who_is_not_in_its_group_is_told_so(self):
         with tempfile.TemporaryDirectory() as folder, socket.socket(socket.AF_UNIX) as listening:

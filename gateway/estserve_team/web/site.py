@@ -12,10 +12,11 @@ from ..limits import Limits
 from ..lines import read_int, refuse_constant
 from ..listening import Listener
 from ..log import Log
+from ..places import Failed, remove_socket
 from ..refusals import Refused
 from ..watchdog import Reserve
 from . import asking
-from .binding import bind, remove_socket
+from .binding import bind
 from .core import Core, Denied
 from .gates import KEPT_SECONDS, Gates
 from .guard import HEADERS, TOKEN, Guard, told
@@ -102,7 +103,7 @@ class Site:
     # From start to stop.
 
     async def start(self) -> None:
-        """Begins to serve. Raises OSError."""
+        """Begins to serve. Raises OSError, Failed."""
         sockets = bind(self._options)
         for one in sockets:
             one.listen(BACKLOG)
@@ -155,7 +156,8 @@ class Site:
             task.cancel()
         self._insides.close()
         if self._options.socket:
-            remove_socket(self._options.socket)
+            with contextlib.suppress(Failed):
+                remove_socket(pathlib.Path(self._options.socket))
 
     @property
     def address(self) -> str:
