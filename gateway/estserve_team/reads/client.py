@@ -118,7 +118,7 @@ def ask_word(arguments: argparse.Namespace) -> None:
     if arguments.json:
         print(json.dumps(answer, separators=(",", ":"), sort_keys=True, ensure_ascii=False))
         return
-    for line in PRINTERS[arguments.word](answer):
+    for line in PRINTERS[arguments.word]({**answer, "active": arguments.role or []}):
         print(line)
 
 
