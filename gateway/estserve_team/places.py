@@ -107,14 +107,27 @@ def check_socket_path(path: pathlib.Path) -> None:
         raise Failed(f"{path} is over {PATH_BYTES} bytes, which is too long for a socket")
 
 
+def remove_socket(path: pathlib.Path) -> None:
+    """Takes away a socket that was left at a path. Raises Failed, also where a file of another
+    kind stands there, or a link: it stays."""
+    try:
+        if not stat.S_ISSOCK(path.lstat().st_mode):
+            raise Failed(f"{path} is no socket, and is kept: move it away")
+        path.unlink()
+    except FileNotFoundError:
+        pass
+    except OSError as fault:
+        raise Failed(f"{path} cannot be taken away: {fault.strerror or fault}") from fault
+
+
 def bind_socket(path: pathlib.Path) -> socket.socket:
-    """A socket that listens at the path, for the owner and the group of its folder. What stood
-    there is taken away. Raises Failed."""
+    """A socket that listens at the path, for the owner and the group of its folder. A socket that
+    stood there is taken away. Raises Failed."""
     check_socket_path(path)
+    remove_socket(path)
     listening = socket.socket(socket.AF_UNIX, socket.SOCK_STREAM)
     before = os.umask(0o117)
     try:
-        path.unlink(missing_ok=True)
         listening.bind(os.fspath(path))
         os.chown(path, -1, path.parent.stat().st_gid)
     except OSError as fault:

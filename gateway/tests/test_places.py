@@ -1,5 +1,6 @@
 """Places, persons, children: the modes of folder and sockets, the lock, orphans, and what a login
 may name."""
+import contextlib
 import json
 import os
 import pathlib
@@ -14,9 +15,11 @@ import unittest
 
 import teams
 from teams import Team, line_of, login_line
+from estserve_client.connection import Disconnected
 from estserve_client.policy_file import BadPolicy
 from estserve_team.people import People, read_people, peer_uid
-from estserve_team.places import Failed, Places, start_child, start_time_of
+from estserve_team.places import Failed, Places, bind_socket, start_child, start_time_of
+from estserve_team.reads.client import GatewayTalk
 from estserve_team.refusals import Refused
 
 NOBODY = 65_534
@@ -54,6 +57,18 @@ def asked_by(user, path, lines):
     if ran.returncode:
         raise AssertionError(ran.stderr.decode())
     return ran.stdout.splitlines()
+
+
+@contextlib.contextmanager
+def as_no_root():
+    """Has this process be nobody for a moment, where it is root, who may open everything."""
+    user = os.geteuid()
+    if user == 0:
+        os.seteuid(NOBODY)
+    try:
+        yield
+    finally:
+        os.seteuid(user)
 
 
 class TheFolder(unittest.TestCase):
@@ -100,6 +115,51 @@ class TheFolder(unittest.TestCase):
                         with Places(root / "team"):
                             pass
                     self.assertEqual((mode_of(victim), list(victim.iterdir())), (0o755, []))
+
+    def test_what_stands_in_the_place_of_a_socket_and_is_none_stays(self):
+        for name, make in [
+            ("team.sock", lambda path: path.write_text("mine")),
+            ("gateway.sock", lambda path: path.symlink_to("none")),
+            ("metrics.sock", lambda path: path.mkdir()),
+        ]:
+            with tempfile.TemporaryDirectory() as folder, self.subTest(name):
+                state = pathlib.Path(folder) / "team"
+                state.mkdir()
+                path = state / name
+                make(path)
+                before = path.lstat()
+                team = Team(state=state)
+                self.addCleanup(team.__exit__)
+                words = team.command()
+                ran = subprocess.run(words, capture_output=True, text=True, timeout=60)
+                self.assertEqual(ran.returncode, 1)
+                self.assertIn(f"{path} is no socket, and is kept: move it away", ran.stderr)
+                self.assertNotIn("Traceback", ran.stderr)
+                after = path.lstat()
+                self.assertEqual((after.st_ino, after.st_mode), (before.st_ino, before.st_mode))
+                if path.is_file():
+                    self.assertEqual(path.read_text(), "mine")
+
+    def test_a_socket_that_was_left_is_taken_away(self):
+        with tempfile.TemporaryDirectory() as folder:
+            path = pathlib.Path(folder) / "team.sock"
+            for _ in range(2):  # the second finds what the first has left
+                bind_socket(path).close()
+                self.assertTrue(path.is_socket())
+
+    def test_one_who_is_not_in_its_group_is_told_so(self):
+        with tempfile.TemporaryDirectory() as folder, socket.socket(socket.AF_UNIX) as listening:
+            os.chmod(folder, 0o711)
+            state = pathlib.Path(folder) / "team"
+            state.mkdir(mode=0o755)
+            listening.bind(str(state / "gateway.sock"))
+            listening.listen()
+            for path in (state / "gateway.sock", state):
+                path.chmod(0)
+                with as_no_root(), self.assertRaises(Disconnected) as held:
+                    GatewayTalk(state)
+                told = f"{state}/gateway.sock may not be opened: .* for the folder's group"
+                self.assertRegex(str(held.exception), told)
 
 
 class TheLock(unittest.TestCase):

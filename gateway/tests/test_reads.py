@@ -2,6 +2,8 @@
 import json
 import os
 import shutil
+import subprocess
+import sys
 import threading
 import unittest
 
@@ -516,6 +518,21 @@ class Printed(Case):
 
 class OverTheGateway(unittest.TestCase):
     """The words over gateway.sock, and an archive of a gateway that runs."""
+
+    def test_who_sees_no_slot_is_told_where_no_role_is_active(self):
+        with Team() as team:
+            with team.root() as root:
+                root.addrole("readers")
+                root.assign("root", "readers")
+            words = [sys.executable, "-B", str(ROOT / "clients" / "estserve.py"), "team"]
+            words += ["--state", str(team.state), "slots", "--as", "root"]
+            told = "you have no permission on a slot"
+            for roles, more in [
+                ([], ": no role is active, name one by --role ROLE"),
+                (["--role", "readers"], ""),
+            ]:
+                ran = subprocess.run([*words, *roles], capture_output=True, text=True, timeout=60)
+                self.assertEqual(ran.stdout, f"{told}{more}\n", ran.stderr)
 
     def test_reads_follow_four_clients_at_a_time(self):
         with Team() as team:

@@ -504,8 +504,18 @@ class ReadsTest(OwnTest):
         self.assertEqual(self.cho.ask("b", "step", slot=0)["reply"]["instant"], 2)
 
     def test_numbers_out_of_form_are_refused(self):
-        for query in ({"slot": "x"}, {"slot": 16}, {"slot": -1}, {"slot": 0, "from": "", "to": 1}):
-            self.assertEqual(self.root.get("looks", **query).status, 400, query)
+        number, slots = "A number is expected.", "Slots are 0 to 15."
+        for query, sentence in (
+            ({"slot": "x"}, number),
+            ({"slot": 0, "from": "", "to": 1}, number),
+            ({"slot": 16, "from": 1, "to": 1}, slots),
+            ({"slot": -1, "from": 1, "to": 1}, slots),
+        ):
+            answer = self.root.get("looks", **query)
+            self.assertEqual((answer.status, answer.told["sentence"]), (400, sentence), query)
+        for name in ("text", "inside", "stuck"):
+            answer = self.root.get(name, slot=99, instant=1)
+            self.assertEqual((answer.status, answer.told["sentence"]), (400, slots), name)
 
 
 class ProxyTest(unittest.TestCase):

@@ -14,6 +14,7 @@ ROOT = pathlib.Path(__file__).resolve().parents[2]
 sys.path[:0] = [str(ROOT / "clients"), str(ROOT / "gateway")]
 from estserve_client.trying_out import try_text  # noqa: E402
 from estserve_team.people import Person  # noqa: E402
+from estserve_team.places import Failed  # noqa: E402
 from estserve_team.reads import who  # noqa: E402
 from estserve_team.reads.policy_model import PolicyModel  # noqa: E402
 from estserve_team.reads.printing import slots_lines  # noqa: E402
@@ -129,6 +130,17 @@ class BindingTest(unittest.TestCase):
 
     def test_the_proxy_reaches_it(self):
         self.assertEqual(self.bound(os.geteuid()), 0o666)
+
+    def test_a_socket_that_was_left_is_taken_away_and_a_file_stays(self):
+        with tempfile.TemporaryDirectory() as folder:
+            path = pathlib.Path(folder) / "web.sock"
+            for _ in range(2):  # the second finds what the first has left
+                bind_unix(str(path), None).close()
+            path.unlink()
+            path.write_text("mine")
+            with self.assertRaisesRegex(Failed, f"{path} is no socket, and is kept"):
+                bind_unix(str(path), None)
+            self.assertEqual(path.read_text(), "mine")
 
     def test_where_everyone_may_speak_it_is_not_opened(self):
         with self.assertRaises(PermissionError):

@@ -31,17 +31,24 @@ SENTENCES = {
     "NoHttp": "no page serves now: the log of the gateway, or of `team page`, tells why; "
     "if none was started, start one by --http, under systemd by estserve-page@TEAM",
 }
+NOT_IN_GROUP = (
+    "folder and socket are for the folder's group; have yourself added to it, "
+    "and log in to the machine anew"
+)
 
 
 class GatewayTalk:
     """A connection to a gateway's own socket, which is asked one word after the other."""
 
     def __init__(self, state: pathlib.Path) -> None:
-        """Raises Disconnected, where no gateway answers."""
+        """Raises Disconnected, where no gateway answers, or this user may not ask it."""
         path = state / "gateway.sock"
         self._socket = socket.socket(socket.AF_UNIX, socket.SOCK_STREAM)
         try:
             self._socket.connect(str(path))
+        except PermissionError as fault:
+            self._socket.close()
+            raise Disconnected(f"{path} may not be opened: {NOT_IN_GROUP}") from fault
         except (OSError, ValueError) as fault:
             self._socket.close()
             told = getattr(fault, "strerror", None) or fault
@@ -111,7 +118,7 @@ def ask_word(arguments: argparse.Namespace) -> None:
     if arguments.json:
         print(json.dumps(answer, separators=(",", ":"), sort_keys=True, ensure_ascii=False))
         return
-    for line in PRINTERS[arguments.word](answer):
+    for line in PRINTERS[arguments.word]({**answer, "active": arguments.role or []}):
         print(line)
 
 

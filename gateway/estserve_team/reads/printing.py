@@ -31,9 +31,10 @@ def who_lines(answer: Answer) -> Iterator[str]:
 
 
 def slots_lines(answer: Answer) -> Iterator[str]:
-    """What runs in each slot."""
+    """What runs in each slot. `active` has the roles of the login, where they are known."""
     if not answer["slots"]:
-        yield "you have no permission on a slot"
+        why = "" if answer.get("active", True) else ": no role is active, name one by --role ROLE"
+        yield f"you have no permission on a slot{why}"
     for slot in answer["slots"]:
         yield from slot_lines(slot)
 

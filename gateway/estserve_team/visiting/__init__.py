@@ -19,7 +19,8 @@ ADDRESS_LETTERS = 512
 
 class Denied(Exception):
     """What is asked is for a visit, a person, a seat or a link that there isn't; `what` says
-    which. Whether there ever was one is not told."""
+    which. Whether there ever was one is not told. `proxy` is a name of the proxy's, which the
+    gateway believes of nobody."""
 
     def __init__(self, what: str) -> None:
         super().__init__(what)
@@ -72,7 +73,9 @@ class Visiting:
     def enter(self, link: Any, named: Any) -> "tuple[Person, str, str]":
         """Begins a visit: of the person whose link it is, or whom the proxy names. The person, and
         the two secrets of the visit. Raises Denied."""
-        name = named if self.names_are_trusted and isinstance(named, str) else None
+        if isinstance(named, str) and not self.names_are_trusted:
+            raise Denied("proxy")  # the same for each name: none is looked up
+        name = named if isinstance(named, str) else None
         if name is None:
             name = self.links.use(link) if isinstance(link, str) else None
         if name is None:

@@ -111,16 +111,20 @@ ACTS: Dict[str, Callable[[Seat, Told], Awaitable[Told]]] = {
 # What is read.
 
 
+class NoSlot(ValueError):
+    """A query names a slot that there isn't."""
+
+
 async def here(seat: Seat, query: Mapping[str, str]) -> Told:
     """That the seat is there. Raises Denied."""
     return await seat.ask("here")
 
 
 def slot_of(query: Mapping[str, str]) -> int:
-    """The slot that a query names. Raises ValueError."""
+    """The slot that a query names. Raises ValueError, NoSlot."""
     slot = int(query.get("slot", ""))
     if not 0 <= slot < SLOTS:
-        raise ValueError
+        raise NoSlot
     return slot
 
 

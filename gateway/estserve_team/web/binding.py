@@ -4,14 +4,8 @@ import pathlib
 import socket
 from typing import List, Optional, Tuple
 
+from ..places import remove_socket
 from .options import Options
-
-
-def remove_socket(path: str) -> None:
-    """Takes away a socket that stands at a path; a file of another kind stays."""
-    place = pathlib.Path(path)
-    if place.is_socket():
-        place.unlink()
 
 
 def bind_tcp(place: Tuple[str, int]) -> socket.socket:
@@ -30,8 +24,8 @@ def bind_tcp(place: Tuple[str, int]) -> socket.socket:
 def bind_unix(path: str, proxy: Optional[int]) -> socket.socket:
     """A socket at a path, for its user and its folder's group. Where this user may not give it to
     that group, whoever may enter the folder reaches it, if one proxy alone may then speak there.
-    Raises OSError."""
-    remove_socket(path)
+    Raises OSError, Failed."""
+    remove_socket(pathlib.Path(path))
     one = socket.socket(socket.AF_UNIX, socket.SOCK_STREAM)
     before = os.umask(0o117)
     try:
@@ -48,7 +42,7 @@ def bind_unix(path: str, proxy: Optional[int]) -> socket.socket:
 
 
 def bind(options: Options) -> List[socket.socket]:
-    """The sockets that are asked for, that over TCP first. Raises OSError."""
+    """The sockets that are asked for, that over TCP first. Raises OSError, Failed."""
     found = [bind_tcp(options.place)] if options.place else []
     if options.socket:
         found.append(bind_unix(options.socket, options.proxy))

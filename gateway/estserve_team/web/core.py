@@ -13,7 +13,7 @@ Told = Dict[str, Any]
 
 
 class Denied(Exception):
-    """The gateway knows no such visit, person, seat or link."""
+    """The gateway knows no such visit, person, seat or link, or doesn't believe the proxy."""
 
 
 class Asked:

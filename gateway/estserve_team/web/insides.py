@@ -13,6 +13,7 @@ from estserve_client.module_text import main_of
 from estserve_client.texts import Failed
 
 from ..refusals import failed
+from .asking import SLOTS, slot_of
 from .trials import Turns, apart
 
 NAME = "text"  # of the text, in places
@@ -21,7 +22,6 @@ LOOK_SECONDS = 8.0  # one look may take so long, and the next goes on from where
 QUICK_SECONDS = 0.2  # as long as a batch takes no longer, the next one has twice as many instants
 BATCH = 1_024  # instants at most
 AT_ONCE = 2  # looks, each for another person and into another slot
-SLOTS = 16
 KEPT = 512  # instants of a module that are told again without being worked out again
 ROWS = 256  # instants whose local signals are told at once
 Told = Dict[str, Any]
@@ -168,9 +168,7 @@ class Insides:
         empty: Told,
     ) -> Told:
         """What is told of a slot; of one that is empty, this. Raises ValueError, Denied, Refused."""
-        slot = int(query.get("slot", ""))
-        if not 0 <= slot < SLOTS:
-            raise ValueError
+        slot = slot_of(query)
         async with self._turns.of(seat, self._slots[slot]):
             told = await self._taken(seat, slot)
             held = self._held.get(slot)

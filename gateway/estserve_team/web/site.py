@@ -12,10 +12,11 @@ from ..limits import Limits
 from ..lines import read_int, refuse_constant
 from ..listening import Listener
 from ..log import Log
+from ..places import Failed, remove_socket
 from ..refusals import Refused
 from ..watchdog import Reserve
 from . import asking
-from .binding import bind, remove_socket
+from .binding import bind
 from .core import Core, Denied
 from .gates import KEPT_SECONDS, Gates
 from .guard import HEADERS, TOKEN, Guard, told
@@ -42,6 +43,8 @@ DENIALS = {  # by what there isn't: the status, and the sentence
     "person": (401, "This person is not known on the machine."),
     "seat": (410, "The page's login is over."),
     "link": (401, "This link was used, or its five minutes are over: ask for another."),
+    # to those alone whom the proxy names; and no 401, since no link helps
+    "proxy": (403, "The gateway does not believe the proxy: start it with --page-names."),
 }
 Handler = Callable[[web.Request], Awaitable[web.StreamResponse]]
 Told = Dict[str, Any]
@@ -100,7 +103,7 @@ class Site:
     # From start to stop.
 
     async def start(self) -> None:
-        """Begins to serve. Raises OSError."""
+        """Begins to serve. Raises OSError, Failed."""
         sockets = bind(self._options)
         for one in sockets:
             one.listen(BACKLOG)
@@ -153,7 +156,8 @@ class Site:
             task.cancel()
         self._insides.close()
         if self._options.socket:
-            remove_socket(self._options.socket)
+            with contextlib.suppress(Failed):
+                remove_socket(pathlib.Path(self._options.socket))
 
     @property
     def address(self) -> str:
@@ -236,6 +240,8 @@ class Site:
             raise web.HTTPNotFound(text="There is nothing of this name to read.")
         try:
             return await self._reads[name](seat, request.query)
+        except asking.NoSlot:
+            raise web.HTTPBadRequest(text=f"Slots are 0 to {asking.SLOTS - 1}.") from None
         except ValueError:
             raise web.HTTPBadRequest(text="A number is expected.") from None
 
