@@ -660,6 +660,10 @@ def open_socket(path: Path) -> Channel:
     connection = socket.socket(socket.AF_UNIX, socket.SOCK_STREAM)
     try:
         connection.connect(os.fspath(path))
+    except PermissionError as fault:
+        connection.close()
+        why = "folder and socket are for their owner and group"
+        raise Disconnected(f"{path} may not be opened: {why}") from fault
     except (OSError, ValueError) as fault:
         connection.close()
         told = getattr(fault, "strerror", None) or fault

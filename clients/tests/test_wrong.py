@@ -1,6 +1,7 @@
 """What the client says of what goes wrong: one clear line, and a status that isn't 0."""
 import argparse
 import contextlib
+import errno
 import io
 import json
 import os
@@ -243,6 +244,12 @@ class Servers(WhatGoesWrong):
             with self.subTest(path):
                 self.fails(["shell", "--socket", path], f"no server answers at {path}: ")
                 self.fails(["apply", EXAMPLES / "team" / "team.toml", "--socket", path], told)
+
+    def test_one_that_may_not_be_reached(self):
+        denied = PermissionError(errno.EACCES, "Permission denied")
+        with unittest.mock.patch("socket.socket.connect", side_effect=denied):
+            with self.assertRaisesRegex(connection.Disconnected, "may not be opened: folder"):
+                connection.open_socket(self.folder / "kept")
 
     def test_a_user_that_is_denied(self):
         self.fails_over(
