@@ -1,7 +1,9 @@
 """Words that were perhaps meant: those that are one edit away from what is written."""
 from __future__ import annotations
 
-from typing import Iterable, Optional
+TYPE_CHECKING = False
+if TYPE_CHECKING:
+    from typing import Iterable, Optional
 
 SHORT = 3  # shorter words are one edit away from too many others
 
