@@ -2,7 +2,7 @@
 use Rattle.std.specs.Prelude.{◌≡◌, ◌≢◌, ◌<◌, ◌≤◌, ◌+◌, ◌-◌, ℕ, zero, suc, List, [], ◌∷◌, ◌++◌, Option, None, Some}
 use Rattle.std.specs.Prelude.{get_or, length, map, slice_get, take}
 use Rattle.std.specs.List.{flat_map, range_with_len}
-use Rattle.std.proofs.Common.{◌∙◌, refl, sym, ap, append-nil, arith, subst}
+use Rattle.std.proofs.Common.{◌∙◌, refl, sym, ap, append-nil, arith}
 use Rattle.std.proofs.lemmas.Grind.{flat_map-append}
 use Rattle.std.proofs.lemmas.List.{take_all, take_more}
 use Rattle.est_meaning.specs.declared.status.Status.{Status}

@@ -1,4 +1,4 @@
-use Rattle.std.proofs.Common.{◌≡◌, ◌∙◌, ◌+◌, ◌++◌, ◌∷◌, [], List, ap, append_assoc, sym}
+use Rattle.std.proofs.Common.{◌∙◌, ◌+◌, ◌++◌, ◌∷◌, [], List, ap, append_assoc, sym}
 use Rattle.est_net.specs.Owners.{cell_of, kind_at, own_owners}
 use Rattle.est_net.specs.declared.owners.StatementCell.{StatementCell}
 use Rattle.lab_instant.proofs.Cells.{own_more}

@@ -1,4 +1,4 @@
-use Rattle.std.proofs.Common.{◌≡◌, ◌∙◌, ◌+◌, [], Option, Some, ap, get_or, slice_get, sym}
+use Rattle.std.proofs.Common.{◌∙◌, [], Option, ap, get_or, slice_get, sym}
 use Rattle.std.proofs.lemmas.Option.{slice_get-get_or}
 use Rattle.est_net.specs.declared.owners.StatementCell.{StatementCell}
 use Rattle.lab_instant.specs.OwnCells.{signal_at}

@@ -1,4 +1,4 @@
-use Rattle.std.proofs.Common.{◌≤◌, arith}
+use Rattle.std.proofs.Common.{arith}
 use Rattle.lab_instant.proofs.Cells.{read_quiet}
 use Rattle.lab_instant.proofs.reading.add_all.Goals as goal
 

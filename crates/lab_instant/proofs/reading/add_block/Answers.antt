@@ -1,4 +1,4 @@
-use Rattle.std.proofs.Common.{◌≡◌, arith}
+use Rattle.std.proofs.Common.{arith}
 use Rattle.std.proofs.lemmas.Option.{slice_get-get_or}
 use Rattle.est_net.specs.Cells.{cell_at}
 use Rattle.lab_instant.proofs.Cells.{read_more}

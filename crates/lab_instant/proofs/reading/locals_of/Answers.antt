@@ -1,4 +1,4 @@
-use Rattle.std.proofs.Common.{◌≡◌, ◌∙◌, ◌++◌, List, Option, ap, get_or, sym, take}
+use Rattle.std.proofs.Common.{◌∙◌, ◌++◌, List, Option, ap, sym, take}
 use Rattle.std.specs.List.{flat_map}
 use Rattle.est_net.specs.Cells.{cell_at}
 use Rattle.lab_instant.specs.Seen.{listed}
