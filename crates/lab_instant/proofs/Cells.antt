@@ -97,7 +97,8 @@ read_quiet owners cells c m n b w le none so =
       began = so.began ∙ sym (found_still _ m n le
           (λ x l h. not_begun (slice_get owners x) (cell_at cells (c + x)) (none (c + x) (omega arith) (omega arith))));
       went_on = so.went_on ∙ sym (found_still _ m n le
-          (λ x l h. not_resumed (slice_get owners x) (cell_at cells) (c + x) (none (c + x) (omega arith) (omega arith))));
+          (λ x l h. not_resumed (slice_get owners x) (cell_at cells) (c + x)
+          (none (c + x) (omega arith) (omega arith))));
     }
 
 -- ---- local signals

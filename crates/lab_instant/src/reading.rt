@@ -7,8 +7,9 @@ ghost use Rattle.std.specs.Prelude.{◌≡◌, ◌<◌, ◌≤◌, ◌+◌, ◌+
 ghost use Rattle.est_net.specs.Cells.{cell_at};
 ghost use Rattle.lab_instant.specs.OwnCells.{signal_places};
 ghost use Rattle.lab_instant.specs.Inner.Reading.{AreAll, AreReadTo};
-ghost use Rattle.lab_instant.specs.Seen.{begun_at, begun_by_kind, go_place, incarnation_of, listed};
-ghost use Rattle.lab_instant.specs.Seen.{all_locals, local_at, local_by_kind, resumed_at, resumed_by_kind};
+ghost use Rattle.lab_instant.specs.Seen.{all_locals, begun_at, begun_by_kind, go_place};
+ghost use Rattle.lab_instant.specs.Seen.{incarnation_of, listed, local_at, local_by_kind};
+ghost use Rattle.lab_instant.specs.Seen.{resumed_at, resumed_by_kind};
 
 use crate::list::push_if;
 use crate::seen::{Incarnation, Local, Seen};

@@ -4,4 +4,7 @@ use Rattle.lab_instant.proofs.reading.all_seen.Goals as goal
 
 pub add_all-requires-clause-before : goal.add_all-requires-clause-before
 add_all-requires-clause-before c =
-    record { began = c.new-began.ensures.items ∙ sym (none_found _); went_on = c.new-went_on.ensures.items ∙ sym (none_found _) }
+    record {
+      began = c.new-began.ensures.items ∙ sym (none_found _);
+      went_on = c.new-went_on.ensures.items ∙ sym (none_found _);
+    }
