@@ -8,7 +8,6 @@
 
 pub mod instant;
 pub mod laws;
-mod list;
 mod owners;
 mod reading;
 pub mod seen;

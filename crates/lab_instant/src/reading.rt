@@ -1,211 +1,149 @@
 //! What took part in an instant, read off the cells.
-//!
-//! Most cells of an instant are false. So they are looked at block by block, and one by one only in
-//! a block in which one is true. The local signals are told whatever their cells are.
 
-ghost use Rattle.std.specs.Prelude.{◌≡◌, ◌<◌, ◌≤◌, ◌+◌, ◌++◌, length, slice_get, Some, IfOk};
+ghost use Rattle.std.specs.Prelude.{◌≡◌, ◌≤◌, ◌+◌, ◌++◌, ℕ, length, IfOk};
+ghost use Rattle.est_meaning.specs.declared.status.Status.TheVariants.{Absent};
 ghost use Rattle.est_net.specs.Cells.{cell_at};
-ghost use Rattle.lab_instant.specs.OwnCells.{signal_places};
-ghost use Rattle.lab_instant.specs.Inner.Reading.{AreAll, AreReadTo};
-ghost use Rattle.lab_instant.specs.Seen.{all_locals, begun_at, begun_by_kind, go_place};
-ghost use Rattle.lab_instant.specs.Seen.{incarnation_of, listed, local_at, local_by_kind};
-ghost use Rattle.lab_instant.specs.Seen.{resumed_at, resumed_by_kind};
+ghost use Rattle.est_net.specs.declared.owners.CellKind.TheVariants.{Code, Go};
+ghost use Rattle.lab_instant.specs.OwnCells.{cells_of, cells_of_one, own_count};
+ghost use Rattle.lab_instant.specs.Inner.Reading.{AreAll, codes_given};
+ghost use Rattle.lab_instant.specs.Seen.{all_begun, all_locals, all_resumed, begun_by_kind};
+ghost use Rattle.lab_instant.specs.Seen.{listed, resumed_by_kind};
 
-use crate::list::push_if;
+use crate::owners::{OwnCells, own_count};
 use crate::seen::{Incarnation, Local, Seen};
 use est_meaning::status::Status;
 use est_net::net::Net;
-use est_net::owners::{CellKind, StatementCell};
 use std::alloc::{AllocError, Global};
 
-/// How many cells are looked at together.
-const BLOCK: usize = 32;
-
-/// The statement that a cell belongs to, in its incarnation.
-fn incarnation_of(cell: StatementCell) -> Incarnation
-    ensures { result ≡ incarnation_of cell }
+/// The statement, if its go cell tells that it began.
+fn begun(at: Incarnation, go: Status) -> Option<Incarnation>
+    ensures { result ≡ begun_by_kind Go go at }
 {
-    Incarnation {
-        statement: cell.statement,
-        number: cell.incarnation,
+    match go {
+        Status::Present => Some(at),
+        Status::Absent | Status::Unknown => None,
     }
 }
 
-/// The statement, if the cell tells that it began.
-fn begun(cell: StatementCell, status: Status) -> Option<Incarnation>
-    ensures { result ≡ begun_by_kind cell.kind status (incarnation_of cell) }
+/// The statement, which did not begin, if the cell of a code tells that it ran.
+fn resumed(at: Incarnation, gave: Status) -> Option<Incarnation>
+    ensures { (code : ℕ) → result ≡ resumed_by_kind (Code code) Absent gave at }
 {
-    match (cell.kind, status) {
-        (CellKind::Go, Status::Present) => Some(incarnation_of(cell)),
-        _ => None,
+    match gave {
+        Status::Present => Some(at),
+        Status::Absent | Status::Unknown => None,
     }
 }
 
-/// The statement, if the cell tells that it ran and the go cell that it did not begin.
-fn resumed(cell: StatementCell, go: Status, status: Status) -> Option<Incarnation>
-    ensures { result ≡ resumed_by_kind cell.kind go status (incarnation_of cell) }
+/// The local signal that a statement declares.
+fn local(declared: Incarnation, status: Status) -> Local
+    ensures declared { result.declared ≡ declared }
+    ensures status { result.status ≡ status }
 {
-    match (cell.kind, go, status) {
-        (CellKind::Code(_), Status::Absent, Status::Present) => Some(incarnation_of(cell)),
-        _ => None,
-    }
+    Local { declared, status }
 }
 
-/// The place of the go cell of the statement of a cell at this place.
-fn go_place(cell: StatementCell, place: usize) -> usize
-    ensures place { result ≡ go_place cell.kind place }
-    ensures within { result ≤ place }
+/// Adds an item, if there is one.
+fn push_if<T: Copy>(list: &mut Vec<T>, item: Option<T>) -> Result<(), AllocError>
+    ensures { IfOk result (λ _. list.new.items ≡ list.old.items ++ listed item) }
 {
-    match cell.kind {
-        CellKind::Code(code) => place.saturating_sub(code).saturating_sub(1),
-        CellKind::Go | CellKind::Status => place,
-    }
-}
-
-/// The local signal with its status, if the cell tells that.
-fn local(cell: StatementCell, status: Status) -> Option<Local>
-    ensures { result ≡ local_by_kind cell.kind status (incarnation_of cell) }
-{
-    match cell.kind {
-        CellKind::Status => Some(Local {
-            declared: incarnation_of(cell),
-            status,
-        }),
-        CellKind::Go | CellKind::Code(_) => None,
-    }
-}
-
-/// The local signal of which the cell at this place tells, if there is one.
-fn local_at(net: &Net, cells: &[StatementCell], first: usize, place: usize) -> Option<Local>
-    requires { first + length cells.now ≤ length net.now.cells.items }
-    ensures { result ≡ local_at (slice_get cells.now place)
-        (cell_at net.now.cells.items (first + place)) }
-{
-    match cells.get(place) {
-        Some(cell) => local(*cell, net.status(first + place)),
-        None => None,
-    }
-}
-
-/// Adds what a cell at this place of the table tells of its statement.
-fn add_cell(
-    began: &mut Vec<Incarnation>,
-    went_on: &mut Vec<Incarnation>,
-    net: &Net,
-    cell: StatementCell,
-    place: usize,
-) -> Result<(), AllocError>
-    requires { place < length net.now.cells.items }
-    ensures began { IfOk result (λ _. began.new.items ≡ began.old.items
-        ++ listed (begun_at (Some cell) (cell_at net.now.cells.items place))) }
-    ensures went_on { IfOk result (λ _. went_on.new.items ≡ went_on.old.items
-        ++ listed (resumed_at (Some cell) (cell_at net.now.cells.items) place)) }
-{
-    let status = net.status(place);
-    let go = net.status(go_place(cell, place));
-    push_if(began, begun(cell, status))?;
-    push_if(went_on, resumed(cell, go, status))
-}
-
-/// Adds what the cells of a block tell, one by one.
-fn add_block(
-    began: &mut Vec<Incarnation>,
-    went_on: &mut Vec<Incarnation>,
-    net: &Net,
-    cells: &[StatementCell],
-    first: usize,
-    from: usize,
-    past: usize,
-) -> Result<(), AllocError>
-    requires block { (from ≤ past) × (past ≤ length cells.now) }
-    requires table { first + length cells.now ≤ length net.now.cells.items }
-    requires before { AreReadTo cells.now (cell_at net.now.cells.items) first from began.old.items
-        went_on.old.items }
-    ensures { IfOk result (λ _. AreReadTo cells.now (cell_at net.now.cells.items) first past
-        began.new.items went_on.new.items) }
-{
-    for at in from..past {
-        add_cell(began, went_on, net, cells[at], first + at)?;
+    if let Some(item) = item {
+        list.push(item)?;
     }
     Ok(())
 }
 
-/// Where the block that begins at this place ends.
-fn block_end(at: usize, count: usize) -> usize
-    requires { at < count }
-    ensures { (at < result) × (result ≤ count) }
+/// Adds the statement, if it began. Its own cells begin at place `cell`.
+fn add_begun(
+    found: &mut Vec<Incarnation>,
+    net: &Net,
+    own: OwnCells,
+    cell: usize,
+) -> Result<(), AllocError>
+    requires { cell + own.traps + 3 ≤ length net.now.cells.items }
+    ensures { IfOk result (λ _. found.new.items ≡ found.old.items
+        ++ all_begun (cells_of_one own) (cell_at net.now.cells.items) cell) }
 {
-    if count - at <= BLOCK {
-        count
-    } else {
-        at + BLOCK
-    }
+    push_if(found, begun(own.at, net.status(cell)))
 }
 
-/// Adds what all cells tell, block by block.
-fn add_all(
-    began: &mut Vec<Incarnation>,
-    went_on: &mut Vec<Incarnation>,
+/// Adds the statement, which did not begin, for each code that it gave. The cells of the codes
+/// begin at place `first`.
+fn add_codes(
+    found: &mut Vec<Incarnation>,
     net: &Net,
-    cells: &[StatementCell],
+    at: Incarnation,
     first: usize,
+    codes: usize,
 ) -> Result<(), AllocError>
-    requires table { first + length cells.now ≤ length net.now.cells.items }
-    requires before { AreReadTo cells.now (cell_at net.now.cells.items) first 0 began.old.items
-        went_on.old.items }
-    ensures { IfOk result (λ _. AreReadTo cells.now (cell_at net.now.cells.items) first
-        (length cells.now) began.new.items went_on.new.items) }
+    requires { first + codes ≤ length net.now.cells.items }
+    ensures { IfOk result (λ _. found.new.items ≡ found.old.items
+        ++ codes_given at (cell_at net.now.cells.items) first codes) }
 {
-    let mut at = 0;
-    while at < cells.len() {
-        let past = block_end(at, cells.len());
-        if !net.has_no_true(first + at, first + past) {
-            add_block(began, went_on, net, cells, first, at, past)?;
-        }
-        at = past;
+    for code in 0..codes {
+        push_if(found, resumed(at, net.status(first + code)))?;
     }
     Ok(())
 }
 
-/// The local signals, whose cells are at these places.
-fn locals_of(
-    alloc: Global,
+/// Adds the statement, if it went on. Its own cells begin at place `cell`.
+fn add_resumed(
+    found: &mut Vec<Incarnation>,
     net: &Net,
-    cells: &[StatementCell],
-    signals: &[usize],
-    first: usize,
-) -> Result<Vec<Local>, AllocError>
-    requires table { first + length cells.now ≤ length net.now.cells.items }
-    requires signals { signals.now ≡ signal_places cells.now }
-    ensures { IfOk result (λ locals. locals.items
-        ≡ all_locals cells.now (cell_at net.now.cells.items) first) }
+    own: OwnCells,
+    cell: usize,
+) -> Result<(), AllocError>
+    requires { cell + own.traps + 3 ≤ length net.now.cells.items }
+    ensures { IfOk result (λ _. found.new.items ≡ found.old.items
+        ++ all_resumed (cells_of_one own) (cell_at net.now.cells.items) cell) }
 {
-    let mut locals = Vec::new(alloc);
-    for place in signals {
-        push_if(&mut locals, local_at(net, cells, first, *place))?;
+    match net.status(cell) {
+        Status::Absent => add_codes(found, net, own.at, cell + 1, own.traps + 2),
+        Status::Present | Status::Unknown => Ok(()),
     }
-    Ok(locals)
 }
 
-/// What took part. The cells of these owners begin at place `first`; those at the places `signals`
-/// tell the statuses of local signals.
+/// Adds the signal that the statement declares, if it declares one. Its own cells begin at place
+/// `cell`.
+fn add_local(
+    found: &mut Vec<Local>,
+    net: &Net,
+    own: OwnCells,
+    cell: usize,
+) -> Result<(), AllocError>
+    requires { cell + own_count own.traps own.declares ≤ length net.now.cells.items }
+    ensures { IfOk result (λ _. found.new.items ≡ found.old.items
+        ++ all_locals (cells_of_one own) (cell_at net.now.cells.items) cell) }
+{
+    if own.declares {
+        found.push(local(own.at, net.status(cell + own.traps + 3)))?;
+    }
+    Ok(())
+}
+
+/// What took part. The cells of these owners begin at place `first`.
 pub fn all_seen(
     alloc: Global,
+    owners: &[OwnCells],
     net: &Net,
-    cells: &[StatementCell],
-    signals: &[usize],
     first: usize,
 ) -> Result<Seen, AllocError>
-    requires table { first + length cells.now ≤ length net.now.cells.items }
-    requires signals { signals.now ≡ signal_places cells.now }
-    ensures { IfOk result (AreAll cells.now (cell_at net.now.cells.items) first) }
+    requires { first + length (cells_of owners.now) ≤ length net.now.cells.items }
+    ensures { IfOk result (AreAll (cells_of owners.now) (cell_at net.now.cells.items) first) }
 {
-    let mut began = Vec::new(alloc);
-    let mut went_on = Vec::new(alloc);
-    add_all(&mut began, &mut went_on, net, cells, first)?;
+    let mut began = Vec::with_capacity(alloc, owners.len())?;
+    let mut went_on = Vec::with_capacity(alloc, owners.len())?;
+    let mut locals = Vec::new(alloc);
+    let mut cell = first;
+    for own in owners {
+        add_begun(&mut began, net, *own, cell)?;
+        add_resumed(&mut went_on, net, *own, cell)?;
+        add_local(&mut locals, net, *own, cell)?;
+        cell += own_count(*own);
+    }
     Ok(Seen {
         began,
         went_on,
-        locals: locals_of(alloc, net, cells, signals, first)?,
+        locals,
     })
 }
