@@ -29,9 +29,9 @@ CRATES = {
     "est_kernel": ("code_set", "completion", "mask", "pause_set", "statement"),
     "est_meaning": ("status",),
     "est_rounds": ("acts", "answer", "engine", "judged", "resume", "resume_step", "rounds", "signal_set", "start", "step"),
-    "est_net": ("emissions", "extents", "lay", "net", "pause_run", "reach", "reading", "table"),
-    "est_micro": ("cells", "decided", "direction", "extents", "idle", "learning", "micro", "next", "outputs", "pass_begin", "pass_resume", "passes",
-                  "question", "settling", "sweep_begin", "sweep_resume"),
+    "est_net": ("cell_set", "emissions", "extents", "layout", "net", "pause_run", "reach", "reading", "table"),
+    "est_micro": ("cells", "decided", "direction", "extents", "idle", "learning", "micro", "must_can", "next_pauses", "outputs", "pass_begin",
+                  "pass_resume", "passes", "question", "settling", "sweep_begin", "sweep_resume"),
 }
 BY_HAND = {"est_kernel": ("interface", "kernel", "state")}  # modules of bench/port.rs
 INSTANTS = 20
@@ -51,7 +51,7 @@ def after_braces(text, at):
 
 def without_clauses(text):
     """A file's text without what a proof alone needs."""
-    for line in (r"(?:[ \t]*///[^\n]*\n)?[ \t]*ghost [^\n]*\n", r"//![^\n]*\n", r"#\[(?:derive\(Drop\)|cycle\(\w+\))\]\n",
+    for line in (r"(?:[ \t]*///[^\n]*\n)?[ \t]*ghost [^\n]*\n(?:[ \t]+[^{}\n]*\},\n)?", r"//![^\n]*\n", r"#\[(?:derive\(Drop\)|cycle\(\w+\))\]\n",
                  r"[ \t]*#!?\[tactic\([^\n]*\n", r"use std::alloc::[^\n]*\n"):
         text = re.sub(f"^{line}", "", text, flags=re.M)
     while clause := re.search(r"^[ \t]*(?:requires|ensures)\b[^\n{]*\{", text, flags=re.M):

@@ -38,7 +38,7 @@ MAINTAINER = "Kifowable maintainers <maintainers@users.noreply.kifowable.example
 NEEDS = "libc6 (>= 2.34), python3"
 UNPROVED_NEEDS = f"{NEEDS}, libgcc-s1"  # the sanitizers of a program that is built without proof take it
 EFFORT = 2  # of xz: more takes long, for a program that is built without proof, and saves little
-VIM = {"ftdetect": "esterel.vim", "syntax": "esterel.vim"}
+VIM, VIM_PARTS = "esterel.vim", ("ftdetect", "ftplugin", "syntax")
 
 
 class Package:
@@ -144,10 +144,10 @@ def lay_out(package, programs, libraries, tree):
     write(usr / "share/lintian/overrides" / package.name, part_of("overrides", package))
     (documents / "examples").symlink_to("../../estserve/examples")
     shutil.move(usr / "share/zsh/site-functions", usr / "share/zsh/vendor-completions")
-    for part, name in VIM.items():
-        link = usr / "share/vim/vimfiles" / part / name
+    for part in VIM_PARTS:
+        link = usr / "share/vim/vimfiles" / part / VIM
         link.parent.mkdir(parents=True)
-        link.symlink_to(f"../../../estserve/editors/vim/{part}/{name}")
+        link.symlink_to(f"../../../estserve/editors/vim/{part}/{VIM}")
 
 
 def add_control(package, tree):

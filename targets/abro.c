@@ -16,8 +16,9 @@ int main(int words, char **word) {
   size_t length = fread(text, 1, sizeof text, file);
   fclose(file);
   if (est_load(text, length, "ABRO", 4, &machine, &fault)) {
-    fprintf(stderr, "%s at line %d, column %d\n", est_fault_name(fault.code), (int)fault.line,
-            (int)fault.column);
+    fputs(est_fault_name(fault.code), stderr);
+    if (fault.line) fprintf(stderr, " at line %d, column %d", (int)fault.line, (int)fault.column);
+    fputs("\n", stderr);
     return 1;
   }
   for (int instant = 1; fgets(line, sizeof line, stdin); instant++) {

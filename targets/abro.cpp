@@ -5,14 +5,18 @@
 
 #include "machine.hpp"
 
-int main(int, char **words) {
-  std::ifstream file(words[1]);
+int main(int words, char **word) try {
+  if (words != 2) return 2;
+  std::ifstream file(word[1]);
   const std::string text{std::istreambuf_iterator<char>(file), {}};
   estserve::Machine machine(text, "ABRO");
-  const uint64_t a = 1, b = 2, r = 4, o = 8;
+  const uint64_t a = machine.bit("A"), b = machine.bit("B"), r = machine.bit("R"), o = machine.bit("O");
   int instant = 0;
   for (uint64_t inputs : {uint64_t{0}, a, b, a | b, r, a | b, a | b | r}) {
     instant++;
     if (const auto outputs = machine.react(inputs); outputs && *outputs & o) std::cout << instant << '\n';
   }
+} catch (const std::runtime_error &fault) {
+  std::cerr << fault.what() << '\n';
+  return 1;
 }

@@ -15,6 +15,8 @@ class Fault(ctypes.Structure):
 
 
 def main():
+    if len(sys.argv) != 3:
+        sys.exit(__doc__)
     library = ctypes.CDLL(sys.argv[1])
     library.est_ask.argtypes = [ctypes.c_void_p, ctypes.c_uint64, ctypes.c_uint64]
     library.est_ask.restype = library.est_load_module.restype = ctypes.c_uint64

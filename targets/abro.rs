@@ -48,7 +48,14 @@ impl Drop for Machine {
 }
 
 fn main() {
-    let text = std::fs::read(std::env::args().nth(1).expect("no text")).expect("no file");
+    let Some(path) = std::env::args().nth(1) else {
+        eprintln!("usage: abro TEXT");
+        std::process::exit(2);
+    };
+    let text = std::fs::read(&path).unwrap_or_else(|fault| {
+        eprintln!("{path}: {fault}");
+        std::process::exit(2);
+    });
     let mut machine = match Machine::load("ABRO", &text) {
         Ok(machine) => machine,
         Err(fault) => panic!("fault {} at {}:{}", fault.code, fault.line, fault.column),

@@ -156,7 +156,7 @@ static inline int est_restore(est_machine *machine, const uint8_t *buffer) {
     uint64_t word = 0;
     for (unsigned byte = 0; byte < 8; byte++)
       word |= (uint64_t)buffer[EST_DIGEST_WORDS + 1u + 8 * n + byte] << 8 * byte;
-    (void)est_ask(machine, EST_ASK_PUT + EST_DIGEST_WORDS + 1u + n, word);
+    (void)est_ask(machine, EST_ASK_PUT + 1u + EST_DIGEST_WORDS + n, word);
   }
   return est_ask(machine, EST_ASK_RESTORE, 0) == 0 ? EST_OK : EST_OTHER_STATE;
 }

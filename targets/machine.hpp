@@ -20,8 +20,7 @@ class Machine {
     est_machine *machine = nullptr;
     est_fault fault{};
     if (est_load(text.data(), text.size(), main.data(), main.size(), &machine, &fault))
-      throw std::runtime_error(std::string(est_fault_name(fault.code)) + " at line " +
-                               std::to_string(fault.line));
+      throw std::runtime_error(est_fault_name(fault.code) + place_of(fault));
     machine_.reset(machine);
   }
 
@@ -32,6 +31,20 @@ class Machine {
     return outputs;
   }
   uint64_t given() { return est_given(machine_.get()); }
+  uint64_t inputs() { return est_inputs(machine_.get()); }
+  uint64_t outputs() { return est_outputs(machine_.get()); }
+
+  // The name of the signal at a place; none is empty.
+  std::string signal(unsigned place) {
+    char name[49];
+    return std::string(name, est_signal(machine_.get(), place, name, sizeof name));
+  }
+  // The bit of a signal; 0 where there is none of this name.
+  uint64_t bit(const std::string &name) {
+    for (unsigned place = 0; place < 64; place++)
+      if (signal(place) == name) return uint64_t{1} << place;
+    return 0;
+  }
   void reset() { est_reset(machine_.get()); }
 
   State save() {
@@ -42,6 +55,11 @@ class Machine {
   bool restore(const State &state) { return est_restore(machine_.get(), state.data()) == EST_OK; }
 
  private:
+  static std::string place_of(const est_fault &fault) {
+    if (!fault.line) return "";
+    return " at line " + std::to_string(fault.line) + ", column " + std::to_string(fault.column);
+  }
+
   struct Free {
     void operator()(est_machine *machine) const { est_free(machine); }
   };

@@ -1,13 +1,17 @@
 /* run TEXT MAIN < INPUTS: runs a module over the instants of a list, and prints the table that
- * `estserve-client run` prints. A line of the list has the names of the signals that are offered;
- * what follows % is a comment, and `;` stands for an instant without inputs. It stops at an instant
- * that is refused, and ends with 20 and its status; with 10 where the text is refused. */
+ * `estserve-client run` prints. An instant of the list ends with its line, or with `;`. It has the
+ * names of the signals that are offered; what follows % is a comment. A blank line is an instant
+ * without inputs, unless it is at the end of the list. It stops at an instant that is refused, and
+ * ends with 20 and its status; with 10 where the text is refused, and 11 at a name of no signal. */
 #include <stdio.h>
+#include <stdlib.h>
 #include <string.h>
 
 #include "estserve_react.h"
 
-enum { MOST_INSTANTS = 4096, WIDTH = 64 * 49 };
+#define BLANKS " \t\r\n\f\v"
+
+enum { MOST_INSTANTS = 4096, WIDTH = 64 * 49, LINE = 1 << 16 };
 
 struct instant {
   uint64_t inputs, present;
@@ -15,6 +19,7 @@ struct instant {
 
 static char text[1 << 17], names[64][65];
 static struct instant instants[MOST_INSTANTS];
+static int listed; /* instants of the list */
 
 static size_t read_text(const char *path) {
   FILE *file = fopen(path, "rb");
@@ -24,18 +29,43 @@ static size_t read_text(const char *path) {
   return length;
 }
 
-static uint64_t mask_of(char *line) {
+static uint64_t mask_of(char *piece) {
   uint64_t mask = 0;
-  line[strcspn(line, "%")] = 0;
-  for (char *word = strtok(line, " \t\r\n;"); word; word = strtok(NULL, " \t\r\n;"))
-    for (int n = 0; n < 64; n++)
-      if (names[n][0] && !strcmp(word, names[n])) mask |= (uint64_t)1 << n;
+  for (char *word = strtok(piece, BLANKS); word; word = strtok(NULL, BLANKS)) {
+    int n = 0;
+    while (n < 64 && strcmp(word, names[n])) n++;
+    if (n == 64) {
+      fprintf(stderr, "there is no signal %s\n", word);
+      exit(11);
+    }
+    mask |= (uint64_t)1 << n;
+  }
   return mask;
 }
 
-static int is_instant(const char *line) {
-  size_t first = strspn(line, " \t\r\n");
-  return line[first] && line[first] != '%';
+static int is_blank(const char *piece) { return !piece[strspn(piece, BLANKS)]; }
+
+/* Adds the instants of a line. */
+static void add_line(char *line) {
+  while (line && listed < MOST_INSTANTS) {
+    char *end = strchr(line, ';');
+    if (end) *end++ = 0;
+    instants[listed++].inputs = mask_of(line);
+    line = end && !is_blank(end) ? end : NULL;
+  }
+}
+
+static void read_list(void) {
+  static char line[LINE];
+  int last = 0;
+  while (fgets(line, sizeof line, stdin)) {
+    char *comment = strchr(line, '%');
+    if (comment) *comment = 0;
+    int is_empty = is_blank(line);
+    if (!is_empty || !comment) add_line(line);
+    if (!is_empty) last = listed;
+  }
+  listed = last;
 }
 
 static const char *names_of(uint64_t mask, char *buffer) {
@@ -101,13 +131,13 @@ int main(int words, char **word) {
     return 10;
   }
   for (unsigned n = 0; n < 64; n++) est_signal(machine, n, names[n], sizeof names[n]);
-  char line[WIDTH];
+  read_list();
   int count = 0, status = EST_OK;
-  while (status == EST_OK && count < MOST_INSTANTS && fgets(line, sizeof line, stdin)) {
-    if (!is_instant(line)) continue;
-    uint64_t inputs = mask_of(line), outputs;
+  while (count < listed) {
+    uint64_t inputs = instants[count].inputs, outputs;
     status = est_react(machine, inputs, &outputs);
-    if (status == EST_OK) instants[count++] = (struct instant){inputs, inputs | outputs};
+    if (status != EST_OK) break;
+    instants[count++].present = inputs | outputs;
   }
   print_table(count, est_inputs(machine), est_outputs(machine));
   est_free(machine);

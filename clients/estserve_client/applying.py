@@ -92,6 +92,16 @@ def module_beside(path: Union[str, "os.PathLike[str]"], name: str) -> Module:
     return main_of(read_text(pathlib.Path(path).parent / name, "the module text"))
 
 
+def module_named(path: str, line: int, name: str) -> Module:
+    """The main module of a text that this line of a policy file names. Raises Failed."""
+    try:
+        return module_beside(path, name)
+    except Placed:
+        raise
+    except Failed as fault:
+        raise Placed(f"{path}:{line}: {fault}") from fault
+
+
 def texts_beside(path: Union[str, "os.PathLike[str]"]) -> Interfaces:
     """The interfaces of the texts that a policy file names."""
     return Interfaces(
@@ -122,7 +132,8 @@ def warnings_of(policy: Policy, path: str) -> Iterator[str]:
     doesn't have, or nobody can offer; and of each separation set that keeps a role from all sessions.
     """
     modules = {
-        slot: (name, module_beside(path, name)) for slot, (_, name) in policy.modules.items()
+        slot: (name, module_named(path, line, name))
+        for slot, (line, name) in policy.modules.items()
     }
     access = Access(policy)
     for wish in policy.wishes:

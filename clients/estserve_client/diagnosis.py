@@ -7,6 +7,7 @@ import dataclasses
 import os
 from typing import Any, Dict, List, Tuple
 
+from .close_words import meant
 from .connection import Refusal
 from .fault_places import Place, StartCodes, places_of
 from .instant_paths import path_through
@@ -137,7 +138,8 @@ def diagnose_name(refusal: Refusal, library: LibraryText, main: str, name: objec
     marks = [mark_of(library, place.at, place.told) for place in places]
     remedies = list(dict.fromkeys(place.remedy for place in places if place.remedy))
     if refusal.fault == "UnknownModule" and not remedies:
-        remedies = file_beside(library, str(name))
+        question = meant(str(name), [module.name for module in modules_of(library.text)])
+        remedies = file_beside(library, str(name)) or [question] * bool(question)
     found = Diagnosis(refusal.fault, sentence(refusal), marks, remedies=remedies)
     found.is_chain = refusal.fault == "RecursiveRun"
     if refusal.fault == "InstantLoop":

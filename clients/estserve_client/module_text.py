@@ -20,7 +20,9 @@ MARKS = "!\"#$%&'()*+,-./:;<=>?@[\\]^`{|}~"  # each is a token
 APART = {**{ord(mark): f" {mark} " for mark in MARKS}, ord(IN_PLACE): f" {IN_PLACE} "}
 NO_LETTERS = "0123456789_"  # with which no word begins
 KINDS = {"input": "input", "output": "output", "inputoutput": "inout"}  # of what each word declares
+LONGEST = 48  # bytes of a name
 OFFERED = ("input", "inout")  # the kinds of signals that can be offered
+APART_BY = "names stand apart by blanks, without commas"
 
 
 class Module:
@@ -115,7 +117,8 @@ def main_of(text: str, named: Optional[str] = None) -> Module:
     """The module of this name, or the first one of the text that no module runs; where each is run,
     the first.
 
-    Of a name that no module has, one without signals."""
+    Of a name that no module has, one without signals. A name of the text that is none by its letters
+    or its length is not asked for: the text's fault stands there."""
     modules = modules_of(text)
     run = {name for module in modules for name in module.runs}
     wanted = [
@@ -125,6 +128,12 @@ def main_of(text: str, named: Optional[str] = None) -> Module:
     ]
     if named is None:
         wanted += modules[:1]
+    if (
+        wanted
+        and named is None
+        and not (wanted[0].name.isascii() and len(wanted[0].name) <= LONGEST)
+    ):
+        wanted[0].name = "main"
     return wanted[0] if wanted else Module(named or "main", [], [], [])
 
 
@@ -135,3 +144,14 @@ def no_module(library: LibraryText, name: str) -> str:
         return ""
     told, question = f"there is no module {name} in {' '.join(library.paths)}", meant(name, names)
     return told + (f"; {question}" if question else "")
+
+
+def no_input(module: Module, name: str) -> str:
+    """What is said of a name that a module can't be offered; empty where it can."""
+    if name in module.inputs():
+        return ""
+    if name in module.kinds():
+        return f"{name} is an output of {module.name}, which nobody can offer"
+    told = f"{module.name} has no input {name}"
+    advice = APART_BY if "," in name else meant(name, module.inputs())
+    return told + (f"; {advice}" if advice else "")

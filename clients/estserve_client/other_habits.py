@@ -29,10 +29,10 @@ OF_OTHERS = {
     "begin": "statements are kept together by `[` and `]`",
     "endif": "a `present` ends by `end`",
     "elsif": "a further test stands in the `else`: `else present B then .. end end`",
+    "elseif": "a further test stands in the `else`: `else present B then .. end end`",
     "elif": "a further test stands in the `else`: `else present B then .. end end`",
     "wait": "to wait for a signal is `await S`",
     "break": "`exit T` leaves the `trap T in .. end` around it",
-    "endmodule": "a module ends by `end module`",
 }
 
 
@@ -59,6 +59,8 @@ def of_word(word: str) -> Optional[str]:
     length = len(word.encode())
     if length > LONGEST:
         return f"a name has at most {LONGEST} bytes, and this one has {length}"
+    if word.lower().startswith("end") and word[3:].lower() in KEYWORDS:
+        return f"`end` and what it ends are two words: `end {word[3:].lower()}`"
     return OF_OTHERS.get(word.lower()) if word not in KEYWORDS else None
 
 

@@ -54,7 +54,8 @@ def lists_of(table: Optional[Table]) -> Iterator[Tuple[str, str, int]]:
     """
     for key, (line, value) in table.keys.items() if table else ():
         if not isinstance(value, list):
-            raise BadPolicy(line, f"{key} is a list of strings")
+            listed = f': ["{value}"]' if isinstance(value, str) else ""
+            raise BadPolicy(line, f"{key} has a list of strings{listed}")
         for string, at in value:
             yield key, string, at
 

@@ -14,8 +14,9 @@ if TYPE_CHECKING:
 
 OUTSIDE = (
     "--unproved builds the program from the sources of the repository, and this client lies outside"
-    " of it: name a program by --program, or by the variable ESTSERVE"
+    " of it: name a program by {}, or by the variable {}"
 )
+NAMED_BY = {"estserve": ("--program", "ESTSERVE"), "estlab": ("--estlab", "ESTLAB")}
 
 
 def unproved_program(name: str = "estserve") -> str:
@@ -26,7 +27,7 @@ def unproved_program(name: str = "estserve") -> str:
 
     script = os.path.join(connection.ROOT, "scripts", "trial.py")
     if not os.path.exists(script):
-        raise Disconnected(OUTSIDE)
+        raise Disconnected(OUTSIDE.format(*NAMED_BY[name]))
     try:
         words = [sys.executable, script, "--path", name]
         ran = subprocess.run(words, stdout=subprocess.PIPE, text=True)

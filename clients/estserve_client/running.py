@@ -3,6 +3,7 @@ from __future__ import annotations
 
 import contextlib
 import os
+import re
 import sys
 
 from .connection import Refusal, start
@@ -57,6 +58,20 @@ def chosen(module: Module, named: Optional[List[str]], inner: Signals = []) -> S
         raise Failed(f"{module.name} has no signal {unknown[0]}")
     listed = dict.fromkeys(names)
     return [(name, kinds[name]) for name in listed] if names else [*module.signals, *inner]
+
+
+def check_outside(arguments: argparse.Namespace, scenario: Scenario) -> None:
+    """Raises Failed where a local signal is asked for, and --locals is not given."""
+    from .scopes import local_signals
+
+    asked = " ".join([arguments.until or "", *(arguments.signals or ())])
+    names = re.findall(r"[A-Za-z][\w.]*", asked, re.ASCII)
+    if arguments.locals or not names:
+        return
+    inside = local_signals(scenario.library.text) - set(scenario.module.kinds())
+    wrong = [name for name in names if name.rpartition(".")[2] in inside]
+    if wrong:
+        raise Failed(f"there is no signal {wrong[0]} outside of the module: --locals shows it")
 
 
 @contextlib.contextmanager
@@ -179,6 +194,7 @@ def draw_run(
     an instant is refused.
     """
     module = scenario.module
+    check_outside(arguments, scenario)
     hidden = frozenset(place.hidden(module)) if isinstance(place, SharedSlot) else frozenset()
     with beside(arguments, scenario) as inner:
         locals = inner.signals if inner and arguments.locals else []

@@ -169,6 +169,8 @@ def grants_of(module: Module, slot: int = 0) -> List[Answer]:
 
 def check_inputs(scenario: Scenario) -> None:
     """Raises Placed at the first name of the list that the module can't be offered."""
+    from .module_text import no_input
+
     inputs = set(scenario.module.inputs())
     if all(map(inputs.issuperset, scenario.inputs.different())):
         return
@@ -178,20 +180,8 @@ def check_inputs(scenario: Scenario) -> None:
         for name in offers.names
         if name not in inputs
     )
-    raise Placed(
-        f"{scenario.path}:{line}:{scenario.column_of(line, wrong)}: {told_of(scenario, wrong)}"
-    )
-
-
-def told_of(scenario: Scenario, wrong: str) -> str:
-    """What is said of a name of the list that the module can't be offered."""
-    from .close_words import meant
-
-    module = scenario.module
-    if wrong in module.kinds():
-        return f"{wrong} is an output of {module.name}, which nobody can offer"
-    question = meant(wrong, module.inputs())
-    return f"{module.name} has no input {wrong}" + (f"; {question}" if question else "")
+    place = f"{scenario.path}:{line}:{scenario.column_of(line, wrong)}"
+    raise Placed(f"{place}: {no_input(scenario.module, wrong)}")
 
 
 def never() -> bool:

@@ -5,7 +5,7 @@ from __future__ import annotations
 
 import collections
 import dataclasses
-from typing import Dict, List, Tuple
+from typing import Dict, List, Set, Tuple
 
 from .fault_places import scoped
 from .syntax_tree import ModuleTree, by_name, parse
@@ -82,3 +82,9 @@ def scopes_of(text: str, main: str) -> List[Scope]:
         return []
     module = known[main]
     return scopes_in(module, {name: name for name in module.names()}, known, MOST)
+
+
+def local_signals(text: str) -> Set[str]:
+    """The names of all local signals of a text; none where the text is none that the grammar reads."""
+    nodes = [node for module in parse(text) or [] for node in module.body.walk()]
+    return {name.text for node in nodes if node.kind == "signal" for name in node.names}

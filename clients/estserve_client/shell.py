@@ -23,7 +23,7 @@ from .instants import Instant
 from .lab.asking import Lab, lab_beside
 from .library_text import LibraryText
 from .load_faults import load_fault
-from .module_text import Module, main_of, no_module
+from .module_text import Module, main_of, no_input, no_module
 from .pictures import KINDS, RARE, Seen, Table, present_of, table_lines
 from .policy_file import fits
 from .running import instants_told
@@ -54,6 +54,10 @@ UNKNOWN = {
     "UnknownRole": ("role", "role"),
     "NoDsd": ("set", "name"),
 }
+OF_NO_INPUT = (
+    "Permission",
+    "NotARequest",
+)  # what an offer is refused as before its name is looked up
 OF_A_SLOT = re.compile(r"[\w-]+\.\w+")  # a signal of a slot, as permissions write it
 SPREAD = re.compile(r"[0-9]+\.\S*\*\S*")  # signals of a slot, as policy files write several
 UNDONE = {"grant": "AlreadyGranted", "revoke": "NotGranted"}  # where it is so already
@@ -150,6 +154,10 @@ class Shell(InsideCommands, cmd.Cmd):
             chain = [meant(str(refusal.command.get("signal")), module.inputs())]
         if refusal.fault == "NoSession" and self.user:
             chain = [f"the session of {self.user} has ended: `logout`, then `login`"]
+        elif refusal.fault == "NoSession" and refusal.command.get("cmd") != "logout":
+            chain = ["`login USER ROLE..` begins a session"]
+        if refusal.fault in OF_NO_INPUT and module and "signal" in refusal.command:
+            chain = [no_input(module, refusal.command["signal"])]
         if refusal.fault == "Permission" and not self.client.roles:
             chain = ["no role is active: `activate ROLE` makes one so"]
         if refusal.fault in UNKNOWN:
@@ -160,18 +168,19 @@ class Shell(InsideCommands, cmd.Cmd):
             refusal.command = {**refusal.command, "roles": asked}
         return [sentence(refusal, relations, self.sets), *filter(None, chain)]
 
-    def unknown_signal(self, object: str) -> str:
-        """What is said of a permission on a signal that the slot's module hasn't, as far as that is
-        known here. Empty where it has it.
+    def wrong_grant(self, keys: Dict[str, Any]) -> str:
+        """What is said of a permission that is of no use, as far as that is known here. Empty where it
+        is of some.
         """
-        slot, _, signal = object.partition(".")
+        from .applying import of_no_use, wrong_permission
+
+        slot, _, signal = keys["object"].partition(".")
+        useless = of_no_use(keys)
+        if useless:
+            return f"; {useless}"
         module = self.modules.get(int(slot)) if signal else None
-        if module is None or signal in module.kinds():
-            return ""
-        question = meant(signal, module.kinds())
-        return f"; {module.name} there has no signal {signal}" + (
-            f": {question}" if question else ""
-        )
+        wrong = wrong_permission(keys["op"], signal, module.kinds()) if module else None
+        return f"; {module.name} there {wrong}" if module and wrong else ""
 
     def no_command(self, name: str) -> str:
         """What is said of a word that is no command."""
@@ -204,7 +213,7 @@ class Shell(InsideCommands, cmd.Cmd):
             self.pending.pop(keys["slot"], None)
         for key, word in keys.items():
             self.told.get("role" if key in ROLES else key, set()).add(str(word))
-        wrong = self.unknown_signal(keys["object"]) if name == "grant" else ""
+        wrong = self.wrong_grant(keys) if name == "grant" else ""
         print(PLAIN[name].said.format(**keys) + wrong)
         return False
 
@@ -235,11 +244,13 @@ class Shell(InsideCommands, cmd.Cmd):
         ends the line.
         """
         for names in names_of_line(line):
-            self.note_pending(self.slot, names)
             try:
                 print(self.instant_line(self.slot, self.client.instant(self.slot, names)))
             except Refusal as refusal:
-                raise Failed(self.refused_instant(refusal, names)) from refusal
+                name = refusal.command.get("signal")
+                offered = names[: names.index(name)] if name in names else names
+                self.note_pending(self.slot, offered)
+                raise Failed(self.refused_instant(refusal, offered)) from refusal
             self.pending.pop(self.slot, None)
         return False
 
@@ -248,14 +259,13 @@ class Shell(InsideCommands, cmd.Cmd):
         listed = self.pending.setdefault(slot, [])
         listed += [name for name in names if name not in listed]
 
-    def refused_instant(self, refusal: Refusal, names: Tuple[str, ...]) -> str:
+    def refused_instant(self, refusal: Refusal, offered: Tuple[str, ...]) -> str:
         """What is said of an instant that was refused: what was offered for it stays pending."""
         name = refusal.command.get("signal")
-        offered = names[: names.index(name)] if name in names else names
         first, *more = self.refusal_lines(refusal)
         first = f"{name}: {first}" if name else first
         if name in self.commands() and name not in self.inputs_here():
-            first += f"; `{name}` is a command, which stands on a line without `;`"
+            first, more = f"{first}; `{name}` is a command, which stands on a line without `;`", []
         if refusal.fault in ("Empty", "NoSlot"):
             first += f" (slot {self.slot}; `use` names another)"
         elif offered:
@@ -517,7 +527,7 @@ class Shell(InsideCommands, cmd.Cmd):
         if library and module and module.name == seen.module:
             seen.scopes = scopes_of(library.text, module.name)
         write_vcd(keys["file"], seen)
-        print(f"{len(seen.instants)} instants in {keys['file']}")
+        print(f"{instants_told(len(seen.instants))} in {keys['file']}")
 
     def do_watch(self, line: str) -> None:
         """watch [SLOT]: shows new instants as they come, until Ctrl-C"""

@@ -1,6 +1,7 @@
 """Files and standard input, as texts; and the ends of a command that is given up."""
 from __future__ import annotations
 
+import codecs
 import sys
 
 from .library_text import LibraryText, join_texts
@@ -50,6 +51,8 @@ def read_text(path: Path, what: str) -> str:
     except (OSError, ValueError) as fault:
         told = getattr(fault, "strerror", None) or fault
         raise Failed(f"{what} {path} cannot be read: {told}") from fault
+    if data.startswith(codecs.BOM_UTF8):
+        raise Failed(f"{what} {path} begins with a byte order mark: save it as UTF-8 without one")
     try:
         return data.decode()
     except UnicodeDecodeError as fault:

@@ -35,9 +35,9 @@ def tell_choice(chosen: str, others: Tuple[str, ...]) -> None:
 
 def chosen_of(text: str, named: Optional[str]) -> Module:
     """The module of a text that is named, or the first that none runs; of several it is told."""
-    module = main_of(text, named)
-    others = [] if named else [name for name in roots_of(text) if name != module.name]
-    if others:
+    module, roots = main_of(text, named), roots_of(text)
+    others = [name for name in roots if name != module.name]
+    if others and named is None and module.name in roots:
         tell_choice(module.name, tuple(others))
     return module
 

@@ -183,7 +183,10 @@ class OnTheProgram(OfPolicy):
             ],
         )
         (self.folder / "door.strl").unlink()
-        self.assertIn("door.strl cannot be read", self.apply()[2][0])
+        line = len(self.path.read_text().splitlines())
+        told = self.apply()[2][0]
+        self.assertTrue(told.startswith(f"p.toml:{line}: the module text"), told)
+        self.assertIn("door.strl cannot be read", told)
 
     def test_a_pattern_is_spread_over_the_text_of_its_slot(self):
         (self.folder / "door.strl").write_text(DOOR)

@@ -1,4 +1,6 @@
 """The command `compile`: a module as a table in C, which is compared with all its runs."""
+import contextlib
+import io
 import os
 import random
 import re
@@ -6,6 +8,7 @@ import shutil
 import subprocess
 import sys
 import unittest
+import unittest.mock
 
 from support import EXAMPLES, ROOT
 from test_lab import OfLab, needs_lab
@@ -14,6 +17,7 @@ sys.path.insert(0, str(ROOT / "clients"))
 sys.path.insert(0, str(ROOT / "tests" / "lab"))
 from drawing_modules import Drawer  # noqa: E402
 
+from estserve_client.commands import make_parser  # noqa: E402
 from estserve_client.connection import Refusal  # noqa: E402
 from estserve_client.lab import c_check, compiling  # noqa: E402
 from estserve_client.lab.asking import Subject, lab_of, read_subject  # noqa: E402
@@ -41,6 +45,7 @@ int main(void) {
   return 0;
 }
 """
+BLINKED = "0:0 0:0 0:8 0:0 0:0 0:8 3:16 "
 RELATIONS = """module M:
 input A, B, C, OK, OK_, INPUTS;
 output O;
@@ -115,8 +120,19 @@ class Compiling(OfLab):
         main.write_text(BLINK)
         words = [*c_check.compiler(), *c_check.STRICT, main, self.folder / "abro.c", "-o", program]
         subprocess.run(words, check=True)
-        ran = subprocess.run([program], stdout=subprocess.PIPE, check=True, text=True)
-        self.assertEqual(ran.stdout, "0:0 0:0 0:8 0:0 0:0 0:8 3:16 ")
+        self.assertEqual(subprocess.check_output([program], text=True), BLINKED)
+
+    @unittest.skipUnless(shutil.which("g++"), "g++ is not installed")
+    def test_abro_in_a_program_of_cpp(self):
+        self.code_of(EXAMPLES / "abro" / "abro.strl", "abro")
+        made, main, program = self.folder / "abro.o", self.folder / "main.cpp", self.folder / "main"
+        words = [*c_check.compiler(), *c_check.STRICT, "-c", self.folder / "abro.c", "-o", made]
+        subprocess.run(words, check=True)
+        main.write_text(BLINK)
+        subprocess.run(
+            ["g++", "-Wall", "-Wextra", "-Werror", main, made, "-o", program], check=True
+        )
+        self.assertEqual(subprocess.check_output([program], text=True), BLINKED)
 
     def test_relations_are_asked_first_and_names_are_kept_apart(self):
         path = self.folder / "m.strl"
@@ -141,9 +157,85 @@ class Compiling(OfLab):
         path_of_switch.write_text("module Switch: output O; emit O end module")
         told = "estserve.py: switch is no name in C: -o NAME gives one\n"
         self.assertEqual(self.fault("compile", path_of_switch), told)
-        told = "estserve.py: there are more than 3 states or reactions: --most allows more\n"
+        told = "estserve.py: there are more than 3 states or reactions: --most allows more, and"
+        told += " --cells needs no table\n"
         self.assertEqual(self.fault("compile", path, "--most", "3"), told)
         self.assertIn("cannot be written", self.fault("compile", path, "-o", "/nowhere/abro"))
+
+    def test_sets_of_inputs_alone_may_be_too_many(self):
+        names = [f"I{number}" for number in range(32)]
+        path = self.folder / "m.strl"
+        parts = " || ".join(f"await {name}" for name in names)
+        path.write_text(f"module M: input {', '.join(names)}; {parts} end module")
+        told = "estserve.py: each state has 4,294,967,296 sets of inputs: --pairs allows more, and"
+        told += " --cells needs no table\n"
+        self.assertEqual(self.fault("compile", path), told)
+
+    def test_a_compiler_or_c_that_cannot_be_started_is_told(self):
+        path, out, compiler = (
+            EXAMPLES / "abro" / "abro.strl",
+            self.folder / "abro",
+            self.folder / "cc",
+        )
+        with unittest.mock.patch.dict(os.environ, {"CC": "nocc -O"}):
+            told = "estserve.py: nocc cannot be started: No such file or directory\n"
+            self.assertEqual(self.fault("compile", path, "-o", out, "--check"), told)
+        compiler.write_text('#!/bin/sh\nfor made; do :; done\necho of another machine > "$made"\n')
+        compiler.chmod(0o755)
+        with unittest.mock.patch.dict(os.environ, {"CC": str(compiler)}):
+            for words in ((), ("--cells",)):
+                told = self.fault("compile", path, "-o", out, "--check", *words)
+                self.assertRegex(told, r"estserve.py: \S+/driver cannot be started: ")
+
+    def test_numbers_below_0_are_refused(self):
+        for word in ("--most", "--pairs"):
+            told = io.StringIO()
+            with contextlib.redirect_stderr(told), self.assertRaises(SystemExit):
+                make_parser("compile").parse_args(["compile", "abro.strl", word, "-1"])
+            self.assertIn(f"argument {word}: invalid number value: '-1'\n", told.getvalue())
+
+    def test_what_c_has_already_is_refused(self):
+        path = EXAMPLES / "abro" / "abro.strl"
+        for name in ("asm", "typeof", "bool", "class"):
+            told = f"estserve.py: {name} is no name in C: -o NAME gives one\n"
+            self.assertEqual(self.fault("compile", path, "-o", self.folder / name), told)
+        for name in ("signal", "stdint", "time"):
+            told = f"estserve.py: {name}.h is a header of C: -o NAME gives another\n"
+            self.assertEqual(self.fault("compile", path, "-o", self.folder / name), told)
+        self.assertEqual(list(self.folder.iterdir()), [])
+
+    def test_a_file_of_another_is_left_alone(self):
+        path, other = EXAMPLES / "abro" / "abro.strl", self.folder / "abro.c"
+        other.write_text("int main(void) { return 0; }\n")
+        told = (
+            f"estserve.py: {other} is there, and not made by compile: -o NAME gives another name\n"
+        )
+        self.assertEqual(self.fault("compile", path, "-o", self.folder / "abro"), told)
+        self.assertEqual([other], list(self.folder.iterdir()))
+        self.assertEqual(other.read_text(), "int main(void) { return 0; }\n")
+        other.unlink()
+        for words in ((), ("--cells",), ()):
+            self.ran("compile", path, "-o", self.folder / "abro", *words)
+
+    def test_a_folder_alone_takes_the_name_of_the_module(self):
+        path = EXAMPLES / "abro" / "abro.strl"
+        told = "abro.h, abro.c: 5 states, 14 rows\n"
+        self.assertEqual(self.ran("compile", path, "-o", f"{self.folder}/"), (told, 0))
+        self.assertTrue((self.folder / "abro.c").exists())
+
+    def test_constants_are_none_of_c_and_no_functions(self):
+        path = self.folder / "m.strl"
+        for name, signals in (
+            ("M", "react, reset"),
+            ("size", "MAX, MIN"),
+            ("is", "NO, FALSE, TRUE"),
+        ):
+            path.write_text(f"module M: input {signals}; output O; emit O end module")
+            for words in ((), ("--cells",)):
+                with self.subTest(name, words=words):
+                    out = self.folder / name
+                    told, status = self.ran("compile", path, "-o", out, "--check", *words)
+                    self.assertEqual(status, 0, told)
 
     def walked(self, lab, text, dice):
         """Compares the cells of a module with its table on a random walk; answers how many instants

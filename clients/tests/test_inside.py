@@ -138,6 +138,15 @@ class Runs(InAFolder):
                 self.assertEqual((ran.printed, ran.status), ("", 1))
                 self.assertIn(told, ran.told)
 
+    def test_local_signals_are_asked_for_with_locals_alone(self):
+        for words in (["--until", "O and S"], ["--signals", "O,S"]):
+            with self.subTest(words):
+                ran = self.ran_with(RUNS, ";\n", *words)
+                told = (
+                    "estserve.py: there is no signal S outside of the module: --locals shows it\n"
+                )
+                self.assertEqual((ran.told, ran.status), (told, 1))
+
     def test_words_that_do_not_go_together(self):
         for words in (
             ["--locals", "--expect", "x"],
@@ -239,6 +248,39 @@ class Shells(InAFolder):
             ],
         )
 
+    def test_why_not_tells_no_test_that_control_did_not_come_to(self):
+        # A ends the abort before B is asked for. Then C holds the loop still. In the fourth instant
+        # B is there, and nothing waits for it.
+        text = "module M: input A, B, C; output O, P, Q;\nabort\nawait B; emit O\nwhen A;\n"
+        text += "suspend\nloop emit P; pause end\nwhen C end module"
+        path = self.file("m.strl", text)
+        grants = "".join(f"grant root {op} 0\n" for op in ("load", "step"))
+        grants += f"load 0 {path}\ngrant root offer 0.*\ngrant root observe 0.*\n"
+        typed = ";\nA B;\nwhy O\nC;\nwhy P\nB;\nwhy O\nwhy Q\n"
+        printed = run_client(["shell"], grants + typed).printed.replace(f"{path}:", "")
+        self.assertEqual(
+            printed.splitlines()[7:],
+            [
+                "instant 2: P",
+                "O is absent",
+                "  not emitted at 3:10: emit O",
+                "    since at 3:1: await B: control stood still there",
+                "    since at 2:1: abort when A: `A` held",
+                "A is offered",
+                "instant 3: no output",
+                "P is absent",
+                "  not emitted at 6:6: emit P",
+                "    since at 6:14: pause: control stood still there",
+                "    since at 5:1: suspend when C: `C` held",
+                "C is offered",
+                "instant 4: P",
+                "O is absent",
+                "  not emitted at 3:10: emit O",
+                "    since control was elsewhere",
+                "Q is absent: nothing emits it",
+            ],
+        )
+
     def test_try_and_back_leave_the_slot_where_it_is(self):
         lines = self.lines("try B;", "back", "try A B;", "back 0", "back 2", "try R;", "show", "B;")
         self.assertEqual(
@@ -254,6 +296,13 @@ class Shells(InAFolder):
         )
         self.assertEqual(lines[-1], "instant 3: O")
         self.assertEqual(len(lines), 10)  # the table has two instants
+
+    def test_local_signals_stand_after_the_outputs_or_after_none(self):
+        text = "module M: input A; output O;\nsignal S in emit S; pause; emit O end end module"
+        script = f"{GRANTS}load 0 {self.file('m.strl', text)}\ntry A;\n;\nA;\nback 1\nback 2\n"
+        printed = run_client(["shell"], script).printed.splitlines()
+        told = ["instant 1 would be: no output (S)", "instant 1: no output", "instant 2: O"]
+        self.assertEqual(printed[-5:], [*told, "instant 1: no output (S)", "instant 2: O"])
 
     def test_a_signal_may_be_called_try(self):
         text = "module M: input try, A; output O;\nloop present try then emit O end; pause end end module"

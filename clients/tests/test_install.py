@@ -243,8 +243,9 @@ class Installed(InAFolder):
         flags = subprocess.run(
             words, capture_output=True, text=True, check=True, env=path
         ).stdout.split()
-        abro = self.folder / "abro"
-        subprocess.run(["gcc", "-o", abro, ROOT / "targets" / "abro.c", *flags], check=True)
+        abro, targets = self.folder / "abro", prefix / "share" / "estserve" / "targets"
+        self.assertTrue((targets / "machine.hpp").exists())
+        subprocess.run(["gcc", "-o", abro, targets / "abro.c", *flags], check=True)
         ran = subprocess.run([abro, EXAMPLES / "abro/abro.strl"], capture_output=True, text=True)
         self.assertEqual((ran.returncode, ran.stderr), (1, "Lexical at line 70, column 70\n"))
 

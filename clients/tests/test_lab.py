@@ -264,18 +264,30 @@ class Claims(OfLab):
         ]:
             told = f"estserve.py: the claim `never {test}` cannot be read: {told}"
             self.assertEqual(self.fault("prove", abro(), "--never", test), told)
+        watched = [abro(), EXAMPLES / "abro" / "late.observer", "--observer", "WATCH"]
+        told = self.fault("prove", *watched, "--never", "LATR")
+        self.assertIn("ABRO has no input or output LATR; did you mean `LATE`?\n", told)
+        inner = EXAMPLES / "reincarnation" / "reincarnation.strl"
+        told = self.fault("prove", inner, "--never", "S")
+        self.assertTrue(
+            told.endswith(": it is a local signal, of which nothing can be claimed\n"), told
+        )
         told = self.fault("prove", abro(), "--inputs", "A,O")
         self.assertEqual(told, "estserve.py: ABRO has no input O\n")
         told = f"estserve.py: there is no module ABR0 in {abro()}; did you mean `ABRO`?\n"
         for word in ("prove", "graph"):
             self.assertEqual(self.fault(word, abro(), "--main", "ABR0", "--inputs", "A"), told)
         told = self.fault("prove", abro(), "--observer", "ABRA")
-        self.assertIn(f"there is no module ABRA in {abro()}", told)
+        self.assertIn(f"there is no module ABRA in {abro()}; did you mean `ABRO`?\n", told)
         path = self.file("m.strl", "module M: output O; emmit O end module")
         self.assertTrue(self.fault("prove", path).startswith(f"{path}:1:21: "))
         other = self.file("n.strl", "module N: output P; emit P end module")
         told = self.fault("prove", abro(), "--same", other)
         self.assertIn("don't declare the same signals", told)
+        self.assertTrue(told.endswith(": ABRO has input A where N has output P\n"), told)
+        other = self.file("n.strl", "module N: input A, B, R; pause end module")
+        told = self.fault("prove", abro(), "--same", other)
+        self.assertTrue(told.endswith(": ABRO has output O where N has nothing more\n"), told)
 
 
 @needs_lab
@@ -385,6 +397,7 @@ class WhoCan(OfLab):
             (["X"], "ABRO has no signal X"),
             (["2.O"], "the policy's table `modules` names no text for the slot 2"),
             (["O", "--roles", "king"], "the policy has no role king"),
+            (["O", "--roles", "steper"], "the policy has no role steper; did you mean `stepper`?"),
         ]:
             self.assertEqual(self.fault("whocan", self.policy, *words), f"estserve.py: {told}\n")
 

@@ -1,4 +1,6 @@
 """The parts of the commands that ask estlab, without it: claims, marks, tables, tours, roles."""
+import contextlib
+import io
 import os
 import pathlib
 import signal
@@ -15,6 +17,7 @@ from estserve_client import connection
 from estserve_client.inputs import read_inputs
 from estserve_client.lab.asking import Lab, Subject, read_subject, start_lab
 from estserve_client.lab.claims import Claim, read_claims
+from estserve_client.lab.coverage import SHOWN, Untried, tell_untried
 from estserve_client.lab.linting import matters
 from estserve_client.lab.marks import mark, parts_to_mark, reached
 from estserve_client.lab.observing import observed
@@ -99,6 +102,8 @@ class Claims(unittest.TestCase):
             with self.assertRaises(Placed, msg=text) as raised:
                 read_claims(f"% head\n{text}\n", "m.claims")
             self.assertTrue(str(raised.exception).startswith("m.claims:2: this is no claim"))
+            meant = str(raised.exception).endswith("or same; did you mean `never`?")
+            self.assertEqual(meant, text == "nevver A")
 
 
 class Words(unittest.TestCase):
@@ -106,6 +111,12 @@ class Words(unittest.TestCase):
         for word in ([["A", "B"]], [[]], [[], ["A"]], [["A"], []], [[], []], [["A"], [], ["B"]]):
             line = in_one_line(word)
             self.assertEqual([list(names) for names in read_inputs(line).names], word, line)
+
+    def test_what_is_not_tried_is_counted(self):
+        for more, told in ((1, "  and 1 more state"), (2, "  and 2 more states")):
+            with contextlib.redirect_stdout(io.StringIO()) as printed:
+                tell_untried("state", [Untried("1", [])] * (SHOWN + more))
+            self.assertEqual(printed.getvalue().splitlines()[SHOWN:], [told])
 
 
 class Marks(unittest.TestCase):

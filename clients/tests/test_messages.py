@@ -81,6 +81,8 @@ ADVICE = [
     (f"emit {LONG}", "a name has at most 48 bytes, and this one has 49"),
     ("if A then emit O end", "a signal is asked for by `present S then p else q end`"),
     ("while A pause end", "`abort` ends it: `abort loop p end when S`"),
+    ("present A then emit O elseif B then emit P end", "`else present B then .. end end`"),
+    ("present A then emit O endpresent", "`end` and what it ends are two words: `end present`"),
     ("emmit O", "did you mean `emit`?"),
     ("lop pause end", "did you mean `loop`?"),
     ("await imediate A", "did you mean `immediate`?"),
@@ -322,6 +324,27 @@ class Shell(unittest.TestCase):
             ["line 5: UnknownSignal: the module has no such signal", "did you mean `START`?"],
         )
 
+    def test_a_name_that_is_no_input_is_told_before_a_permission_is_asked_for(self):
+        abro = EXAMPLES / "abro" / "abro.strl"
+        typed = f"grant root load 0\nload {abro}\noffer O\nO;\na;\nA, B;\nA;\n"
+        lines = run_client(["shell"], typed).printed.splitlines()
+        needs = "Permission: needs offer on 0."
+        form = "is not an identifier: a letter, then letters, digits and _, at most 48"
+        self.assertEqual(
+            lines[3:],
+            [
+                f"line 3: {needs}O",
+                "O is an output of ABRO, which nobody can offer",
+                f"line 4: O: {needs}O",
+                "O is an output of ABRO, which nobody can offer",
+                f"line 5: a: {needs}a",
+                "ABRO has no input a; did you mean `A`?",
+                f"line 6: A,: NotARequest: A, {form}",
+                "ABRO has no input A,; names stand apart by blanks, without commas",
+                f"line 7: A: {needs}A",
+            ],
+        )
+
     def test_names_of_the_policy_and_of_a_permission(self):
         abro = EXAMPLES / "abro" / "abro.strl"
         typed = (
@@ -329,8 +352,12 @@ class Shell(unittest.TestCase):
             f"grant root load 0\nload {abro}\ngrant driver offer 0.AB\nrevoke driver offer 0.AB\n"
             "grant driver offer 0.B\ndsd keep 2 driver root\nundsd kep\nundsd else\n"
         )
-        printed = run_client(["shell"], typed).printed
+        useless = "grant driver offer 0.O\ngrant driver observe 0.O\ngrant driver step 0.A\n"
+        printed = run_client(["shell"], typed + useless).printed
         for told in (
+            "driver may offer on 0.O; ABRO there gives O as an output, which nobody can offer\n",
+            "driver may observe on 0.O\n",
+            "driver may step on 0.A; this does nothing: step is asked for on a slot\n",
             "line 3: UnknownUser: there is no user anm\ndid you mean `ann`?\n",
             "line 4: UnknownRole: there is no role drivr\ndid you mean `driver`?\n",
             "line 5: there is no command grnt: did you mean `grant`?\n",
@@ -340,7 +367,7 @@ class Shell(unittest.TestCase):
             "line 12: NoDsd: there is no separation set kep\ndid you mean `keep`?\n",
         ):
             self.assertIn(told, printed)
-        self.assertTrue(printed.endswith("line 13: NoDsd: there is no separation set else\n"))
+        self.assertIn("line 13: NoDsd: there is no separation set else\ndriver may", printed)
         rights = "grant root audit policy\ngrant root load 0\ngrant root step 0\n"
         typed = f"{rights}load {abro}\n;\naudit\n;\naudit\n"
         lines = run_client(["shell"], typed).printed.splitlines()

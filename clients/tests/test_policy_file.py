@@ -112,6 +112,8 @@ class Toml(unittest.TestCase):
             " the texts are",
             '[permissions]\na = ["observe *.A"]': "; the table slots gives * no number",
             '[permissions]\na = ["step 3*"]': "; the table slots gives 3* no number",
+            '[assign]\nann = "driver"': 'ann has a list of strings: ["driver"]',
+            "[assign]\nann = 1": "ann has a list of strings",
             "[separate.s]\ncount = 02": "a whole number doesn't begin with 0",
             'users = ["a"\nroles = []': "; this one begins on line 1",
         }

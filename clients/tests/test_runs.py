@@ -163,6 +163,24 @@ class Runs(Running):
         self.assertEqual(
             ran.told, "standard input:2:1: M has no input STRAT; did you mean `START`?\n"
         )
+        told = "M has no input START,START; names stand apart by blanks, without commas\n"
+        self.assertEqual(
+            run_client(["run", text], "START,START\n").told, f"standard input:1:1: {told}"
+        )
+
+    def test_a_main_module_whose_name_is_none(self):
+        for name in ("T\N{LATIN SMALL LETTER U WITH DIAERESIS}r", "N" * 49):
+            with self.subTest(name):
+                ran = run_client(["run", self.file("m.strl", f"module {name}: pause end module\n")])
+                self.assertRegex(ran.told, r"\A\S*m\.strl:1:[89]: Lexical: no token stands here\n")
+
+    def test_the_main_module_that_was_meant(self):
+        text = self.file("m.strl", "module LIGHT: pause end module")
+        ran = run_client(["run", text, "--main", "LIGTH"])
+        told = "UnknownModule: there is no module LIGTH\ndid you mean `LIGHT`?\n"
+        self.assertEqual((ran.status, ran.told), (1, f"estserve.py: {text}: {told}"))
+        ran = run_client(["run", text, "--main", "DARK"])
+        self.assertTrue(ran.told.endswith("there is no module DARK\n"), ran.told)
 
     def test_inputs_that_a_relation_refuses_are_told_at_their_place(self):
         text = self.file(

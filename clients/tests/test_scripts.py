@@ -201,6 +201,12 @@ class Scripts(unittest.TestCase):
         ]
         self.assertEqual((status, lines[1:]), (1, wanted))
 
+    def test_without_a_session_it_is_said_how_one_begins(self):
+        status, lines = self.run_script("logout\nstep\nlogout\n")
+        none = "NoSession: there is no login, or its session has ended"
+        wanted = ["logged out", f"line 8: {none}", "`login USER ROLE..` begins a session"]
+        self.assertEqual((status, lines), (1, [*wanted, f"line 9: {none}"]))
+
     def test_a_module_that_the_text_has_not(self):
         team = EXAMPLES / "team" / "team.strl"
         status, lines = self.run_script(f"module 0 {team} TEEM\nmodule 0 {team} TEAM\n")
@@ -227,7 +233,7 @@ class Scripts(unittest.TestCase):
         with tempfile.TemporaryDirectory() as name:
             path = pathlib.Path(name) / "out.vcd"
             status, lines = self.run_script(f"A;\nvcd {path}\n")
-            self.assertEqual((status, lines[-1]), (0, f"1 instants in {path}"))
+            self.assertEqual((status, lines[-1]), (0, f"1 instant in {path}"))
             self.assertIn("$scope module ABRO $end", path.read_text())
 
 

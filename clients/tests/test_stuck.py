@@ -143,6 +143,30 @@ OTHERS = {
         [(), ()],
         *itself("O", "3:9", "O is absent"),
     ),
+    # What comes after an abort comes if O is there. If O isn't, `halt` goes on: nothing else ends it.
+    "after an abort": (
+        "module M: output O;\nabort\n halt\nwhen O;\nemit O end module",
+        [(), ()],
+        *itself("O", "5:1", "O is present"),
+    ),
+    # The second test begins whatever the first one says; but it emits O only if O is there.
+    "asked for twice": (
+        "module M: output O;\npresent O then\n emit O end;\npresent O then\n emit O end end module",
+        [()],
+        *itself("O", "3:2", "O is present"),
+    ),
+    # With A the body ends whatever O is, and so does the whole; without A and B alone if O is there.
+    "after an abort that ends by itself too": (
+        "module M: input A, B; output O;\nabort\n await A\nwhen [O or B];\nemit O end module",
+        [(), ("A",)],
+        *anyway("O", ("5:1", "`O or B` holds"), ("5:1", "`O or B` fails")),
+    ),
+    # O is asked for twice: no O brings its emission about. But each test alone is still open.
+    "behind two tests that exclude each other": (
+        "module M: output O;\npresent O then present O else\n emit O end end end module",
+        [()],
+        *itself("O", "3:2", "O is absent"),
+    ),
     # `immediate` asks at once.
     "an immediate abort": (
         "module M: output O; pause;\nabort\n emit O\nwhen immediate O end module",
@@ -348,6 +372,16 @@ class Told(InAFolder):
                 "instant 1 would be: no output",
             ],
         )
+
+    def test_an_offer_that_was_refused_is_not_taken_for_pending(self):
+        # With HOLD there would be a reaction; but nobody may offer HOLD, nor the output O.
+        text = "module M: input ASK, HOLD; output O;\npresent ASK and not HOLD then\n"
+        path = self.file("m.strl", text + " present O else emit O end end end module")
+        grants = "".join(f"grant root {one}\n" for one in ("load 0", "step 0", "offer 0.ASK"))
+        lines = "grant root observe 0.*\ngrant root offer 0.O\nHOLD;\nO;\nASK;\nwhy HOLD\n"
+        printed = run_client(["shell"], f"{grants}load 0 {path}\n{lines}").printed
+        self.assertIn("\nO waits for itself: line 3 may emit it once O is absent\n", printed)
+        self.assertTrue(printed.endswith("\nHOLD is not offered\n"), printed)
 
     def test_of_the_example(self):
         path = EXAMPLES / "paradox" / "paradox.strl"

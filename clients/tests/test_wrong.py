@@ -53,6 +53,14 @@ class Files(WhatGoesWrong):
                 self.fails([*words, none], "cannot be read: No such file")
                 self.fails([*words, self.folder], "cannot be read: Is a directory")
 
+    def test_files_with_a_byte_order_mark(self):
+        marked = self.file("marked", b"\xef\xbb\xbfmodule M: pause end module\n")
+        abro = EXAMPLES / "abro" / "abro.strl"
+        for words in (["run"], ["format"], ["apply"], ["run", abro, "--inputs"]):
+            with self.subTest(words):
+                told = f"{marked} begins with a byte order mark: save it as UTF-8 without one\n"
+                self.fails([*words, marked], told)
+
     def test_a_text_and_inputs_from_one_stream(self):
         self.fails(["run", "-"], "name the inputs by --inputs FILE")
 
@@ -210,6 +218,8 @@ class Programs(WhatGoesWrong):
             ):
                 told = "--unproved builds the program from the sources of the repository, and this client"
                 self.fails([*words, "--unproved"], told)
+            told = "of it: name a program by --estlab, or by the variable ESTLAB"
+            self.fails(["compile", EXAMPLES / "abro" / "abro.strl", "--unproved"], told)
 
 
 class Pages(WhatGoesWrong):

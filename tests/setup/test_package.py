@@ -163,7 +163,8 @@ class Packages(unittest.TestCase):
             "usr/lib/systemd/system/estserve-team@.service", "usr/lib/systemd/system/estserve-page@.service", "usr/lib/sysusers.d/estserve.conf", "usr/lib/tmpfiles.d/estserve.conf",
             "usr/share/man/man1/estserve.1.gz", "usr/share/man/man1/estlab.1.gz", "usr/share/man/man1/estserve-client.1.gz", "usr/share/man/man1/estserve-team.1.gz",
             "usr/share/bash-completion/completions/estserve-client", "usr/share/estserve/examples/abro/abro.strl",
-            "usr/share/estserve/editors/vscode/package.json", "usr/share/estserve/editors/estserve.vsix", "usr/share/vim/vimfiles/syntax/esterel.vim",
+            "usr/share/estserve/editors/vscode/package.json", "usr/share/estserve/editors/estserve.vsix",
+            *(f"usr/share/vim/vimfiles/{path.relative_to(ROOT / 'editors' / 'vim')}" for path in (ROOT / "editors" / "vim").glob("*/*.vim")),
             f"usr/lib/{LIBRARY}", "usr/include/estserve_react.h", "usr/lib/pkgconfig/estserve_react.pc",
         ):  # fmt: skip
             self.assertTrue((folder / name).exists(), name)

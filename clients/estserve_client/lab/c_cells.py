@@ -24,7 +24,7 @@ CODE = """\
 /* The module {module}. Made by `estserve-client compile --cells`; don't change it. */
 #include "{name}.h"
 
-enum {{ OPEN, IS_FALSE, IS_TRUE, NEVER = -1, ALWAYS = -2 }};
+enum {{ OPEN, NO, YES, NEVER = -1, ALWAYS = -2 }};
 
 /* Whether a net is `and`, or else `or`, and how many operands it has. */
 static const uint8_t is_and[] = {{{is_and}}};
@@ -59,9 +59,9 @@ static void decide(struct {name} *machine, uint32_t net, int value) {{
 }}
 
 static int value_of(const struct {name} *machine, int32_t literal) {{
-  if (literal < 0) return literal == ALWAYS ? IS_TRUE : IS_FALSE;
+  if (literal < 0) return literal == ALWAYS ? YES : NO;
   int value = machine->value[literal / 2];
-  return value == OPEN || literal % 2 == 0 ? value : IS_FALSE + IS_TRUE - value;
+  return value == OPEN || literal % 2 == 0 ? value : NO + YES - value;
 }}
 
 static void start(struct {name} *machine, uint64_t inputs) {{
@@ -70,18 +70,18 @@ static void start(struct {name} *machine, uint64_t inputs) {{
     machine->value[net] = OPEN;
     machine->left[net] = operands[net];
   }}
-  decide(machine, 0, machine->began ? IS_FALSE : IS_TRUE);
+  decide(machine, 0, machine->began ? NO : YES);
   for (int32_t at = 0; at < {input_count}; at++)
-    decide(machine, (uint32_t)inputs_at[at].net, inputs >> inputs_at[at].bit & 1 ? IS_TRUE : IS_FALSE);
+    decide(machine, (uint32_t)inputs_at[at].net, inputs >> inputs_at[at].bit & 1 ? YES : NO);
   for (int32_t at = 0; at < {live_count}; at++) {{
-    int value = IS_FALSE;
+    int value = NO;
     for (uint32_t pause = lives[at][1]; pause < lives[at][2]; pause++)
-      if (machine->pauses[pause]) value = IS_TRUE;
+      if (machine->pauses[pause]) value = YES;
     decide(machine, lives[at][0], value);
   }}
   for (uint32_t net = 0; net < {prefix}_NETS; net++)
     if (machine->value[net] == OPEN && operands[net] == 0)
-      decide(machine, net, is_and[net] ? IS_TRUE : IS_FALSE);
+      decide(machine, net, is_and[net] ? YES : NO);
 }}
 
 static void run(struct {name} *machine) {{
@@ -89,12 +89,12 @@ static void run(struct {name} *machine) {{
     uint32_t net = machine->line[at];
     for (uint32_t reader = first[net]; reader < first[net + 1]; reader++) {{
       uint32_t gate = readers[reader] / 2u;
-      int is_true = (machine->value[net] == IS_TRUE) != (readers[reader] % 2u == 1u);
+      int is_true = (machine->value[net] == YES) != (readers[reader] % 2u == 1u);
       if (machine->value[gate] != OPEN) continue;
       if (is_true != is_and[gate])
-        decide(machine, gate, is_true ? IS_TRUE : IS_FALSE);
+        decide(machine, gate, is_true ? YES : NO);
       else if (--machine->left[gate] == 0)
-        decide(machine, gate, is_and[gate] ? IS_TRUE : IS_FALSE);
+        decide(machine, gate, is_and[gate] ? YES : NO);
     }}
   }}
 }}
@@ -106,9 +106,9 @@ static void keep_pauses(struct {name} *machine) {{
     machine->pauses[pause] = 0;
   }}
   for (int32_t at = 0; at < {node_count};) {{
-    if (value_of(machine, nodes[at].pauses) != IS_TRUE) {{
+    if (value_of(machine, nodes[at].pauses) != YES) {{
       at = nodes[at].past;
-    }} else if (value_of(machine, nodes[at].keeps) == IS_TRUE) {{
+    }} else if (value_of(machine, nodes[at].keeps) == YES) {{
       for (int32_t pause = nodes[at].start; pause < nodes[at].end; pause++)
         if (old[pause]) machine->pauses[pause] = 1;
       at = nodes[at].past;
@@ -128,7 +128,7 @@ int {name}_react(struct {name} *machine, uint64_t inputs, uint64_t *given) {{
   for (int32_t at = 0; at < {output_count}; at++) {{
     int32_t literal = is_stuck ? outputs_at[at].status : outputs_at[at].emitted;
     int value = value_of(machine, literal);
-    if (value == (is_stuck ? OPEN : IS_TRUE)) *given |= UINT64_C(1) << outputs_at[at].bit;
+    if (value == (is_stuck ? OPEN : YES)) *given |= UINT64_C(1) << outputs_at[at].bit;
   }}
   if (is_stuck) return {prefix}_STUCK;
   keep_pauses(machine);

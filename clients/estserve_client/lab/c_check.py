@@ -75,8 +75,9 @@ def compiler() -> List[str]:
     """The words of the compiler of C: those of the variable CC, or one that is found. Raises
     Failed.
     """
-    if os.environ.get("CC"):
-        return os.environ["CC"].split()
+    words = os.environ.get("CC", "").split()
+    if words:
+        return words
     for name in COMPILERS:
         if shutil.which(name):
             return [name]

@@ -2,7 +2,8 @@
 from __future__ import annotations
 
 import dataclasses
-from typing import Any, Dict, Iterable, Iterator, List, Sequence, Tuple
+import re
+from typing import Any, Dict, Iterable, Iterator, List, Sequence, Set, Tuple
 
 from ..module_text import ARROW
 from .asking import Subject
@@ -24,6 +25,9 @@ TAKEN = {
     "BROKEN",
     "NOT_INPUTS",
 }
+FUNCTIONS = {"react", "reset"}
+INTEGERS = re.compile(r"U?INT\w*|U?CHAR|SCHAR|U?SHRT|U?L?LONG|SIZE|PTRDIFF|SIG_ATOMIC|WCHAR|WINT")
+BOUNDS = {"BIT", "C", "MAX", "MIN", "WIDTH"}  # INTEGERS_BOUNDS are C's own macros
 HEADER = """\
 /* The module {module}, as C99: {what}, without a heap or a library.
  *
@@ -36,6 +40,10 @@ HEADER = """\
 #define {prefix}_H
 
 #include <stdint.h>
+
+#ifdef __cplusplus
+extern "C" {{
+#endif
 
 {signals}
 
@@ -59,6 +67,9 @@ void {name}_reset(struct {name} *machine);
 /* One instant with these inputs. */
 int {name}_react(struct {name} *machine, uint64_t inputs, uint64_t *given);
 
+#ifdef __cplusplus
+}}
+#endif
 #endif
 """
 STATE = """\
@@ -119,12 +130,19 @@ def keeps(relation: Relation, inputs: Iterable[str]) -> bool:
     return sum(there) < 2 if relation.is_exclusion else there[1] or not there[0]
 
 
-def constants_of(signals: Iterable[str]) -> Iterator[str]:
-    """The name of each signal's constant, after the prefix."""
-    taken = TAKEN | set(signals)
+def taken_by(name: str) -> Set[str]:
+    """What no signal's constant may be, after the prefix, where C has this name in its names."""
+    prefix = name.upper()
+    others = BOUNDS if INTEGERS.fullmatch(prefix) else set()
+    return TAKEN | others | (FUNCTIONS if name == prefix else set())
+
+
+def constants_of(signals: Iterable[str], others: Set[str]) -> Iterator[str]:
+    """The name of each signal's constant, after the prefix, which is none of these others."""
+    taken = others | set(signals)
     for name in signals:
         constant = name
-        while constant in TAKEN or (constant != name and constant in taken):
+        while constant in others or (constant != name and constant in taken):
             constant += "_"
         taken.add(constant)
         yield constant
@@ -153,7 +171,7 @@ class Code:
         module = self.subject.module
         signals = [
             f"#define {self.prefix}_{constant} UINT64_C({1 << place:#x})"
-            for place, constant in enumerate(constants_of(list(self.places)))
+            for place, constant in enumerate(constants_of(self.places, taken_by(self.name)))
         ]
         return HEADER.format(
             **self.words(),

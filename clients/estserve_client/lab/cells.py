@@ -9,7 +9,7 @@ of the statements too.
 from __future__ import annotations
 
 import dataclasses
-from typing import Dict, Optional, Sequence, Tuple
+from typing import Callable, Dict, Optional, Sequence, Tuple
 
 from ..texts import Failed
 from .completion import Completion, code_of_exit
@@ -23,15 +23,16 @@ DIFFERS = "the client works out another instant than the program: statement {} r
 
 @dataclasses.dataclass(eq=False)
 class Cell:
-    """A cell: its status, and those that it is made of. That of a test has its statement `at`, and
-    whether the test `holds` or doesn't where the cell is true; that of a pause in which control
-    rested has the pause, and no such word.
+    """A cell: its status, and those that it is made of, by an `or` or else an `and`. That of a test
+    has its statement `at`, and whether the test `holds` or doesn't where the cell is true; that of a
+    pause in which control rested has the pause, and no such word.
     """
 
     status: Status
     parts: Tuple["Cell", ...] = ()
     at: Optional[At] = None
     holds: Optional[bool] = None
+    is_or: bool = False
 
 
 TRUE, FALSE = Cell(True), Cell(False)
@@ -47,7 +48,8 @@ def all_of(*parts: Cell) -> Cell:
 def any_of(*parts: Cell) -> Cell:
     """A cell that is true where one of these is."""
     statuses = [part.status for part in parts]
-    return Cell(True if True in statuses else None if None in statuses else False, parts)
+    status = True if True in statuses else None if None in statuses else False
+    return Cell(status, parts, is_or=True)
 
 
 COMPLETION = Completion(all_of, any_of, FALSE)
@@ -64,6 +66,27 @@ def combined(kind: str, statuses: Sequence[Status]) -> Status:
         return opposite(statuses[0])
     decides = kind == "or"
     return decides if decides in statuses else None if None in statuses else not decides
+
+
+def comes_to(cell: Cell, answer: Callable[[At], Status], known: Dict[int, Status]) -> Status:
+    """What a cell would come to if open tests had these answers; `known` keeps it of each cell."""
+    line = [cell]
+    while line:
+        one = line[-1]
+        left = [part for part in one.parts if id(part) not in known]
+        if one.status is not None:
+            known[id(one)] = one.status
+        elif one.at and one.holds is not None:
+            holds = answer(one.at)
+            known[id(one)] = None if holds is None else holds is one.holds
+        elif not left:
+            statuses = [known[id(part)] for part in one.parts]
+            known[id(one)] = combined("or" if one.is_or else "and", statuses)
+        else:
+            line += left
+            continue
+        line.pop()
+    return known[id(cell)]
 
 
 @dataclasses.dataclass(frozen=True)

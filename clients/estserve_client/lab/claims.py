@@ -10,10 +10,12 @@ import dataclasses
 import re
 from typing import Iterable, List, Optional
 
+from ..close_words import meant
 from ..texts import Placed
 
 CLAIM = re.compile(r"(never|always)\s+(\S.*)")
 NAMED = {"observer": "observers", "same": "same", "text": "texts"}  # words that may be given again
+WORDS = ("never", "always", "main", "inputs", *NAMED)
 FORMS = "`never TEST`, `always TEST`, or begins with main, observer, text, inputs or same"
 
 
@@ -69,7 +71,9 @@ def read_line(text: str, place: str, found: Claims) -> None:
     elif word in NAMED and len(rest.split()) == 1:
         getattr(found, NAMED[word]).append(rest)
     else:
-        raise Placed(f"{place}: this is no claim: a line is {FORMS}")
+        question = meant(word, WORDS)
+        told = f"{place}: this is no claim: a line is {FORMS}"
+        raise Placed(told + (f"; {question}" if question else ""))
 
 
 def read_claims(text: str, path: str) -> Claims:

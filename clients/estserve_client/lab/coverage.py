@@ -142,8 +142,9 @@ def tell_untried(kind: str, untried: List[Untried]) -> None:
     for one in untried[:SHOWN]:
         how = f"tried by `{in_one_line(one.word)}`" if one.word else "no run comes to it"
         print(f"  {kind} {one.told}: {how}")
-    if len(untried) > SHOWN:
-        print(f"  and {len(untried) - SHOWN} more {kind}s")
+    more = len(untried) - SHOWN
+    if more > 0:
+        print(f"  and {more} more {kind}{'s' if more > 1 else ''}")
 
 
 def write_tours(tours: List[List[Row]], group: Group) -> None:

@@ -88,12 +88,13 @@ class Explorer:
     def told(self, look: Look) -> str:
         """What came of an instant: the outputs and local signals that were present."""
         names = [name for name in self.subject.module.outputs() if name in look.outputs]
+        first = " ".join(names) or "no output"
         inner = [
             name + mark_of(*counts)
             for name, counts in presences(self.inside, look).items()
             if counts[0]
         ]
-        return " ".join(names) + (f" ({' '.join(inner)})" if inner else "") or "no output"
+        return first + (f" ({' '.join(inner)})" if inner else "")
 
     def stuck_lines(self) -> List[str]:
         """What waits for what in the instant that was looked at last. Raises Failed."""

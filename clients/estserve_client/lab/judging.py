@@ -2,16 +2,19 @@
 from __future__ import annotations
 
 import dataclasses
+import itertools
 import time
-from typing import TYPE_CHECKING, Any, Dict, List, Optional, Sequence, Tuple
+from typing import TYPE_CHECKING, Any, Dict, List, Optional, Tuple
 
 from ..connection import Refusal
 from ..sentences import sentence
 from ..texts import Failed, Placed
 from .asking import Subject
 from .claims import Claim
+from .observing import WORDS
 
 if TYPE_CHECKING:
+    from ..module_text import Module
     from .asking import Explored, Lab, Word
 
 STUCK = "it is never Stuck"
@@ -70,15 +73,25 @@ def place_told(claim: Claim, why: Dict[str, Any]) -> str:
     return f"{claim.text}\n{' ' * (column - 1)}^"
 
 
-def why_wrong(claim: Claim, why: Dict[str, Any], subject: Subject) -> str:
-    """What is said of the fault of a claim, and what other languages write there."""
+def no_signal(name: str, question: Question) -> str:
+    """What is said of a name in a claim that is none of the interface."""
     from ..close_words import meant
+    from ..scopes import local_signals
+
+    subject = question.subject
+    told = f"{question.module.module.name} has no input or output {name}"
+    if name in local_signals(subject.library.text):
+        return f"{told}: it is a local signal, of which nothing can be claimed"
+    other = meant(name, subject.module.kinds())
+    return told + (f"; {other}" if other else "")
+
+
+def why_wrong(claim: Claim, why: Dict[str, Any], question: Question) -> str:
+    """What is said of the fault of a claim, and what other languages write there."""
     from ..other_habits import SYMBOLS
 
     if why["fault"] == "UnknownName":
-        question = meant(why["name"], subject.module.kinds())
-        told = f"{subject.module.name} has no input or output {why['name']}"
-        return told + (f"; {question}" if question else "")
+        return no_signal(why["name"], question)
     if "column" in why:
         is_lexical, at = why["fault"] == "Lexical", why["column"] - 1
         told = "no token stands here" if is_lexical else "a test can't go on so"
@@ -87,10 +100,10 @@ def why_wrong(claim: Claim, why: Dict[str, Any], subject: Subject) -> str:
     return sentence(Refusal(why)).partition(": ")[2]
 
 
-def wrong_claim(refusal: Refusal, claims: Sequence[Claim], subject: Subject) -> Failed:
+def wrong_claim(refusal: Refusal, question: Question) -> Failed:
     """What a command ends with whose claim can't be read."""
-    claim = claims[refusal.fields["claim"] - 1]
-    told = why_wrong(claim, refusal.fields["why"], subject)
+    claim = question.claims[refusal.fields["claim"] - 1]
+    told = why_wrong(claim, refusal.fields["why"], question)
     text = f"the claim `{claim.text}` cannot be read: {told}"
     return Placed(f"{claim.place}: {text}") if claim.place else Failed(text)
 
@@ -103,7 +116,18 @@ def explored(lab: Lab, question: Question) -> Explored:
     except Refusal as refusal:
         if refusal.fault != "Claim":
             raise
-        raise wrong_claim(refusal, question.claims, question.subject) from refusal
+        raise wrong_claim(refusal, question) from refusal
+
+
+def unlike(first: Module, second: Module) -> str:
+    """Where the interfaces of two modules begin to differ."""
+    for one, another in itertools.zip_longest(first.signals, second.signals, fillvalue=("", "")):
+        if one != another:
+            has, other_has = (
+                f"{WORDS[kind]} {name}" if name else "nothing more" for name, kind in (one, another)
+            )
+            return f": {first.name} has {has} where {second.name} has {other_has}"
+    return ""
 
 
 def compared(lab: Lab, question: Question, other: Subject) -> Finding:
@@ -114,9 +138,9 @@ def compared(lab: Lab, question: Question, other: Subject) -> Finding:
     except Refusal as refusal:
         if refusal.fault != "Interface":
             raise
-        names = f"{question.module.module.name} and {other.module.name}"
-        why = f"{names} don't declare the same signals in the same order"
-        raise Failed(f"{told}: {why}") from refusal
+        why = "they don't declare the same signals in the same order"
+        where = unlike(question.module.module, other.module)
+        raise Failed(f"{told}: {why}{where}") from refusal
     name = {"same": "holds", "differ": "fails"}.get(answer["verdict"], answer["verdict"])
     return Finding(told, name, answer.get("word", []), other)
 

@@ -4,7 +4,7 @@ from __future__ import annotations
 from typing import List, Sequence
 
 from ..library_text import LibraryText
-from ..module_text import OFFERED, Module, modules_of
+from ..module_text import OFFERED, Module, modules_of, no_module
 from ..texts import Failed
 from .asking import Subject
 from .claims import Claim
@@ -16,9 +16,10 @@ def observer_of(subject: Subject, name: str) -> Module:
     """The module of this name, as an observer: all that it takes is there, and what it emits is its
     own. Raises Failed.
     """
+    wrong = no_module(subject.library, name)
+    if wrong:
+        raise Failed(wrong)
     found = [module for module in modules_of(subject.library.text) if module.name == name]
-    if not found:
-        raise Failed(f"there is no module {name} in {' '.join(subject.library.paths)}")
     own = subject.module.kinds()
     missing = [signal for signal, kind in found[0].signals if kind in OFFERED and signal not in own]
     if missing:

@@ -19,12 +19,20 @@ TAKEN = (
 )
 
 
+def number(text: str) -> int:
+    """A number from 0 on. Raises ValueError."""
+    found = int(text)
+    if found < 0:
+        raise ValueError(text)
+    return found
+
+
 def add_lab(parser: Parser) -> None:
     """Adds the words by which the program is found, and how far it searches."""
     programs = parser.add_mutually_exclusive_group()
     programs.add_argument("--estlab", metavar="PATH", help=PROGRAM)
     programs.add_argument("--unproved", action="store_true", help=UNPROVED)
-    parser.add_argument("--most", type=int, default=MOST, metavar="N", help=LIMIT)
+    parser.add_argument("--most", type=number, default=MOST, metavar="N", help=LIMIT)
 
 
 def add_prove(commands: Any, act: Any) -> None:
@@ -120,6 +128,6 @@ def add_compile(commands: Any, act: Any) -> None:
     help += " --cells, compare it with estserve on random walks"
     add("--check", action="store_true", help=help)
     help = "refuse more pairs of a state and a set of inputs than these (default: 4,000,000)"
-    add("--pairs", type=int, default=PAIRS, metavar="N", help=help)
+    add("--pairs", type=number, default=PAIRS, metavar="N", help=help)
     add_lab(parser)
     parser.set_defaults(act=act)

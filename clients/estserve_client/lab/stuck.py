@@ -16,7 +16,7 @@ from ..connection import Disconnected, Refusal, TimedOut, TooLong
 from ..signal_test_writing import headed, written
 from ..texts import Failed
 from .asking import Lab, Subject
-from .cells import Cell, Cells, combined
+from .cells import Cell, Cells, combined, comes_to
 from .inside import At, Inside, Look, Meant, undecided_lines
 from .kernel import Asked
 
@@ -39,11 +39,6 @@ class Link:
     holds: bool
 
 
-def is_opposite(one: Link, other: Link) -> bool:
-    """Whether the first begins where a test holds, and the second where it doesn't."""
-    return one.holds and not other.holds
-
-
 class Stuck:
     """An instant that is stuck."""
 
@@ -53,6 +48,7 @@ class Stuck:
         self.ties = [tie for tie in look.ties if not tie.waits or self.cells.tests[tie.at] is None]
         self.emissions: Dict[Meant, List[At]] = {}
         self.waiting: Dict[At, List[Meant]] = {}
+        self.suppositions: Dict[Tuple[Meant, bool], Dict[int, Optional[bool]]] = {}
         for tie in self.ties:
             if tie.waits:
                 self.waiting.setdefault(tie.at, []).append(tie.signal)
@@ -71,15 +67,45 @@ class Stuck:
             line += one.parts
 
     def links_from(self, signal: Meant) -> List[Tuple[Link, Meant]]:
-        """What a signal waits for."""
-        found = []
+        """What a signal waits for: of each emission what it can begin by, or else all that it depends
+        on.
+        """
+        found: List[Link] = []
         for emission in self.emissions.get(signal, ()):
-            for test in self.tests_of(self.cells.begins[emission], set()):
-                assert test.at and test.holds is not None
-                for target in self.waiting.get(test.at, ()):
-                    link = Link(signal, emission, test.at, target, test.holds)
-                    found.append((link, target))
-        return found
+            links = [
+                Link(signal, emission, test.at, target, bool(test.holds))
+                for test in self.tests_of(self.cells.begins[emission], set())
+                if test.at
+                for target in self.waiting.get(test.at, ())
+            ]
+            found += [link for link in links if self.can_begin(link)] or links
+        return [(link, link.target) for link in found]
+
+    def can_begin(self, link: Link) -> bool:
+        """Whether an emission isn't ruled out where the test comes out so: by its signal, if that alone
+        is open, since other tests ask for that too.
+        """
+        begins, opened = self.cells.begins[link.emission], self.waiting[link.test]
+        if len(opened) > 1:
+            return self.supposed(begins, link.test, link.holds) is not False
+        asked = self.inside.statements[link.test[0]].test
+        assert asked
+        ways = [
+            way
+            for way in (True, False)
+            if self.comes_out(asked, link.test, {link.target: way}) is link.holds
+        ]
+        return any(self.supposed(begins, link.target, way) is not False for way in ways)
+
+    def supposed(self, cell: Cell, what: Meant, holds: bool) -> Optional[bool]:
+        """What a cell would come to if one signal, or the test of one statement, were so."""
+
+        def answer(at: At) -> Optional[bool]:
+            asked = self.inside.statements[at[0]].test
+            assert asked
+            return holds if at == what else self.comes_out(asked, at, {what: holds})
+
+        return comes_to(cell, answer, self.suppositions.setdefault((what, holds), {}))
 
     def circle(self) -> List[Link]:
         """A shortest circle, through an output that is undecided where there is one."""
@@ -95,9 +121,9 @@ class Stuck:
         way, or two, one where a test for it holds and one where it doesn't.
         """
         own = [link for link, target in self.links_from(signal) if target == signal]
-        pairs = itertools.product(own, own)
-        found = (pair for pair in pairs if pair[0].test == pair[1].test and is_opposite(*pair))
-        return [link for link in own if self.is_anyway(link)][:1] or list(next(found, ()))
+        fails = {link.test: link for link in reversed(own) if not link.holds}
+        found = ([link, fails[link.test]] for link in own if link.holds and link.test in fails)
+        return [link for link in own if self.is_anyway(link)][:1] or next(found, [])
 
     def is_anyway(self, link: Link) -> bool:
         """Whether a link's test comes out as it has to, whatever its open signals are."""

@@ -12,7 +12,8 @@ from itertools import combinations
 from typing import Callable, Dict, FrozenSet, Iterable, Iterator, List, Optional, Tuple
 
 from ..applying import read_policy_file
-from ..policy_file import Policy, slots_of, tables_of
+from ..close_words import meant
+from ..policy_file import Policy, asking, slots_of, tables_of
 from ..texts import Failed, read_text
 from .asking import Lab, Subject, Verdict, lab_of, read_subject
 from .claims import names_listed
@@ -128,14 +129,17 @@ def roles_named(texts: Optional[List[str]], access: Access) -> Optional[Roles]:
     names = names_listed(texts)
     unknown = [name for name in names or () if name not in access.roles]
     if unknown:
-        raise Failed(f"the policy has no role {unknown[0]}")
+        question = meant(unknown[0], access.roles)
+        raise Failed(asking(f"the policy has no role {unknown[0]}", question))
     return None if names is None else frozenset(names)
 
 
 def tell(signal: str, roles: Optional[Roles], access: Access, asker: Asker) -> None:
     """Tells who can bring the signal about. Raises Failed."""
-    if signal not in asker.subject.module.kinds():
-        raise Failed(f"{asker.subject.module.name} has no signal {signal}")
+    kinds = asker.subject.module.kinds()
+    if signal not in kinds:
+        told = f"{asker.subject.module.name} has no signal {signal}"
+        raise Failed(asking(told, meant(signal, kinds)))
     if roles is None:
         lines = [line for user in access.users for line in ways_of(user, signal, access, asker)]
     else:

@@ -5,7 +5,7 @@ asked for in its turn.
 """
 from __future__ import annotations
 
-from typing import Dict, Iterator, List, Optional, Set, Tuple
+from typing import Dict, Iterator, List, Optional, Sequence, Set, Tuple
 
 from ..signal_test_writing import headed, written
 from ..texts import Failed
@@ -62,11 +62,19 @@ class Why:
         return self.explained(f"{name} is {'offered' if offered else 'present'}", emissions, True)
 
     def absent(self, asking: Meant) -> Tuple[List[str], List[Meant]]:
-        """What is said of a signal that is absent."""
+        """What is said of a signal that is absent: of each emission in its first incarnation that control
+        came near to.
+        """
         name, emissions = self.inside.called(asking), self.emissions(asking)
         if asking in self.inside.subject.module.inputs() and not emissions:
             return [f"{name} is not offered"], []
-        first = {number: at for number, at in reversed([(at[0], at) for at in emissions])}
+        if not emissions:
+            return [f"{name} is absent: nothing emits it"], []
+        first = {at[0]: at for at in reversed(emissions)}
+        reached = [
+            at for at in reversed(emissions) if any(self.reasons(self.cells.begins[at], False))
+        ]
+        first.update({at[0]: at for at in reached})
         return self.explained(f"{name} is absent", sorted(first.values()), False)
 
     def undecided(self, asking: Meant) -> Tuple[List[str], List[Meant]]:
@@ -128,7 +136,7 @@ class Why:
             seen.add(key)
             if one.at:
                 yield one
-            line += one.parts
+            line += deciding(one)
 
     def place(self, at: At) -> str:
         """A statement with its place."""
@@ -154,6 +162,15 @@ class Why:
             return []
         test = self.inside.statements[cell.at[0]].test
         return [self.inside.meant(signal, cell.at) for signal in signals_in(test)]
+
+
+def deciding(cell: Cell) -> Sequence[Cell]:
+    """The parts by which a cell has its status. Where control didn't come to a test, what the test is
+    decides nothing.
+    """
+    if cell.is_or or cell.status is not False:
+        return cell.parts
+    return [one for one in cell.parts if one.holds is None and one.status is False] or cell.parts
 
 
 def signals_in(asked: Optional[Asked]) -> List[Signal]:

@@ -17,8 +17,7 @@ use Rattle.reactor_core.specs.declared.refusal.ReactorRefusal.TheVariants as rea
 use Rattle.reactor_core.specs.Meaning.{is_loaded}
 use Rattle.reactor_core.specs.Instants.{IsOutcome, AddsInstant, SettledInstant, CommitAnswer, OpenAnswer}
 use Rattle.reactor_core.specs.Instants.{KeepsRelations}
-use Rattle.reactor_core.proofs.OneMeaning.{OneModule, is_loaded_where, not_both, ready_or_lacking}
-use Rattle.reactor_core.proofs.Joining.{no_ok, same_err}
+use Rattle.reactor_core.proofs.OneMeaning.{OneModule, not_both, ready_or_lacking}
 use Rattle.access_core.specs.declared.command.SlotCommand.{SlotCommand}
 use Rattle.access_core.specs.declared.command.SlotCommand.TheVariants.{Move}
 use Rattle.access_core.specs.declared.refusal.Refusal.{Refusal}
@@ -107,6 +106,21 @@ module _ (entries : List Entry) (slot session : ℕ) (stamp : Stamp) (before : L
       pass passes.passed
       (subst (λ (journal : List SlotEntry). ByRules (settle_rules entries slot session journal)
       (Steps stamp) journal reply after) same h)
+
+  -- an instant that may not be opened, since its inputs lack an implied one
+  pub step_lacking : (refusal : ReactorRefusal) (after : List SlotEntry) (reply : Reply)
+      → OpenAnswer before (Err (refusal, after)) → reply ≡ Refused (of_reactor refusal)
+      → ByRules (step_rules entries slot session before) (Steps stamp) before reply after
+  step_lacking refusal after reply (inl lacks) replied =
+      let told = lacks.answered in
+      let given = lacks.given in
+      let same : ◌≡◌ {A = ReactorRefusal × List SlotEntry} (refusal, after) (lacks.refusal, before) = cc in
+      refuse (implied_refusal given.0 given.1) (given.0, given.1, refl, given.3) (record {
+        replied = replied ∙ ap Refused (ap of_reactor
+            (ap (λ (r : ReactorRefusal × List SlotEntry). r.0) same ∙ given.2));
+        stays = ap (λ (r : ReactorRefusal × List SlotEntry). r.1) same;
+      })
+  step_lacking refusal after reply (inr passes) replied = let no = passes.next in absurd cc
 
 module _ (modules : OneModule) (entries : List Entry) (slot session : ℕ) (stamp : Stamp) (before : List SlotEntry)
     (reply : Reply) (after : List SlotEntry) where

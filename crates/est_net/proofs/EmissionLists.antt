@@ -1,5 +1,5 @@
 -- A signal of the interface is emitted where one of its emissions is run.
-use Rattle.std.specs.Prelude.{◌≡◌, ℕ, ◌+◌, Bool, true, false, cond, nat_eq, ◌&&◌, ◌||◌, List, [], ◌∷◌, ◌++◌}
+use Rattle.std.specs.Prelude.{◌≡◌, ℕ, ◌+◌, Bool, true, false, cond, nat_eq, ◌&&◌, ◌||◌, List, [], ◌++◌}
 use Rattle.std.specs.List.{list_any}
 use Rattle.std.proofs.Common.{refl, ap, sym, ◌∙◌}
 use Rattle.std.proofs.lemmas.List.Folds.{list_any-append}
@@ -12,7 +12,7 @@ use Rattle.est_kernel.specs.declared.statement.Statement.TheVariants.{Nothing, P
 use Rattle.est_kernel.specs.declared.statement.Statement.TheVariants.{Loop', Par', Trap', Exit, Local' as Binder'}
 use Rattle.est_meaning.specs.Signals.{Signals, no_signals, only, union, without}
 use Rattle.est_meaning.specs.declared.status.Status.{Status}
-use Rattle.est_cells.specs.Tables.{Again, emits, if_run, make_again, of_again, sheet_size}
+use Rattle.est_cells.specs.Tables.{emits, if_run, make_again, of_again, sheet_size}
 use Rattle.est_net.specs.Emissions.{emission_of, emissions, is_of}
 use Rattle.est_net.specs.Layout.{sheet_in}
 use Rattle.est_net.specs.declared.emissions.Emission.{Emission}

@@ -1,4 +1,5 @@
 pub mod Deciding
+pub mod CellSets
 mod Covering
 mod Extending
 pub mod Ranges

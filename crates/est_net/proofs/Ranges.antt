@@ -1,5 +1,5 @@
 -- Ranges of cells, looked at and decided one after another.
-use Rattle.std.specs.Prelude.{◌≡◌, ◌≢◌, ◌↔◌, ◌<◌, ◌≤◌, ◌+◌, ◌⊎◌, ◌&&◌, ℕ, zero, suc, Bool, true, false, not, List}
+use Rattle.std.specs.Prelude.{◌≡◌, ◌≢◌, ◌↔◌, ◌<◌, ◌≤◌, ◌+◌, ◌⊎◌, ◌&&◌, ℕ, zero, suc, Bool, true, false, List}
 use Rattle.std.specs.Prelude.{[], ◌∷◌, ◌-◌, length, set, slice_get, Some}
 use Rattle.std.proofs.Common.{refl, ap, sym, ◌∙◌, arith, inl, inr, subst}
 use Rattle.std.proofs.lemmas.List.{get_or-set_same, get_or-set_other, length-set, set-get_or}
@@ -7,7 +7,6 @@ use Rattle.std.proofs.lemmas.List.Sums.{sum_by-cons, sum_by-set}
 use Rattle.std.proofs.lemmas.Option.{slice_get-get_or}
 use Rattle.est_meaning.specs.declared.status.Status.{Status}
 use Rattle.est_meaning.specs.declared.status.Status.TheVariants.{Present, Absent, Unknown}
-use Rattle.est_cells.specs.Tables.{is_sure}
 use Rattle.est_net.specs.Cells.{AllDecided, AllOpen, AreFalse, Learns, NoneTrue, cell_at, decided, is_known, is_open}
 use Rattle.est_net.specs.Cells.{known_as, learned, steps_of}
 
@@ -45,26 +44,6 @@ each_more R lo n cells was is now l h k f = (there was is h k f, back was is h k
         → now ≡ (was && is) → Each R lo (n + 1) cells → now ≡ true
     back was is h k f g = f ∙ (ap (λ (z : Bool). z && is) (h.1 (λ i a b. g i a (omega arith)))
         ∙ k.1 (g n l (omega arith)))
-
--- no cell of an empty range is true; one cell more
-pub none_true : (lo : ℕ) (cells : List Status) → NoneTrue lo lo cells
-unfolding NoneTrue
-none_true lo cells i l u = absurd (omega arith)
-
-not_true : (b : Bool) (v : Status) → b ≡ is_sure v → (not b ≡ true) ↔ (v ≢ Present)
-not_true true Present e = (λ h. let z : false ≡ true = h in cc, λ d. absurd (d refl))
-not_true false Present e = let z : false ≡ true = e in cc
-not_true true Absent e = let z : true ≡ false = e in cc
-not_true false Absent e = (λ h z. cc, λ d. refl)
-not_true true Unknown e = let z : true ≡ false = e in cc
-not_true false Unknown e = (λ h z. cc, λ d. refl)
-
-pub none_more : (lo n : ℕ) (cells : List Status) (was is_true now : Bool) → lo ≤ n
-    → ((was ≡ true) ↔ NoneTrue lo n cells) → is_true ≡ is_sure (cell_at cells n) → now ≡ (was && not is_true)
-    → (now ≡ true) ↔ NoneTrue lo (n + 1) cells
-unfolding NoneTrue
-none_more lo n cells was b now l h e f =
-    each_more (λ v. v ≢ Present) lo n cells was (not b) now l h (not_true b (cell_at cells n) e) f
 
 -- each cell of an empty range is decided; one cell more
 pub all_known : (lo : ℕ) (cells : List Status) → AllDecided lo lo cells

@@ -3,6 +3,7 @@ use Rattle.std.specs.Prelude.{◌≡◌, ◌≢◌, ◌≤◌, ◌<◌, ℕ, Boo
 use Rattle.std.specs.List.{sum_by}
 use Rattle.est_meaning.specs.declared.status.Status.{Status}
 use Rattle.est_meaning.specs.declared.status.Status.TheVariants.{Present, Absent, Unknown}
+use Rattle.est_cells.specs.Tables.{is_sure}
 
 -- 1 for a cell that is decided, 0 for one that is open
 abbrev pub steps_of : Status → ℕ
@@ -28,6 +29,10 @@ value_of Unknown = None
 -- the cell at a place; after the last one there is none that could be true
 abbrev pub cell_at : List Status → ℕ → Status
 cell_at cells i = get_or cells i Absent
+
+-- whether the cell at a place is true
+abbrev pub true_at : List Status → ℕ → Bool
+true_at cells i = is_sure (cell_at cells i)
 
 -- what a cell knows once it is told something: an open cell takes it over, a decided one stays as it is
 abbrev pub learned : Status → Status → Status

@@ -1,6 +1,6 @@
 -- Where the signals of the interface are emitted: a list of all emissions, in the order of the cells (this project's
 -- own form).
-use Rattle.std.specs.Prelude.{◌≡◌, ℕ, ◌+◌, ◌&&◌, Bool, true, false, cond, nat_eq, List, [], ◌∷◌, ◌++◌}
+use Rattle.std.specs.Prelude.{◌≡◌, ℕ, ◌+◌, ◌&&◌, Bool, false, cond, nat_eq, List, [], ◌∷◌, ◌++◌}
 use Rattle.std.specs.List.{list_any}
 use Rattle.est_kernel.specs.Term.{outer}
 use Rattle.est_kernel.specs.declared.statement.Signal.{Signal}

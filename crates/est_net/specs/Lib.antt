@@ -1,4 +1,5 @@
 pub mod Cells
+pub mod CellSets
 pub mod Emissions
 pub mod Extents
 pub mod Inner

@@ -6,6 +6,7 @@
 //! all of them open. A cell is decided once, by one assignment, which changes no other cell.
 #![tactic(auto)]
 
+mod cell_set;
 pub mod emissions;
 pub mod extents;
 pub mod laws;

@@ -1,20 +1,23 @@
 //! The table of cells of a kernel.
 
-ghost use Rattle.std.specs.Prelude.{◌≡◌, ◌↔◌, ◌<◌, ◌≤◌, ◌+◌, ◌%◌, ◌^◌, true, length, set};
-ghost use Rattle.std.specs.Prelude.{ℕ, Some, IfOk, option_map, replicate, slice_get};
+ghost use Rattle.std.specs.Prelude.{◌≡◌, ◌↔◌, ◌<◌, ◌≤◌, ◌+◌, ◌*◌, ◌%◌, ◌^◌, true, length, set};
+ghost use Rattle.std.specs.Prelude.{ℕ, Some, IfNone, IfOk, IfSome, option_map, replicate};
+ghost use Rattle.std.specs.Prelude.{slice_get};
 ghost use Rattle.std.specs.List.{list_any};
 ghost use Rattle.est_kernel.specs.Bits.{bits};
 ghost use Rattle.est_kernel.specs.Interfaces.{emittable};
 ghost use Rattle.est_meaning.specs.Rounds.{how_many};
 ghost use Rattle.est_meaning.specs.declared.status.Status.TheVariants.{Unknown};
 ghost use Rattle.est_cells.specs.Tables.{is_possible, is_sure};
+ghost use Rattle.est_net.specs.CellSets.{AreTrueCells, AreTrueCells-prop, IsFirstIn, NoneIn};
 ghost use Rattle.est_net.specs.Cells.{AllDecided, AllOpen, AreFalse, NoneTrue, cell_at, decided};
-ghost use Rattle.est_net.specs.Cells.{is_known, known_as, value_of};
+ghost use Rattle.est_net.specs.Cells.{is_known, known_as, true_at, value_of};
 ghost use Rattle.est_net.specs.Emissions.{emissions, is_of};
 ghost use Rattle.est_net.specs.Extents.{HasExtents, extent_at};
 ghost use Rattle.est_net.specs.Layout.{cell_count, output_count};
 ghost use Rattle.est_net.specs.Reach.{IsReachOf};
 
+use crate::cell_set::CellSet;
 use crate::emissions::{Emission, Emitted, emissions_of};
 use crate::extents::{Extent, extents_of};
 use crate::layout::lay;
@@ -30,6 +33,8 @@ use std::alloc::{AllocError, Global};
 #[derive(Drop)]
 pub struct Net {
     cells: Vec<Status>,
+    /// Those that are true.
+    true_cells: CellSet,
     /// How many of them are open.
     open_count: usize,
     /// How many cells were decided before they were last opened, modulo 2^64.
@@ -46,6 +51,9 @@ pub struct Net {
     emissions: Vec<Emission>,
     /// All others are decided.
     ghost counted: { decided cells.items + open_count ≡ length cells.items },
+    ghost marks: { AreTrueCells true_cells.words.items cells.items } by { AreTrueCells-prop
+        true_cells.words.items cells.items },
+    ghost room: { length cells.items ≤ 64 * length true_cells.words.items },
 }
 
 /// How many signals up to a place are in the mask.
@@ -98,6 +106,7 @@ impl Net {
         let extents = extents_of(alloc, kernel.root())?;
         let emissions = emissions_of(alloc, kernel.root(), outputs)?;
         Ok(Net {
+            true_cells: CellSet::with_room(alloc, cells.len())?,
             open_count: cells.len(),
             cells,
             earlier: 0,
@@ -236,13 +245,22 @@ impl Net {
         table::all_open(self.cells.as_slice(), from, past)
     }
 
+    /// The first cell of a range that is true.
+    pub fn first_true(&self, from: usize, past: usize) -> Option<usize>
+        requires { past ≤ length self.now.cells.items }
+        ensures some { IfSome result (IsFirstIn (true_at self.now.cells.items) from past) }
+        ensures none { IfNone result (NoneIn (true_at self.now.cells.items) from past) }
+    {
+        self.true_cells.first_in(from, past)
+    }
+
     /// Whether no cell of a range is true.
     pub fn has_no_true(&self, from: usize, past: usize) -> bool
         requires range { from ≤ past }
         requires within { past ≤ length self.now.cells.items }
         ensures { (result ≡ true) ↔ NoneTrue from past self.now.cells.items }
     {
-        table::has_no_true(self.cells.as_slice(), from, past)
+        self.first_true(from, past).is_none()
     }
 
     /// Decides a cell that is open. No other cell changes.
@@ -253,6 +271,7 @@ impl Net {
         ensures count { decided self.new.cells.items ≡ decided self.old.cells.items + 1 }
         ensures kept { kept self.new ≡ kept self.old }
     {
+        self.true_cells.insert_if(value, cell);
         table::decide(self.cells.as_mut_slice(), cell, value);
         self.open_count -= 1;
     }
@@ -281,5 +300,6 @@ impl Net {
         self.earlier = self.earlier.wrapping_add(self.steps() as u64);
         table::open_all(self.cells.as_mut_slice());
         self.open_count = self.cells.len();
+        self.true_cells.clear();
     }
 }

@@ -3,8 +3,7 @@
 
 ghost use Rattle.std.specs.Prelude.{◌≡◌, ◌↔◌, ◌<◌, ◌≤◌, ◌+◌, ◌&&◌, true, length, set, slice_get};
 ghost use Rattle.std.specs.Prelude.{Some, replicate};
-ghost use Rattle.est_cells.specs.Tables.{is_sure};
-ghost use Rattle.est_net.specs.Cells.{AllDecided, AllOpen, AreFalse, NoneTrue, cell_at};
+ghost use Rattle.est_net.specs.Cells.{AllDecided, AllOpen, AreFalse, cell_at};
 ghost use Rattle.est_net.specs.Cells.{decided, is_known, is_open, known_as};
 ghost use Rattle.est_meaning.specs.declared.status.Status.TheVariants.{Unknown};
 
@@ -61,37 +60,12 @@ fn read(cells: &[Status], cell: usize) -> Status
     cells[cell]
 }
 
-/// Whether a cell is true.
-#[inline(always)]
-fn is_true(status: Status) -> bool
-    ensures { result ≡ is_sure status }
-{
-    match status {
-        Status::Present => true,
-        Status::Absent | Status::Unknown => false,
-    }
-}
-
 /// Whether both hold.
 #[inline(always)]
 fn both(a: bool, b: bool) -> bool
     ensures { result ≡ (a && b) }
 {
     a && b
-}
-
-/// Whether no cell of a range is true. It looks at all of them, since without a way out of the
-/// loop the compiler looks at many at once.
-pub fn has_no_true(cells: &[Status], from: usize, past: usize) -> bool
-    requires range { from ≤ past }
-    requires within { past ≤ length cells.now }
-    ensures { (result ≡ true) ↔ NoneTrue from past cells.now }
-{
-    let mut none = true;
-    for cell in from..past {
-        none = both(none, !is_true(read(cells, cell)));
-    }
-    none
 }
 
 /// Whether a cell is decided.

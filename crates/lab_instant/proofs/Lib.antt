@@ -1,4 +1,4 @@
+mod Cells
 mod GoCells
 mod Meant
-mod OneByOne
 mod Steps

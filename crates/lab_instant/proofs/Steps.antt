@@ -1,6 +1,6 @@
 -- What is found at places, one after another.
 use Rattle.std.specs.Prelude.{◌≡◌, ◌<◌, ◌+◌, ℕ, zero, suc, List, [], ◌++◌, Option, None}
-use Rattle.std.proofs.Common.{◌∙◌, refl, sym, ap, add-one, add-suc, add-zero, append-nil, append_assoc, arith}
+use Rattle.std.proofs.Common.{◌∙◌, refl, sym, ap, add-one, append-nil, append_assoc, arith}
 use Rattle.lab_instant.specs.Seen.{found_below, listed}
 
 -- nothing is found below 0
@@ -33,14 +33,6 @@ found_later f m (suc n) =
     ∙ (ap (λ (l : List _). l ++ listed (f (m + n))) (found_later f m n)
     ∙ (append_assoc all later (listed (f (m + n)))
     ∙ ap (λ (l : List _). all ++ l) (sym (one_found (λ x. f (m + x)) n)))))
-
--- the same is found where both say the same
-pub same_found : {A : Type 0} (f g : ℕ → Option A) (n : ℕ) → ((x : ℕ) → x < n → f x ≡ g x)
-    → found_below f n ≡ found_below g n
-same_found f g zero h = none_found f ∙ sym (none_found g)
-same_found f g (suc n) h =
-    one_found f n ∙ (ap (λ (l : List _). l ++ listed (f n)) (same_found f g n (λ x l. h x (omega arith)))
-    ∙ (ap (λ (o : Option _). found_below g n ++ listed o) (h n (omega arith)) ∙ sym (one_found g n)))
 
 -- nothing is found where nothing is
 pub nothing_found : {A : Type 0} (f : ℕ → Option A) (n : ℕ) → ((x : ℕ) → x < n → f x ≡ None) → found_below f n ≡ []

@@ -13,7 +13,7 @@ use Rattle.est_net.specs.Owners.{owners_in}
 use Rattle.est_net.specs.declared.owners.StatementCell.{StatementCell}
 use Rattle.est_rounds.specs.Contract.{HasNoReaction, IsReaction}
 use Rattle.est_micro.specs.Engine.{HasValues, IsAsMeant, IsNetOf}
-use Rattle.lab_instant.specs.OwnCells.{cells_of}
+use Rattle.lab_instant.specs.OwnCells.{signal_places}
 use Rattle.lab_instant.specs.Seen.{all_begun, all_locals, all_resumed}
 use Rattle.lab_instant.specs.declared.instant.InstantReader.{InstantReader}
 use Rattle.lab_instant.specs.declared.seen.Instant.{Instant}
@@ -53,4 +53,5 @@ IsInstant k x i cells (Stuck s told) = IsStuckSeen k x i cells s told
 -- it reads the instants of this kernel
 pub record IsFor (inside : InstantReader) (k : Kernel) : Type 0 where
   pub net : IsNetOf inside.engine.net k
-  pub owners : cells_of inside.owners.items ≡ statement_cells k
+  pub cells : inside.cells.items ≡ statement_cells k
+  pub signals : inside.signals.items ≡ signal_places inside.cells.items

@@ -1,18 +1,24 @@
--- The cells that a statement has of its own in one incarnation, as one item of a list (this project's own form).
-use Rattle.std.specs.Prelude.{ℕ, ◌+◌, Bool, cond, List, length}
-use Rattle.std.specs.List.{flat_map}
-use Rattle.est_net.specs.Owners.{own_owners}
+-- The cells of statements, one after another (this project's own form).
+use Rattle.std.specs.Prelude.{ℕ, ◌+◌, Bool, cond, List, Option, None, Some, length, slice_get}
+use Rattle.est_net.specs.declared.owners.CellKind.{CellKind}
+use Rattle.est_net.specs.declared.owners.CellKind.TheVariants.{Go, Code, Status as OfSignal}
 use Rattle.est_net.specs.declared.owners.StatementCell.{StatementCell}
-use Rattle.lab_instant.specs.declared.owners.OwnCells.{OwnCells}
+use Rattle.lab_instant.specs.Seen.{found_below}
 
--- how many a statement has inside so many traps: one more if it declares a signal
+-- how many a statement has of its own inside so many traps: one more if it declares a signal
 abbrev pub own_count : (traps : ℕ) → (declares : Bool) → ℕ
 own_count traps declares = cond declares (traps + 4) (traps + 3)
 
--- whose they are, in their order
-abbrev pub cells_of_one : OwnCells → List StatementCell
-cells_of_one o = own_owners o.at.number o.at.statement o.traps (own_count o.traps o.declares)
+-- the place, if the cell there tells the status of a local signal
+abbrev pub signal_by_kind : CellKind → ℕ → Option ℕ
+signal_by_kind Go place = None
+signal_by_kind (Code k) place = None
+signal_by_kind OfSignal place = Some place
 
--- whose the cells of several are, in their order
-unfoldable pub cells_of : List OwnCells → List StatementCell
-cells_of all = flat_map cells_of_one all
+abbrev pub signal_at : Option StatementCell → ℕ → Option ℕ
+signal_at None place = None
+signal_at (Some o) place = signal_by_kind o.kind place
+
+-- the places of those that do, among these cells
+abbrev pub signal_places : List StatementCell → List ℕ
+signal_places owners = found_below (λ x. signal_at (slice_get owners x) x) (length owners)

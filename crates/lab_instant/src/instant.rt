@@ -5,31 +5,39 @@ ghost use Rattle.est_kernel.specs.declared.kernel.Kernel.{Kernel as KernelValue}
 ghost use Rattle.est_meaning.specs.States.{IsState};
 ghost use Rattle.est_net.specs.Layout.{output_count};
 ghost use Rattle.lab_instant.specs.Instants.{IsFor, IsInstant, IsSeen, statement_cells};
-ghost use Rattle.lab_instant.specs.OwnCells.{cells_of};
+ghost use Rattle.lab_instant.specs.OwnCells.{signal_places};
 
-use crate::owners::{OwnCells, owners_of};
+use crate::owners::{owners_of, signals_among};
 use crate::reading::all_seen;
 use crate::seen::{Instant, Seen};
 use est_kernel::kernel::Kernel;
 use est_kernel::state::{Inputs, State};
 use est_micro::micro::Micro;
 use est_net::net::Net;
+use est_net::owners::StatementCell;
 use std::alloc::{AllocError, Global};
 
 /// What took part, or memory was refused.
-fn seen_in(alloc: Global, net: &Net, owners: &[OwnCells]) -> Result<Seen, AllocError>
-    requires { net.now.output_count + length (cells_of owners.now) ≤ length net.now.cells.items }
-    ensures { IfOk result (λ seen. (k : KernelValue) → cells_of owners.now ≡ statement_cells k
+fn seen_in(
+    alloc: Global,
+    net: &Net,
+    cells: &[StatementCell],
+    signals: &[usize],
+) -> Result<Seen, AllocError>
+    requires table { net.now.output_count + length cells.now ≤ length net.now.cells.items }
+    requires signals { signals.now ≡ signal_places cells.now }
+    ensures { IfOk result (λ seen. (k : KernelValue) → cells.now ≡ statement_cells k
         → net.now.output_count ≡ output_count k.interface → IsSeen k net.now.cells.items seen) }
 {
-    all_seen(alloc, owners, net, net.output_count())
+    all_seen(alloc, net, cells, signals, net.output_count())
 }
 
 /// What reads the instants of a kernel from inside.
 #[derive(Drop)]
 pub struct InstantReader {
     engine: Micro,
-    owners: Vec<OwnCells>,
+    cells: Vec<StatementCell>,
+    signals: Vec<usize>,
 }
 
 impl InstantReader {
@@ -37,9 +45,11 @@ impl InstantReader {
     pub fn new(alloc: Global, kernel: &Kernel) -> Result<InstantReader, AllocError>
         ensures { IfOk result (λ inside. IsFor inside kernel.now) }
     {
+        let cells = owners_of(alloc, kernel)?;
         Ok(InstantReader {
             engine: Micro::new(Net::build(alloc, kernel)?),
-            owners: owners_of(alloc, kernel)?,
+            signals: signals_among(alloc, cells.as_slice())?,
+            cells,
         })
     }
 
@@ -67,7 +77,7 @@ impl InstantReader {
     {
         let reaction = self.engine.run(kernel, state, inputs);
         let net = self.engine.net();
-        let seen = seen_in(alloc, net, self.owners.as_slice())?;
+        let seen = seen_in(alloc, net, self.cells.as_slice(), self.signals.as_slice())?;
         match reaction {
             Ok(outcome) => Ok(Instant::Reaction { outcome, seen }),
             Err(stuck) => Ok(Instant::Stuck { stuck, seen }),

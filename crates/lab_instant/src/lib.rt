@@ -8,6 +8,7 @@
 
 pub mod instant;
 pub mod laws;
+mod list;
 mod owners;
 mod reading;
 pub mod seen;

@@ -1,60 +1,61 @@
 //! Whose the cells of a statement are.
 
-ghost use Rattle.std.specs.Prelude.{◌≡◌, ◌<◌, ◌≤◌, ◌+◌, true, length, IfOk};
+ghost use Rattle.std.specs.Prelude.{◌≡◌, ◌<◌, ◌≤◌, ◌+◌, true, length, Some, IfOk};
 ghost use Rattle.est_kernel.specs.Limits.{trap_depth};
 ghost use Rattle.est_kernel.specs.View.{term_of};
-ghost use Rattle.est_net.specs.Owners.{inside_loop, owners_in};
+ghost use Rattle.est_net.specs.Owners.{cell_of, inside_loop, kind_at, owners_in};
 ghost use Rattle.lab_instant.specs.Inner.Adding.{AddsOwn, AddsOwners};
-ghost use Rattle.lab_instant.specs.OwnCells.{cells_of, own_count};
+ghost use Rattle.lab_instant.specs.OwnCells.{own_count, signal_at, signal_places};
 
-use crate::seen::Incarnation;
+use crate::list::push_if;
 use est_kernel::kernel::Kernel;
 use est_kernel::statement::Statement;
+use est_net::owners::{CellKind, StatementCell};
 use std::alloc::{AllocError, Global};
 
-/// The cells that a statement has of its own in one incarnation, one after another: whether it is
+/// How many cells a statement inside so many traps has of its own, one after another: whether it is
 /// begun, whether it gives each code from 0 on, and the status of the signal that it declares.
-#[derive(Clone, Copy)]
-pub struct OwnCells {
-    /// The statement.
-    pub at: Incarnation,
-    /// How many traps it lies in.
-    pub traps: usize,
-    /// Whether it declares a signal.
-    pub declares: bool,
+fn own_count(traps: usize, declares: bool) -> usize
+    requires { own_count traps declares < 18446744073709551616 }
+    ensures { result ≡ own_count traps declares }
+{
+    if declares { traps + 4 } else { traps + 3 }
 }
 
-/// How many cells they are.
-pub fn own_count(own: OwnCells) -> usize
-    requires { own_count own.traps own.declares < 18446744073709551616 }
-    ensures { result ≡ own_count own.traps own.declares }
+/// What the cell at an offset from the statement's first one tells.
+fn own_cell(statement: usize, incarnation: usize, traps: usize, offset: usize) -> StatementCell
+    requires { traps + 2 < 18446744073709551616 }
+    ensures { result ≡ cell_of incarnation statement (kind_at traps offset) }
 {
-    if own.declares {
-        own.traps + 4
+    let kind = if offset == 0 {
+        CellKind::Go
+    } else if offset - 1 < traps + 2 {
+        CellKind::Code(offset - 1)
     } else {
-        own.traps + 3
+        CellKind::Status
+    };
+    StatementCell {
+        statement,
+        incarnation,
+        kind,
     }
 }
 
 /// Adds a statement's own cells.
 fn add_own(
-    owners: &mut Vec<OwnCells>,
+    cells: &mut Vec<StatementCell>,
     statement: usize,
     incarnation: usize,
     traps: usize,
     declares: bool,
 ) -> Result<(), AllocError>
-    ensures { IfOk result (λ _. AddsOwn incarnation statement traps declares owners.old.items
-        owners.new.items) }
+    requires { traps < 65536 }
+    ensures { IfOk result (λ _. AddsOwn incarnation statement traps declares cells.old.items
+        cells.new.items) }
 {
-    owners.push(OwnCells {
-        at: Incarnation {
-            statement,
-            number: incarnation,
-        },
-        traps,
-        declares,
-    })?;
+    for offset in 0..own_count(traps, declares) {
+        cells.push(own_cell(statement, incarnation, traps, offset))?;
+    }
     Ok(())
 }
 
@@ -66,10 +67,10 @@ fn inside_loop(main: bool, incarnation: usize) -> usize
     if main { incarnation } else { incarnation + 1 }
 }
 
-/// Adds the owners of the cells of a statement. Answers the number of the statement after it. It
-/// goes as deep as the statement is.
+/// Adds the cells of a statement. Answers the number of the statement after it. It goes as deep as
+/// the statement is.
 fn add(
-    owners: &mut Vec<OwnCells>,
+    cells: &mut Vec<StatementCell>,
     main: bool,
     s: &Statement,
     incarnation: usize,
@@ -77,50 +78,71 @@ fn add(
     traps: usize,
 ) -> Result<usize, AllocError>
     requires depth { traps + trap_depth (term_of s.now) < 65536 }
-    requires numbers { number ≤ length owners.old.items }
-    requires incarnations { incarnation ≤ length owners.old.items }
-    ensures { IfOk result (AddsOwners main s.now incarnation number traps owners.old.items
-        owners.new.items) }
+    requires numbers { number ≤ length cells.old.items }
+    requires incarnations { incarnation ≤ length cells.old.items }
+    ensures { IfOk result (AddsOwners main s.now incarnation number traps cells.old.items
+        cells.new.items) }
 {
     match s {
         Statement::Nothing | Statement::Pause(_) | Statement::Emit(_) | Statement::Exit(_) => {
-            add_own(owners, number, incarnation, traps, false)?;
+            add_own(cells, number, incarnation, traps, false)?;
             Ok(number + 1)
         }
         Statement::Present(_, p, q) | Statement::Seq(p, q) | Statement::Par(p, q) => {
-            add_own(owners, number, incarnation, traps, false)?;
-            let next = add(owners, main, p, incarnation, number + 1, traps)?;
-            add(owners, main, q, incarnation, next, traps)
+            add_own(cells, number, incarnation, traps, false)?;
+            let next = add(cells, main, p, incarnation, number + 1, traps)?;
+            add(cells, main, q, incarnation, next, traps)
         }
         Statement::Suspend(_, p) => {
-            add_own(owners, number, incarnation, traps, false)?;
-            add(owners, main, p, incarnation, number + 1, traps)
+            add_own(cells, number, incarnation, traps, false)?;
+            add(cells, main, p, incarnation, number + 1, traps)
         }
         Statement::Loop(p) => {
-            add_own(owners, number, incarnation, traps, false)?;
+            add_own(cells, number, incarnation, traps, false)?;
             let inside = inside_loop(main, incarnation);
-            let next = add(owners, main, p, inside, number + 1, traps)?;
+            let next = add(cells, main, p, inside, number + 1, traps)?;
             if main {
-                add(owners, false, p, 1, number + 1, traps)?;
+                add(cells, false, p, 1, number + 1, traps)?;
             }
             Ok(next)
         }
         Statement::Trap(p) => {
-            add_own(owners, number, incarnation, traps, false)?;
-            add(owners, main, p, incarnation, number + 1, traps + 1)
+            add_own(cells, number, incarnation, traps, false)?;
+            add(cells, main, p, incarnation, number + 1, traps + 1)
         }
         Statement::Local(_, p) => {
-            add_own(owners, number, incarnation, traps, true)?;
-            add(owners, main, p, incarnation, number + 1, traps)
+            add_own(cells, number, incarnation, traps, true)?;
+            add(cells, main, p, incarnation, number + 1, traps)
         }
     }
 }
 
 /// Whose the cells of a kernel's statement are, in their order, or memory was refused.
-pub fn owners_of(alloc: Global, kernel: &Kernel) -> Result<Vec<OwnCells>, AllocError>
-    ensures { IfOk result (λ owners. cells_of owners.items ≡ owners_in true kernel.now.root 0 0 0) }
+pub fn owners_of(alloc: Global, kernel: &Kernel) -> Result<Vec<StatementCell>, AllocError>
+    ensures { IfOk result (λ cells. cells.items ≡ owners_in true kernel.now.root 0 0 0) }
 {
-    let mut owners = Vec::new(alloc);
-    add(&mut owners, true, kernel.root(), 0, 0, 0)?;
-    Ok(owners)
+    let mut cells = Vec::new(alloc);
+    add(&mut cells, true, kernel.root(), 0, 0, 0)?;
+    Ok(cells)
+}
+
+/// The place, if the cell there tells the status of a local signal.
+fn signal_place(cell: StatementCell, place: usize) -> Option<usize>
+    ensures { result ≡ signal_at (Some cell) place }
+{
+    match cell.kind {
+        CellKind::Status => Some(place),
+        CellKind::Go | CellKind::Code(_) => None,
+    }
+}
+
+/// The places of the cells that tell the statuses of local signals, or memory was refused.
+pub fn signals_among(alloc: Global, cells: &[StatementCell]) -> Result<Vec<usize>, AllocError>
+    ensures { IfOk result (λ signals. signals.items ≡ signal_places cells.now) }
+{
+    let mut signals = Vec::new(alloc);
+    for place in 0..cells.len() {
+        push_if(&mut signals, signal_place(cells[place], place))?;
+    }
+    Ok(signals)
 }

@@ -1,149 +1,178 @@
 //! What took part in an instant, read off the cells.
+//!
+//! Most cells of an instant are false. So only those that are true are looked at, which the table
+//! knows. The local signals are told whatever their cells are.
 
-ghost use Rattle.std.specs.Prelude.{◌≡◌, ◌≤◌, ◌+◌, ◌++◌, ℕ, length, IfOk};
-ghost use Rattle.est_meaning.specs.declared.status.Status.TheVariants.{Absent};
+ghost use Rattle.std.specs.Prelude.{◌≡◌, ◌<◌, ◌≤◌, ◌+◌, ◌++◌, ℕ, length, slice_get, Some, IfOk};
+ghost use Rattle.est_meaning.specs.declared.status.Status.TheVariants.{Present};
 ghost use Rattle.est_net.specs.Cells.{cell_at};
-ghost use Rattle.est_net.specs.declared.owners.CellKind.TheVariants.{Code, Go};
-ghost use Rattle.lab_instant.specs.OwnCells.{cells_of, cells_of_one, own_count};
-ghost use Rattle.lab_instant.specs.Inner.Reading.{AreAll, codes_given};
-ghost use Rattle.lab_instant.specs.Seen.{all_begun, all_locals, all_resumed, begun_by_kind};
-ghost use Rattle.lab_instant.specs.Seen.{listed, resumed_by_kind};
+ghost use Rattle.est_net.specs.declared.owners.CellKind.TheVariants.{Code};
+ghost use Rattle.lab_instant.specs.OwnCells.{signal_places};
+ghost use Rattle.lab_instant.specs.Inner.Reading.{AreAll, AreReadTo};
+ghost use Rattle.lab_instant.specs.Seen.{all_locals, begun_at, go_place, incarnation_of, listed};
+ghost use Rattle.lab_instant.specs.Seen.{local_at, local_by_kind, resumed_at, resumed_by_kind};
 
-use crate::owners::{OwnCells, own_count};
+use crate::list::push_if;
 use crate::seen::{Incarnation, Local, Seen};
 use est_meaning::status::Status;
 use est_net::net::Net;
+use est_net::owners::{CellKind, StatementCell};
 use std::alloc::{AllocError, Global};
 
-/// The statement, if its go cell tells that it began.
-fn begun(at: Incarnation, go: Status) -> Option<Incarnation>
-    ensures { result ≡ begun_by_kind Go go at }
+/// How many cells a statement has at least. So there is room for all, however many take part.
+const FEWEST_CELLS: usize = 3;
+
+/// The statement that a cell belongs to, in its incarnation.
+fn incarnation_of(cell: StatementCell) -> Incarnation
+    ensures { result ≡ incarnation_of cell }
 {
-    match go {
-        Status::Present => Some(at),
-        Status::Absent | Status::Unknown => None,
+    Incarnation {
+        statement: cell.statement,
+        number: cell.incarnation,
     }
 }
 
-/// The statement, which did not begin, if the cell of a code tells that it ran.
-fn resumed(at: Incarnation, gave: Status) -> Option<Incarnation>
-    ensures { (code : ℕ) → result ≡ resumed_by_kind (Code code) Absent gave at }
+/// The place of the go cell of the statement of a cell at this place.
+fn go_place(cell: StatementCell, place: usize) -> usize
+    ensures place { result ≡ go_place cell.kind place }
+    ensures within { result ≤ place }
 {
-    match gave {
-        Status::Present => Some(at),
-        Status::Absent | Status::Unknown => None,
+    match cell.kind {
+        CellKind::Code(code) => place.saturating_sub(code).saturating_sub(1),
+        CellKind::Go | CellKind::Status => place,
     }
 }
 
-/// The local signal that a statement declares.
-fn local(declared: Incarnation, status: Status) -> Local
-    ensures declared { result.declared ≡ declared }
-    ensures status { result.status ≡ status }
+/// The local signal with its status, if the cell tells that.
+fn local(cell: StatementCell, status: Status) -> Option<Local>
+    ensures { result ≡ local_by_kind cell.kind status (incarnation_of cell) }
 {
-    Local { declared, status }
-}
-
-/// Adds an item, if there is one.
-fn push_if<T: Copy>(list: &mut Vec<T>, item: Option<T>) -> Result<(), AllocError>
-    ensures { IfOk result (λ _. list.new.items ≡ list.old.items ++ listed item) }
-{
-    if let Some(item) = item {
-        list.push(item)?;
+    match cell.kind {
+        CellKind::Status => Some(Local {
+            declared: incarnation_of(cell),
+            status,
+        }),
+        CellKind::Go | CellKind::Code(_) => None,
     }
-    Ok(())
 }
 
-/// Adds the statement, if it began. Its own cells begin at place `cell`.
-fn add_begun(
-    found: &mut Vec<Incarnation>,
-    net: &Net,
-    own: OwnCells,
-    cell: usize,
-) -> Result<(), AllocError>
-    requires { cell + own.traps + 3 ≤ length net.now.cells.items }
-    ensures { IfOk result (λ _. found.new.items ≡ found.old.items
-        ++ all_begun (cells_of_one own) (cell_at net.now.cells.items) cell) }
+/// The local signal of which the cell at this place tells, if there is one.
+fn local_at(net: &Net, cells: &[StatementCell], first: usize, place: usize) -> Option<Local>
+    requires { first + length cells.now ≤ length net.now.cells.items }
+    ensures { result ≡ local_at (slice_get cells.now place)
+        (cell_at net.now.cells.items (first + place)) }
 {
-    push_if(found, begun(own.at, net.status(cell)))
+    match cells.get(place) {
+        Some(cell) => local(*cell, net.status(first + place)),
+        None => None,
+    }
 }
 
-/// Adds the statement, which did not begin, for each code that it gave. The cells of the codes
-/// begin at place `first`.
-fn add_codes(
-    found: &mut Vec<Incarnation>,
+/// Adds the statement, if its go cell, at this place of the table, tells that it did not begin.
+fn add_resumed(
+    went_on: &mut Vec<Incarnation>,
     net: &Net,
     at: Incarnation,
+    go: usize,
+) -> Result<(), AllocError>
+    requires { go < length net.now.cells.items }
+    ensures { IfOk result (λ _. (code : ℕ) → went_on.new.items ≡ went_on.old.items
+        ++ listed (resumed_by_kind (Code code) (cell_at net.now.cells.items go) Present at)) }
+{
+    match net.status(go) {
+        Status::Absent => went_on.push(at)?,
+        Status::Present | Status::Unknown => {}
+    }
+    Ok(())
+}
+
+/// Adds what a true cell at this place of the table tells of its statement.
+fn add_true(
+    began: &mut Vec<Incarnation>,
+    went_on: &mut Vec<Incarnation>,
+    net: &Net,
+    cell: StatementCell,
+    place: usize,
+) -> Result<(), AllocError>
+    requires within { place < length net.now.cells.items }
+    requires is_true { cell_at net.now.cells.items place ≡ Present }
+    ensures began { IfOk result (λ _. began.new.items ≡ began.old.items
+        ++ listed (begun_at (Some cell) (cell_at net.now.cells.items place))) }
+    ensures went_on { IfOk result (λ _. went_on.new.items ≡ went_on.old.items
+        ++ listed (resumed_at (Some cell) (cell_at net.now.cells.items) place)) }
+{
+    match cell.kind {
+        CellKind::Go => began.push(incarnation_of(cell))?,
+        CellKind::Code(_) => {
+            add_resumed(went_on, net, incarnation_of(cell), go_place(cell, place))?;
+        }
+        CellKind::Status => {}
+    }
+    Ok(())
+}
+
+/// Adds what all cells tell, one true cell after another.
+fn add_all(
+    began: &mut Vec<Incarnation>,
+    went_on: &mut Vec<Incarnation>,
+    net: &Net,
+    cells: &[StatementCell],
     first: usize,
-    codes: usize,
 ) -> Result<(), AllocError>
-    requires { first + codes ≤ length net.now.cells.items }
-    ensures { IfOk result (λ _. found.new.items ≡ found.old.items
-        ++ codes_given at (cell_at net.now.cells.items) first codes) }
+    requires table { first + length cells.now ≤ length net.now.cells.items }
+    requires before { AreReadTo cells.now (cell_at net.now.cells.items) first 0 began.old.items
+        went_on.old.items }
+    ensures { IfOk result (λ _. AreReadTo cells.now (cell_at net.now.cells.items) first
+        (length cells.now) began.new.items went_on.new.items) }
 {
-    for code in 0..codes {
-        push_if(found, resumed(at, net.status(first + code)))?;
+    let past = first + cells.len();
+    let mut at = first;
+    while let Some(place) = net.first_true(at, past) {
+        add_true(began, went_on, net, cells[place - first], place)?;
+        at = place + 1;
     }
     Ok(())
 }
 
-/// Adds the statement, if it went on. Its own cells begin at place `cell`.
-fn add_resumed(
-    found: &mut Vec<Incarnation>,
+/// The local signals, whose cells are at these places.
+fn locals_of(
+    alloc: Global,
     net: &Net,
-    own: OwnCells,
-    cell: usize,
-) -> Result<(), AllocError>
-    requires { cell + own.traps + 3 ≤ length net.now.cells.items }
-    ensures { IfOk result (λ _. found.new.items ≡ found.old.items
-        ++ all_resumed (cells_of_one own) (cell_at net.now.cells.items) cell) }
+    cells: &[StatementCell],
+    signals: &[usize],
+    first: usize,
+) -> Result<Vec<Local>, AllocError>
+    requires table { first + length cells.now ≤ length net.now.cells.items }
+    requires signals { signals.now ≡ signal_places cells.now }
+    ensures { IfOk result (λ locals. locals.items
+        ≡ all_locals cells.now (cell_at net.now.cells.items) first) }
 {
-    match net.status(cell) {
-        Status::Absent => add_codes(found, net, own.at, cell + 1, own.traps + 2),
-        Status::Present | Status::Unknown => Ok(()),
+    let mut locals = Vec::with_capacity(alloc, signals.len())?;
+    for place in signals {
+        push_if(&mut locals, local_at(net, cells, first, *place))?;
     }
+    Ok(locals)
 }
 
-/// Adds the signal that the statement declares, if it declares one. Its own cells begin at place
-/// `cell`.
-fn add_local(
-    found: &mut Vec<Local>,
-    net: &Net,
-    own: OwnCells,
-    cell: usize,
-) -> Result<(), AllocError>
-    requires { cell + own_count own.traps own.declares ≤ length net.now.cells.items }
-    ensures { IfOk result (λ _. found.new.items ≡ found.old.items
-        ++ all_locals (cells_of_one own) (cell_at net.now.cells.items) cell) }
-{
-    if own.declares {
-        found.push(local(own.at, net.status(cell + own.traps + 3)))?;
-    }
-    Ok(())
-}
-
-/// What took part. The cells of these owners begin at place `first`.
+/// What took part. The cells of these owners begin at place `first`; those at the places `signals`
+/// tell the statuses of local signals.
 pub fn all_seen(
     alloc: Global,
-    owners: &[OwnCells],
     net: &Net,
+    cells: &[StatementCell],
+    signals: &[usize],
     first: usize,
 ) -> Result<Seen, AllocError>
-    requires { first + length (cells_of owners.now) ≤ length net.now.cells.items }
-    ensures { IfOk result (AreAll (cells_of owners.now) (cell_at net.now.cells.items) first) }
+    requires table { first + length cells.now ≤ length net.now.cells.items }
+    requires signals { signals.now ≡ signal_places cells.now }
+    ensures { IfOk result (AreAll cells.now (cell_at net.now.cells.items) first) }
 {
-    let mut began = Vec::with_capacity(alloc, owners.len())?;
-    let mut went_on = Vec::with_capacity(alloc, owners.len())?;
-    let mut locals = Vec::new(alloc);
-    let mut cell = first;
-    for own in owners {
-        add_begun(&mut began, net, *own, cell)?;
-        add_resumed(&mut went_on, net, *own, cell)?;
-        add_local(&mut locals, net, *own, cell)?;
-        cell += own_count(*own);
-    }
+    let mut began = Vec::with_capacity(alloc, cells.len() / FEWEST_CELLS)?;
+    let mut went_on = Vec::with_capacity(alloc, cells.len() / FEWEST_CELLS)?;
+    add_all(&mut began, &mut went_on, net, cells, first)?;
     Ok(Seen {
         began,
         went_on,
-        locals,
+        locals: locals_of(alloc, net, cells, signals, first)?,
     })
 }

@@ -1,8 +1,15 @@
+use Rattle.std.proofs.Common.{ap}
 use Rattle.reactor_core.proofs.AnswerLemmas.{commit_adds}
+use Rattle.access_core.specs.declared.reply.Reply.TheVariants.{Refused}
 use Rattle.access_core.specs.SlotStep.{stamp_of}
-use Rattle.access_core.proofs.Stepping.{step_opened, step_settled, step_stuck}
+use Rattle.access_core.proofs.Stepping.{step_lacking, step_opened, step_settled, step_stuck}
 use Rattle.access_core.proofs.Stepping.{commit_accepted, commit_refused}
 use Rattle.access_core.proofs.slot.step_reactor.Goals as goal
+
+pub returns-in-Err-clause-step : goal.returns-in-Err-clause-step
+returns-in-Err-clause-step c = λ entries stands.
+    step_lacking entries c.args.slot c.args.session (stamp_of entries c.args.session) c.args.reactor
+    c.in-Err.refusal c.in-Err.reactor _ c.in-Err.ensures (ap Refused c.from.ensures)
 
 pub returns-in-Err-settle-clause-step : goal.returns-in-Err-settle-clause-step
 returns-in-Err-settle-clause-step c = λ entries stands.

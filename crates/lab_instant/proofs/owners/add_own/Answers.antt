@@ -1,23 +1,20 @@
-use Rattle.std.proofs.Common.{◌≡◌, ◌∙◌, ◌+◌, ◌∷◌, [], ap, arith, length}
-use Rattle.std.proofs.lemmas.List.{length-append}
-use Rattle.lab_instant.specs.OwnCells.{cells_of}
-use Rattle.lab_instant.specs.declared.owners.OwnCells.{OwnCells}
-use Rattle.lab_instant.proofs.OneByOne.{cells_one}
+use Rattle.std.proofs.Common.{◌∙◌, ◌++◌, ◌∷◌, [], List, ap, append_assoc, sym}
+use Rattle.est_net.specs.Owners.{cell_of, kind_at, own_owners}
+use Rattle.est_net.specs.declared.owners.StatementCell.{StatementCell}
+use Rattle.lab_instant.proofs.Cells.{own_more}
 use Rattle.lab_instant.proofs.owners.add_own.Goals as goal
 
-pub returns : goal.returns
-returns c =
+pub loop-offset-preserved : goal.loop-offset-preserved
+loop-offset-preserved c =
     let a = c.args in
-    let own : OwnCells = record {
-      at = record { statement = a.statement; number = a.incarnation };
-      traps = a.traps;
-      declares = a.declares;
-    } in
-    let old = a.owners.now.items in
-    let grown = ap length c.in_ok-push.ensures.items in
-    let sum = length-append old (own ∷ []) in
-    let more : length c.push.new.self.items ≡ length old + 1 = omega (arith, grown, sum) in
-    record {
-      added = ap cells_of c.in_ok-push.ensures.items ∙ cells_one own old;
-      longer = more;
-    }
+    let i = a.incarnation in
+    let n = a.statement in
+    let t = a.traps in
+    let x = c.loop-offset.offset in
+    let old = a.cells.now.items in
+    let one = cell_of i n (kind_at t x) in
+    c.in_ok-push.ensures.items
+    ∙ (ap (λ (l : List StatementCell). l ++ c.own_cell.result ∷ []) c.loop-offset.invariant
+    ∙ (ap (λ (o : StatementCell). (old ++ own_owners i n t x) ++ o ∷ []) c.own_cell.ensures
+    ∙ (append_assoc old (own_owners i n t x) (one ∷ [])
+    ∙ ap (λ (l : List StatementCell). old ++ l) (sym (own_more i n t x)))))
