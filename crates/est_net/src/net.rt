@@ -256,8 +256,7 @@ impl Net {
 
     /// Whether no cell of a range is true.
     pub fn has_no_true(&self, from: usize, past: usize) -> bool
-        requires range { from ≤ past }
-        requires within { past ≤ length self.now.cells.items }
+        requires { past ≤ length self.now.cells.items }
         ensures { (result ≡ true) ↔ NoneTrue from past self.now.cells.items }
     {
         self.first_true(from, past).is_none()

@@ -61,8 +61,8 @@ enum Search {
     After(Spot),
 }
 
-/// What the cell at this place among those of a statement tells.
-fn kind_at(traps: usize, offset: usize) -> CellKind
+/// What the cell at this place among those of a statement tells, which is inside this many traps.
+pub fn kind_at(traps: usize, offset: usize) -> CellKind
     requires { traps < 65536 }
     ensures { result ≡ kind_at traps offset }
 {

@@ -10,7 +10,7 @@ ghost use Rattle.lab_instant.specs.OwnCells.{own_count, signal_at, signal_places
 use crate::list::push_if;
 use est_kernel::kernel::Kernel;
 use est_kernel::statement::Statement;
-use est_net::owners::{CellKind, StatementCell};
+use est_net::owners::{CellKind, StatementCell, kind_at};
 use std::alloc::{AllocError, Global};
 
 /// How many cells a statement inside so many traps has of its own, one after another: whether it is
@@ -24,20 +24,13 @@ fn own_count(traps: usize, declares: bool) -> usize
 
 /// What the cell at an offset from the statement's first one tells.
 fn own_cell(statement: usize, incarnation: usize, traps: usize, offset: usize) -> StatementCell
-    requires { traps + 2 < 18446744073709551616 }
+    requires { traps < 65536 }
     ensures { result ≡ cell_of incarnation statement (kind_at traps offset) }
 {
-    let kind = if offset == 0 {
-        CellKind::Go
-    } else if offset - 1 < traps + 2 {
-        CellKind::Code(offset - 1)
-    } else {
-        CellKind::Status
-    };
     StatementCell {
         statement,
         incarnation,
-        kind,
+        kind: kind_at(traps, offset),
     }
 }
 
