@@ -29,7 +29,7 @@ use Rattle.est_rounds.specs.declared.signal_set.Env.{Env as Known}
 use Rattle.est_rounds.specs.declared.signal_set.SignalSet.{SignalSet}
 use Rattle.est_micro.specs.Sweeps.{live_swept, live_swept_parts, may_told, sure_told, sweep_by, swept, swept_parts}
 use Rattle.est_micro.specs.declared.direction.Direction.{Direction}
-use Rattle.est_micro.specs.Inner.Views.{AddsEmitted, IsJudged, IsRead, IsResumed, IsSwept}
+use Rattle.est_micro.specs.Inner.Views.{AddsEmitted, IsBegun, IsJudged, IsRead, IsResumed, IsSwept}
 use Rattle.est_micro.specs.declared.cells.Swept.{Swept}
 use Rattle.est_micro.specs.declared.cells.StatementPlace.{StatementPlace}
 use Rattle.est_micro.proofs.BegunNodes.{nothing_changes}
@@ -291,6 +291,17 @@ unfolding IsResumed
 read_resumed s at pauses run e cells r m h =
     read_swept at.direction at.main s (pauses_of pauses) run (env_of e) at.cell at.traps cells r m h.decided h.found
     h.past
+
+pub read_begun : (s : Statement) (at : StatementPlace) (gate : Status) (e : Known) (cells : List Status) (r : Swept)
+    → IsRead s at cells r → IsBegun s at gate e cells cells r
+unfolding IsBegun
+read_begun s at gate e cells r h = record {
+  sheet = sym (swept_kept at.direction at.main s (env_of e) gate (cell_at cells) at.cell at.traps
+      (decided_of at.cell (at.cell + sheet_size at.main s at.traps) cells h.decided));
+  changes = nothing_changes _ _ cells;
+  found = h.found;
+  past = h.past;
+}
 
 -- what such cells say surely, they say possibly, and the other way around
 pick_same : (v : Status) → v ≢ Unknown → is_sure v ≡ is_possible v

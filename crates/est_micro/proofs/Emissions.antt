@@ -1,6 +1,6 @@
 -- The signals that a statement's cells say are emitted, as they are put together.
-use Rattle.std.specs.Prelude.{◌≡◌, ◌+◌, ℕ, Bool, true, false, ◌||◌, List}
-use Rattle.std.proofs.Common.{refl, ap, sym, ◌∙◌, arith, subst}
+use Rattle.std.specs.Prelude.{◌≡◌, ◌+◌, ℕ, Bool, true, false, List}
+use Rattle.std.proofs.Common.{ap, sym, ◌∙◌, arith, subst}
 use mathlib.Core.Path.{fun_ext}
 use Rattle.est_kernel.specs.declared.statement.LocalSignal.{LocalSignal}
 use Rattle.est_kernel.specs.declared.statement.Statement.{Statement}

@@ -17,6 +17,8 @@ mod UpdatingSignals
 mod OpenTables
 mod FullTables
 mod Settles
+mod ParSides
+mod LedSides
 mod AllDecided
 mod Outcomes
 mod PartReactions

@@ -1,11 +1,12 @@
 -- Passes between rounds: what holds before one holds after it, and after the signals are told what is emitted.
-use Rattle.std.specs.Prelude.{◌≡◌, ◌<◌, ◌≤◌, ◌+◌, ℕ, Bool, true, false, List, length}
+use Rattle.std.specs.Prelude.{◌≡◌, ◌<◌, ◌≤◌, ◌+◌, ℕ, Bool, true, false, cond, List, length}
 use Rattle.std.proofs.Common.{refl, ap, sym, ◌∙◌, arith, inr, subst}
 use Rattle.std.specs.List.{list_any}
+use mathlib.Core.Path.{fun_ext}
 use Rattle.est_kernel.specs.Bits.{bits}
 use Rattle.est_kernel.specs.Interfaces.{emittable}
 use Rattle.est_kernel.specs.Pauses.{pauses_of}
-use Rattle.est_kernel.specs.Term.{outer}
+use Rattle.est_kernel.specs.Term.{inner, outer}
 use Rattle.est_kernel.specs.declared.interface.Declaration.{Declaration}
 use Rattle.est_kernel.specs.declared.kernel.Kernel.{Kernel}
 use Rattle.est_kernel.specs.declared.state.State.{State}
@@ -21,7 +22,7 @@ use Rattle.est_meaning.proofs.RoundsComeToRest.{judged_within}
 use Rattle.est_cells.proofs.Order.{below_then}
 use Rattle.est_cells.proofs.WholeTable.{table_known, table_sound}
 use Rattle.est_cells.specs.Tables.{Below, Sheet, emits, is_possible, is_sure, sheet_size}
-use Rattle.est_cells.specs.Whole.{Table, TableBelow, known, sheet_meaning, table_meaning}
+use Rattle.est_cells.specs.Whole.{TableBelow, known, sheet_meaning, table_meaning}
 use Rattle.est_net.specs.Cells.{cell_at, decided, learned}
 use Rattle.est_net.proofs.EmissionLists.{emitted_listed}
 use Rattle.est_net.specs.Emissions.{emissions, is_of}
@@ -31,7 +32,7 @@ use Rattle.est_rounds.specs.declared.acts.MustCan.{MustCan}
 use Rattle.est_rounds.specs.Views.{env_of}
 use Rattle.est_rounds.specs.declared.signal_set.Env.{Env as Known}
 use Rattle.est_micro.specs.Inner.Hearing.{Heard}
-use Rattle.est_micro.specs.Parts.{AgreeBut, AreInputsAlone}
+use Rattle.est_micro.specs.Parts.{AgreeBut, AreInputsAlone, opened}
 use Rattle.est_micro.specs.Inner.Passes.{IsPassRound, SheetPasses}
 use Rattle.est_micro.specs.Runs.{AreSignalsUpdated, Ready, output_cells, output_gate, table_of}
 use Rattle.est_micro.specs.Inner.Views.{Changes}
@@ -50,6 +51,14 @@ sheet_passed s Fresh c e l old new k u h b = passed true s c 0 Present l old new
 sheet_passed s Done c e l old new k u h b = passed true s c 0 Absent l old new h Absent e (inr refl) k u b
 sheet_passed s (Paused p) c e l old new k u h b =
     passed_on s (pauses_of p) c 0 Present l old new h Present e (inr refl) k u b
+
+-- a pass over the sheet of a kernel's statement, by names for it
+pub passes_at : (k : Kernel) (x : State) (l : Env) (root : Statement) (c : ℕ) (old new : List Status) → root ≡ k.root
+    → c ≡ output_count k.interface → SheetPasses root x c l old new
+    → SheetPasses k.root x (output_count k.interface) l old new
+passes_at k x l root c old new a b h =
+    subst (λ (n : ℕ). SheetPasses k.root x n l old new) b
+    (subst (λ (z : Statement). SheetPasses z x c l old new) a h)
 
 pub pass_changes : (s : Statement) (x : State) (c : ℕ) (l : Env) (old new : List Status) → SheetPasses s x c l old new
     → Changes c (c + sheet_size true s 0) old new
@@ -107,6 +116,38 @@ pass_made unasked k x inputs e old new a ready h =
       size = g.size;
       sound = pass_sound unasked k x inputs e old new a ready h;
       same = λ n l o. same_output k old new n _ g l o;
+    }
+
+-- what is known hangs on the cells of the signals alone
+known_same : (i : List Declaration) (inputs : ℕ → Bool) (o p : ℕ → Status)
+    → ((n : ℕ) → n < length i → emittable i n ≡ true → p n ≡ o n)
+    → known (judged_signals i inputs) inputs o ≡ known (judged_signals i inputs) inputs p
+unfolding known
+known_same i inputs o p h =
+    let j = judged_signals i inputs in
+    fun_ext (elim [
+      | outer n ↦ go n (j.has n) refl
+      | inner n ↦ refl
+    ])
+  where
+    go : (n : ℕ) (b : Bool) → (judged_signals i inputs).has n ≡ b
+        → cond b (o n) (verdict (inputs n) false) ≡ cond b (p n) (verdict (inputs n) false)
+    go n false z = refl
+    go n true z = sym (h n (judged_within i inputs n z) (may_be i inputs n z))
+
+-- what holds before a pass holds after it
+pub ready_passed : (unasked : ℕ → Bool) (k : Kernel) (x : State) (inputs : ℕ → Bool) (e : Known)
+    (old new : List Status) → AreInputsAlone k.interface unasked
+    → SheetPasses k.root x (output_count k.interface) (env_of e) old new → Ready unasked k x inputs old e
+    → Ready unasked k x inputs new e
+ready_passed unasked k x inputs e old new a h ready =
+    let p = pass_made unasked k x inputs e old new a ready h in
+    record {
+      size = p.size ∙ ready.size;
+      sound = p.sound;
+      knows = ready.knows ∙ ap (opened unasked) (known_same k.interface inputs
+          (output_cells k.interface old) (output_cells k.interface new) p.same);
+      offered = λ n l o z. p.same n l o ∙ ready.offered n l o z;
     }
 
 -- The signals are told what is emitted. What they are told of a signal may fall short of what the cells of its

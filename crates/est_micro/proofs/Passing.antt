@@ -1,7 +1,7 @@
 -- A pass over a part of a statement is one over the statement; passes follow one another; what a sweep of the
 -- statement, or what its codes are told, is a pass too.
-use Rattle.std.specs.Prelude.{◌≡◌, ◌≤◌, ◌<◌, ◌+◌, ℕ, Bool, true, false, List}
-use Rattle.std.proofs.Common.{refl, sym, ◌∙◌, arith, subst}
+use Rattle.std.specs.Prelude.{◌≡◌, ◌≤◌, ◌+◌, ℕ, Bool, true, false, List}
+use Rattle.std.proofs.Common.{refl, sym, arith, subst}
 use Rattle.est_kernel.specs.CodeViews.{codes_of}
 use Rattle.est_kernel.specs.View.{query_of, term_of}
 use Rattle.est_kernel.specs.declared.statement.LocalSignal.{LocalSignal}
@@ -13,8 +13,8 @@ use Rattle.est_meaning.specs.Environments.{Env, and_status, opposite, status_of}
 use Rattle.est_meaning.specs.Knowledge.{IsBelow, KnowsLess}
 use Rattle.est_meaning.specs.declared.status.Status.{Status}
 use Rattle.est_cells.proofs.Order.{ends_below}
-use Rattle.est_cells.proofs.Sound.{sound, local_sound}
-use Rattle.est_cells.specs.Gates.{ends, emitted_status, gates}
+use Rattle.est_cells.proofs.Sound.{local_sound}
+use Rattle.est_cells.specs.Gates.{ends, emitted_status}
 use Rattle.est_cells.specs.Meaning.{begun, begun_parts, cells_at, status_at}
 use Rattle.est_cells.specs.Tables.{Below, Cells, PartsBelow, Sheet, emits, is_sure, sheet_size}
 use Rattle.est_net.specs.Cells.{Learns, cell_at}
@@ -22,7 +22,7 @@ use Rattle.est_net.specs.Layout.{node_in, parts_in, sheet_in}
 use Rattle.est_rounds.specs.declared.acts.MustCan.{MustCan}
 use Rattle.est_micro.specs.Inner.Hearing.{Heard}
 use Rattle.est_micro.specs.Inner.Passes.{Keeps, Passes}
-use Rattle.est_micro.specs.Sweeps.{left, swept}
+use Rattle.est_micro.specs.Sweeps.{swept}
 use Rattle.est_micro.specs.Inner.Views.{Changes, IsSwept}
 use Rattle.est_micro.specs.declared.cells.Swept.{Swept}
 use Rattle.est_micro.specs.declared.direction.Direction.{Direction}
@@ -91,20 +91,30 @@ parts_pass main s c t g l old new lo hi x y h f =
           (record { cells = o.cells; parts = f m.reach m.env m.below m.less m.heard o }));
     }
 
+-- the gate h of a part of a statement with the gate g, whose go cell says v: it says no more than g or v does
+abbrev pub IsGate : (g h v : Status) → Type 0
+IsGate g h v = (r : Status) → IsBelow g r → IsBelow v r → IsBelow h r
+
+pub by_go : (g h v : Status) → h ≡ v → IsGate g h v
+by_go g h v z r i j = subst (λ (x : Status). IsBelow x r) (sym z) j
+
+pub by_gate : (g v : Status) → IsGate g g v
+by_gate g v r i j = i
+
 pub par_first : (main : Bool) (a : _) (p : Statement) (b : _) (q : Statement) (c t : ℕ) (g h : Status) (l : Env)
-    (old new : List Status) → h ≡ cell_at old c → Passes main p (c + t + 3) t h l old new
+    (old new : List Status) → IsGate g h (cell_at old c) → Passes main p (c + t + 3) t h l old new
     → Passes main (Par' a p b q) c t g l old new
 par_first main a p b q c t g h l old new z k =
     parts_pass main (Par' a p b q) c t g l old new (c + t + 3) (c + t + 3 + sheet_size main p t) (omega arith)
     (omega arith) k.changes (λ r e i j u o. record {
       first = passed main p (c + t + 3) t h l old new k r e
-          (subst (λ (v : Status). IsBelow v r) (sym z) o.cells.go) j (heard_left _ _ e l u) o.parts.first;
+          (z r i o.cells.go) j (heard_left _ _ e l u) o.parts.first;
       second = after_it main q (c + t + 3 + sheet_size main p t) t _ _ old new _ k.changes (omega arith)
           o.parts.second;
     })
 
 pub par_second : (main : Bool) (a : _) (p : Statement) (b : _) (q : Statement) (c t : ℕ) (g h : Status) (l : Env)
-    (old new : List Status) → h ≡ cell_at old c → Passes main q (c + t + 3 + sheet_size main p t) t h l old new
+    (old new : List Status) → IsGate g h (cell_at old c) → Passes main q (c + t + 3 + sheet_size main p t) t h l old new
     → Passes main (Par' a p b q) c t g l old new
 par_second main a p b q c t g h l old new z k =
     let d = c + t + 3 + sheet_size main p t in
@@ -112,17 +122,17 @@ par_second main a p b q c t g h l old new z k =
     (omega arith) k.changes (λ r e i j u o. record {
       first = before_it main p (c + t + 3) t _ _ old new _ k.changes (omega arith) o.parts.first;
       second = passed main q d t h l old new k r e
-          (subst (λ (v : Status). IsBelow v r) (sym z) o.cells.go) j (heard_right _ _ e l u) o.parts.second;
+          (z r i o.cells.go) j (heard_right _ _ e l u) o.parts.second;
     })
 
 pub seq_first : (main : Bool) (a : _) (p : Statement) (b : _) (q : Statement) (c t : ℕ) (g h : Status) (l : Env)
-    (old new : List Status) → h ≡ cell_at old c → Passes main p (c + t + 3) t h l old new
+    (old new : List Status) → IsGate g h (cell_at old c) → Passes main p (c + t + 3) t h l old new
     → Passes main (Seq' a p b q) c t g l old new
 seq_first main a p b q c t g h l old new z k =
     parts_pass main (Seq' a p b q) c t g l old new (c + t + 3) (c + t + 3 + sheet_size main p t) (omega arith)
     (omega arith) k.changes (λ r e i j u o. record {
       first = passed main p (c + t + 3) t h l old new k r e
-          (subst (λ (v : Status). IsBelow v r) (sym z) o.cells.go) j (heard_left _ _ e l u) o.parts.first;
+          (z r i o.cells.go) j (heard_left _ _ e l u) o.parts.first;
       second = after_it main q (c + t + 3 + sheet_size main p t) t _ _ old new _ k.changes (omega arith)
           o.parts.second;
     })
@@ -173,20 +183,20 @@ present_second main y a p b q c t g h l old new z k =
     })
 
 pub suspend_body : (main : Bool) (y a : _) (p : Statement) (c t : ℕ) (g h : Status) (l : Env)
-    (old new : List Status) → h ≡ cell_at old c → Passes main p (c + t + 3) t h l old new
+    (old new : List Status) → IsGate g h (cell_at old c) → Passes main p (c + t + 3) t h l old new
     → Passes main (Suspend' y a p) c t g l old new
 suspend_body main y a p c t g h l old new z k =
     parts_pass main (Suspend' y a p) c t g l old new (c + t + 3) (c + t + 3 + sheet_size main p t) (omega arith)
     (omega arith) k.changes (λ r e i j u o. passed main p (c + t + 3) t h l old new k r e
-    (subst (λ (v : Status). IsBelow v r) (sym z) o.cells.go) j u o.parts)
+    (z r i o.cells.go) j u o.parts)
 
 pub trap_body : (main : Bool) (a : _) (p : Statement) (c t : ℕ) (g h : Status) (l : Env)
-    (old new : List Status) → h ≡ cell_at old c → Passes main p (c + t + 3) (t + 1) h l old new
+    (old new : List Status) → IsGate g h (cell_at old c) → Passes main p (c + t + 3) (t + 1) h l old new
     → Passes main (Trap' a p) c t g l old new
 trap_body main a p c t g h l old new z k =
     parts_pass main (Trap' a p) c t g l old new (c + t + 3) (c + t + 3 + sheet_size main p (t + 1)) (omega arith)
     (omega arith) k.changes (λ r e i j u o. passed main p (c + t + 3) (t + 1) h l old new k r e
-    (subst (λ (v : Status). IsBelow v r) (sym z) o.cells.go) j u o.parts)
+    (z r i o.cells.go) j u o.parts)
 
 pub local_status : (main : Bool) (s : LocalSignal) (a : _) (p : Statement) (c t : ℕ) (g now : Status) (l : Env)
     (old new : List Status) → now ≡ emitted_status main p s.index (sheet_in (cell_at old) main p (c + t + 4) t)
@@ -224,26 +234,26 @@ sweep_passes way main s c t g l old new r h = record {
 }
 
 pub loop_first : (main : Bool) (a : _) (p : Statement) (c t : ℕ) (g h : Status) (l : Env)
-    (old new : List Status) → main ≡ true → h ≡ cell_at old c → Passes main p (c + t + 3) t h l old new
+    (old new : List Status) → main ≡ true → IsGate g h (cell_at old c) → Passes main p (c + t + 3) t h l old new
     → Passes main (Loop' a p) c t g l old new
 loop_first false a p c t g h l old new m z k = let x : false ≡ true = m in cc
 loop_first true a p c t g h l old new m z k =
     parts_pass true (Loop' a p) c t g l old new (c + t + 3) (c + t + 3 + sheet_size true p t) (omega arith)
     (omega arith) k.changes (λ r e i j u o. record {
       first = passed true p (c + t + 3) t h l old new k r e
-          (subst (λ (v : Status). IsBelow v r) (sym z) o.cells.go) j (heard_left _ _ e l u) o.parts.first;
+          (z r i o.cells.go) j (heard_left _ _ e l u) o.parts.first;
       second = after_it false p (c + t + 3 + sheet_size true p t) t _ _ old new _ k.changes (omega arith)
           o.parts.second;
     })
 
 pub again_first : (main : Bool) (a : _) (p : Statement) (c t : ℕ) (g h : Status) (l : Env)
-    (old new : List Status) → main ≡ false → h ≡ cell_at old c → Passes main p (c + t + 3) t h l old new
+    (old new : List Status) → main ≡ false → IsGate g h (cell_at old c) → Passes main p (c + t + 3) t h l old new
     → Passes main (Loop' a p) c t g l old new
 again_first true a p c t g h l old new m z k = let x : true ≡ false = m in cc
 again_first false a p c t g h l old new m z k =
     parts_pass false (Loop' a p) c t g l old new (c + t + 3) (c + t + 3 + sheet_size false p t) (omega arith)
     (omega arith) k.changes (λ r e i j u o. record {
       first = passed false p (c + t + 3) t h l old new k r e
-          (subst (λ (v : Status). IsBelow v r) (sym z) o.cells.go) j (heard_left _ _ e l u) o.parts.first;
+          (z r i o.cells.go) j (heard_left _ _ e l u) o.parts.first;
       second = tt;
     })

@@ -1,10 +1,13 @@
 -- The same of a statement that goes on from its pauses.
-use Rattle.std.specs.Prelude.{◌≡◌, ◌≤◌, ◌<◌, ◌+◌, ℕ, Bool, true, false, cond, List}
-use Rattle.std.proofs.Common.{refl, sym, ◌∙◌, arith, subst}
+use Rattle.std.specs.Prelude.{◌≡◌, ◌≤◌, ◌+◌, ℕ, Bool, true, false, cond, List}
+use Rattle.std.proofs.Common.{refl, sym, arith, subst}
+use Rattle.est_kernel.specs.Term.{Term, seq}
+use Rattle.est_kernel.specs.View.{query_of, term_of}
 use Rattle.est_kernel.specs.declared.statement.Statement.{Statement}
 use Rattle.est_kernel.specs.declared.statement.Statement.TheVariants.{Seq'}
-use Rattle.est_kernel.specs.declared.statement.Statement.TheVariants.{Loop', Par'}
-use Rattle.est_meaning.specs.Environments.{Env}
+use Rattle.est_kernel.specs.declared.statement.Statement.TheVariants.{Loop', Par', Suspend', Trap'}
+use Rattle.est_meaning.proofs.KnowledgeIsMonotone.{and_below, opposite_below, query_below}
+use Rattle.est_meaning.specs.Environments.{Env, and_status, opposite, status_of}
 use Rattle.est_meaning.specs.Knowledge.{IsBelow, KnowsLess}
 use Rattle.est_meaning.specs.States.{is_live, term_at}
 use Rattle.est_meaning.specs.declared.status.Status.{Status}
@@ -16,7 +19,7 @@ use Rattle.est_cells.specs.Tables.{Below, PartsBelow, Sheet, emits, is_sure, she
 use Rattle.est_net.specs.Cells.{cell_at}
 use Rattle.est_net.specs.Layout.{node_in, parts_in, sheet_in}
 use Rattle.est_micro.specs.Inner.Hearing.{Heard}
-use Rattle.est_micro.specs.Inner.Passes.{Passes, PassesOn}
+use Rattle.est_micro.specs.Inner.Passes.{EndsBy, Passes, PassesOn}
 use Rattle.est_micro.specs.Sweeps.{live_swept}
 use Rattle.est_micro.specs.Inner.Views.{Changes, IsSwept}
 use Rattle.est_micro.specs.declared.cells.Swept.{Swept}
@@ -110,15 +113,48 @@ seq_on_first bits a p b q c t g l old new z k =
       second = after_it true q (d + sheet_size true p t) t _ _ old new _ k.changes (omega arith) o.parts.second;
     })
 
--- the second part of a `;`, begun where the first, which goes on, ends
-ends_first : (b : Bool) (p : Statement) (S X Y : Sheet true p) → b ≡ true → Below true p S (cond b X Y)
-    → IsBelow (ends S.cells) (ends X.cells)
-ends_first true p S X Y z c = ends_below _ _ c.cells
-ends_first false p S X Y z c = let x : false ≡ true = z in cc
+-- the choice is the first where the part is live, and the second where it isn't
+pub chosen : (b : Bool) (p : Statement) (S X Y : Sheet true p) → b ≡ true → Below true p S (cond b X Y)
+    → Below true p S X
+chosen true p S X Y z c = c
+chosen false p S X Y z c = let x : false ≡ true = z in cc
+
+pub left_over : (b : Bool) (p : Statement) (S X Y : Sheet true p) → b ≡ false → Below true p S (cond b X Y)
+    → Below true p S Y
+left_over false p S X Y z c = c
+left_over true p S X Y z c = let x : true ≡ false = z in cc
+
+-- what is known of whether a statement ends: what its cell of code 0 says; and of a `;` whose first part doesn't go on,
+-- what is known of its second
+pub ends_known : (s : Statement) (bits : ℕ → Bool) (c t : ℕ) (cells : List Status) (h : Status)
+    → h ≡ ends (sheet_in (cell_at cells) true s c t).cells → EndsBy s bits c t cells h
+ends_known s bits c t cells h z = record {
+  says = λ r e b.
+      subst (λ (x : Status). IsBelow x (ends (cells_at Absent r (term_at s bits) e))) (sym z) (ends_below _ _ b.cells);
+}
+
+second_term : {A : Type 0} (b : Bool) (x y : A) → b ≡ false → y ≡ cond b x y
+second_term false x y z = refl
+second_term true x y z = let w : true ≡ false = z in cc
+
+pub ends_second : (bits : ℕ → Bool) (a : _) (p : Statement) (b : _) (q : Statement) (c t e : ℕ) (cells : List Status)
+    (h : Status) → is_live p bits ≡ false → e ≡ c + t + 3 + sheet_size true p t → EndsBy q bits e t cells h
+    → EndsBy (Seq' a p b q) bits c t cells h
+ends_second bits a p b q c t e cells h z w k =
+    let d = c + t + 3 + sheet_size true p t in
+    let at = subst (λ (i : ℕ). EndsBy q bits i t cells h) w k in
+    record {
+      says = λ r env o.
+          let later = ends (cells_at Absent r (term_at p bits) env) in
+          subst (λ (x : Term). IsBelow h (ends (cells_at Absent r x env)))
+          (second_term (is_live p bits) (seq (term_at p bits) (term_of q)) (term_at q bits) z)
+          (at.says r env (left_over (is_live p bits) q (sheet_in (cell_at cells) true q d t) (begun true q later env)
+          (resumed q bits r env) z o.parts.second));
+    }
 
 pub seq_on_next : (bits : ℕ → Bool) (a : _) (p : Statement) (b : _) (q : Statement) (c t : ℕ) (g h : Status) (l : Env)
     (old new : List Status) → is_live p bits ≡ true
-    → h ≡ ends (sheet_in (cell_at old) true p (c + t + 3) t).cells
+    → EndsBy p bits (c + t + 3) t old h
     → Passes true q (c + t + 3 + sheet_size true p t) t h l old new → PassesOn (Seq' a p b q) bits c t g l old new
 seq_on_next bits a p b q c t g h l old new z y k =
     let d = c + t + 3 + sheet_size true p t in
@@ -130,8 +166,7 @@ seq_on_next bits a p b q c t g h l old new z y k =
       second = on_it (is_live p bits) q (begun true q later e) (resumed q bits r e)
           (sheet_in (cell_at old) true q d t) (sheet_in (cell_at new) true q d t) e l z
           (λ v w. passed true q d t h l old new k later e
-          (subst (λ (x : Status). IsBelow x later) (sym y)
-          (ends_first (is_live p bits) p (sheet_in (cell_at old) true p (c + t + 3) t) (resumed p bits r e)
+          (y.says r e (chosen (is_live p bits) p (sheet_in (cell_at old) true p (c + t + 3) t) (resumed p bits r e)
           (begun true p Absent e) z o.parts.first)) j v w)
           (heard_right _ _ e l u) o.parts.second;
     })
@@ -163,7 +198,7 @@ loop_on_first bits a p c t g l old new k =
     })
 
 pub loop_on_again : (bits : ℕ → Bool) (a : _) (p : Statement) (c t : ℕ) (g h : Status) (l : Env)
-    (old new : List Status) → h ≡ ends (sheet_in (cell_at old) true p (c + t + 3) t).cells
+    (old new : List Status) → EndsBy p bits (c + t + 3) t old h
     → Passes false p (c + t + 3 + sheet_size true p t) t h l old new → PassesOn (Loop' a p) bits c t g l old new
 loop_on_again bits a p c t g h l old new y k =
     let d = c + t + 3 + sheet_size true p t in
@@ -173,9 +208,31 @@ loop_on_again bits a p c t g h l old new y k =
     record {
       first = before_it true p (c + t + 3) t _ _ old new _ k.changes (omega arith) o.parts.first;
       second = passed false p d t h l old new k later e
-          (subst (λ (x : Status). IsBelow x later) (sym y) (ends_below _ _ o.parts.first.cells)) j
+          (y.says r e o.parts.first) j
           (heard_right _ _ e l u) o.parts.second;
     })
+
+pub trap_on_body : (bits : ℕ → Bool) (a : _) (p : Statement) (c t : ℕ) (g : Status) (l : Env)
+    (old new : List Status) → PassesOn p bits (c + t + 3) (t + 1) g l old new
+    → PassesOn (Trap' a p) bits c t g l old new
+trap_on_body bits a p c t g l old new k =
+    let d = c + t + 3 in
+    parts_pass_on (Trap' a p) bits c t g l old new d (d + sheet_size true p (t + 1)) (omega arith)
+    (omega arith) k.changes (λ r e i j u o. passed_on p bits d (t + 1) g l old new k r e i j u o.parts)
+
+pub suspend_on_body : (bits : ℕ → Bool) (y a : _) (p : Statement) (c t : ℕ) (g h : Status) (l : Env)
+    (old new : List Status) → h ≡ and_status g (opposite (status_of l (query_of y)))
+    → PassesOn p bits (c + t + 3) t h l old new → PassesOn (Suspend' y a p) bits c t g l old new
+suspend_on_body bits y a p c t g h l old new z k =
+    let d = c + t + 3 in
+    parts_pass_on (Suspend' y a p) bits c t g l old new d (d + sheet_size true p t) (omega arith)
+    (omega arith) k.changes (λ r e i j u o.
+    let v = status_of e (query_of y) in
+    let w = status_of l (query_of y) in
+    let inside = and_status r (opposite v) in
+    passed_on p bits d t h l old new k inside e
+    (subst (λ (x : Status). IsBelow x inside) (sym z)
+    (and_below g r (opposite w) (opposite v) i (opposite_below w v (query_below l e (query_of y) j)))) j u o.parts)
 
 -- a sweep is a pass
 pub sweep_passes_on : (way : Direction) (s : Statement) (bits : ℕ → Bool) (c t : ℕ) (g : Status) (l : Env)

@@ -27,19 +27,18 @@ use Rattle.est_cells.proofs.OpenTable.{opened_begun, opened_resumed}
 use Rattle.est_cells.proofs.WholeTable.{at_rest}
 use Rattle.est_cells.specs.Opening.{open_sheet}
 use Rattle.est_cells.specs.Tables.{Sheet, Below}
-use Rattle.est_cells.specs.Whole.{TableBelow, known, sheet_gates, sheet_meaning, table_meaning}
+use Rattle.est_cells.specs.Whole.{known, sheet_gates, sheet_meaning}
 use Rattle.est_net.specs.Cells.{cell_at, decided, learned}
 use Rattle.est_net.specs.Layout.{cell_count, output_count, rank, sheet_in}
 use Rattle.est_net.specs.Reach.{HasEmissions}
 use Rattle.est_rounds.specs.Views.{env_of}
 use Rattle.est_rounds.specs.declared.signal_set.Env.{Env as Known}
 use Rattle.est_micro.specs.declared.direction.Direction.{Direction}
-use Rattle.est_micro.specs.Parts.{AreInputsAlone, IsClosedBut, known_but}
+use Rattle.est_micro.specs.Parts.{AreInputsAlone, IsClosedBut}
 use Rattle.est_micro.specs.Runs.{AreOfferedTrue, output_cells, output_gate, AreSignalsUpdated, IsRound, IsSettled}
 use Rattle.est_micro.specs.Runs.{IsSettledBut, Ready, table_of}
 use Rattle.est_micro.specs.declared.cells.Swept.{Swept}
 use Rattle.est_micro.specs.declared.settling.RunEnd.{RunEnd}
-use Rattle.est_micro.proofs.UpdatingSignals.{emittable_within}
 use Rattle.est_micro.proofs.Frames.{sheet_same}
 use Rattle.est_micro.proofs.FullTables.{full_closed}
 use Rattle.est_micro.proofs.Nodes.{JudgedOf}

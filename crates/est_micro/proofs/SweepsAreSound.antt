@@ -15,8 +15,7 @@ use Rattle.est_cells.proofs.Order.{emits_up, ends_below}
 use Rattle.est_cells.proofs.Sound.{sound, live_sound, local_sound, live_local_sound, again_sound}
 use Rattle.est_cells.specs.Gates.{ends, emitted_status, gates, live_gates}
 use Rattle.est_cells.specs.Meaning.{cells_at, status_at, begun, begun_parts, resumed, resumed_parts}
-use Rattle.est_cells.specs.Tables.{Again, Parts, Sheet, PartsBelow, Below, AgainBelow, emits, is_sure, make_again}
-use Rattle.est_cells.specs.Tables.{map_again}
+use Rattle.est_cells.specs.Tables.{Parts, Sheet, PartsBelow, Below, emits, is_sure}
 use Rattle.est_net.specs.Cells.{learned}
 use Rattle.est_micro.specs.Inner.Hearing.{Heard}
 use Rattle.est_micro.specs.Sweeps.{entered, sweep_by, swept_parts, swept, live_sweep_by, live_swept_parts, live_swept}

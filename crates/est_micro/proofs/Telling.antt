@@ -6,10 +6,9 @@ use Rattle.std.proofs.lemmas.Bool.{ltb-true, lt-ltb, eq-eqb, eqb-true}
 use mathlib.Core.Path.{fun_ext}
 use Rattle.est_kernel.specs.Codes.{Codes, code, either_code, no_codes}
 use Rattle.est_kernel.specs.CodeViews.{codes_of}
-use Rattle.est_kernel.proofs.Masks.{or_true}
 use Rattle.est_meaning.specs.Environments.{verdict}
 use Rattle.est_meaning.specs.declared.status.Status.{Status}
-use Rattle.est_meaning.specs.declared.status.Status.TheVariants.{Present, Absent, Unknown}
+use Rattle.est_meaning.specs.declared.status.Status.TheVariants.{Absent}
 use Rattle.est_meaning.proofs.PauseWordLemmas.{or_false}
 use Rattle.est_cells.specs.Tables.{is_sure, is_possible}
 use Rattle.est_net.specs.Cells.{cell_at, decided, learned, Learns}

@@ -12,7 +12,7 @@ use Rattle.est_kernel.specs.Term.{outer, inner}
 use Rattle.est_meaning.specs.Rounds.{how_many}
 use Rattle.est_meaning.specs.Environments.{verdict}
 use Rattle.est_meaning.specs.declared.status.Status.{Status}
-use Rattle.est_meaning.specs.declared.status.Status.TheVariants.{Present, Absent, Unknown}
+use Rattle.est_meaning.specs.declared.status.Status.TheVariants.{Unknown}
 use Rattle.est_cells.specs.Tables.{is_sure, is_possible}
 use Rattle.est_cells.specs.Whole.{known}
 use Rattle.est_net.specs.Cells.{cell_at, learned}

@@ -3,4 +3,5 @@ pub mod Outcomes
 pub mod Outputs
 pub mod Passes
 pub mod Pausing
+pub mod Sides
 pub mod Views

@@ -38,6 +38,35 @@ fn add_emission(net: &Net, cell: usize, signal: Signal, emitted: &mut SignalSet)
     *emitted = signal_set::union_of(*emitted, must_can::signal_if(is_emitted, signal));
 }
 
+/// Puts the emitted signals of a part into the set. One without parts is looked at here, which
+/// saves a call. Answers the first place after its cells.
+#[cycle(add)]
+#[inline(always)]
+fn add_part(
+    net: &Net,
+    main: bool,
+    cell: usize,
+    traps: usize,
+    s: &Statement,
+    emitted: &mut SignalSet,
+) -> usize
+    requires fits { FitsMasks s.now }
+    requires within { cell + sheet_size main s.now traps ≤ length net.now.cells.items }
+    ensures { AddsEmitted main s.now cell traps net.now.cells.items emitted.old emitted.new
+        result }
+{
+    match s {
+        Statement::Nothing => cell + traps + 3,
+        Statement::Pause(_) => cell + traps + 3,
+        Statement::Exit(_) => cell + traps + 3,
+        Statement::Emit(signal) => {
+            add_emission(net, cell, *signal, emitted);
+            cell + traps + 3
+        }
+        _ => add_emitted(net, main, cell, traps, s, emitted),
+    }
+}
+
 /// Puts the emitted signals of two parts into the set, the second after the first. Answers the
 /// first place after their cells.
 #[cycle(add)]
@@ -57,8 +86,8 @@ fn add_both(
     ensures { AddsBoth main p.now q.now cell traps net.now.cells.items emitted.old emitted.new
         result }
 {
-    let past = add_emitted(net, main, cell, traps, p, emitted);
-    add_emitted(net, main, past, traps, q, emitted)
+    let past = add_part(net, main, cell, traps, p, emitted);
+    add_part(net, main, past, traps, q, emitted)
 }
 
 /// Puts the emitted signals of a loop that can go on into the set.

@@ -13,6 +13,10 @@
 //! signals what is emitted (`outputs`). After a sweep that decided little, passes look again at
 //! what reads the signals that were just decided (`passes`, by `pass_begin` and `pass_resume`).
 //!
+//! Where the `sides` of `||`s tell each other across the text, a run begins with a pass over them
+//! in the order in which they do (`side_order`, `lead_begin`, `lead_resume`). The order is a guess:
+//! a bad one costs time, and changes no answer.
+//!
 //! `learning` tells one cell, `cells` those of one statement; `must_can` puts together what is
 //! judged of a statement from what is judged of its parts. `micro` reads the outcome off the cells,
 //! and `next_pauses` the pauses. `part_reactions` reacts where only some inputs are known, and
@@ -29,6 +33,8 @@ mod direction;
 mod extents;
 mod idle;
 pub mod laws;
+mod lead_begin;
+mod lead_resume;
 mod learning;
 pub mod micro;
 mod must_can;
@@ -40,6 +46,8 @@ mod pass_resume;
 mod passes;
 mod question;
 mod settling;
+mod side_order;
+mod sides;
 mod sweep_begin;
 mod sweep_resume;
 mod waiting;

@@ -16,6 +16,7 @@ use crate::direction::Direction;
 use crate::next_pauses::collect_pauses;
 use crate::question::Question;
 use crate::settling::decide_cells;
+use crate::side_order::{SideOrder, side_order_of};
 use est_kernel::completion::Completion;
 use est_kernel::kernel::Kernel;
 use est_kernel::mask;
@@ -30,6 +31,8 @@ pub struct Micro {
     pub(crate) net: Net,
     /// Which way the next run sweeps first: as the last one swept last.
     pub(crate) direction: Direction,
+    /// In which order a run first looks at the sides of a `||`; made by the first run.
+    pub(crate) order: Option<SideOrder>,
 }
 
 /// The outcome of a kernel that had not ended, where its cells give a code: its pauses are read off
@@ -105,6 +108,23 @@ impl Micro {
         Micro {
             net,
             direction: Direction::Forwards,
+            order: None,
+        }
+    }
+
+    /// In which order a run first looks at the sides of a `||`: that of the first run, which makes
+    /// it.
+    pub(crate) fn side_order(&mut self, kernel: &Kernel) -> SideOrder
+        requires net { IsNetOf self.old.net kernel.now }
+        ensures net { self.new.net ≡ self.old.net }
+    {
+        match self.order {
+            Some(order) => order,
+            None => {
+                let order = side_order_of(&self.net, kernel.root());
+                self.order = Some(order);
+                order
+            }
         }
     }
 
@@ -146,7 +166,8 @@ impl Micro {
             inputs: inputs.signals,
             unasked: 0,
         };
-        let run_end = decide_cells(&mut self.net, &question, self.direction);
+        let order = self.side_order(kernel);
+        let run_end = decide_cells(&mut self.net, &question, self.direction, &order);
         self.direction = run_end.direction;
         match read_outcome(&self.net, kernel, state, &run_end.swept) {
             Some(outcome) => Ok(outcome),

@@ -91,7 +91,8 @@ impl PartEngine for Micro {
             inputs: inputs.signals,
             unasked,
         };
-        let run_end = decide_cells(&mut self.net, &question, self.direction);
+        let order = self.side_order(kernel);
+        let run_end = decide_cells(&mut self.net, &question, self.direction, &order);
         self.direction = run_end.direction;
         match told_if_decided(&self.net, kernel, state, &run_end.swept) {
             Some(outcome) => Ok(outcome),

@@ -47,7 +47,7 @@ pub fn is_reader(net: &Net, number: usize, just_decided: u64) -> bool
 }
 
 /// Sweeps a statement, as a pass.
-fn visit(net: &mut Net, at: &StatementPlace, s: &Statement, gate: Status, env: &Env)
+pub fn visit(net: &mut Net, at: &StatementPlace, s: &Statement, gate: Status, env: &Env)
     requires fits { FitsMasks s.now }
     requires extents { HasExtents net.old.extents.items at.now.number at.now.traps
         s.now }

@@ -29,7 +29,7 @@ use est_net::net::Net;
 use est_rounds::signal_set::Env;
 
 /// Sweeps a statement, as a pass.
-fn visit_resumed(
+pub fn visit_resumed(
     net: &mut Net,
     at: &StatementPlace,
     s: &Statement,

@@ -18,10 +18,13 @@ ghost use Rattle.est_micro.specs.Runs.{Ready};
 
 use crate::cells::StatementPlace;
 use crate::direction::Direction;
+use crate::lead_begin::lead_begun;
+use crate::lead_resume::lead_resumed;
 use crate::outputs::update_signals;
 use crate::pass_begin::pass_begun;
 use crate::pass_resume::pass_resumed;
 use crate::question::Question;
+use crate::side_order::SideOrder;
 use est_kernel::code_set::CodeSet;
 use est_kernel::mask;
 use est_kernel::state::State;
@@ -130,5 +133,50 @@ pub fn pass_all(net: &mut Net, question: &Question<'_>, env: &mut Env, just_deci
         let env_before = *env;
         pass_round(net, question, env, just_decided);
         just_decided = newly_decided(&env_before, env);
+    }
+}
+
+/// Passes over the sides of a `||` in an order, by what is known.
+fn lead_sheet(net: &mut Net, question: &Question<'_>, env: &Env, order: &SideOrder)
+    requires net { IsNetOf net.old question.now.kernel.now }
+    requires state { IsState question.now.kernel.now.root question.now.state.now }
+    ensures passes { SheetPasses question.now.kernel.now.root question.now.state.now
+        (output_count question.now.kernel.now.interface) (env_of env.now)
+        net.old.cells.items net.new.cells.items }
+    ensures net { IsNetOf net.new question.now.kernel.now }
+    ensures kept { kept net.new ≡ kept net.old }
+{
+    let root = question.kernel.root();
+    let place = StatementPlace {
+        number: 0,
+        main: true,
+        direction: Direction::Forwards,
+        cell: net.output_count(),
+        traps: 0,
+    };
+    let run = Status::Present;
+    match question.state {
+        State::Fresh => lead_begun(net, &place, root, run, env, order),
+        State::Done => {}
+        State::Paused(pauses) => lead_resumed(net, &place, root, pauses, run, env, order),
+    }
+}
+
+/// A pass over the sides of a `||` in an order, if there is one.
+pub fn lead_round(net: &mut Net, question: &Question<'_>, env: &Env, order: &SideOrder)
+    requires net { IsNetOf net.old question.now.kernel.now }
+    requires state { IsState question.now.kernel.now.root question.now.state.now }
+    requires apart { AreInputsAlone question.now.kernel.now.interface (bits question.now.unasked) }
+    ensures ready { (others : ℕ → Bool)
+        → AgreeBut (bits question.now.unasked) (bits question.now.inputs) others
+        → Ready (bits question.now.unasked) question.now.kernel.now question.now.state.now others
+        net.old.cells.items env.now
+        → Ready (bits question.now.unasked) question.now.kernel.now question.now.state.now others
+        net.new.cells.items env.now }
+    ensures net { IsNetOf net.new question.now.kernel.now }
+    ensures kept { kept net.new ≡ kept net.old }
+{
+    if order.count != 0 {
+        lead_sheet(net, question, env, order);
     }
 }

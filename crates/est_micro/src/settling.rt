@@ -15,8 +15,9 @@ ghost use Rattle.est_micro.specs.Inner.Views.{IsSwept};
 use crate::cells::{StatementPlace, Swept};
 use crate::direction::Direction;
 use crate::outputs::{in_doubt, update_signals};
-use crate::passes::{newly_decided, pass_all};
+use crate::passes::{lead_round, newly_decided, pass_all};
 use crate::question::Question;
+use crate::side_order::SideOrder;
 use crate::sweep_begin::sweep_begun;
 use crate::sweep_resume::sweep_resumed;
 use est_kernel::state::State;
@@ -108,7 +109,12 @@ fn to_pass(
 /// Opens the table, and makes rounds until nothing more can be decided. Of the inputs that are not
 /// asked nothing is known: what is decided is so whatever they are. The first sweep goes the way of
 /// `first`.
-pub fn decide_cells(net: &mut Net, question: &Question<'_>, first: Direction) -> RunEnd
+pub fn decide_cells(
+    net: &mut Net,
+    question: &Question<'_>,
+    first: Direction,
+    order: &SideOrder,
+) -> RunEnd
     requires net { IsNetOf net.old question.now.kernel.now }
     requires state { IsState question.now.kernel.now.root question.now.state.now }
     requires apart { AreInputsAlone question.now.kernel.now.interface (bits question.now.unasked) }
@@ -123,6 +129,7 @@ pub fn decide_cells(net: &mut Net, question: &Question<'_>, first: Direction) ->
     let possible = net.reach().from_state(question.state);
     net.clear();
     let mut env = update_signals(net, question, &in_doubt(possible));
+    lead_round(net, question, &env, order);
     let mut decided_before = 0;
     let mut direction = first;
     let mut env_before = env;

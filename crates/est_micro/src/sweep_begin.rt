@@ -28,7 +28,7 @@ use crate::direction::Direction;
 use crate::extents::{number_after, past};
 use crate::idle::past_idle;
 use crate::learning::{fill_false, tell_cell};
-use crate::must_can;
+use crate::{decided, must_can};
 use est_kernel::completion::Completion;
 use est_kernel::statement::{LocalSignal, Signal, Statement};
 use est_meaning::status::Status;
@@ -262,6 +262,27 @@ fn begin_again(net: &mut Net, at: &StatementPlace, p: &Statement, gate: Status, 
     cells::finish_statement(net, at, &body.judged, body.past)
 }
 
+/// Sweeps a side of a `||`. If all its cells are decided, they are only read.
+#[cycle(sweep_begun)]
+#[inline(always)]
+fn sweep_side(net: &mut Net, at: &StatementPlace, s: &Statement, gate: Status, env: &Env) -> Swept
+    requires fits { FitsMasks s.now }
+    requires extents { HasExtents net.old.extents.items at.now.number at.now.traps
+        s.now }
+    requires within { at.now.cell + sheet_size at.now.main s.now at.now.traps
+        ≤ length net.old.cells.items }
+    requires traps { at.now.traps + trap_depth (term_of s.now) ≤ 62 }
+    ensures swept { IsBegun s.now at.now gate env.now net.old.cells.items net.new.cells.items
+        result }
+    ensures kept { kept net.new ≡ kept net.old }
+{
+    if decided::is_decided(net, at, s) {
+        decided::read(net, at, s)
+    } else {
+        sweep_begun(net, at, s, gate, env)
+    }
+}
+
 /// Sweeps a `||`, the first side before the second.
 #[cycle(sweep_begun)]
 fn begin_par(
@@ -297,7 +318,7 @@ fn begin_par(
         cell: at.cell + at.traps + 3,
         traps: at.traps,
     };
-    let first = sweep_begun(net, &place, p, go, env);
+    let first = sweep_side(net, &place, p, go, env);
     let inside = must_can::with_emitted(env, first.judged.must.signals);
     let place = StatementPlace {
         number: number_after(net, &place, p),
@@ -306,7 +327,7 @@ fn begin_par(
         cell: first.past,
         traps: at.traps,
     };
-    let second = sweep_begun(net, &place, q, go, &inside);
+    let second = sweep_side(net, &place, q, go, &inside);
     let own = must_can::beside(&first.judged, &second.judged);
     cells::finish_statement(net, at, &own, second.past)
 }
@@ -353,9 +374,9 @@ fn begin_par_back(
         cell: past(net, &place, p),
         traps: at.traps,
     };
-    let second = sweep_begun(net, &later, q, go, env);
+    let second = sweep_side(net, &later, q, go, env);
     let inside = must_can::with_emitted(env, second.judged.must.signals);
-    let first = sweep_begun(net, &place, p, go, &inside);
+    let first = sweep_side(net, &place, p, go, &inside);
     let own = must_can::beside(&first.judged, &second.judged);
     cells::finish_statement(net, at, &own, second.past)
 }

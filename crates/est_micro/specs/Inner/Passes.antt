@@ -9,10 +9,11 @@ use Rattle.est_kernel.specs.declared.state.State.TheVariants.{Fresh, Done, Pause
 use Rattle.est_kernel.specs.declared.statement.Statement.{Statement}
 use Rattle.est_meaning.specs.Environments.{Env}
 use Rattle.est_meaning.specs.Knowledge.{IsBelow, KnowsLess}
-use Rattle.est_meaning.specs.States.{is_live}
+use Rattle.est_meaning.specs.States.{is_live, term_at}
 use Rattle.est_meaning.specs.declared.status.Status.{Status}
 use Rattle.est_meaning.specs.declared.status.Status.TheVariants.{Present, Absent}
-use Rattle.est_cells.specs.Meaning.{begun, resumed}
+use Rattle.est_cells.specs.Gates.{ends}
+use Rattle.est_cells.specs.Meaning.{begun, cells_at, resumed}
 use Rattle.est_cells.specs.Tables.{Below, Sheet, emits, is_possible, is_sure, sheet_size}
 use Rattle.est_net.specs.Cells.{cell_at}
 use Rattle.est_net.specs.Layout.{output_count, sheet_in}
@@ -62,6 +63,12 @@ pub record SidePasses (s : Statement) (bits : ℕ → Bool) (c t : ℕ) (g : Sta
     : Type 0 where
   pub on : is_live s bits ≡ true → PassesOn s bits c t g l old new
   pub off : is_live s bits ≡ false → new ≡ old
+
+-- what is known of whether a statement ends that goes on from its pauses: this, where no more of its cells is decided
+-- than is meant
+pub record EndsBy (s : Statement) (bits : ℕ → Bool) (c t : ℕ) (cells : List Status) (known : Status) : Type 0 where
+  pub says : (r : Status) (e : Env) → Below true s (sheet_in (cell_at cells) true s c t) (resumed s bits r e)
+      → IsBelow known (ends (cells_at Absent r (term_at s bits) e))
 
 -- a pass over the cells of a kernel's statement from place c on, by its state
 abbrev pub SheetPasses : (s : Statement) → State → (c : ℕ) → Env → (old new : List Status) → Type 0

@@ -1,6 +1,6 @@
 -- At which pauses a statement stands after an instant, by the list of cells (this project's own
 -- form).
-use Rattle.std.specs.Prelude.{◌≡◌, ◌+◌, ◌||◌, ℕ, Bool, List}
+use Rattle.std.specs.Prelude.{◌≡◌, ◌||◌, ℕ, Bool, List}
 use Rattle.est_kernel.specs.Pauses.{pauses_of}
 use Rattle.est_kernel.specs.declared.pause_set.PauseSet.{PauseSet}
 use Rattle.est_kernel.specs.declared.statement.Statement.{Statement}

@@ -127,7 +127,7 @@ const LEAVING: [(&str, &str); 6] = [
 
 /// Loops whose body is left and begun again in one instant, circuits in a ring, and instants that
 /// are undecided: after Berry, *The Constructive Semantics of Pure Esterel*.
-const CIRCUITS: [(&str, &str); 8] = [
+const CIRCUITS: [(&str, &str); 10] = [
     // links against the order of the with the input all are present, without it none is
     (
         "module M: input I; output L0, L1, L2, L3, L4, L5, L6, L7, L8, L9, L10, L11, L12; \
@@ -138,6 +138,25 @@ const CIRCUITS: [(&str, &str); 8] = [
             emit L2 end || present L0 then emit L1 end || present I then emit L0 end]; pause end \
             end module",
         ">; I > L0 L1 L2 L3 L4 L5 L6 L7 L8 L9 L10 L11 L12; >",
+    ),
+    // links in no order of the text
+    (
+        "module M: input I; output L0, L1, L2, L3, L4, L5, L6, L7, L8; loop [present L3 then emit \
+            L4 end || present L0 then emit L1 end || present L6 then emit L7 end || present I \
+            then emit L0 end || present L4 then emit L5 end || present L1 then emit L2 end || \
+            present L7 then emit L8 end || present L2 then emit L3 end || present L5 then emit L6 \
+            end]; pause end end module",
+        ">; I > L0 L1 L2 L3 L4 L5 L6 L7 L8; >",
+    ),
+    // the same, each in a loop of its own
+    (
+        "module M: input I; output L0, L1, L2, L3, L4, L5, L6, L7, L8; loop present L3 then emit \
+            L4 end; pause end || loop present L0 then emit L1 end; pause end || loop present L6 \
+            then emit L7 end; pause end || loop present I then emit L0 end; pause end || loop \
+            present L4 then emit L5 end; pause end || loop present L1 then emit L2 end; pause end \
+            || loop present L7 then emit L8 end; pause end || loop present L2 then emit L3 end; \
+            pause end || loop present L5 then emit L6 end; pause end end module",
+        ">; I > L0 L1 L2 L3 L4 L5 L6 L7 L8; >",
     ),
     // a signal that is left is not the one that is declared anew
     (

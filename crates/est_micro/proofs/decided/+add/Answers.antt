@@ -7,8 +7,8 @@ use Rattle.est_micro.proofs.decided.+add.Goals as goal
 
 pub add_both-returns : goal.add_both-returns
 add_both-returns t c =
-    both_added c.args.main c.args.p.now c.args.q.now c.args.cell c.args.traps _ _ _ _ _ _ c.add_emitted-past.ensures
-    c.add_emitted.ensures
+    both_added c.args.main c.args.p.now c.args.q.now c.args.cell c.args.traps _ _ _ _ _ _ c.add_part-past.ensures
+    c.add_part.ensures
 
 pub add_loop-returns : goal.add_loop-returns
 add_loop-returns t c = λ a.
@@ -52,3 +52,15 @@ add_emitted-returns-else-main t c =
 
 pub add_emitted-returns-in-Local : goal.add_emitted-returns-in-Local
 add_emitted-returns-in-Local t c = rw (c.in-Local.is, sym c.deref-in-Local.ensures) (c.add_local.ensures _)
+
+pub add_part-returns-in-Nothing : goal.add_part-returns-in-Nothing
+add_part-returns-in-Nothing t c =
+    rw c.in-Nothing.is (record { adds = sym (union_none (set_of c.args.emitted.now)); past_is = omega arith })
+
+pub add_part-returns-in-Pause : goal.add_part-returns-in-Pause
+add_part-returns-in-Pause t c =
+    rw c.in-Pause.is (record { adds = sym (union_none (set_of c.args.emitted.now)); past_is = omega arith })
+
+pub add_part-returns-in-Exit : goal.add_part-returns-in-Exit
+add_part-returns-in-Exit t c =
+    rw c.in-Exit.is (record { adds = sym (union_none (set_of c.args.emitted.now)); past_is = omega arith })

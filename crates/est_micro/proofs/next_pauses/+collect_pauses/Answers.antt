@@ -1,9 +1,9 @@
-use Rattle.std.proofs.Common.{◌∙◌, ℕ, arith, rules, sym}
+use Rattle.std.proofs.Common.{◌∙◌, ℕ, arith, sym}
 use Rattle.est_kernel.specs.Pauses.{pauses_of}
 use Rattle.est_cells.specs.Next.{stays}
 use Rattle.est_net.specs.Cells.{cell_at}
 use Rattle.est_net.specs.Layout.{sheet_in}
-use Rattle.est_micro.proofs.Collecting.{or_nothing, two_collected, body_goes_on, body_stays, loop_collected}
+use Rattle.est_micro.proofs.Collecting.{two_collected, body_goes_on, body_stays, loop_collected}
 use Rattle.est_micro.proofs.Collecting.{again_collected, local_collected, none_collected, some_collected}
 use Rattle.est_micro.proofs.Frames.{size_least}
 use Rattle.est_micro.proofs.next_pauses.+collect_pauses.Goals as goal

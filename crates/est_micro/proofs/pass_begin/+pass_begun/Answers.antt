@@ -1,4 +1,4 @@
-use Rattle.std.proofs.Common.{◌∙◌, ◌+◌, rules, arith, refl, sym}
+use Rattle.std.proofs.Common.{rules, arith, refl, sym}
 use Rattle.est_kernel.specs.declared.statement.Statement.TheFolds.{the_lemmas}
 use Rattle.est_rounds.specs.Views.{env_of}
 use Rattle.est_micro.proofs.BegunNodes.{within_back}
@@ -6,6 +6,7 @@ use Rattle.est_micro.proofs.Frames.{size_least}
 use Rattle.est_micro.proofs.KeptExtents.{still_at}
 use Rattle.est_micro.proofs.PassedNodes.{loop_passed, nothing_passed, par_passed, seq_passed, suspend_passed}
 use Rattle.est_micro.proofs.PassedNodes.{trap_passed}
+use Rattle.est_micro.proofs.Passing.{by_go}
 use Rattle.est_micro.proofs.pass_begin.+pass_begun.Goals as goal
 
 pub pass_par-pass_begun-requires-2 : goal.pass_par-pass_begun-requires-2
@@ -55,23 +56,23 @@ pass_seq-status-ends-requires t c =
 pub pass_seq-returns-clause-passes : goal.pass_seq-returns-clause-passes
 pass_seq-returns-clause-passes t c = λ g a b.
     seq_passed c.args.at.now.main a c.args.p.now b c.args.q.now c.args.at.now.cell c.args.at.now.traps g _ _
-    (env_of c.args.env.now) _ _ _ _ c.status-go.ensures c.past.ensures c.pass_begun.ensures.passes
+    (env_of c.args.env.now) _ _ _ _ (by_go _ _ _ c.status-go.ensures) c.past.ensures c.pass_begun.ensures.passes
     c.status-ends.ensures c.pass_begun-2.ensures.passes
 
 pub pass_body-returns-clause-suspend : goal.pass_body-returns-clause-suspend
 pass_body-returns-clause-suspend t c = λ g y a w.
     suspend_passed c.args.at.now.main y a c.args.p.now c.args.at.now.cell c.args.at.now.traps c.args.traps g _
-    (env_of c.args.env.now) _ _ w c.status-go.ensures c.pass_begun.ensures.passes
+    (env_of c.args.env.now) _ _ w (by_go _ _ _ c.status-go.ensures) c.pass_begun.ensures.passes
 
 pub pass_body-returns-clause-loops : goal.pass_body-returns-clause-loops
 pass_body-returns-clause-loops t c = λ g a w.
     loop_passed c.args.at.now.main a c.args.p.now c.args.at.now.cell c.args.at.now.traps c.args.traps g _
-    (env_of c.args.env.now) _ _ w c.status-go.ensures c.pass_begun.ensures.passes
+    (env_of c.args.env.now) _ _ w (by_go _ _ _ c.status-go.ensures) c.pass_begun.ensures.passes
 
 pub pass_body-returns-clause-trap : goal.pass_body-returns-clause-trap
 pass_body-returns-clause-trap t c = λ g a w.
     trap_passed c.args.at.now.main a c.args.p.now c.args.at.now.cell c.args.at.now.traps c.args.traps g _
-    (env_of c.args.env.now) _ _ w c.status-go.ensures c.pass_begun.ensures.passes
+    (env_of c.args.env.now) _ _ w (by_go _ _ _ c.status-go.ensures) c.pass_begun.ensures.passes
 
 pub pass_begun-returns-else-is_reader-clause-passes : goal.pass_begun-returns-else-is_reader-clause-passes
 pass_begun-returns-else-is_reader-clause-passes t c =

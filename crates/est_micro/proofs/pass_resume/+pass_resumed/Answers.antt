@@ -1,12 +1,9 @@
-use Rattle.std.proofs.Common.{◌∙◌, ◌+◌, rules, arith, refl, sym, true, false, ◌≡◌}
+use Rattle.std.proofs.Common.{◌∙◌, arith, refl, sym, true, false, ◌≡◌}
 use Rattle.est_kernel.specs.Pauses.{pauses_of}
-use Rattle.est_kernel.specs.declared.statement.Statement.TheFolds.{the_lemmas}
 use Rattle.est_rounds.specs.Views.{env_of}
-use Rattle.est_micro.proofs.BegunNodes.{within_back}
 use Rattle.est_micro.proofs.Frames.{size_least}
-use Rattle.est_micro.proofs.KeptExtents.{still, still_at}
-use Rattle.est_micro.proofs.PassedNodes.{loop_on_passed, nothing_passed_on, par_on_passed, seq_on_later}
-use Rattle.est_micro.proofs.PassedNodes.{seq_on_passed, side_size}
+use Rattle.est_micro.proofs.PassedNodes.{ends_by, loop_on_passed, nothing_passed_on, par_on_passed}
+use Rattle.est_micro.proofs.PassedNodes.{seq_on_later, seq_on_passed}
 use Rattle.est_micro.proofs.pass_resume.+pass_resumed.Goals as goal
 
 pub pass_resumed-returns-else-is_reader-clause-passes : goal.pass_resumed-returns-else-is_reader-clause-passes
@@ -36,13 +33,16 @@ pub pass_resumed_first-returns-clause-passes : goal.pass_resumed_first-returns-c
 pass_resumed_first-returns-clause-passes t c = λ a b.
     seq_on_passed (pauses_of c.args.pauses.now) a c.args.p.now b c.args.q.now c.args.at.now.cell c.args.at.now.traps
     c.args.run _ (env_of c.args.env.now) _ _ _ _ c.requires.live (rw c.requires.main at c.past.ensures)
-    c.pass_resumed.ensures.passes c.status-ends.ensures (rw c.requires.main at c.pass_begun.ensures.passes)
+    c.pass_resumed.ensures.passes
+    (ends_by c.args.p.now (pauses_of c.args.pauses.now) _ _ _ _ c.status-ends.ensures)
+    (rw c.requires.main at c.pass_begun.ensures.passes)
 
 pub pass_resumed_loop-returns-clause-passes : goal.pass_resumed_loop-returns-clause-passes
 pass_resumed_loop-returns-clause-passes t c = λ a.
     loop_on_passed (pauses_of c.args.pauses.now) a c.args.p.now c.args.at.now.cell c.args.at.now.traps
     c.args.run _ (env_of c.args.env.now) _ _ _ _ (rw c.requires.main at c.past.ensures)
-    c.pass_resumed.ensures.passes c.status-ends.ensures c.pass_begun.ensures.passes
+    c.pass_resumed.ensures.passes
+    (ends_by c.args.p.now (pauses_of c.args.pauses.now) _ _ _ _ c.status-ends.ensures) c.pass_begun.ensures.passes
 
 pub pass_resumed_parts-returns-in-Seq-clause-passes : goal.pass_resumed_parts-returns-in-Seq-clause-passes
 pass_resumed_parts-returns-in-Seq-clause-passes t c =

@@ -1,21 +1,8 @@
-use Rattle.std.proofs.Common.{◌≡◌, ◌∙◌, ℕ, List, subst}
-use Rattle.est_kernel.specs.declared.kernel.Kernel.{Kernel}
-use Rattle.est_kernel.specs.declared.state.State.{State}
+use Rattle.std.proofs.Common.{◌∙◌}
 use Rattle.est_kernel.specs.declared.state.State.TheVariants.{Fresh, Done, Paused}
-use Rattle.est_kernel.specs.declared.statement.Statement.{Statement}
-use Rattle.est_meaning.specs.Environments.{Env}
-use Rattle.est_meaning.specs.declared.status.Status.{Status}
-use Rattle.est_net.specs.Layout.{output_count}
-use Rattle.est_micro.specs.Inner.Passes.{SheetPasses}
 use Rattle.est_micro.proofs.KernelNets.{root_fits, root_within, still_net}
+use Rattle.est_micro.proofs.PassRounds.{passes_at}
 use Rattle.est_micro.proofs.passes.pass_sheet.Goals as goal
-
-passes_at : (k : Kernel) (x : State) (l : Env) (root : Statement) (c : ℕ) (old new : List Status) → root ≡ k.root
-    → c ≡ output_count k.interface → SheetPasses root x c l old new
-    → SheetPasses k.root x (output_count k.interface) l old new
-passes_at k x l root c old new a b h =
-    subst (λ (n : ℕ). SheetPasses k.root x n l old new) b
-    (subst (λ (z : Statement). SheetPasses z x c l old new) a h)
 
 pub pass_begun-requires-clause-fits : goal.pass_begun-requires-clause-fits
 pass_begun-requires-clause-fits c = root_fits c.args.question.now.kernel.now _ c.root-root.ensures

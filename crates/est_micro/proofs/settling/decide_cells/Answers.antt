@@ -37,9 +37,10 @@ loop-swept-init c =
     c.update_signals-env.ensures.updated in
     record {
       settling = λ others a. round_made unasked _ k x others _ _ _ _ _ _ _ c.requires.apart
+          (c.lead_round.ensures.ready others a
           (start_ready unasked k x others _ _ n _ _ k.closed c.requires.net.size c.in_doubt.ensures.sure
           (subst (λ (z : ℕ). HasEmissions k.root x (bits z)) (sym c.in_doubt.ensures.possible) possible)
-          (update_by i unasked inputs _ _ _ _ _ c.requires.apart h others a) (length-replicate n Unknown))
+          (update_by i unasked inputs _ _ _ _ _ c.requires.apart h others a) (length-replicate n Unknown)))
           (round_by _ i unasked inputs _ _ _ _ _ _ _ c.requires.apart
           (record {
             mid = _;
@@ -50,7 +51,8 @@ loop-swept-init c =
           (omega arith) c.steps-decided.ensures.count;
       net = c.update_signals-env-2.ensures.net;
       once = c.update_signals-env-2.ensures.kept
-          ∙ (c.sweep-swept.ensures.kept ∙ (c.update_signals-env.ensures.kept ∙ c.clear.ensures.kept));
+          ∙ (c.sweep-swept.ensures.kept
+          ∙ (c.lead_round.ensures.kept ∙ (c.update_signals-env.ensures.kept ∙ c.clear.ensures.kept)));
     }
 
 pub loop-swept-preserved : goal.loop-swept-preserved

@@ -7,6 +7,7 @@ use Rattle.est_micro.proofs.BegunNodes.{present_begun, seq_begun, par_begun, par
 use Rattle.est_micro.proofs.BegunNodes.{suspend_begun, trap_begun, again_begun}
 use Rattle.est_micro.proofs.BegunNodes.{loop_begun, local_begun, within_one, within_two, within_next, within_local}
 use Rattle.est_micro.proofs.BegunNodes.{within_back, within_told}
+use Rattle.est_micro.proofs.DecidedSheets.{read_begun}
 use Rattle.est_micro.proofs.IdleSheets.{idle_begun}
 use Rattle.est_micro.proofs.KeptExtents.{still, still_at}
 use Rattle.est_micro.proofs.sweep_begin.+sweep_begun.Goals as goal
@@ -40,8 +41,8 @@ begin_par-returns-clause-swept t c = λ a b.
     par_begun c.number_after.result c.args.at.now a c.args.p.now b c.args.q.now c.args.gate _ c.args.env.now _ _ _ _
     _ _ _ _ _ _
     c.requires.direction c.tell_cell-go.ensures.learns c.tell_cell-go.ensures.known c.with_emitted-inside.ensures
-    c.sweep_begun-first.ensures.swept
-    c.sweep_begun-second.ensures.swept
+    c.sweep_side-first.ensures.swept
+    c.sweep_side-second.ensures.swept
     c.beside-own.ensures c.finish_statement.ensures.finished
 
 pub begin_par_back-returns-clause-swept : goal.begin_par_back-returns-clause-swept
@@ -50,8 +51,8 @@ begin_par_back-returns-clause-swept t c = λ a b.
     _ _ _ _ _ _ _ _ _
     c.requires.direction c.tell_cell-go.ensures.learns c.tell_cell-go.ensures.known c.past.ensures
     c.with_emitted-inside.ensures
-    c.sweep_begun-second.ensures.swept
-    c.sweep_begun-first.ensures.swept
+    c.sweep_side-second.ensures.swept
+    c.sweep_side-first.ensures.swept
     c.beside-own.ensures c.finish_statement.ensures.finished
 
 pub begin_trap-returns-clause-swept : goal.begin_trap-returns-clause-swept
@@ -136,19 +137,19 @@ begin_seq-sweep_begun-second-requires t c = (
 pub begin_par-finish_statement-requires-clause-within : goal.begin_par-finish_statement-requires-clause-within
 begin_par-finish_statement-requires-clause-within t c =
     within_two _ _ _ c.args.net.now.cells.items _ _ _ _ _ _ _ _ _ _ _ _ _ c.requires.within
-    c.tell_cell-go.ensures.learns.size c.sweep_begun-first.ensures.swept
-    c.sweep_begun-second.ensures.swept
+    c.tell_cell-go.ensures.learns.size c.sweep_side-first.ensures.swept
+    c.sweep_side-second.ensures.swept
 
-pub begin_par-sweep_begun-second-requires : goal.begin_par-sweep_begun-second-requires
-begin_par-sweep_begun-second-requires t c = (
+pub begin_par-sweep_side-second-requires : goal.begin_par-sweep_side-second-requires
+begin_par-sweep_side-second-requires t c = (
   search (rules, the_lemmas),
   (
     c.requires.fits.1,
     (
-      still_at _ _ _ _ _ _ c.number_after.ensures (c.sweep_begun-first.ensures.kept ∙ c.tell_cell-go.ensures.kept)
+      still_at _ _ _ _ _ _ c.number_after.ensures (c.sweep_side-first.ensures.kept ∙ c.tell_cell-go.ensures.kept)
           c.requires.second_extents,
       (
-        within_next c.args.net.now.cells.items _ _ _ _ _ _ _ _ c.sweep_begun-first.ensures.swept c.requires.within
+        within_next c.args.net.now.cells.items _ _ _ _ _ _ _ _ c.sweep_side-first.ensures.swept c.requires.within
             c.tell_cell-go.ensures.learns.size,
         c.requires.second_traps,
       ),
@@ -159,11 +160,11 @@ begin_par-sweep_begun-second-requires t c = (
 pub begin_par_back-finish_statement-requires-clause-within : goal.begin_par_back-finish_statement-requires-clause-within
 begin_par_back-finish_statement-requires-clause-within t c =
     within_two _ _ _ c.args.net.now.cells.items _ _ _ _ _ _ _ _ _ _ _ _ _ c.requires.within
-    c.tell_cell-go.ensures.learns.size c.sweep_begun-second.ensures.swept
-    c.sweep_begun-first.ensures.swept
+    c.tell_cell-go.ensures.learns.size c.sweep_side-second.ensures.swept
+    c.sweep_side-first.ensures.swept
 
-pub begin_par_back-sweep_begun-second-requires : goal.begin_par_back-sweep_begun-second-requires
-begin_par_back-sweep_begun-second-requires t c = (
+pub begin_par_back-sweep_side-second-requires : goal.begin_par_back-sweep_side-second-requires
+begin_par_back-sweep_side-second-requires t c = (
   search (rules, the_lemmas),
   (
     c.requires.fits.1,
@@ -178,16 +179,16 @@ begin_par_back-sweep_begun-second-requires t c = (
   ),
 )
 
-pub begin_par_back-sweep_begun-first-requires : goal.begin_par_back-sweep_begun-first-requires
-begin_par_back-sweep_begun-first-requires t c = (
+pub begin_par_back-sweep_side-first-requires : goal.begin_par_back-sweep_side-first-requires
+begin_par_back-sweep_side-first-requires t c = (
   search (rules, the_lemmas),
   (
     c.requires.fits.0,
     (
-      still _ _ _ _ _ (c.sweep_begun-second.ensures.kept ∙ c.tell_cell-go.ensures.kept) c.requires.first_extents,
+      still _ _ _ _ _ (c.sweep_side-second.ensures.kept ∙ c.tell_cell-go.ensures.kept) c.requires.first_extents,
       (
         within_one _ _ c.args.net.now.cells.items _ _ _ _ _ _ _ c.requires.within c.tell_cell-go.ensures.learns.size
-            c.sweep_begun-second.ensures.swept,
+            c.sweep_side-second.ensures.swept,
         c.requires.first_traps,
       ),
     ),
@@ -249,3 +250,7 @@ pub sweep_begun-returns-in-Some-clause-swept : goal.sweep_begun-returns-in-Some-
 sweep_begun-returns-in-Some-clause-swept t c =
     idle_begun c.args.s.now c.args.at.now c.args.gate c.args.env.now c.args.net.now.cells.items _ _ _
     (rw c.in-Some.is at c.past_idle.ensures) c.fill_false.ensures.cells c.nothing.ensures.judged c.nothing.ensures.past
+
+pub sweep_side-returns-then-is_decided-clause-swept : goal.sweep_side-returns-then-is_decided-clause-swept
+sweep_side-returns-then-is_decided-clause-swept t c =
+    read_begun c.args.s.now c.args.at.now c.args.gate c.args.env.now _ _ c.read.ensures

@@ -1,0 +1,114 @@
+#!/usr/bin/env python3
+"""Programs whose parts tell each other across the text, in random orders of the parts: by the port of the engine to Rust (bench/port.py).
+
+usage: orders.py [RELAYS] [RINGS] [SEED]
+
+A relay is a `||` of parts, each of which makes a signal present where the one before it is; a ring is the arbiter of bench/worklist.py.
+Made from SEED on (0 if it is left out) are RELAYS random orders of relays of 8 to 63 signals (300), of which a third begin without a signal
+and a third go on from a pause in each part, and RINGS of rings of 4 to 32 cells (100). Each runs for a few instants on the port and on
+`bench/worklist.c`. Both have to decide as many cells and to give one sum of outputs; else the script ends with 1.
+
+Then it prints the instructions an instant of relays of 16, 32 and 63 signals and of rings of 8, 16 and 32 cells, by callgrind: in order, and
+the mean of a few random orders, and how many times as many these are.
+"""
+import pathlib
+import random
+import statistics
+import subprocess
+import sys
+import tempfile
+
+import port
+import worklist
+from worklist import PAUSE, emit, loop, names, par, present
+
+INSTANTS = 12
+COUNTED = 3  # random orders whose instructions are counted
+KINDS = ("sure", "asked", "paused")
+
+
+def told(n):
+    return present(f"O{n}", emit(f"O{n + 1}"))
+
+
+def relay(count, kind, shuffle):
+    """A relay of this many signals: the first is surely emitted, or where an input is present, or after a pause as the others are."""
+    first = present("I", emit("O0")) if kind == "asked" else emit("O0")
+    parts = [first, *(told(n) for n in range(count - 1))]
+    if kind == "paused":
+        parts = [loop(PAUSE, part) for part in parts]
+    shuffle(parts)
+    body = par(*parts) if kind == "paused" else loop(par(*parts), PAUSE)
+    return ["I"], names("O", count), body, [0, 1]
+
+
+def ring(count, shuffle):
+    """The arbiter of this many cells."""
+    _, *cells = sides(worklist.ring(count), count)
+    shuffle(cells)
+    return [], names("P", count) + names("T", count), par(emit("T0"), *cells), [0]
+
+
+def sides(statement, count):
+    """The sides of this many `||`s, each the second side of the one before."""
+    found = []
+    for _ in range(count):
+        found.append(statement[1])
+        statement = statement[2]
+    return [*found, statement]
+
+
+def none(parts):
+    """The order of the text."""
+
+
+def fault_of(made, folder, built):
+    """What differs between the port and the worklist, if anything."""
+    program, given = worklist.Program("order", folder, made), port.case("order", folder, made)
+    words = ([built, given, str(INSTANTS)], [folder / "worklist", program.net, str(INSTANTS)])
+    lines = [subprocess.run(each, capture_output=True, text=True, check=False).stdout for each in words]
+    return None if lines[0] and lines[0] == lines[1] else lines
+
+
+def compare(count, make, first_seed, folder, built):
+    """Runs random orders, and ends where one differs."""
+    for seed in range(first_seed, first_seed + count):
+        generator = random.Random(seed)
+        if fault := fault_of(make(generator, seed), folder, built):
+            sys.exit(f"orders.py: seed {seed}: {fault}")
+
+
+def spent(made, folder, built):
+    given = port.case("order", folder, made)
+    return port.counted(lambda count: [built, given, str(count)])[0]
+
+
+def print_row(name, make, folder, built):
+    """Prints the instructions in order and at random."""
+    ordered = spent(make(none), folder, built)
+    mixed = statistics.mean(spent(make(random.Random(seed).shuffle), folder, built) for seed in range(COUNTED))
+    print(f"{name}: {ordered:,.0f} in order, {mixed:,.0f} at random, {mixed / ordered:.2f} times", flush=True)
+
+
+def main(words):
+    if len(words) > 3:
+        sys.exit(__doc__.strip())
+    relays, rings, seed = (int(word) for word in (*words, *("300", "100", "0")[len(words):]))
+    sys.setrecursionlimit(20000)
+    with tempfile.TemporaryDirectory() as made:
+        folder = pathlib.Path(made)
+        subprocess.run(["cc", "-O2", "-o", folder / "worklist", pathlib.Path(__file__).parent / "worklist.c"], check=True)
+        built = port.built(folder)
+        compare(relays, lambda r, n: relay(r.randrange(8, 64), KINDS[n % 3], r.shuffle), seed, folder, built)
+        compare(rings, lambda r, n: ring(r.randrange(4, 33), r.shuffle), seed, folder, built)
+        print(f"{relays} orders of relays and {rings} of rings: no difference", flush=True)
+        for count in (16, 32, 63):
+            print_row(f"relay of {count}", lambda shuffle, count=count: relay(count, "sure", shuffle), folder, built)
+        for count in (32, 63):
+            print_row(f"relay of {count} from pauses", lambda shuffle, count=count: relay(count, "paused", shuffle), folder, built)
+        for count in (8, 16, 32):
+            print_row(f"ring of {count}", lambda shuffle, count=count: ring(count, shuffle), folder, built)
+
+
+if __name__ == "__main__":
+    main(sys.argv[1:])

@@ -1,0 +1,268 @@
+//! In which order the sides of `||`s tell each other: a guess, made once for a kernel.
+//!
+//! A sweep goes over the sides of nested `||`s in the order of the text, or against it. Where they
+//! tell each other across the text, a run first looks at them in this order (`lead_begin`,
+//! `lead_resume`). No answer depends on the order: each side that is looked at is swept, and full
+//! sweeps come after it.
+
+ghost use Rattle.std.specs.Prelude.{◌≡◌, ◌<◌, ◌≤◌, ◌+◌, length};
+ghost use Rattle.est_kernel.specs.Limits.{trap_depth};
+ghost use Rattle.est_kernel.specs.Masks.{FitsMasks};
+ghost use Rattle.est_kernel.specs.View.{term_of};
+ghost use Rattle.est_net.specs.Extents.{HasExtents};
+ghost use Rattle.est_net.specs.Owners.{statements};
+
+use est_kernel::mask;
+use est_kernel::statement::{Signal, Statement};
+use est_net::net::Net;
+
+/// How often an order has to go against the text, and with it, before a pass in that order is worth
+/// it. Where it does so less often, a few sweeps do.
+const FEW_TURNS: usize = 2;
+
+/// An order of the sides of a `||`, those of a `||` that is its second side among them.
+#[derive(Clone, Copy)]
+pub struct SideOrder {
+    /// The number of the `||`.
+    pub number: usize,
+    /// How many sides are in the order.
+    pub count: usize,
+    /// The sides, counted from 0 in the order of the text.
+    pub sides: [u8; 64],
+    /// Those that are in the order, a bit for each.
+    placed: u64,
+    ghost few: { count ≤ 64 },
+}
+
+/// What sides read and emit, of the signals of the interface.
+#[derive(Drop)]
+struct Uses {
+    count: usize,
+    reads: [u64; 64],
+    emits: [u64; 64],
+    /// Whether there are more sides than these.
+    are_more: bool,
+    ghost few: { count ≤ 64 },
+}
+
+/// The signals of the interface that a statement emits anywhere.
+fn emitted_in(s: &Statement) -> u64
+    requires { FitsMasks s.now }
+{
+    match s {
+        Statement::Nothing | Statement::Pause(_) | Statement::Exit(_) => 0,
+        Statement::Emit(signal) => match signal {
+            Signal::Interface(signal) => mask::single(signal.index),
+            Signal::Local(_) => 0,
+        },
+        Statement::Present(_, p, q) | Statement::Seq(p, q) | Statement::Par(p, q) => {
+            mask::union(emitted_in(p), emitted_in(q))
+        }
+        Statement::Suspend(_, p)
+        | Statement::Loop(p)
+        | Statement::Trap(p)
+        | Statement::Local(_, p) => emitted_in(p),
+    }
+}
+
+impl Uses {
+    /// Nothing is known of any side.
+    fn none() -> Uses {
+        Uses {
+            count: 0,
+            reads: [0; 64],
+            emits: [0; 64],
+            are_more: false,
+        }
+    }
+
+    /// Notes what one more side reads and emits.
+    fn push(&mut self, reads: u64, emits: u64) {
+        if self.count < 64 {
+            self.reads[self.count] = reads;
+            self.emits[self.count] = emits;
+            self.count += 1;
+        } else {
+            self.are_more = true;
+        }
+    }
+
+    /// Notes what the sides of a statement read and emit.
+    fn add(&mut self, net: &Net, s: &Statement, number: usize, traps: usize)
+        requires fits { FitsMasks s.now }
+        requires extents { HasExtents net.now.extents.items number traps s.now }
+    {
+        match s {
+            Statement::Par(p, q) => {
+                self.push(net.extent(number + 1).reads, emitted_in(p));
+                self.add(net, q, number_past(net, p, number + 1, traps), traps)
+            }
+            _ => self.push(net.extent(number).reads, emitted_in(s)),
+        }
+    }
+
+    /// Whether a side reads what another emits.
+    fn is_told_by(&self, side: usize, other: usize) -> bool
+        requires side { side < self.now.count }
+        requires other { other < self.now.count }
+    {
+        mask::intersection(self.reads[side], self.emits[other]) != 0
+    }
+}
+
+impl SideOrder {
+    /// No side of the `||` of this number.
+    fn none(number: usize) -> SideOrder {
+        SideOrder {
+            number,
+            count: 0,
+            sides: [0; 64],
+            placed: 0,
+        }
+    }
+
+    /// Puts a side after all that are in the order.
+    fn push(&mut self, side: usize)
+        requires { side < 64 }
+    {
+        if self.count < 64 {
+            self.sides[self.count] = side as u8;
+            self.count += 1;
+        }
+    }
+
+    /// Puts a side into the order, after those that emit what it reads, as far as `depth` sides
+    /// tell one another.
+    fn place(&mut self, uses: &Uses, side: usize, depth: usize)
+        requires { side < uses.now.count }
+    {
+        if depth == 0 || mask::has(self.placed, side as u8) {
+            return;
+        }
+        self.placed = mask::with(self.placed, side as u8);
+        for other in 0..uses.count {
+            if uses.is_told_by(side, other) {
+                self.place(uses, other, depth - 1);
+            }
+        }
+        self.push(side);
+    }
+
+    /// The sides in an order in which each comes after those that emit what it reads, as far as
+    /// there is one.
+    fn of(uses: &Uses, number: usize) -> SideOrder {
+        let mut order = SideOrder::none(number);
+        for side in 0..uses.count {
+            order.place(uses, side, 64);
+        }
+        order
+    }
+
+    /// Whether the order often goes against the text, and often with it.
+    fn is_mixed(&self) -> bool {
+        let mut with_text = 0;
+        for n in 1..self.count {
+            if self.sides[n - 1] < self.sides[n] {
+                with_text += 1;
+            }
+        }
+        with_text > FEW_TURNS && self.count.saturating_sub(with_text) > FEW_TURNS + 1
+    }
+}
+
+/// The order of the sides of a `||`, if a pass in that order is worth it.
+fn order_here(net: &Net, s: &Statement, number: usize, traps: usize) -> Option<SideOrder>
+    requires fits { FitsMasks s.now }
+    requires extents { HasExtents net.now.extents.items number traps s.now }
+{
+    let mut uses = Uses::none();
+    uses.add(net, s, number, traps);
+    let order = SideOrder::of(&uses, number);
+    if order.is_mixed() && !uses.are_more {
+        Some(order)
+    } else {
+        None
+    }
+}
+
+/// The number of what follows a statement in the text.
+fn number_past(net: &Net, p: &Statement, number: usize, traps: usize) -> usize
+    requires { HasExtents net.now.extents.items number traps p.now }
+    ensures { result ≡ number + statements p.now }
+{
+    number + net.extent(number).statements
+}
+
+/// The first order that is worth a pass, in one part and then in another.
+#[cycle(order_in)]
+fn order_in_two(
+    net: &Net,
+    p: &Statement,
+    q: &Statement,
+    number: usize,
+    traps: usize,
+    are_sides: bool,
+) -> Option<SideOrder>
+    requires fits { FitsMasks p.now × FitsMasks q.now }
+    requires first_extents { HasExtents net.now.extents.items number traps p.now }
+    requires second_extents { HasExtents net.now.extents.items (number + statements p.now) traps
+        q.now }
+    requires first_traps { traps + trap_depth (term_of p.now) ≤ 62 }
+    requires second_traps { traps + trap_depth (term_of q.now) ≤ 62 }
+{
+    match order_in(net, p, number, traps, false) {
+        Some(order) => Some(order),
+        None => order_in(net, q, number_past(net, p, number, traps), traps, are_sides),
+    }
+}
+
+/// The first order that is worth a pass, in a statement. `is_side`: it is the second side of a `||`
+/// that was looked at.
+#[cycle(order_in)]
+fn order_in(
+    net: &Net,
+    s: &Statement,
+    number: usize,
+    traps: usize,
+    is_side: bool,
+) -> Option<SideOrder>
+    requires fits { FitsMasks s.now }
+    requires extents { HasExtents net.now.extents.items number traps s.now }
+    requires traps { traps + trap_depth (term_of s.now) ≤ 62 }
+{
+    match s {
+        Statement::Par(p, q) => {
+            if !is_side {
+                let order = order_here(net, s, number, traps);
+                if order.is_some() {
+                    return order;
+                }
+            }
+            order_in_two(net, p, q, number + 1, traps, true)
+        }
+        Statement::Seq(p, q) => order_in_two(net, p, q, number + 1, traps, false),
+        Statement::Suspend(_, p) | Statement::Loop(p) => {
+            order_in(net, p, number + 1, traps, false)
+        }
+        Statement::Trap(p) => order_in(net, p, number + 1, traps + 1, false),
+        Statement::Nothing
+        | Statement::Pause(_)
+        | Statement::Emit(_)
+        | Statement::Exit(_)
+        | Statement::Present(_, _, _)
+        | Statement::Local(_, _) => None,
+    }
+}
+
+/// The order in which a run first looks at the sides of a `||` of this statement: one without sides
+/// if no such order is worth a pass.
+pub fn side_order_of(net: &Net, s: &Statement) -> SideOrder
+    requires fits { FitsMasks s.now }
+    requires extents { HasExtents net.now.extents.items 0 0 s.now }
+    requires traps { trap_depth (term_of s.now) ≤ 62 }
+{
+    match order_in(net, s, 0, 0, false) {
+        Some(order) => order,
+        None => SideOrder::none(0),
+    }
+}
