@@ -20,6 +20,7 @@ exponent: the slope of the line that fits the logarithms of instructions over th
 import math
 import os
 import pathlib
+import random
 import re
 import statistics
 import subprocess
@@ -131,9 +132,19 @@ def emissions(count):
     return loop(*(emit(f"O{n}") for n in range(count)), PAUSE)
 
 
+def tellers(count):
+    return [emit("O0")] + [present(f"O{n}", emit(f"O{n + 1}")) for n in range(count - 1)]
+
+
 def relay(order, count=64):
-    tellers = [emit("O0")] + [present(f"O{n}", emit(f"O{n + 1}")) for n in range(count - 1)]
-    return loop(par(*tellers[::order]), PAUSE)
+    return loop(par(*tellers(count)[::order]), PAUSE)
+
+
+def mixed(count=64):
+    """The parts of the relay in an order of which no sweep makes much."""
+    parts = tellers(count)
+    random.Random(1).shuffle(parts)
+    return loop(par(*parts), PAUSE)
 
 
 def ended(count):
@@ -210,6 +221,7 @@ def families():
         "many-outputs": ((8, 16, 32, 64), outputs(emissions)),
         "relay": ((8, 16, 32, 64), outputs(lambda n: relay(-1, n))),
         "relay-on": ((8, 16, 32, 64), outputs(lambda n: relay(1, n))),
+        "relay-mixed": ((16, 32, 64), outputs(mixed)),
         "abro": ((2, 4, 8, 16), lambda n: (names("A", n) + ["R"], names("O", 1), abro(n), [0, 1, 2, (1 << n) - 1, 1 << n])),
         "chain": ((4, 8, 15, 30), eight(chain)),
         "every": ((6, 12, 25, 50), eight(lambda n: par(*(every(emit(f"O{k}"), f"I{k % 8}") for k in range(n))))),
@@ -235,6 +247,7 @@ def programs():
                          emissions(64), none),
         "relay": ("64 outputs, each told by one later in the text", [], names("O", 64), relay(-1), none),
         "relay-on": ("64 outputs, each told by one earlier in the text", [], names("O", 64), relay(1), none),
+        "relay-mixed": ("64 outputs, each told by one somewhere in the text", [], names("O", 64), mixed(), none),
         "abro2": ("ABRO", ["A0", "A1", "R"], names("O", 1), abro(2), [1, 2, 0, 4, 3, 1, 5, 2]),
         "abro16": ("ABRO with 16 inputs to wait for", names("A", 16) + ["R"], names("O", 1), abro(16),
                    [0x11, 0x1022, 0x2044, 0xCF88, 0, 0x10000, 0xFFFF, 1]),
