@@ -101,6 +101,13 @@ class Runs(InAFolder):
         self.assertEqual(sorted(outer), ["A", "O", "S", "tick"])
         self.assertIn("MOTOR_1.OVER", inner)
         self.assertEqual(inner["MOTOR_2.OVER"], {1: "0", 2: "1", 3: "0"})
+        # S stands in both by the names that they have for it.
+        names = {"MOTOR_1": ["GO", "OFF", "OVER"], "MOTOR_2": ["GO", "OFF", "OVER"]}
+        self.assertEqual(
+            sorted(inner), [f"{run}.{name}" for run, some in names.items() for name in some]
+        )
+        self.assertEqual(inner["MOTOR_1.OFF"], outer["S"])
+        self.assertEqual(inner["MOTOR_2.GO"], outer["S"])
 
     def test_the_lines_that_ran_are_traced(self):
         ran = self.ran_with(RUNS, ";\nA\n", "--trace")
@@ -322,7 +329,9 @@ class Shells(InAFolder):
 
     def test_an_instant_is_looked_at_again_after_one_was_tried(self):
         lines = self.lines("try B;", "back 2", "why O")
-        self.assertEqual(lines[:3], ["instant 3 would be: O", "instant 2: no output", "O is absent"])
+        self.assertEqual(
+            lines[:3], ["instant 3 would be: O", "instant 2: no output", "O is absent"]
+        )
 
     def test_a_stuck_instant_follows_the_last_one_wherever_one_looks(self):
         here, elsewhere = self.stuck_lines("A;"), self.stuck_lines("back 0", "A;")
