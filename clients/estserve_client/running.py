@@ -118,11 +118,15 @@ def play(
     return None
 
 
-def scopes_in(scenario: Scenario) -> List[Scope]:
+def scopes_in(scenario: Scenario, inner: Optional[Beside]) -> List[Scope]:
     """The scopes of what the main module runs, which take a reader of the whole language."""
     from .scopes import scopes_of
 
-    return scopes_of(scenario.library.text, scenario.module.name)
+    locals = inner.locals() if inner else None
+    scopes = scopes_of(scenario.library.text, scenario.module.name, locals)
+    if inner:
+        inner.add_scopes(scopes)
+    return scopes
 
 
 @contextlib.contextmanager
@@ -199,9 +203,7 @@ def draw_run(
     with beside(arguments, scenario) as inner:
         locals = inner.signals if inner and arguments.locals else []
         signals = chosen(module, arguments.signals, locals)
-        scopes = scopes_in(scenario) if arguments.vcd else None
-        if scopes is not None and inner:
-            inner.add_scopes(scopes)
+        scopes = scopes_in(scenario, inner) if arguments.vcd else None
         seen = Seen(module.name, signals, [], 1, scopes, arguments.trace)
         drawing = Drawing(seen, arguments.wave, arguments.vcd)
         shown = [name for name, _ in (*module.signals, *locals) if name not in hidden]

@@ -60,6 +60,7 @@ OF_NO_INPUT = (
 )  # what an offer is refused as before its name is looked up
 OF_A_SLOT = re.compile(r"[\w-]+\.\w+")  # a signal of a slot, as permissions write it
 SPREAD = re.compile(r"[0-9]+\.\S*\*\S*")  # signals of a slot, as policy files write several
+OF_SIGNALS = ("offer", "observe")  # the operations that are done on signals
 UNDONE = {"grant": "AlreadyGranted", "revoke": "NotGranted"}  # where it is so already
 WATCHED = 0.1  # seconds between two questions of `watch`
 
@@ -351,16 +352,22 @@ class Shell(InsideCommands, cmd.Cmd):
         if key == "slot":
             return slots
         if key == "object":
-            known = {str(slot): module for slot, module in self.modules.items()}
-            called = {slot: known.get(str(self.names.get(slot, slot))) for slot in slots}
-            of_signals = [
-                f"{slot}.{name}" for slot, one in called.items() if one for name in one.kinds()
-            ]
-            return ["policy", *slots, *of_signals]
+            return ["policy", *slots, *self.signals_for(before[-1] if before else "", slots)]
         if key == "signal":
             known = {str(slot): module for slot, module in self.modules.items()}
             return known[before[0]].inputs() if before[:1] and before[0] in known else []
         return self.told.get("role" if key in ROLES else key, ())
+
+    def signals_for(self, op: str, slots: Iterable[str]) -> List[str]:
+        """The signals of these slots on which an operation can be done, as objects."""
+        known = {str(slot): module for slot, module in self.modules.items()}
+        called = {slot: known.get(str(self.names.get(slot, slot))) for slot in slots}
+        return [
+            f"{slot}.{name}"
+            for slot, module in called.items()
+            if module and op in OF_SIGNALS
+            for name in (module.inputs() if op == "offer" else module.kinds())
+        ]
 
     def do_help(self, line: str) -> None:
         """help [COMMAND]: says what a command does, or lists them all"""

@@ -66,10 +66,10 @@ class InsideCommands:
             self.forget(slot)
 
     def do_back(self, line: str) -> None:
-        """back [INSTANT]: looks at an instant again, or the one before, for `where`, `why` and `try`"""
+        """back [INSTANT]: looks at an instant again, or the one before; a tried or stuck one counts too"""
         explorer = self.explorer()
         last, words = len(explorer.word), line.split()
-        number = number_of(words[0]) if words else explorer.inside.at - 1
+        number = number_of(words[0]) if words else explorer.number_before()
         if number < 0:
             raise Usage("this is before instant 1 already")
         if len(words) > 1 or not 0 <= number <= last:
@@ -127,6 +127,7 @@ class InsideCommands:
         before, self.slot = self.slot, slot
         try:
             explorer = self.explorer()
+            explorer.stand(len(explorer.word))
             look = explorer.tried(pending)
             return explorer.stuck_lines() if look.is_stuck else []
         except (Usage, Failed, Refusal, Disconnected) as fault:

@@ -290,6 +290,26 @@ class Compiling(OfLab):
         with self.assertRaisesRegex(Failed, "the C differs at walk 1, instant "):
             c_check.compare_walks(code, str(self.folder), None)
 
+    def test_what_is_given_at_a_refused_instant_is_compared(self):
+        stuck = "module M: input A; output O, P; emit P; pause;\n"
+        stuck += "present O else emit O end end module"
+        for text, right, wrong, told in (
+            (stuck, "is_stuck ? OPEN : YES", "YES", "`1 0` and not `1 2`"),
+            (RELATIONS, "*given = 2;", "*given = 1;", "`2 1` and not `2 2`"),
+            (RELATIONS, "return M_BROKEN;", "return M_OK;", "`0 1` and not `2 1`"),
+        ):
+            with self.subTest(wrong), lab_of(Words()) as lab:
+                subject = Subject(join_texts([("text", text)]), main_of(text, None))
+                lab.load(subject)
+                code = CellsCode(subject, "m", "", checked_kernel(lab, subject))
+                compiling.write_files(code, str(self.folder))
+                c_check.compare_walks(code, str(self.folder), None)
+                source = self.folder / "m.c"
+                self.assertIn(right, source.read_text())
+                source.write_text(source.read_text().replace(right, wrong))
+                with self.assertRaisesRegex(Failed, "the C differs at walk .*" + told):
+                    c_check.compare_walks(code, str(self.folder), None)
+
 
 if __name__ == "__main__":
     unittest.main()

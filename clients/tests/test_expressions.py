@@ -392,6 +392,20 @@ class Words(unittest.TestCase):
         self.assertEqual(shell.completedefault("0.L", "grant root offer 0.L", 17), ["0.LINE "])
         self.assertEqual(shell.completedefault("A", "FRAME A", 6), [])  # an output
 
+    def test_the_shell_completes_what_a_permission_can_be_on(self):
+        shell, _ = self.shell()
+
+        def completed(typed):
+            return "".join(shell.completedefault("0.", f"{typed} 0.", len(typed) + 1)).split()
+
+        offered = ["0.FRAME", "0.LINE", "0.WANT_A", "0.WANT_B"]
+        for words in ("grant root", "revoke root", "check"):
+            with self.subTest(words):
+                self.assertEqual(completed(f"{words} offer"), offered)
+                outputs = ["0.A_LOST", "0.A_WON", "0.B_WON"]
+                self.assertEqual(completed(f"{words} observe"), sorted(outputs + offered))
+                self.assertEqual(completed(f"{words} step"), [])
+
     def test_the_keywords_are_as_they_were(self):
         self.assertLess({"and", "or", "not", "inputoutput"}, KEYWORDS)
 

@@ -101,6 +101,13 @@ class Runs(InAFolder):
         self.assertEqual(sorted(outer), ["A", "O", "S", "tick"])
         self.assertIn("MOTOR_1.OVER", inner)
         self.assertEqual(inner["MOTOR_2.OVER"], {1: "0", 2: "1", 3: "0"})
+        # S stands in both by the names that they have for it.
+        names = {"MOTOR_1": ["GO", "OFF", "OVER"], "MOTOR_2": ["GO", "OFF", "OVER"]}
+        self.assertEqual(
+            sorted(inner), [f"{run}.{name}" for run, some in names.items() for name in some]
+        )
+        self.assertEqual(inner["MOTOR_1.OFF"], outer["S"])
+        self.assertEqual(inner["MOTOR_2.GO"], outer["S"])
 
     def test_the_lines_that_ran_are_traced(self):
         ran = self.ran_with(RUNS, ";\nA\n", "--trace")
@@ -287,8 +294,8 @@ class Shells(InAFolder):
             lines[:6],
             [
                 "instant 3 would be: O",
-                "instant 1: no output",
-                "instant 2 would be: O",
+                "instant 2: no output",
+                "instant 3 would be: O",
                 "before instant 1",
                 "instant 2: no output",
                 "instant 3 would be: no output",
@@ -296,6 +303,41 @@ class Shells(InAFolder):
         )
         self.assertEqual(lines[-1], "instant 3: O")
         self.assertEqual(len(lines), 10)  # the table has two instants
+
+    def stuck_lines(self, *typed):
+        """What a shell prints for these lines, after two instants of a module that A gets stuck in the
+        second one and later.
+        """
+        text = "module M: input A; output O; pause; loop\n"
+        text += "present A then present O else emit O end end; pause end end module"
+        path = self.file("m.strl", text)
+        script = f"{GRANTS}load 0 {path}\n;\n;\n" + "".join(line + "\n" for line in typed)
+        return run_client(["shell"], script).printed.replace(str(path), "m").splitlines()[13:]
+
+    def test_back_from_a_stuck_instant_goes_to_the_one_before_it(self):
+        for stuck in ("A;", "try A;"):
+            with self.subTest(stuck):
+                lines = self.stuck_lines(stuck, "back", "where", "back", "back")
+                self.assertIn("Stuck", lines[0])
+                told = [line for line in lines if "instant" in line][1:]
+                self.assertEqual(
+                    told, ["instant 2: no output", "instant 1: no output", "before instant 1"]
+                )
+                self.assertFalse([line for line in lines if line.startswith("?")])  # of `where`
+        told = run_client(["shell"], "help back\n").printed
+        self.assertIn("the one before; a tried or stuck one counts too\n", told)
+
+    def test_an_instant_is_looked_at_again_after_one_was_tried(self):
+        lines = self.lines("try B;", "back 2", "why O")
+        self.assertEqual(
+            lines[:3], ["instant 3 would be: O", "instant 2: no output", "O is absent"]
+        )
+
+    def test_a_stuck_instant_follows_the_last_one_wherever_one_looks(self):
+        here, elsewhere = self.stuck_lines("A;"), self.stuck_lines("back 0", "A;")
+        self.assertIn("O waits for itself", here[1])
+        self.assertEqual(elsewhere[0], "before instant 1")
+        self.assertEqual(elsewhere[2:], here[1:])  # after a line with its number
 
     def test_local_signals_stand_after_the_outputs_or_after_none(self):
         text = "module M: input A; output O;\nsignal S in emit S; pause; emit O end end module"

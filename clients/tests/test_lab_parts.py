@@ -278,7 +278,45 @@ class Answers:
         return {"ok": cmd, "stuck": told, "verdicts": [told], "states": 1, "reactions": most}
 
 
+class Rows(Answers):
+    """An estlab that has a table of so many reactions, and takes a while for it."""
+
+    def ask(self, cmd, inputs, most):
+        """The table, where it may be that large."""
+        self.asked.append(most)
+        time.sleep(0.05)
+        if most < self.enough:
+            told = {"code": 83, "fault": "TooMany", "states": 12, "reactions": most + 1}
+            raise connection.Refusal(told)
+        return {"ok": cmd, "states": ["start"], "rows": []}
+
+
+class Terminal(io.StringIO):
+    """What is printed to a terminal."""
+
+    def isatty(self):
+        return True
+
+
 class Searches(unittest.TestCase):
+    def table(self, stream, enough, most=1_000_000):
+        """Which limits were asked for one after another, and what was told meanwhile."""
+        client, terminal = Rows(enough), {"TERM": "xterm", "NO_COLOR": ""}
+        with contextlib.redirect_stderr(stream), unittest.mock.patch.dict(os.environ, terminal):
+            with unittest.mock.patch("estserve_client.lab.asking.RENEWED", 0.01):
+                with contextlib.suppress(Failed):
+                    Lab(client).table(["A"], most)
+        return client.asked, stream.getvalue()
+
+    def test_a_terminal_is_told_how_far_the_search_for_a_table_has_come(self):
+        asked, told = self.table(Terminal(), 30_000)
+        self.assertEqual(asked, [2_000, 20_000, 200_000])
+        self.assertIn("\rsearching for 0 s\r", told)
+        self.assertIn("\r12 states and 20,001 reactions are found; searching for 0 s", told)
+        self.assertTrue(told.endswith("\r\033[K"), told)
+        self.assertEqual(self.table(Terminal(), 10**9, 3_000)[0], [2_000, 3_000])
+        self.assertEqual(self.table(io.StringIO(), 30_000), ([1_000_000], ""))
+
     def test_a_search_goes_on_until_all_is_decided_or_it_may_not(self):
         for enough, most, asked, name in [
             (5, 1_000_000, [20_000], "holds"),

@@ -75,7 +75,7 @@ class Lines(InAFolder):
         self.assertEqual(self.shell.prompt, "ann door> ")
         self.assertEqual(self.shell.completedefault("do", "step do", 5, 7), ["door "])
         self.assertEqual(self.shell.completedefault("A", "offer door A", 11, 12), ["A "])
-        found = self.shell.completedefault("door.", "check offer door.", 12, 17)
+        found = self.shell.completedefault("door.", "check observe door.", 14, 19)
         self.assertEqual(found, ["door.A ", "door.B ", "door.O ", "door.R "])
 
     @needs_program

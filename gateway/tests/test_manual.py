@@ -7,16 +7,31 @@ import subprocess
 import unittest
 
 import teams
-from estserve_team import command
+from estserve_team import administrator_words, command, reads, visiting
 
 MANUAL = teams.ROOT / "gateway" / "man" / "estserve-team.1"
 
 
+def team_parser():
+    """The words of the command `team`."""
+    parser = argparse.ArgumentParser()
+    command.add_parser(parser.add_subparsers())
+    return parser._actions[-1].choices["team"]
+
+
+class Help(unittest.TestCase):
+    def test_it_says_which_words_need_a_login(self):
+        shown = team_parser()._subparsers._group_actions[0].choices
+        words = {**administrator_words.WORDS, **reads.WORDS, **visiting.WORDS}
+        self.assertLess({"slots", "kick", "retract", "archive", "who"}, set(words))
+        for name in set(words) & set(shown):
+            is_said = "this needs --as USER" in " ".join(shown[name].format_help().split())
+            self.assertEqual(is_said, words[name].needs_session, name)
+
+
 class Page(unittest.TestCase):
     def test_it_has_each_word_and_option(self):
-        parser = argparse.ArgumentParser()
-        command.add_parser(parser.add_subparsers())
-        team = parser._actions[-1].choices["team"]
+        team = team_parser()
         text = MANUAL.read_text().replace("\\-", "-")
         shown = [action for action in team._actions if action.help != argparse.SUPPRESS]
         options = {word for action in shown for word in action.option_strings} - {"-h", "--help"}

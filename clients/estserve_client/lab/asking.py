@@ -8,6 +8,7 @@ import signal
 import subprocess
 import sys
 import threading
+import time
 from typing import TYPE_CHECKING, Any, Dict, List, Optional, Sequence
 
 from ..colours import has_colours
@@ -28,7 +29,9 @@ if TYPE_CHECKING:
     Word = List[Dict[str, Any]]  # instants as the program writes them: inputs, outputs or undecided
 
 MOST = 1_000_000  # states, and reactions, unless another number is asked for
+RENEWED = 2.0  # seconds between two lines on a long search
 FIRST, GROWTH = 20_000, 10  # where a search is first told of, and by how much it goes on then
+SOON = 2_000  # where that for a table is, which is told of at a terminal alone
 
 
 @dataclasses.dataclass(frozen=True)
@@ -142,6 +145,36 @@ def clear_line() -> None:
         print("\r\033[K", end="", file=sys.stderr, flush=True)
 
 
+class Searching:
+    """Tells a person at a terminal, every few seconds, how far a long search has come."""
+
+    def __init__(self) -> None:
+        self.is_told = sys.stderr.isatty() and has_colours(sys.stderr)
+        self.found, self.begun, self.ended = "", time.monotonic(), threading.Event()
+        self.teller = threading.Thread(target=self.tell, daemon=True)
+
+    def __enter__(self) -> Searching:
+        if self.is_told:
+            self.teller.start()
+        return self
+
+    def __exit__(self, *_: object) -> None:
+        if self.is_told:
+            self.ended.set()
+            self.teller.join()
+            clear_line()
+
+    def note(self, states: int, reactions: int) -> None:
+        """Notes what was found, with which the next lines begin."""
+        self.found = f"{states:,} states and {reactions:,} reactions are found; "
+
+    def tell(self) -> None:
+        """Tells it again and again, until the search has ended."""
+        while not self.ended.wait(RENEWED):
+            told = f"{self.found}searching for {time.monotonic() - self.begun:.0f} s"
+            print(f"\r{told}", end="", file=sys.stderr, flush=True)
+
+
 class Lab:
     """The program estlab, which has one module loaded. Used with `with`, it doesn't outlive the
     command, also where that is ended by a signal in the midst of a search.
@@ -194,11 +227,17 @@ class Lab:
 
     def table(self, inputs: Sequence[str], most: int) -> Table:
         """The closed table of what is loaded. Raises Failed where it is too large, and Refusal."""
-        try:
-            told = self.client.ask("table", inputs=list(inputs), most=most)
-        except Refusal as refusal:
-            if refusal.fault != "TooMany":
-                raise
-            found = f"{most:,} states or reactions: --most allows more"
-            raise Failed(f"there are more than {found}") from refusal
-        return Table(told["states"], told["rows"], self.relations)
+        with Searching() as searching:
+            limit = min(SOON, most) if searching.is_told else most
+            while True:
+                try:
+                    told = self.client.ask("table", inputs=list(inputs), most=limit)
+                    return Table(told["states"], told["rows"], self.relations)
+                except Refusal as refusal:
+                    if refusal.fault != "TooMany":
+                        raise
+                    if limit == most:
+                        found = f"{most:,} states or reactions: --most allows more"
+                        raise Failed(f"there are more than {found}") from refusal
+                    searching.note(refusal.fields["states"], refusal.fields["reactions"])
+                limit = min(limit * GROWTH, most)

@@ -10,12 +10,13 @@ import subprocess
 import tempfile
 from typing import Iterable, Iterator, List, Optional, Sequence
 
-from ..connection import start
+from ..connection import Refusal, start
 from ..scenarios import Refused, Scenario, Stage
 from ..texts import Failed
 from .c_cells import CellsCode
-from .c_code import NOT_INPUTS, OK, STUCK, Code, TableCode
+from .c_code import BROKEN, NOT_INPUTS, OK, STUCK, Code, TableCode, keeps
 
+REFUSED = ("Stuck", "Excluded", "Implied")  # what an instant of a walk may be refused as
 COMPILERS = ("cc", "gcc", "clang")
 STRICT = ["-std=c99", "-pedantic", "-Wall", "-Wextra", "-Werror", "-O1"]
 DRIVER = """\
@@ -68,7 +69,7 @@ int main(void) {{
   return 0;
 }}
 """
-WALKS, STEPS = 20, 100
+WALKS, STEPS, TRIES = 20, 100, 100
 
 
 def compiler() -> List[str]:
@@ -143,18 +144,30 @@ def compare(code: TableCode, folder: str) -> int:
 
 
 def walk(code: CellsCode, dice: random.Random) -> List[List[str]]:
-    """The inputs of a random walk. Each set is lawful."""
+    """The inputs of a random walk. Each set is lawful, but for the last one, where a set was found
+    that breaks one relation.
+    """
     names = code.subject.module.inputs()
     found: List[List[str]] = []
     for _ in range(STEPS):
         share = dice.choice((0.1, 0.3, 0.6))
         sets = ([name for name in names if dice.random() < share] for _ in range(20))
         found.append(next((one for one in sets if not code.broken(one)), []))
-    return found
+    return found + breaking(code, dice)
+
+
+def breaking(code: CellsCode, dice: random.Random) -> List[List[str]]:
+    """A random set of inputs that breaks just one relation; none where none is found."""
+    names = code.subject.module.inputs()
+    for _ in range(TRIES if code.relations else 0):
+        one = [name for name in names if dice.random() < 0.4]
+        if sum(not keeps(relation, one) for relation in code.relations) == 1:
+            return [one]
+    return []
 
 
 def played(code: CellsCode, stage: Stage, word: Iterable[Sequence[str]]) -> Iterator[str]:
-    """What estserve does with a walk, as the C tells it, up to an instant that is Stuck. Raises
+    """What estserve does with a walk, as the C tells it, up to an instant that is refused. Raises
     Failed.
     """
     module = code.subject.module
@@ -167,18 +180,22 @@ def played(code: CellsCode, stage: Stage, word: Iterable[Sequence[str]]) -> Iter
             for signals in instants:
                 yield f"{OK} {code.mask(name for name in outputs if signals[name]):x}"
     except Refused as fault:
-        if fault.fault != "Stuck":
+        refusal = fault.__cause__
+        if not isinstance(refusal, Refusal) or fault.fault not in REFUSED:
             raise
-        yield f"{STUCK}"
+        if fault.fault == "Stuck":
+            yield f"{STUCK} {code.mask(refusal.fields['undecided']):x}"
+        else:
+            yield f"{BROKEN} {refusal.fields['relation']:x}"
 
 
 def same(code: CellsCode, wanted: str, got: str, names: Sequence[str]) -> bool:
     """Whether the C tells what estserve does. Of an inputoutput that is offered estserve doesn't say
     whether it was emitted.
     """
-    if wanted == str(STUCK):
-        return got.split()[:1] == [wanted]
     status, _, given = got.partition(" ")
+    if status != str(OK):
+        return got == wanted
     kinds = code.subject.module.kinds()
     offered = code.mask(name for name in names if kinds[name] == "inout")
     return f"{status} {int(given or '0', 16) | offered:x}" == wanted

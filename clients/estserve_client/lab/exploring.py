@@ -32,6 +32,7 @@ class Explorer:
         self.word: List[List[str]] = []  # the inputs of the slot's instants
         self.last: Optional[Instant] = None  # the last one, as the slot shows it
         self.look: Optional[Look] = None  # the instant that was looked at last
+        self.trial: Optional[Look] = None  # the last one that was only tried
 
     def follow(self, client: Client, slot: int) -> None:
         """Takes in the instants that the slot has made meanwhile. Raises Failed, Refusal."""
@@ -71,7 +72,8 @@ class Explorer:
 
     def stand(self, number: int) -> None:
         """Stands after this many of the slot's instants, and looks at the last of these."""
-        if number < self.inside.at or (number and self.look is None):
+        is_elsewhere = self.look is None or self.is_tried
+        if number < self.inside.at or (number and is_elsewhere):
             self.inside.back(max(0, min(number, self.inside.at) - 1))
         looks = list(self.inside.looks(self.word[self.inside.at : number]))
         self.look = looks[-1] if looks else self.look if number else None
@@ -80,8 +82,17 @@ class Explorer:
         """What an instant with these inputs would be; it is the one that is looked at then. Raises
         Refusal.
         """
-        self.look = self.inside.tried(names)
+        self.look = self.trial = self.inside.tried(names)
         return self.look
+
+    @property
+    def is_tried(self) -> bool:
+        """Whether the instant that is looked at was only tried, or got stuck: it was not made."""
+        return self.look is not None and self.look is self.trial
+
+    def number_before(self) -> int:
+        """The number of the instant before the one that is looked at; -1 before the first."""
+        return self.inside.at if self.is_tried else self.inside.at - 1
 
     # In words.
 

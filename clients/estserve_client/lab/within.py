@@ -7,7 +7,7 @@ from typing import TYPE_CHECKING, Dict, Iterable, List, Sequence, Tuple
 
 from ..connection import Refusal
 from ..pictures import Within
-from ..scopes import Scope
+from ..scopes import Locals, Scope
 from ..texts import Failed
 from .inside import Inside, Look, presences
 
@@ -83,6 +83,13 @@ class Beside:
             return list(self.inside.looks(word))
         except Refusal as refusal:
             raise Failed(OTHERS.format(self.inside.at + 1)) from refusal
+
+    def locals(self) -> Locals:
+        """The names of the local signals, by the runs around them and their declarations."""
+        signals = {
+            self.inside.statements[at].signal: name for at, name in self.inside.names.items()
+        }
+        return {(one.path, one.at): name for one, name in signals.items() if one and one.at}
 
     def add_scopes(self, scopes: List[Scope]) -> None:
         """Puts the local signals of what is run into the scopes of a VCD file."""

@@ -36,6 +36,8 @@ NOT_IN_GROUP = (
     "and log in to the machine anew"
 )
 
+NEED_LOGIN = ("archive", "kick", "retract", "slots")  # words that are refused without --as
+
 
 class GatewayTalk:
     """A connection to a gateway's own socket, which is asked one word after the other."""
@@ -124,7 +126,8 @@ def ask_word(arguments: argparse.Namespace) -> None:
 
 def add_word(subparsers: Any, word: str, help: str) -> Any:
     """Adds one word to the command line, with what each has."""
-    parser = subparsers.add_parser(word, help=help, description=help)
+    told = f"{help}; this needs --as USER" if word in NEED_LOGIN else help
+    parser = subparsers.add_parser(word, help=help, description=told)
     add_state(parser, argparse.SUPPRESS)
     parser.add_argument(
         "--as",
