@@ -20,21 +20,18 @@ import tempfile
 
 import port
 import worklist
-from worklist import PAUSE, emit, loop, names, par, present
+from worklist import PAUSE, emit, loop, names, par, present, tellers
 
 INSTANTS = 12
 COUNTED = 3  # random orders whose instructions are counted
 KINDS = ("sure", "asked", "paused")
 
 
-def told(n):
-    return present(f"O{n}", emit(f"O{n + 1}"))
-
-
 def relay(count, kind, shuffle):
     """A relay of this many signals: the first is surely emitted, or where an input is present, or after a pause as the others are."""
-    first = present("I", emit("O0")) if kind == "asked" else emit("O0")
-    parts = [first, *(told(n) for n in range(count - 1))]
+    parts = tellers(count)
+    if kind == "asked":
+        parts[0] = present("I", parts[0])
     if kind == "paused":
         parts = [loop(PAUSE, part) for part in parts]
     shuffle(parts)
