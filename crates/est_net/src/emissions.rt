@@ -1,6 +1,6 @@
 //! Where the signals of the interface are emitted.
 
-ghost use Rattle.std.specs.Prelude.{◌≡◌, ◌≤◌, ◌+◌, ◌++◌, ◌&&◌, ◌||◌, ℕ, true, nat_eq, IfOk};
+ghost use Rattle.std.specs.Prelude.{◌≡◌, ◌≤◌, ◌+◌, ◌++◌, ◌&&◌, ◌||◌, ℕ, true, nat_eq, not, IfOk};
 ghost use Rattle.est_kernel.specs.Bits.{bits};
 ghost use Rattle.est_cells.specs.Tables.{is_possible, is_sure, sheet_size};
 ghost use Rattle.est_net.specs.Emissions.{emission_of, emissions};
@@ -80,6 +80,15 @@ impl Emitted {
             possible: mask::union(self.possible, single_if(may_be_true(go), signal)),
         }
     }
+}
+
+/// The signals, without that of an emission whose go cell knows this, if it may be emitted.
+#[inline(always)]
+pub fn without_emitted(signals: u64, signal: InterfaceSignal, go: Status) -> u64
+    ensures { (n : ℕ) → bits result n
+        ≡ (bits signals n && not (nat_eq signal.index n && is_possible go)) }
+{
+    mask::difference(signals, single_if(may_be_true(go), signal))
 }
 
 /// Adds the emission of a signal, if that is one of the interface, or memory was refused.

@@ -1,7 +1,7 @@
 //! The table of cells of a kernel.
 
-ghost use Rattle.std.specs.Prelude.{◌≡◌, ◌↔◌, ◌<◌, ◌≤◌, ◌+◌, ◌*◌, ◌%◌, ◌^◌, true, length, set};
-ghost use Rattle.std.specs.Prelude.{ℕ, Some, IfNone, IfOk, IfSome, option_map, replicate};
+ghost use Rattle.std.specs.Prelude.{◌≡◌, ◌↔◌, ◌<◌, ◌≤◌, ◌+◌, ◌*◌, ◌%◌, ◌^◌, ◌&&◌, true, length};
+ghost use Rattle.std.specs.Prelude.{set, not, ℕ, Some, IfNone, IfOk, IfSome, option_map, replicate};
 ghost use Rattle.std.specs.Prelude.{slice_get};
 ghost use Rattle.std.specs.List.{list_any};
 ghost use Rattle.est_kernel.specs.Bits.{bits};
@@ -18,7 +18,7 @@ ghost use Rattle.est_net.specs.Layout.{cell_count, output_count};
 ghost use Rattle.est_net.specs.Reach.{IsReachOf};
 
 use crate::cell_set::CellSet;
-use crate::emissions::{Emission, Emitted, emissions_of};
+use crate::emissions::{Emission, Emitted, emissions_of, without_emitted};
 use crate::extents::{Extent, extents_of};
 use crate::layout::lay;
 use crate::reach::Reach;
@@ -180,6 +180,23 @@ impl Net {
             said = said.beside(emission.signal, self.status_or_absent(emission.go));
         }
         said
+    }
+
+    /// Those of these signals of the interface that no emission may emit, by the go cells of the
+    /// emissions.
+    pub fn silent_among(&self, signals: u64) -> u64
+        ensures { (n : ℕ) → bits result n ≡ (bits signals n
+            && not (list_any (is_of is_possible (cell_at self.now.cells.items) n)
+            self.now.emissions.items)) }
+    {
+        let mut silent = signals;
+        for emission in &self.emissions {
+            if mask::has(silent, emission.signal.index) {
+                let go = self.status_or_absent(emission.go);
+                silent = without_emitted(silent, emission.signal, go);
+            }
+        }
+        silent
     }
 
     /// How many cells are decided.
