@@ -17,8 +17,11 @@ mod UpdatingSignals
 mod OpenTables
 mod FullTables
 mod Settles
+mod StatementParts
+mod FoundSides
 mod ParSides
 mod LedSides
+mod LeadRounds
 mod AllDecided
 mod Outcomes
 mod PartReactions

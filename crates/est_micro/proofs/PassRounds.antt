@@ -32,6 +32,7 @@ use Rattle.est_rounds.specs.declared.acts.MustCan.{MustCan}
 use Rattle.est_rounds.specs.Views.{env_of}
 use Rattle.est_rounds.specs.declared.signal_set.Env.{Env as Known}
 use Rattle.est_micro.specs.Inner.Hearing.{Heard}
+use Rattle.est_micro.specs.Inner.Leads.{last_of}
 use Rattle.est_micro.specs.Parts.{AgreeBut, AreInputsAlone, opened}
 use Rattle.est_micro.specs.Inner.Passes.{IsPassRound, SheetPasses}
 use Rattle.est_micro.specs.Runs.{AreSignalsUpdated, Ready, output_cells, output_gate, table_of}
@@ -67,11 +68,29 @@ pass_changes s Done c l old new h = h.changes
 pass_changes s (Paused p) c l old new h = h.changes
 
 -- a signal's cell is not one of the statement
-same_output : (k : Kernel) (old new : List Status) (n hi : ℕ) → Changes (output_count k.interface) hi old new
+pub same_output : (k : Kernel) (old new : List Status) (n hi : ℕ) → Changes (output_count k.interface) hi old new
     → n < length k.interface → emittable k.interface n ≡ true
     → output_cells k.interface new n ≡ output_cells k.interface old n
 same_output k old new n hi h l o =
     h.before (rank k.interface n) (rank_within (emittable k.interface) (length k.interface) n l o)
+
+-- what is known before a pass is no more than is known at the end, and what is surely emitted is heard
+pub ready_less : (unasked : ℕ → Bool) (k : Kernel) (x : State) (inputs : ℕ → Bool) (cells : List Status) (e : Known)
+    → AreInputsAlone k.interface unasked → Ready unasked k x inputs cells e
+    → let last = last_of k x inputs in
+    KnowsLess (env_of e) last × Heard (emits is_sure true k.root (sheet_meaning k.root x last)) last (env_of e)
+ready_less unasked k x inputs cells e a ready =
+    let i = k.interface in
+    let s = k.root in
+    let j = judged_signals i inputs in
+    let last = last_of k x inputs in
+    let o = known j inputs (output_cells i cells) in (
+      subst (λ (z : Env). KnowsLess z last) (sym ready.knows)
+          (λ n. below_then (opened_less unasked o n) (table_known j inputs s x (table_of i s cells) ready.sound n)),
+      subst (λ (z : Env). Heard (emits is_sure true s (sheet_meaning s x last)) last z) (sym ready.knows)
+          (heard_but unasked i _ last o a (emitted_there is_sure true s i 0 0 k.closed (sheet_meaning s x last))
+          (last_heard j (judged_within i inputs) inputs (output_cells i cells) s x)),
+    )
 
 -- what holds before a pass holds after it, but for what is known by the cells of the signals, which stay
 pub pass_sound : (unasked : ℕ → Bool) (k : Kernel) (x : State) (inputs : ℕ → Bool) (e : Known)
@@ -82,21 +101,15 @@ pub pass_sound : (unasked : ℕ → Bool) (k : Kernel) (x : State) (inputs : ℕ
 pass_sound unasked k x inputs e old new a ready h =
     let i = k.interface in
     let s = k.root in
-    let j = judged_signals i inputs in
     let w = judged_within i inputs in
-    let last = last_env j inputs (state_term s x) in
-    let o = known j inputs (output_cells i old) in
+    let last = last_of k x inputs in
     let c = ready.sound in
     let g = pass_changes s x (output_count i) (env_of e) old new h in
-    let less : KnowsLess (env_of e) last = subst (λ (z : Env). KnowsLess z last) (sym ready.knows)
-    (λ n. below_then (opened_less unasked o n) (table_known j inputs s x (table_of i s old) c n)) in
+    let knows = ready_less unasked k x inputs old e a ready in
     record {
       outputs = λ n l. subst (λ (v : Status). IsBelow v (last (outer n)))
           (sym (same_output k old new n _ g (w n l) (may_be i inputs n l))) (c.outputs n l);
-      sheet = sheet_passed s x (output_count i) last (env_of e) old new less
-          (subst (λ (z : Env). Heard (emits is_sure true s (sheet_meaning s x last)) last z) (sym ready.knows)
-          (heard_but unasked i _ last o a (emitted_there is_sure true s i 0 0 k.closed (sheet_meaning s x last))
-          (last_heard j w inputs (output_cells i old) s x))) h c.sheet;
+      sheet = sheet_passed s x (output_count i) last (env_of e) old new knows.0 knows.1 h c.sheet;
     }
 
 -- a table of which no more was decided than the meaning says, and whose signals were offered as before
@@ -135,20 +148,29 @@ known_same i inputs o p h =
     go n false z = refl
     go n true z = sym (h n (judged_within i inputs n z) (may_be i inputs n z))
 
+-- what holds before cells of the statement are decided as they are meant holds after it
+pub ready_by : (unasked : ℕ → Bool) (k : Kernel) (x : State) (inputs : ℕ → Bool) (e : Known) (old new : List Status)
+    → Passed k x inputs old new → Ready unasked k x inputs old e → Ready unasked k x inputs new e
+ready_by unasked k x inputs e old new p ready = record {
+  size = p.size ∙ ready.size;
+  sound = p.sound;
+  knows = ready.knows ∙ ap (opened unasked) (known_same k.interface inputs
+      (output_cells k.interface old) (output_cells k.interface new) p.same);
+  offered = λ n l o z. p.same n l o ∙ ready.offered n l o z;
+}
+
 -- what holds before a pass holds after it
 pub ready_passed : (unasked : ℕ → Bool) (k : Kernel) (x : State) (inputs : ℕ → Bool) (e : Known)
     (old new : List Status) → AreInputsAlone k.interface unasked
     → SheetPasses k.root x (output_count k.interface) (env_of e) old new → Ready unasked k x inputs old e
     → Ready unasked k x inputs new e
 ready_passed unasked k x inputs e old new a h ready =
-    let p = pass_made unasked k x inputs e old new a ready h in
-    record {
-      size = p.size ∙ ready.size;
-      sound = p.sound;
-      knows = ready.knows ∙ ap (opened unasked) (known_same k.interface inputs
-          (output_cells k.interface old) (output_cells k.interface new) p.same);
-      offered = λ n l o z. p.same n l o ∙ ready.offered n l o z;
-    }
+    ready_by unasked k x inputs e old new (pass_made unasked k x inputs e old new a ready h) ready
+
+-- nothing was decided
+pub passed_nothing : (unasked : ℕ → Bool) (k : Kernel) (x : State) (inputs : ℕ → Bool) (e : Known)
+    (cells : List Status) → Ready unasked k x inputs cells e → Passed k x inputs cells cells
+passed_nothing unasked k x inputs e cells ready = record { size = refl; sound = ready.sound; same = λ n l o. refl }
 
 -- The signals are told what is emitted. What they are told of a signal may fall short of what the cells of its
 -- emissions say

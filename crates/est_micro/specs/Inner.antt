@@ -1,4 +1,5 @@
 pub mod Hearing
+pub mod Leads
 pub mod Outcomes
 pub mod Outputs
 pub mod Passes

@@ -41,7 +41,8 @@ fn tell_false(net: &mut Net, from: usize, past: usize)
     }
 }
 
-/// Makes the cells of a range false, of which none is true: where all are open, at once.
+/// Makes the cells of a range false, of which none is true: where all are open, at once. Where all
+/// are decided, nothing is left to do.
 pub fn fill_false(net: &mut Net, from: usize, past: usize)
     requires range { from ≤ past }
     requires within { past ≤ length net.old.cells.items }
@@ -51,7 +52,7 @@ pub fn fill_false(net: &mut Net, from: usize, past: usize)
 {
     if net.all_open(from, past) {
         net.fill(from, past);
-    } else {
+    } else if !net.all_decided(from, past) {
         tell_false(net, from, past);
     }
 }

@@ -13,9 +13,12 @@
 //! signals what is emitted (`outputs`). After a sweep that decided little, passes look again at
 //! what reads the signals that were just decided (`passes`, by `pass_begin` and `pass_resume`).
 //!
-//! Where the `sides` of `||`s tell each other across the text, a run begins with a pass over them
-//! in the order in which they do (`side_order`, `lead_begin`, `lead_resume`). The order is a guess:
-//! a bad one costs time, and changes no answer.
+//! Where the `sides` of a `||` tell each other, the run has an order in which they do
+//! (`side_order`). In it a pass sweeps them one by one (`lead`, which finds the `||` by
+//! `find_begin` and `find_resume`), and knows after each what is emitted surely, and what is
+//! emitted nowhere any more. A run begins so where the order goes across the text, or the run
+//! before found an absent signal so; else it does so after a slow sweep, in place of passes. The
+//! order is a guess: a bad one costs time, and changes no answer.
 //!
 //! `learning` tells one cell, `cells` those of one statement; `must_can` puts together what is
 //! judged of a statement from what is judged of its parts. `micro` reads the outcome off the cells,
@@ -31,10 +34,11 @@ mod cells;
 mod decided;
 mod direction;
 mod extents;
+mod find_begin;
+mod find_resume;
 mod idle;
 pub mod laws;
-mod lead_begin;
-mod lead_resume;
+mod lead;
 mod learning;
 pub mod micro;
 mod must_can;

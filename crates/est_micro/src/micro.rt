@@ -15,7 +15,7 @@ use crate::cells::{StatementPlace, Swept};
 use crate::direction::Direction;
 use crate::next_pauses::collect_pauses;
 use crate::question::Question;
-use crate::settling::decide_cells;
+use crate::settling::{Beginning, decide_cells};
 use crate::side_order::{SideOrder, side_order_of};
 use est_kernel::completion::Completion;
 use est_kernel::kernel::Kernel;
@@ -29,8 +29,8 @@ use est_rounds::engine::Engine;
 #[derive(Drop)]
 pub struct Micro {
     pub(crate) net: Net,
-    /// Which way the next run sweeps first: as the last one swept last.
-    pub(crate) direction: Direction,
+    /// How the next run begins, as the last one told.
+    pub(crate) beginning: Beginning,
     /// In which order a run first looks at the sides of a `||`; made by the first run.
     pub(crate) order: Option<SideOrder>,
 }
@@ -107,7 +107,10 @@ impl Micro {
     {
         Micro {
             net,
-            direction: Direction::Forwards,
+            beginning: Beginning {
+                direction: Direction::Forwards,
+                leads: true,
+            },
             order: None,
         }
     }
@@ -167,8 +170,8 @@ impl Micro {
             unasked: 0,
         };
         let order = self.side_order(kernel);
-        let run_end = decide_cells(&mut self.net, &question, self.direction, &order);
-        self.direction = run_end.direction;
+        let run_end = decide_cells(&mut self.net, &question, self.beginning, &order);
+        self.beginning = run_end.next;
         match read_outcome(&self.net, kernel, state, &run_end.swept) {
             Some(outcome) => Ok(outcome),
             None => Err(Stuck {

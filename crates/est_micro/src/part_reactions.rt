@@ -92,8 +92,8 @@ impl PartEngine for Micro {
             unasked,
         };
         let order = self.side_order(kernel);
-        let run_end = decide_cells(&mut self.net, &question, self.direction, &order);
-        self.direction = run_end.direction;
+        let run_end = decide_cells(&mut self.net, &question, self.beginning, &order);
+        self.beginning = run_end.next;
         match told_if_decided(&self.net, kernel, state, &run_end.swept) {
             Some(outcome) => Ok(outcome),
             None => Err(Unsettled {

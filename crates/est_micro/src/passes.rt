@@ -1,5 +1,5 @@
-//! Passes between the rounds of a run: each goes over what reads the signals that the one before
-//! decided, and then the cells of the signals are told what is emitted.
+//! Passes between the rounds of a run: over the sides of a `||` in their order, or over what reads
+//! the signals that the one before decided. Then the cells of the signals are told what is emitted.
 
 ghost use Rattle.std.specs.Prelude.{◌≡◌, ◌≤◌, ℕ, Bool};
 ghost use Rattle.std.specs.List.{list_any};
@@ -18,8 +18,7 @@ ghost use Rattle.est_micro.specs.Runs.{Ready};
 
 use crate::cells::StatementPlace;
 use crate::direction::Direction;
-use crate::lead_begin::lead_begun;
-use crate::lead_resume::lead_resumed;
+use crate::lead::lead_round;
 use crate::outputs::update_signals;
 use crate::pass_begin::pass_begun;
 use crate::pass_resume::pass_resumed;
@@ -110,7 +109,7 @@ fn pass_round(net: &mut Net, question: &Question<'_>, env: &mut Env, just_decide
 }
 
 /// Passes until no signal is decided any more.
-pub fn pass_all(net: &mut Net, question: &Question<'_>, env: &mut Env, just_decided: u64)
+fn pass_all(net: &mut Net, question: &Question<'_>, env: &mut Env, just_decided: u64)
     requires net { IsNetOf net.old question.now.kernel.now }
     requires state { IsState question.now.kernel.now.root question.now.state.now }
     requires apart { AreInputsAlone question.now.kernel.now.interface (bits question.now.unasked) }
@@ -136,47 +135,58 @@ pub fn pass_all(net: &mut Net, question: &Question<'_>, env: &mut Env, just_deci
     }
 }
 
-/// Passes over the sides of a `||` in an order, by what is known.
-fn lead_sheet(net: &mut Net, question: &Question<'_>, env: &Env, order: &SideOrder)
-    requires net { IsNetOf net.old question.now.kernel.now }
-    requires state { IsState question.now.kernel.now.root question.now.state.now }
-    ensures passes { SheetPasses question.now.kernel.now.root question.now.state.now
-        (output_count question.now.kernel.now.interface) (env_of env.now)
-        net.old.cells.items net.new.cells.items }
-    ensures net { IsNetOf net.new question.now.kernel.now }
-    ensures kept { kept net.new ≡ kept net.old }
-{
-    let root = question.kernel.root();
-    let place = StatementPlace {
-        number: 0,
-        main: true,
-        direction: Direction::Forwards,
-        cell: net.output_count(),
-        traps: 0,
-    };
-    let run = Status::Present;
-    match question.state {
-        State::Fresh => lead_begun(net, &place, root, run, env, order),
-        State::Done => {}
-        State::Paused(pauses) => lead_resumed(net, &place, root, pauses, run, env, order),
-    }
-}
-
-/// A pass over the sides of a `||` in an order, if there is one.
-pub fn lead_round(net: &mut Net, question: &Question<'_>, env: &Env, order: &SideOrder)
+/// Sweeps the sides of a `||` in an order, and then tells the cells of the signals what is emitted.
+/// Answers whether some signal was found to be absent.
+fn lead_again(net: &mut Net, question: &Question<'_>, env: &mut Env, order: &SideOrder) -> bool
     requires net { IsNetOf net.old question.now.kernel.now }
     requires state { IsState question.now.kernel.now.root question.now.state.now }
     requires apart { AreInputsAlone question.now.kernel.now.interface (bits question.now.unasked) }
+    ensures more { decided net.old.cells.items ≤ decided net.new.cells.items }
     ensures ready { (others : ℕ → Bool)
         → AgreeBut (bits question.now.unasked) (bits question.now.inputs) others
         → Ready (bits question.now.unasked) question.now.kernel.now question.now.state.now others
-        net.old.cells.items env.now
+        net.old.cells.items env.old
         → Ready (bits question.now.unasked) question.now.kernel.now question.now.state.now others
-        net.new.cells.items env.now }
+        net.new.cells.items env.new }
     ensures net { IsNetOf net.new question.now.kernel.now }
     ensures kept { kept net.new ≡ kept net.old }
 {
-    if order.count != 0 {
-        lead_sheet(net, question, env, order);
+    let is_absent = lead_round(net, question, env, order, true);
+    let said = judged(net);
+    *env = update_signals(net, question, &said);
+    is_absent
+}
+
+/// After a sweep that was slow: sweeps the sides of a `||` in their order, if there is one. Where
+/// that decides nothing, passes by the signals that were just decided. Answers whether some signal
+/// was found to be absent in that order.
+pub fn catch_up(
+    net: &mut Net,
+    question: &Question<'_>,
+    env: &mut Env,
+    just_decided: u64,
+    order: &SideOrder,
+) -> bool
+    requires net { IsNetOf net.old question.now.kernel.now }
+    requires state { IsState question.now.kernel.now.root question.now.state.now }
+    requires apart { AreInputsAlone question.now.kernel.now.interface (bits question.now.unasked) }
+    ensures more { decided net.old.cells.items ≤ decided net.new.cells.items }
+    ensures ready { (others : ℕ → Bool)
+        → AgreeBut (bits question.now.unasked) (bits question.now.inputs) others
+        → Ready (bits question.now.unasked) question.now.kernel.now question.now.state.now others
+        net.old.cells.items env.old
+        → Ready (bits question.now.unasked) question.now.kernel.now question.now.state.now others
+        net.new.cells.items env.new }
+    ensures net { IsNetOf net.new question.now.kernel.now }
+    ensures kept { kept net.new ≡ kept net.old }
+{
+    if just_decided == 0 {
+        return false;
     }
+    let decided_before = net.steps();
+    let is_absent = lead_again(net, question, env, order);
+    if net.steps() == decided_before {
+        pass_all(net, question, env, just_decided);
+    }
+    is_absent
 }

@@ -14,8 +14,9 @@ ghost use Rattle.est_micro.specs.Inner.Views.{IsSwept};
 
 use crate::cells::{StatementPlace, Swept};
 use crate::direction::Direction;
+use crate::lead::lead_round;
 use crate::outputs::{in_doubt, update_signals};
-use crate::passes::{lead_round, newly_decided, pass_all};
+use crate::passes::{catch_up, newly_decided};
 use crate::question::Question;
 use crate::side_order::SideOrder;
 use crate::sweep_begin::sweep_begun;
@@ -52,6 +53,15 @@ fn sweep(net: &mut Net, question: &Question<'_>, env: &Env, direction: Direction
     }
 }
 
+/// How a run begins. It changes no answer.
+#[derive(Clone, Copy)]
+pub struct Beginning {
+    /// Which way the first sweep goes.
+    pub direction: Direction,
+    /// Whether the sides of a `||` are swept in their order before it.
+    pub leads: bool,
+}
+
 /// What a run ends with, where nothing more can be decided.
 #[derive(Clone, Copy)]
 pub struct RunEnd {
@@ -59,8 +69,9 @@ pub struct RunEnd {
     pub swept: Swept,
     /// What is known of the signals of the interface.
     pub env: Env,
-    /// Which way the last sweep went.
-    pub direction: Direction,
+    /// How the next run is to begin: as the last sweep went, and with the order of the sides if it
+    /// told of a signal that it is absent, or goes across the text.
+    pub next: Beginning,
 }
 
 /// Whether more may be decided: the last round has decided something, and there is an open cell.
@@ -106,13 +117,21 @@ fn to_pass(
     }
 }
 
+/// How the next run is to begin, where some signal was found to be absent in the order of the
+/// sides, or none was.
+fn next_beginning(direction: Direction, is_absent: bool, order: &SideOrder) -> Beginning {
+    Beginning {
+        direction,
+        leads: is_absent || order.is_mixed,
+    }
+}
+
 /// Opens the table, and makes rounds until nothing more can be decided. Of the inputs that are not
-/// asked nothing is known: what is decided is so whatever they are. The first sweep goes the way of
-/// `first`.
+/// asked nothing is known: what is decided is so whatever they are.
 pub fn decide_cells(
     net: &mut Net,
     question: &Question<'_>,
-    first: Direction,
+    beginning: Beginning,
     order: &SideOrder,
 ) -> RunEnd
     requires net { IsNetOf net.old question.now.kernel.now }
@@ -129,9 +148,9 @@ pub fn decide_cells(
     let possible = net.reach().from_state(question.state);
     net.clear();
     let mut env = update_signals(net, question, &in_doubt(possible));
-    lead_round(net, question, &env, order);
+    let mut is_absent = lead_round(net, question, &env, order, beginning.leads);
     let mut decided_before = 0;
-    let mut direction = first;
+    let mut direction = beginning.direction;
     let mut env_before = env;
     let mut swept = sweep(net, question, &env, direction);
     env = update_signals(net, question, &swept.judged);
@@ -139,7 +158,9 @@ pub fn decide_cells(
     while goes_on(decided, decided_before, cell_count) {
         direction = next_direction(direction, decided, decided_before, cell_count);
         let just_decided = to_pass(&env_before, &env, decided, decided_before, cell_count);
-        pass_all(net, question, &mut env, just_decided);
+        if catch_up(net, question, &mut env, just_decided, order) {
+            is_absent = true;
+        }
         decided_before = net.steps();
         env_before = env;
         swept = sweep(net, question, &env, direction);
@@ -149,6 +170,6 @@ pub fn decide_cells(
     RunEnd {
         swept,
         env,
-        direction,
+        next: next_beginning(direction, is_absent, order),
     }
 }

@@ -1,9 +1,10 @@
 //! In which order the sides of `||`s tell each other: a guess, made once for a kernel.
 //!
-//! A sweep goes over the sides of nested `||`s in the order of the text, or against it. Where they
-//! tell each other across the text, a run first looks at them in this order (`lead_begin`,
-//! `lead_resume`). No answer depends on the order: each side that is looked at is swept, and full
-//! sweeps come after it.
+//! A sweep goes over the sides of nested `||`s in the order of the text, or against it, and learns
+//! nothing of what no side emits. A run looks at the sides in this order too (`lead`): first, where
+//! they tell each other across the text, or the run before learned thus that a signal is absent;
+//! and after a sweep that was slow. No answer depends on the order: each side that is looked at is
+//! swept, and full sweeps come after it.
 
 ghost use Rattle.std.specs.Prelude.{◌≡◌, ◌<◌, ◌≤◌, ◌+◌, length};
 ghost use Rattle.est_kernel.specs.Limits.{trap_depth};
@@ -16,8 +17,8 @@ use est_kernel::mask;
 use est_kernel::statement::{Signal, Statement};
 use est_net::net::Net;
 
-/// How often an order has to go against the text, and with it, before a pass in that order is worth
-/// it. Where it does so less often, a few sweeps do.
+/// How often an order has to go against the text, and with it, before each run begins with it.
+/// Where it does so less often, a few sweeps do, if the signals are present.
 const FEW_TURNS: usize = 2;
 
 /// An order of the sides of a `||`, those of a `||` that is its second side among them.
@@ -29,6 +30,8 @@ pub struct SideOrder {
     pub count: usize,
     /// The sides, counted from 0 in the order of the text.
     pub sides: [u8; 64],
+    /// Whether it often goes against the text, and often with it: a few sweeps don't do then.
+    pub is_mixed: bool,
     /// Those that are in the order, a bit for each.
     placed: u64,
     ghost few: { count ≤ 64 },
@@ -101,6 +104,17 @@ impl Uses {
         }
     }
 
+    /// Whether sides read what sides emit.
+    fn tell_each_other(&self) -> bool {
+        let mut reads = 0;
+        let mut emits = 0;
+        for side in 0..self.count {
+            reads = mask::union(reads, self.reads[side]);
+            emits = mask::union(emits, self.emits[side]);
+        }
+        mask::intersection(reads, emits) != 0
+    }
+
     /// Whether a side reads what another emits.
     fn is_told_by(&self, side: usize, other: usize) -> bool
         requires side { side < self.now.count }
@@ -117,6 +131,7 @@ impl SideOrder {
             number,
             count: 0,
             sides: [0; 64],
+            is_mixed: false,
             placed: 0,
         }
     }
@@ -155,11 +170,12 @@ impl SideOrder {
         for side in 0..uses.count {
             order.place(uses, side, 64);
         }
+        order.is_mixed = order.turns();
         order
     }
 
     /// Whether the order often goes against the text, and often with it.
-    fn is_mixed(&self) -> bool {
+    fn turns(&self) -> bool {
         let mut with_text = 0;
         for n in 1..self.count {
             if self.sides[n - 1] < self.sides[n] {
@@ -170,19 +186,27 @@ impl SideOrder {
     }
 }
 
-/// The order of the sides of a `||`, if a pass in that order is worth it.
-fn order_here(net: &Net, s: &Statement, number: usize, traps: usize) -> Option<SideOrder>
+/// The order of the sides of a `||` that tell each other; if it has to be mixed, only one that is.
+fn order_here(
+    net: &Net,
+    s: &Statement,
+    number: usize,
+    traps: usize,
+    only_mixed: bool,
+) -> Option<SideOrder>
     requires fits { FitsMasks s.now }
     requires extents { HasExtents net.now.extents.items number traps s.now }
 {
     let mut uses = Uses::none();
     uses.add(net, s, number, traps);
-    let order = SideOrder::of(&uses, number);
-    if order.is_mixed() && !uses.are_more {
-        Some(order)
-    } else {
-        None
+    if uses.are_more || !uses.tell_each_other() {
+        return None;
     }
+    let order = SideOrder::of(&uses, number);
+    if only_mixed && !order.is_mixed {
+        return None;
+    }
+    Some(order)
 }
 
 /// The number of what follows a statement in the text.
@@ -193,7 +217,7 @@ fn number_past(net: &Net, p: &Statement, number: usize, traps: usize) -> usize
     number + net.extent(number).statements
 }
 
-/// The first order that is worth a pass, in one part and then in another.
+/// The first order in one part, and else in another.
 #[cycle(order_in)]
 fn order_in_two(
     net: &Net,
@@ -202,6 +226,7 @@ fn order_in_two(
     number: usize,
     traps: usize,
     are_sides: bool,
+    only_mixed: bool,
 ) -> Option<SideOrder>
     requires fits { FitsMasks p.now × FitsMasks q.now }
     requires first_extents { HasExtents net.now.extents.items number traps p.now }
@@ -210,14 +235,16 @@ fn order_in_two(
     requires first_traps { traps + trap_depth (term_of p.now) ≤ 62 }
     requires second_traps { traps + trap_depth (term_of q.now) ≤ 62 }
 {
-    match order_in(net, p, number, traps, false) {
+    match order_in(net, p, number, traps, false, only_mixed) {
         Some(order) => Some(order),
-        None => order_in(net, q, number_past(net, p, number, traps), traps, are_sides),
+        None => {
+            let next = number_past(net, p, number, traps);
+            order_in(net, q, next, traps, are_sides, only_mixed)
+        }
     }
 }
 
-/// The first order that is worth a pass, in a statement. `is_side`: it is the second side of a `||`
-/// that was looked at.
+/// The first order in a statement. `is_side`: it is the second side of a `||` that was looked at.
 #[cycle(order_in)]
 fn order_in(
     net: &Net,
@@ -225,6 +252,7 @@ fn order_in(
     number: usize,
     traps: usize,
     is_side: bool,
+    only_mixed: bool,
 ) -> Option<SideOrder>
     requires fits { FitsMasks s.now }
     requires extents { HasExtents net.now.extents.items number traps s.now }
@@ -233,18 +261,18 @@ fn order_in(
     match s {
         Statement::Par(p, q) => {
             if !is_side {
-                let order = order_here(net, s, number, traps);
+                let order = order_here(net, s, number, traps, only_mixed);
                 if order.is_some() {
                     return order;
                 }
             }
-            order_in_two(net, p, q, number + 1, traps, true)
+            order_in_two(net, p, q, number + 1, traps, true, only_mixed)
         }
-        Statement::Seq(p, q) => order_in_two(net, p, q, number + 1, traps, false),
+        Statement::Seq(p, q) => order_in_two(net, p, q, number + 1, traps, false, only_mixed),
         Statement::Suspend(_, p) | Statement::Loop(p) => {
-            order_in(net, p, number + 1, traps, false)
+            order_in(net, p, number + 1, traps, false, only_mixed)
         }
-        Statement::Trap(p) => order_in(net, p, number + 1, traps + 1, false),
+        Statement::Trap(p) => order_in(net, p, number + 1, traps + 1, false, only_mixed),
         Statement::Nothing
         | Statement::Pause(_)
         | Statement::Emit(_)
@@ -254,14 +282,17 @@ fn order_in(
     }
 }
 
-/// The order in which a run first looks at the sides of a `||` of this statement: one without sides
-/// if no such order is worth a pass.
+/// The order in which a run looks at the sides of a `||` of this statement that tell each other,
+/// first where a sweep would follow it badly. One without sides, if there is none.
 pub fn side_order_of(net: &Net, s: &Statement) -> SideOrder
     requires fits { FitsMasks s.now }
     requires extents { HasExtents net.now.extents.items 0 0 s.now }
     requires traps { trap_depth (term_of s.now) ≤ 62 }
 {
-    match order_in(net, s, 0, 0, false) {
+    if let Some(order) = order_in(net, s, 0, 0, false, true) {
+        return order;
+    }
+    match order_in(net, s, 0, 0, false, false) {
         Some(order) => order,
         None => SideOrder::none(0),
     }

@@ -37,7 +37,7 @@ loop-swept-init c =
     c.update_signals-env.ensures.updated in
     record {
       settling = λ others a. round_made unasked _ k x others _ _ _ _ _ _ _ c.requires.apart
-          (c.lead_round.ensures.ready others a
+          (c.lead_round-is_absent.ensures.ready others a
           (start_ready unasked k x others _ _ n _ _ k.closed c.requires.net.size c.in_doubt.ensures.sure
           (subst (λ (z : ℕ). HasEmissions k.root x (bits z)) (sym c.in_doubt.ensures.possible) possible)
           (update_by i unasked inputs _ _ _ _ _ c.requires.apart h others a) (length-replicate n Unknown)))
@@ -52,7 +52,7 @@ loop-swept-init c =
       net = c.update_signals-env-2.ensures.net;
       once = c.update_signals-env-2.ensures.kept
           ∙ (c.sweep-swept.ensures.kept
-          ∙ (c.lead_round.ensures.kept ∙ (c.update_signals-env.ensures.kept ∙ c.clear.ensures.kept)));
+          ∙ (c.lead_round-is_absent.ensures.kept ∙ (c.update_signals-env.ensures.kept ∙ c.clear.ensures.kept)));
     }
 
 pub loop-swept-preserved : goal.loop-swept-preserved
@@ -64,7 +64,7 @@ loop-swept-preserved c =
       settling = λ others a.
           let was = c.loop-swept.invariant.settling others a in
           round_made unasked _ k c.args.question.now.state.now others _ _ _ _ _ _ _ c.requires.apart
-          (c.pass_all.ensures.ready others a was.ready)
+          (c.catch_up.ensures.ready others a was.ready)
           (round_by _ k.interface unasked inputs _ _ _ _ _ _ _ c.requires.apart
           (record {
             mid = _;
@@ -75,7 +75,7 @@ loop-swept-preserved c =
           c.steps-decided-in-loop-swept.ensures.count;
       net = c.update_signals-env-in-loop-swept.ensures.net;
       once = c.update_signals-env-in-loop-swept.ensures.kept
-          ∙ (c.sweep-swept-in-loop-swept.ensures.kept ∙ (c.pass_all.ensures.kept ∙ c.loop-swept.invariant.once));
+          ∙ (c.sweep-swept-in-loop-swept.ensures.kept ∙ (c.catch_up.ensures.kept ∙ c.loop-swept.invariant.once));
     }
 
 pub loop-swept-smaller : goal.loop-swept-smaller
@@ -86,9 +86,9 @@ loop-swept-smaller c =
     let b = was.ready.size in
     let d = was.rising in
     let e = was.counted in
-    let p = c.pass_all.ensures.net.size in
-    let f = decided_within c.pass_all.new.net.cells.items in
-    let more = c.pass_all.ensures.more in
+    let p = c.catch_up.ensures.net.size in
+    let f = decided_within c.catch_up.new.net.cells.items in
+    let more = c.catch_up.ensures.more in
     let count = c.steps-decided_before.ensures.count in
     let g = c.goes_on.ensures.more c.loop-swept-test.true in
     omega arith

@@ -10,7 +10,7 @@ order_in_two-order_in-requires-in-None t c = (
     c.requires.fits.1,
     (
       subst (λ (n : ℕ). HasExtents c.args.net.now.extents.items n c.args.traps c.args.q.now)
-          (sym c.number_past.ensures) c.requires.second_extents,
+          (sym c.number_past-next.ensures) c.requires.second_extents,
       c.requires.second_traps,
     ),
   ),

@@ -1,0 +1,255 @@
+-- The sides of a `||` that was found in a kernel's statement are swept one after another.
+use Rattle.std.specs.Prelude.{◌≡◌, ◌<◌, ◌≤◌, ◌+◌, ◌&&◌, ◌||◌, ℕ, Bool, true, false, List, not}
+use Rattle.std.proofs.Common.{refl, ap, sym, ◌∙◌, arith, inr, subst}
+use Rattle.std.proofs.lemmas.Bool.{and_right, or_parts}
+use Rattle.std.specs.List.{list_any}
+use Rattle.est_kernel.specs.Bits.{bits}
+use Rattle.est_kernel.specs.Interfaces.{emittable}
+use Rattle.est_kernel.specs.Term.{Name, inner, outer}
+use Rattle.est_kernel.specs.declared.kernel.Kernel.{Kernel}
+use Rattle.est_kernel.specs.declared.state.State.{State}
+use Rattle.est_kernel.specs.declared.statement.Statement.{Statement}
+use Rattle.est_meaning.specs.Environments.{Env, verdict}
+use Rattle.est_meaning.specs.Knowledge.{IsBelow, KnowsLess}
+use Rattle.est_meaning.specs.Rounds.{judged_signals}
+use Rattle.est_meaning.specs.Signals.{Signals}
+use Rattle.est_meaning.specs.declared.status.Status.{Status}
+use Rattle.est_meaning.specs.declared.status.Status.TheVariants.{Present, Absent, Unknown}
+use Rattle.est_meaning.proofs.RoundsComeToRest.{judged_within}
+use Rattle.est_cells.proofs.Order.{emits_whole}
+use Rattle.est_cells.proofs.WholeTable.{table_sound}
+use Rattle.est_cells.specs.Tables.{Below, Sheet, emits, is_possible, is_sure, sheet_size}
+use Rattle.est_cells.specs.Whole.{TableBelow, known, sheet_meaning}
+use Rattle.est_net.specs.Cells.{cell_at}
+use Rattle.est_net.proofs.EmissionLists.{emitted_listed}
+use Rattle.est_net.specs.Emissions.{emissions, is_of}
+use Rattle.est_net.specs.Layout.{output_count, sheet_in}
+use Rattle.est_net.specs.declared.emissions.Emission.{Emission}
+use Rattle.est_net.specs.declared.extents.Extent.{Extent}
+use Rattle.est_rounds.specs.Views.{env_of, set_of}
+use Rattle.est_rounds.specs.declared.signal_set.Env.{Env as Known}
+use Rattle.est_rounds.specs.declared.signal_set.SignalSet.{SignalSet}
+use Rattle.est_micro.specs.Inner.Hearing.{Heard}
+use Rattle.est_micro.specs.Inner.Leads.{Leads, SheetChanges, last_of}
+use Rattle.est_micro.specs.Inner.Sides.{IsFound, IsOneOf, IsSideLed}
+use Rattle.est_micro.specs.Parts.{AgreeBut, AreInputsAlone}
+use Rattle.est_micro.specs.Runs.{AreSignalsUpdated, Ready, table_of}
+use Rattle.est_micro.specs.declared.find_begin.Found.{Found}
+use Rattle.est_micro.specs.declared.sides.Side.{Side}
+use Rattle.est_micro.proofs.BegunNodes.{widen}
+use Rattle.est_micro.proofs.Frames.{changes_then}
+use Rattle.est_micro.proofs.PassRounds.{exchange_ready, passed_nothing, ready_by, ready_less, same_output}
+use Rattle.est_micro.proofs.Rounds.{may_be}
+use Rattle.est_micro.proofs.Unasked.{emitted_there, heard_but, opened_less}
+
+-- before a side was swept
+pub leads_begin : (unasked : ℕ → Bool) (k : Kernel) (x : State) (inputs : ℕ → Bool) (cells : List Status) (e : Known)
+    → AreInputsAlone k.interface unasked → Ready unasked k x inputs cells e → Leads k x inputs cells (env_of e)
+leads_begin unasked k x inputs cells e a ready =
+    let knows = ready_less unasked k x inputs cells e a ready in
+    record { sound = ready.sound; less = knows.0; heard = knows.1 }
+
+-- after one was swept
+pub leads_side : (k : Kernel) (x : State) (inputs : ℕ → Bool) (xs : List Extent) (f : Found) (side : Side)
+    (e : Env) (old mid new : List Status) (l m : Env)
+    → IsFound xs true k.root (output_count k.interface) 0 (λ r z. sheet_meaning k.root x z) Present e old f
+    → IsOneOf xs f.place f.statement.now side → IsSideLed f side l m mid new
+    → Leads k x inputs old e → Leads k x inputs mid l → Leads k x inputs new m
+leads_side k x inputs xs f side e old mid new l m found one led start leads =
+    let c = output_count k.interface in
+    let i = k.interface in
+    let last = last_of k x inputs in
+    let M = sheet_meaning k.root x last in
+    let from = found.place.from in
+    let inside = one.from in
+    let at = found.part Present last (inr refl) start.less start.sound.sheet in
+    let after = led.stands true k.root c 0 M last at
+    (record { below = leads.sound.sheet; less = leads.less; heard = leads.heard }) in
+    record {
+      sound = record {
+        outputs = λ n z. subst (λ (v : Status). IsBelow v (last (outer n)))
+            (sym (same_output k mid new n _
+            (record {
+              before = λ j u. led.changes.before j (omega arith);
+              after = led.changes.after;
+              size = led.changes.size;
+              more = led.changes.more;
+              quiet = led.changes.quiet;
+            }) (judged_within i inputs n z) (may_be i inputs n z)))
+            (leads.sound.outputs n z);
+        sheet = after.below;
+      };
+      less = after.less;
+      heard = after.heard;
+    }
+
+pub side_changes : (k : Kernel) (xs : List Extent) (Meant : Status → Env → Sheet true k.root) (f : Found) (side : Side)
+    (e : Env) (old mid new : List Status) (l m : Env)
+    → IsFound xs true k.root (output_count k.interface) 0 Meant Present e old f
+    → IsOneOf xs f.place f.statement.now side → IsSideLed f side l m mid new → SheetChanges k mid new
+side_changes k xs Meant f side e old mid new l m found one led =
+    let a = found.place.from in
+    let b = found.place.within in
+    let c = one.from in
+    let d = one.within in
+    widen side.cell (output_count k.interface) _ _ mid new (omega arith) (omega arith) led.changes
+
+pub sheet_then : (k : Kernel) (old mid new : List Status) → SheetChanges k old mid → SheetChanges k mid new
+    → SheetChanges k old new
+sheet_then k old mid new h g =
+    changes_then _ _ _ _ _ _ old mid new (omega arith) (omega arith) (omega arith) (omega arith) h g
+
+-- what no emission may emit is absent
+both_false : (a b : Bool) → a ≡ false → b ≡ false → verdict a b ≡ Absent
+both_false false false x y = refl
+both_false true b x y = let z : true ≡ false = x in cc
+both_false false true x y = let z : true ≡ false = y in cc
+
+pub absent_below : (k : Kernel) (x : State) (inputs : ℕ → Bool) (cells : List Status) (l : Env) (n : ℕ)
+    → Leads k x inputs cells l → (emittable k.interface n && not (inputs n)) ≡ true
+    → emits is_sure true k.root (sheet_in (cell_at cells) true k.root (output_count k.interface) 0) (outer n) ≡ false
+    → emits is_possible true k.root (sheet_in (cell_at cells) true k.root (output_count k.interface) 0) (outer n)
+    ≡ false
+    → IsBelow Absent (last_of k x inputs (outer n))
+absent_below k x inputs cells l n leads has sure possible =
+    let i = k.interface in
+    let j = judged_signals i inputs in
+    let g = table_sound j (judged_within i inputs) inputs k.root x (table_of i k.root cells) leads.sound in
+    subst (λ (v : Status). IsBelow v (last_of k x inputs (outer n))) (both_false _ _ sure possible) (g.outputs n has)
+
+-- where l is changed in signals that are absent alone
+pub leads_by : (k : Kernel) (x : State) (inputs : ℕ → Bool) (cells : List Status) (l m : Env)
+    → ((n : Name) → m n ≡ Unknown → l n ≡ Unknown) → KnowsLess m (last_of k x inputs)
+    → Leads k x inputs cells l → Leads k x inputs cells m
+leads_by k x inputs cells l m f less leads = record {
+  sound = leads.sound;
+  less = less;
+  heard = λ n i j. leads.heard n i (f n j);
+}
+
+-- and then the run goes on
+pub leads_ready : (unasked : ℕ → Bool) (k : Kernel) (x : State) (inputs : ℕ → Bool) (e : Known) (old new : List Status)
+    (l : Env) → SheetChanges k old new → Leads k x inputs new l → Ready unasked k x inputs old e
+    → Ready unasked k x inputs new e
+leads_ready unasked k x inputs e old new l change leads ready =
+    ready_by unasked k x inputs e old new (record {
+      size = change.size;
+      sound = leads.sound;
+      same = λ n z o. same_output k old new n _ change z o;
+    }) ready
+
+-- what is known, but that these signals are absent
+pub both_of : (f : Bool → Bool → Bool) {a b x y : Bool} → a ≡ x → b ≡ y → f a b ≡ f x y
+both_of f z w = rw (z, w) refl
+
+pub both_true : (a b : Bool) → (a && b) ≡ true → (a ≡ true) × (b ≡ true)
+both_true true b h = (refl, h)
+both_true false b h = let z : false ≡ true = h in cc
+
+opposite_of : (a : Bool) → not a ≡ true → a ≡ false
+opposite_of false h = refl
+opposite_of true h = let z : false ≡ true = h in cc
+
+no_more : (a b : Bool) → (a ≡ true → b ≡ true) → b ≡ false → a ≡ false
+no_more false b f h = refl
+no_more true b f h = let z : true ≡ false = sym (f refl) ∙ h in cc
+
+-- a signal that is looked at: its emission decides whether it is present
+pub record IsAsked (emitted present unasked offered : Bool) : Type 0 where
+  pub emitted_is : emitted ≡ true
+  pub present_is : present ≡ false
+  pub unasked_is : unasked ≡ false
+  pub offered_is : offered ≡ false
+
+pub is_asked : (signal emitted possible present unasked offered : Bool)
+    → ((signal && (emitted && possible)) && not (present || (unasked || offered))) ≡ true
+    → IsAsked emitted present unasked offered
+is_asked signal emitted possible present unasked offered h =
+    let a = both_true _ _ h in
+    let b = both_true _ _ a.0 in
+    let c = both_true _ _ b.1 in
+    let d = or_parts _ _ (opposite_of _ a.1) in
+    let e = or_parts _ _ d.1 in
+    record { emitted_is = c.0; present_is = d.0; unasked_is = e.0; offered_is = e.1 }
+
+pub silent_leads : (k : Kernel) (x : State) (inputs : ℕ → Bool) (cells : List Status) (e m : Known)
+    (silent : ℕ → Bool) → ((n : ℕ) → silent n ≡ true → IsBelow Absent (last_of k x inputs (outer n)))
+    → ((n : ℕ) → silent n ≡ true → bits e.present.interface n ≡ false) → m.present ≡ e.present
+    → ((n : ℕ) → bits m.possible.interface n ≡ (bits e.possible.interface n && not (silent n)))
+    → m.possible.local ≡ e.possible.local → Leads k x inputs cells (env_of e) → Leads k x inputs cells (env_of m)
+unfolding env_of set_of
+silent_leads k x inputs cells e m silent absent free same less local leads =
+    leads_by k x inputs cells (env_of e) (env_of m)
+    (elim [
+      | outer n ↦ λ z. doubt n (silent n) refl z
+      | inner n ↦ λ z. sym (locals n) ∙ z
+    ])
+    (elim [
+      | outer n ↦ below n (silent n) refl
+      | inner n ↦ subst (λ (v : Status). IsBelow v (last_of k x inputs (inner n))) (sym (locals n))
+          (leads.less (inner n))
+    ]) leads
+  where
+    and_on : (b : Bool) → (b && true) ≡ b
+    and_on true = refl
+    and_on false = refl
+
+    locals : (n : ℕ) → env_of m (inner n) ≡ env_of e (inner n)
+    locals n =
+        ap (λ (s : SignalSet). verdict (bits s.local n) (bits m.possible.local n)) same
+        ∙ ap (λ (b : ℕ). verdict (bits e.present.local n) (bits b n)) local
+
+    stays : (n : ℕ) → silent n ≡ false → env_of m (outer n) ≡ env_of e (outer n)
+    stays n z =
+        ap (λ (s : SignalSet). verdict (bits s.interface n) (bits m.possible.interface n)) same
+        ∙ ap (verdict (bits e.present.interface n))
+        (less n ∙ (ap (λ (b : Bool). bits e.possible.interface n && not b) z ∙ and_on (bits e.possible.interface n)))
+
+    goes : (n : ℕ) → silent n ≡ true → env_of m (outer n) ≡ Absent
+    goes n z =
+        ap (λ (s : SignalSet). verdict (bits s.interface n) (bits m.possible.interface n)) same
+        ∙ both_false _ _ (free n z)
+        (less n ∙ (ap (λ (b : Bool). bits e.possible.interface n && not b) z
+            ∙ and_right (bits e.possible.interface n) false refl))
+
+    doubt : (n : ℕ) (b : Bool) → silent n ≡ b → env_of m (outer n) ≡ Unknown → env_of e (outer n) ≡ Unknown
+    doubt n true i z = let w : Absent ≡ Unknown = sym (goes n i) ∙ z in cc
+    doubt n false i z = sym (stays n i) ∙ z
+
+    below : (n : ℕ) (b : Bool) → silent n ≡ b → IsBelow (env_of m (outer n)) (last_of k x inputs (outer n))
+    below n true i =
+        subst (λ (v : Status). IsBelow v (last_of k x inputs (outer n))) (sym (goes n i)) (absent n i)
+    below n false i =
+        subst (λ (v : Status). IsBelow v (last_of k x inputs (outer n))) (sym (stays n i)) (leads.less (outer n))
+
+-- that no emission may emit
+pub silent_absent : (k : Kernel) (x : State) (inputs : ℕ → Bool) (cells : List Status) (l : Env) (n : ℕ)
+    (listed : List Emission) → listed ≡ emissions true k.root (output_count k.interface) 0 → Leads k x inputs cells l
+    → emittable k.interface n ≡ true → inputs n ≡ false
+    → not (list_any (is_of is_possible (cell_at cells) n) listed) ≡ true
+    → IsBelow Absent (last_of k x inputs (outer n))
+silent_absent k x inputs cells l n listed z leads emitted offered silent =
+    let T = sheet_in (cell_at cells) true k.root (output_count k.interface) 0 in
+    let possible : emits is_possible true k.root T (outer n) ≡ false
+    = emitted_listed is_possible n true k.root (output_count k.interface) 0 (cell_at cells)
+    ∙ (ap (λ (xs : List Emission). list_any (is_of is_possible (cell_at cells) n) xs) (sym z) ∙ opposite_of _ silent) in
+    absent_below k x inputs cells l n leads (rw (emitted, offered) refl)
+    (no_more _ _ (emits_whole true k.root T (outer n)) possible) possible
+
+-- and once the cells of the signals were told
+pub listed_ready : (unasked : ℕ → Bool) (k : Kernel) (x : State) (inputs sure possible : ℕ → Bool) (e f : Known)
+    (old new : List Status) (listed : List Emission) → listed ≡ emissions true k.root (output_count k.interface) 0
+    → Ready unasked k x inputs old e
+    → ((n : ℕ) → sure n ≡ list_any (is_of is_sure (cell_at old) n) listed)
+    → ((n : ℕ) → possible n ≡ list_any (is_of is_possible (cell_at old) n) listed)
+    → AreSignalsUpdated k.interface unasked inputs sure possible old new f → Ready unasked k x inputs new f
+listed_ready unasked k x inputs sure possible e f old new listed z ready a b h =
+    let T = sheet_in (cell_at old) true k.root (output_count k.interface) 0 in
+    let says : (pick : Status → Bool) (n : ℕ) → list_any (is_of pick (cell_at old) n) listed
+    ≡ emits pick true k.root T (outer n)
+    = λ pick n. ap (λ (xs : List Emission). list_any (is_of pick (cell_at old) n) xs) z
+    ∙ sym (emitted_listed pick n true k.root (output_count k.interface) 0 (cell_at old)) in
+    exchange_ready unasked k x inputs sure possible e f old old new ready
+    (passed_nothing unasked k x inputs e old ready)
+    (λ n. inr (ap (λ (v : Bool). verdict v (possible n)) (a n ∙ says is_sure n)
+    ∙ ap (λ (v : Bool). verdict (emits is_sure true k.root T (outer n)) v) (b n ∙ says is_possible n))) h
