@@ -90,7 +90,7 @@ found_in xs main s c t Whole g own p d u Meant h l cells f x y step k =
 -- in a statement that is begun
 pub found_par_first : (xs : List Extent) (main : Bool) (a : _) (p : Statement) (b : _) (q : Statement) (c t : ℕ)
     (g : Status) (l : Env) (cells : List Status) (f : Found)
-        → IsFound xs main p (c + t + 3) t (begun main p) g l cells f
+    → IsFound xs main p (c + t + 3) t (begun main p) g l cells f
     → IsFound xs main (Par' a p b q) c t (begun main (Par' a p b q)) g l cells f
 found_par_first xs main a p b q c t g l cells f k =
     found_in xs main (Par' a p b q) c t (begun main (Par' a p b q)) g main p (c + t + 3) t (begun main p) g l cells f
@@ -109,7 +109,7 @@ found_par_second xs main a p b q c t d g l cells f z k =
 
 pub found_seq_first : (xs : List Extent) (main : Bool) (a : _) (p : Statement) (b : _) (q : Statement) (c t : ℕ)
     (g : Status) (l : Env) (cells : List Status) (f : Found)
-        → IsFound xs main p (c + t + 3) t (begun main p) g l cells f
+    → IsFound xs main p (c + t + 3) t (begun main p) g l cells f
     → IsFound xs main (Seq' a p b q) c t (begun main (Seq' a p b q)) g l cells f
 found_seq_first xs main a p b q c t g l cells f k =
     found_in xs main (Seq' a p b q) c t (begun main (Seq' a p b q)) g main p (c + t + 3) t (begun main p) g l cells f
@@ -148,7 +148,7 @@ pub found_suspend : (xs : List Extent) (main : Bool) (y a : _) (p : Statement) (
     → IsFound xs main (Suspend' y a p) c t (begun main (Suspend' y a p)) g l cells f
 found_suspend xs main y a p c t traps g l cells f z k =
     found_in xs main (Suspend' y a p) c t (begun main (Suspend' y a p)) g main p (c + t + 3) t
-        (begun main p) g l cells f
+    (begun main p) g l cells f
     (omega arith) (omega arith)
     (λ r e i j o. record { reach = r; below = i; part = suspend_part main y a p c t r e })
     (subst (λ (n : ℕ). IsFound xs main p (c + t + 3) n (begun main p) g l cells f) z k)
@@ -183,7 +183,7 @@ pub found_par_first_on : (xs : List Extent) (bits : ℕ → Bool) (a : _) (p : S
     → IsFound xs true (Par' a p b q) c t (resumed (Par' a p b q) bits) g l cells f
 found_par_first_on xs bits a p b q c t g l cells f z k =
     found_in xs true (Par' a p b q) c t (resumed (Par' a p b q) bits) g true p (c + t + 3) t
-        (resumed p bits) g l cells f
+    (resumed p bits) g l cells f
     (omega arith) (omega arith)
     (λ r e i j o. record { reach = r; below = i; part = par_first_on bits a p b q c t r e z }) k
 
@@ -203,7 +203,7 @@ pub found_seq_first_on : (xs : List Extent) (bits : ℕ → Bool) (a : _) (p : S
     → IsFound xs true (Seq' a p b q) c t (resumed (Seq' a p b q) bits) g l cells f
 found_seq_first_on xs bits a p b q c t g l cells f z k =
     found_in xs true (Seq' a p b q) c t (resumed (Seq' a p b q) bits) g true p (c + t + 3) t
-        (resumed p bits) g l cells f
+    (resumed p bits) g l cells f
     (omega arith) (omega arith)
     (λ r e i j o. record { reach = r; below = i; part = seq_first_on bits a p b q c t r e z }) k
 
@@ -268,7 +268,7 @@ pub found_trap_on : (xs : List Extent) (bits : ℕ → Bool) (a : _) (p : Statem
     → IsFound xs true (Trap' a p) c t (resumed (Trap' a p) bits) g l cells f
 found_trap_on xs bits a p c t g l cells f k =
     found_in xs true (Trap' a p) c t (resumed (Trap' a p) bits) g true p (c + t + 3) (t + 1)
-        (resumed p bits) g l cells f
+    (resumed p bits) g l cells f
     (omega arith) (omega arith)
     (λ r e i j o. record { reach = r; below = i; part = trap_on bits a p c t r e }) k
 

@@ -210,7 +210,7 @@ silent_leads k x inputs cells e m silent absent free same less local leads =
         ap (λ (s : SignalSet). verdict (bits s.interface n) (bits m.possible.interface n)) same
         ∙ both_false _ _ (free n z)
         (less n ∙ (ap (λ (b : Bool). bits e.possible.interface n && not b) z
-            ∙ and_right (bits e.possible.interface n) false refl))
+        ∙ and_right (bits e.possible.interface n) false refl))
 
     doubt : (n : ℕ) (b : Bool) → silent n ≡ b → env_of m (outer n) ≡ Unknown → env_of e (outer n) ≡ Unknown
     doubt n true i z = let w : Absent ≡ Unknown = sym (goes n i) ∙ z in cc

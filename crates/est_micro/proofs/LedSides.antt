@@ -92,7 +92,7 @@ side_led xs f side l k old new w z one sw y = record {
       let inside = subst (λ (o : Option (Bor PauseSet)). IfNone o (IsPart main s c t M f.place.main p f.place.cell
       f.place.traps (begun f.place.main p at.reach e))) z at.begun in
       part_swept f.place.direction main s c t M f.place.main side.statement.now side.cell f.place.traps f.gate at.reach
-          e
+      e
       l k old new w
       (part_then main s c t M f.place.main p f.place.cell f.place.traps (begun f.place.main p at.reach e) f.place.main
       side.statement.now side.cell f.place.traps (begun f.place.main side.statement.now at.reach e) inside

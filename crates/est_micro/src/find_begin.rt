@@ -78,7 +78,7 @@ fn find_par<'a>(
         (env_of env.now) net.old.cells.items net.new.cells.items }
     ensures found { (a b : _) → IfSome result (IsFound net.old.extents.items
         at.now.main (Par' a p.now b q.now) at.now.cell at.now.traps
-            (begun at.now.main (Par' a p.now b q.now)) gate
+        (begun at.now.main (Par' a p.now b q.now)) gate
         (env_of env.now) net.new.cells.items) }
     ensures kept { kept net.new ≡ kept net.old }
 {
@@ -129,7 +129,7 @@ fn find_seq<'a>(
         (env_of env.now) net.old.cells.items net.new.cells.items }
     ensures found { (a b : _) → IfSome result (IsFound net.old.extents.items
         at.now.main (Seq' a p.now b q.now) at.now.cell at.now.traps
-            (begun at.now.main (Seq' a p.now b q.now)) gate
+        (begun at.now.main (Seq' a p.now b q.now)) gate
         (env_of env.now) net.new.cells.items) }
     ensures kept { kept net.new ≡ kept net.old }
 {

@@ -215,7 +215,7 @@ fn find_par_on<'a>(
         (env_of env.now) net.old.cells.items net.new.cells.items }
     ensures found { (a b : _) → IfSome result (IsFound net.old.extents.items
         true (Par' a p.now b q.now) at.now.cell at.now.traps
-            (resumed (Par' a p.now b q.now) (pauses_of pauses.now)) run
+        (resumed (Par' a p.now b q.now) (pauses_of pauses.now)) run
         (env_of env.now) net.new.cells.items) }
     ensures kept { kept net.new ≡ kept net.old }
 {
@@ -268,7 +268,7 @@ fn find_next<'a>(
         (env_of env.now) net.old.cells.items net.new.cells.items }
     ensures found { (a b : _) → IfSome result (IsFound net.old.extents.items
         true (Seq' a p.now b q.now) at.now.cell at.now.traps
-            (resumed (Seq' a p.now b q.now) (pauses_of pauses.now)) run
+        (resumed (Seq' a p.now b q.now) (pauses_of pauses.now)) run
         (env_of env.now) net.new.cells.items) }
     ensures kept { kept net.new ≡ kept net.old }
 {
@@ -319,7 +319,7 @@ fn find_first_on<'a>(
         (env_of env.now) net.old.cells.items net.new.cells.items }
     ensures found { (a b : _) → IfSome result (IsFound net.old.extents.items
         true (Seq' a p.now b q.now) at.now.cell at.now.traps
-            (resumed (Seq' a p.now b q.now) (pauses_of pauses.now)) run
+        (resumed (Seq' a p.now b q.now) (pauses_of pauses.now)) run
         (env_of env.now) net.new.cells.items) }
     ensures kept { kept net.new ≡ kept net.old }
 {
@@ -366,7 +366,7 @@ fn find_seq_on<'a>(
         (env_of env.now) net.old.cells.items net.new.cells.items }
     ensures found { (a b : _) → IfSome result (IsFound net.old.extents.items
         true (Seq' a p.now b q.now) at.now.cell at.now.traps
-            (resumed (Seq' a p.now b q.now) (pauses_of pauses.now)) run
+        (resumed (Seq' a p.now b q.now) (pauses_of pauses.now)) run
         (env_of env.now) net.new.cells.items) }
     ensures kept { kept net.new ≡ kept net.old }
 {
@@ -416,7 +416,7 @@ fn find_loop_on<'a>(
         (env_of env.now) net.old.cells.items net.new.cells.items }
     ensures found { (a : _) → IfSome result (IsFound net.old.extents.items
         true (Loop' a p.now) at.now.cell at.now.traps
-            (resumed (Loop' a p.now) (pauses_of pauses.now)) run
+        (resumed (Loop' a p.now) (pauses_of pauses.now)) run
         (env_of env.now) net.new.cells.items) }
     ensures kept { kept net.new ≡ kept net.old }
 {
@@ -468,7 +468,7 @@ fn find_trap_on<'a>(
         (env_of env.now) net.old.cells.items net.new.cells.items }
     ensures found { (a : _) → IfSome result (IsFound net.old.extents.items
         true (Trap' a p.now) at.now.cell at.now.traps
-            (resumed (Trap' a p.now) (pauses_of pauses.now)) run
+        (resumed (Trap' a p.now) (pauses_of pauses.now)) run
         (env_of env.now) net.new.cells.items) }
     ensures kept { kept net.new ≡ kept net.old }
 {
@@ -508,7 +508,7 @@ fn find_suspend_on<'a>(
     ensures found { (t a : _) → asked ≡ status_of (env_of env.now) (query_of t)
         → IfSome result (IsFound net.old.extents.items
         true (Suspend' t a p.now) at.now.cell at.now.traps
-            (resumed (Suspend' t a p.now) (pauses_of pauses.now)) run
+        (resumed (Suspend' t a p.now) (pauses_of pauses.now)) run
         (env_of env.now) net.new.cells.items) }
     ensures kept { kept net.new ≡ kept net.old }
 {

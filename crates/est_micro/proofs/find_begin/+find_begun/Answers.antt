@@ -112,29 +112,29 @@ find_parts-returns-in-Trap-clause-passes t c =
 pub find_par-returns-then-is_inside-clause-found : goal.find_par-returns-then-is_inside-clause-found
 find_par-returns-then-is_inside-clause-found t c = λ a b.
     some_too c.find_begun.result
-        (λ f k. found_par_first c.args.net.now.extents.items c.args.at.now.main a c.args.p.now b
+    (λ f k. found_par_first c.args.net.now.extents.items c.args.at.now.main a c.args.p.now b
     c.args.q.now c.args.at.now.cell c.args.at.now.traps c.args.gate (env_of c.args.env.now) _ f k)
-        c.find_begun.ensures.found
+    c.find_begun.ensures.found
 
 pub find_par-returns-clause-found : goal.find_par-returns-clause-found
 find_par-returns-clause-found t c = λ a b.
     some_too c.find_begun-2.result
-        (λ f k. found_par_second c.args.net.now.extents.items c.args.at.now.main a c.args.p.now b
+    (λ f k. found_par_second c.args.net.now.extents.items c.args.at.now.main a c.args.p.now b
     c.args.q.now c.args.at.now.cell c.args.at.now.traps c.past.result c.args.gate
-        (env_of c.args.env.now) _ f c.past.ensures k)
+    (env_of c.args.env.now) _ f c.past.ensures k)
     c.find_begun-2.ensures.found
 
 pub find_seq-returns-then-is_inside-clause-found : goal.find_seq-returns-then-is_inside-clause-found
 find_seq-returns-then-is_inside-clause-found t c = λ a b.
     some_too c.find_begun.result
-        (λ f k. found_seq_first c.args.net.now.extents.items c.args.at.now.main a c.args.p.now b
+    (λ f k. found_seq_first c.args.net.now.extents.items c.args.at.now.main a c.args.p.now b
     c.args.q.now c.args.at.now.cell c.args.at.now.traps c.args.gate (env_of c.args.env.now) _ f k)
-        c.find_begun.ensures.found
+    c.find_begun.ensures.found
 
 pub find_seq-returns-clause-found : goal.find_seq-returns-clause-found
 find_seq-returns-clause-found t c = λ a b.
     some_too c.find_begun-2.result
-        (λ f k. found_seq_second c.args.net.now.extents.items c.args.at.now.main a c.args.p.now b
+    (λ f k. found_seq_second c.args.net.now.extents.items c.args.at.now.main a c.args.p.now b
     c.args.q.now c.args.at.now.cell c.args.at.now.traps c.past.result c.args.gate _ (env_of c.args.env.now) _ _ f
     c.past.ensures c.status-ends.ensures c.find_begun-2.ensures.passes.changes
     (found_kept _ _ c.args.at.now.main c.args.q.now c.past.result c.args.at.now.traps
@@ -145,19 +145,19 @@ pub find_body-returns-clause-found_suspended : goal.find_body-returns-clause-fou
 find_body-returns-clause-found_suspended t c = λ y a w.
     some_too c.find_begun.result (λ f k. found_suspend c.args.net.now.extents.items c.args.at.now.main y a c.args.p.now
     c.args.at.now.cell c.args.at.now.traps c.args.traps c.args.gate (env_of c.args.env.now) _ f w k)
-        c.find_begun.ensures.found
+    c.find_begun.ensures.found
 
 pub find_body-returns-clause-found_in_loop : goal.find_body-returns-clause-found_in_loop
 find_body-returns-clause-found_in_loop t c = λ a w.
     some_too c.find_begun.result (λ f k. found_loop c.args.net.now.extents.items c.args.at.now.main a c.args.p.now
     c.args.at.now.cell c.args.at.now.traps c.args.traps c.args.gate (env_of c.args.env.now) _ f w k)
-        c.find_begun.ensures.found
+    c.find_begun.ensures.found
 
 pub find_body-returns-clause-found_in_trap : goal.find_body-returns-clause-found_in_trap
 find_body-returns-clause-found_in_trap t c = λ a w.
     some_too c.find_begun.result (λ f k. found_trap c.args.net.now.extents.items c.args.at.now.main a c.args.p.now
     c.args.at.now.cell c.args.at.now.traps c.args.traps c.args.gate (env_of c.args.env.now) _ f w k)
-        c.find_begun.ensures.found
+    c.find_begun.ensures.found
 
 pub find_parts-returns-in-Par-clause-found : goal.find_parts-returns-in-Par-clause-found
 find_parts-returns-in-Par-clause-found t c =

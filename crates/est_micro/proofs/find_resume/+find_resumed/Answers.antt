@@ -102,44 +102,44 @@ find_loop_on-goes_on-requires t c =
 pub find_par_on-returns-then-is_inside-clause-found : goal.find_par_on-returns-then-is_inside-clause-found
 find_par_on-returns-then-is_inside-clause-found t c = λ a b.
     some_too c.find_side_on.result
-        (λ f k. found_par_first_on c.args.net.now.extents.items (pauses_of c.args.pauses.now) a c.args.p.now b
+    (λ f k. found_par_first_on c.args.net.now.extents.items (pauses_of c.args.pauses.now) a c.args.p.now b
     c.args.q.now c.args.at.now.cell c.args.at.now.traps c.args.run (env_of c.args.env.now) _ f k.live k.found)
-        c.find_side_on.ensures.found
+    c.find_side_on.ensures.found
 
 pub find_par_on-returns-clause-found : goal.find_par_on-returns-clause-found
 find_par_on-returns-clause-found t c = λ a b.
     some_too c.find_side_on-2.result
-        (λ f k. found_par_second_on c.args.net.now.extents.items (pauses_of c.args.pauses.now) a c.args.p.now b
+    (λ f k. found_par_second_on c.args.net.now.extents.items (pauses_of c.args.pauses.now) a c.args.p.now b
     c.args.q.now c.args.at.now.cell c.args.at.now.traps c.past.result c.args.run (env_of c.args.env.now) _ f
     (rw c.requires.main at c.past.ensures) k.live k.found) c.find_side_on-2.ensures.found
 
 pub find_first_on-returns-clause-found : goal.find_first_on-returns-clause-found
 find_first_on-returns-clause-found t c = λ a b.
     some_too c.find_resumed.result
-        (λ f k. found_seq_first_on c.args.net.now.extents.items (pauses_of c.args.pauses.now) a c.args.p.now b
+    (λ f k. found_seq_first_on c.args.net.now.extents.items (pauses_of c.args.pauses.now) a c.args.p.now b
     c.args.q.now c.args.at.now.cell c.args.at.now.traps c.args.run (env_of c.args.env.now) _ f c.requires.live k)
-        c.find_resumed.ensures.found
+    c.find_resumed.ensures.found
 
 pub find_seq_on-returns-clause-found : goal.find_seq_on-returns-clause-found
 find_seq_on-returns-clause-found t c = λ a b.
     some_too c.find_resumed.result
-        (λ f k. found_seq_second_on c.args.net.now.extents.items (pauses_of c.args.pauses.now) a c.args.p.now b
+    (λ f k. found_seq_second_on c.args.net.now.extents.items (pauses_of c.args.pauses.now) a c.args.p.now b
     c.args.q.now c.args.at.now.cell c.args.at.now.traps c.past.result c.args.run (env_of c.args.env.now) _ f
     (rw c.requires.main at c.past.ensures) (sym c.is_live.ensures ∙ c.if-is_live.false)
     (found_kept _ _ true c.args.q.now c.past.result c.args.at.now.traps
-        (resumed c.args.q.now (pauses_of c.args.pauses.now))
+    (resumed c.args.q.now (pauses_of c.args.pauses.now))
     c.args.run (env_of c.args.env.now) _ f c.visit.ensures.kept k)) c.find_resumed.ensures.found
 
 pub find_loop_on-returns-then-goes_on-clause-found : goal.find_loop_on-returns-then-goes_on-clause-found
 find_loop_on-returns-then-goes_on-clause-found t c = λ a.
     some_too c.find_resumed.result
-        (λ f k. found_loop_on c.args.net.now.extents.items (pauses_of c.args.pauses.now) a c.args.p.now
+    (λ f k. found_loop_on c.args.net.now.extents.items (pauses_of c.args.pauses.now) a c.args.p.now
     c.args.at.now.cell c.args.at.now.traps c.args.run (env_of c.args.env.now) _ f k) c.find_resumed.ensures.found
 
 pub find_loop_on-returns-clause-found : goal.find_loop_on-returns-clause-found
 find_loop_on-returns-clause-found t c = λ a.
     some_too c.find_begun.result
-        (λ f k. found_again_on c.args.net.now.extents.items (pauses_of c.args.pauses.now) a c.args.p.now
+    (λ f k. found_again_on c.args.net.now.extents.items (pauses_of c.args.pauses.now) a c.args.p.now
     c.args.at.now.cell c.args.at.now.traps c.past.result c.args.run _ (env_of c.args.env.now) _ _ f
     (rw c.requires.main at c.past.ensures) c.sweep_to_end-ends.ensures.ends c.find_begun.ensures.passes.changes
     (found_kept _ _ false c.args.p.now c.past.result c.args.at.now.traps (begun false c.args.p.now) _
@@ -148,13 +148,13 @@ find_loop_on-returns-clause-found t c = λ a.
 pub find_trap_on-returns-clause-found : goal.find_trap_on-returns-clause-found
 find_trap_on-returns-clause-found t c = λ a.
     some_too c.find_resumed.result
-        (λ f k. found_trap_on c.args.net.now.extents.items (pauses_of c.args.pauses.now) a c.args.p.now
+    (λ f k. found_trap_on c.args.net.now.extents.items (pauses_of c.args.pauses.now) a c.args.p.now
     c.args.at.now.cell c.args.at.now.traps c.args.run (env_of c.args.env.now) _ f k) c.find_resumed.ensures.found
 
 pub find_suspend_on-returns-clause-found : goal.find_suspend_on-returns-clause-found
 find_suspend_on-returns-clause-found t c = λ y a z.
     some_too c.find_resumed.result
-        (λ f k. found_suspend_on c.args.net.now.extents.items (pauses_of c.args.pauses.now) y a c.args.p.now
+    (λ f k. found_suspend_on c.args.net.now.extents.items (pauses_of c.args.pauses.now) y a c.args.p.now
     c.args.at.now.cell c.args.at.now.traps c.args.run c.and-inside.result (env_of c.args.env.now) _ f
     (c.and-inside.ensures ∙ ap (and_status c.args.run) (c.opposite.ensures ∙ ap opposite z)) k)
     c.find_resumed.ensures.found

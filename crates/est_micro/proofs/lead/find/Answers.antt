@@ -57,7 +57,7 @@ returns-in-Done-clause-passes c =
 pub returns-in-Fresh-clause-found : goal.returns-in-Fresh-clause-found
 returns-in-Fresh-clause-found c =
     rw c.in-Fresh.is
-        (some_too c.find_begun.result (λ f k. fresh_found c.args.net.now.extents.items c.args.question.now.kernel.now
+    (some_too c.find_begun.result (λ f k. fresh_found c.args.net.now.extents.items c.args.question.now.kernel.now
     (env_of c.args.env.now) _ _ _ f c.root-root.ensures (c.output_count.ensures ∙ c.requires.net.outputs) k)
     c.find_begun.ensures.found)
 
