@@ -9,7 +9,7 @@ and a third go on from a pause in each part, and RINGS of rings of 4 to 32 cells
 `bench/worklist.c`. Both have to decide as many cells and to give one sum of outputs; else the script ends with 1.
 
 Then it prints the instructions an instant of relays of 16, 32 and 63 signals and of rings of 8, 16 and 32 cells, by callgrind: in order, and
-the mean of a few random orders, and how many times as many these are.
+the mean of a few random orders, and how many times as many these are. Some of the relays never begin.
 """
 import pathlib
 import random
@@ -27,7 +27,7 @@ COUNTED = 3  # random orders whose instructions are counted
 KINDS = ("sure", "asked", "paused")
 
 
-def relay(count, kind, shuffle):
+def relay(count, kind, shuffle, masks=(0, 1)):
     """A relay of this many signals: the first is surely emitted, or where an input is present, or after a pause as the others are."""
     parts = tellers(count)
     if kind == "asked":
@@ -36,7 +36,7 @@ def relay(count, kind, shuffle):
         parts = [loop(PAUSE, part) for part in parts]
     shuffle(parts)
     body = par(*parts) if kind == "paused" else loop(par(*parts), PAUSE)
-    return ["I"], names("O", count), body, [0, 1]
+    return ["I"], names("O", count), body, list(masks)
 
 
 def ring(count, shuffle):
@@ -101,6 +101,8 @@ def main(words):
         print(f"{relays} orders of relays and {rings} of rings: no difference", flush=True)
         for count in (16, 32, 63):
             print_row(f"relay of {count}", lambda shuffle, count=count: relay(count, "sure", shuffle), folder, built)
+        for count in (16, 32, 63):
+            print_row(f"relay of {count} that never begins", lambda shuffle, count=count: relay(count, "asked", shuffle, [0]), folder, built)
         for count in (32, 63):
             print_row(f"relay of {count} from pauses", lambda shuffle, count=count: relay(count, "paused", shuffle), folder, built)
         for count in (8, 16, 32):
