@@ -1,25 +1,23 @@
 -- The sides of a `||` that was found in a kernel's statement are swept one after another.
-use Rattle.std.specs.Prelude.{◌≡◌, ◌<◌, ◌≤◌, ◌+◌, ◌&&◌, ◌||◌, ℕ, Bool, true, false, List, not}
+use Rattle.std.specs.Prelude.{◌≡◌, ◌&&◌, ◌||◌, ℕ, Bool, true, false, List, not}
 use Rattle.std.proofs.Common.{refl, ap, sym, ◌∙◌, arith, inr, subst}
-use Rattle.std.proofs.lemmas.Bool.{and_right, or_parts}
+use Rattle.std.proofs.lemmas.Bool.{and_right}
 use Rattle.std.specs.List.{list_any}
 use Rattle.est_kernel.specs.Bits.{bits}
 use Rattle.est_kernel.specs.Interfaces.{emittable}
 use Rattle.est_kernel.specs.Term.{Name, inner, outer}
 use Rattle.est_kernel.specs.declared.kernel.Kernel.{Kernel}
 use Rattle.est_kernel.specs.declared.state.State.{State}
-use Rattle.est_kernel.specs.declared.statement.Statement.{Statement}
 use Rattle.est_meaning.specs.Environments.{Env, verdict}
 use Rattle.est_meaning.specs.Knowledge.{IsBelow, KnowsLess}
 use Rattle.est_meaning.specs.Rounds.{judged_signals}
-use Rattle.est_meaning.specs.Signals.{Signals}
 use Rattle.est_meaning.specs.declared.status.Status.{Status}
 use Rattle.est_meaning.specs.declared.status.Status.TheVariants.{Present, Absent, Unknown}
 use Rattle.est_meaning.proofs.RoundsComeToRest.{judged_within}
 use Rattle.est_cells.proofs.Order.{emits_whole}
 use Rattle.est_cells.proofs.WholeTable.{table_sound}
-use Rattle.est_cells.specs.Tables.{Below, Sheet, emits, is_possible, is_sure, sheet_size}
-use Rattle.est_cells.specs.Whole.{TableBelow, known, sheet_meaning}
+use Rattle.est_cells.specs.Tables.{Sheet, emits, is_possible, is_sure}
+use Rattle.est_cells.specs.Whole.{sheet_meaning}
 use Rattle.est_net.specs.Cells.{cell_at}
 use Rattle.est_net.proofs.EmissionLists.{emitted_listed}
 use Rattle.est_net.specs.Emissions.{emissions, is_of}
@@ -29,10 +27,9 @@ use Rattle.est_net.specs.declared.extents.Extent.{Extent}
 use Rattle.est_rounds.specs.Views.{env_of, set_of}
 use Rattle.est_rounds.specs.declared.signal_set.Env.{Env as Known}
 use Rattle.est_rounds.specs.declared.signal_set.SignalSet.{SignalSet}
-use Rattle.est_micro.specs.Inner.Hearing.{Heard}
 use Rattle.est_micro.specs.Inner.Leads.{Leads, SheetChanges, last_of}
 use Rattle.est_micro.specs.Inner.Sides.{IsFound, IsOneOf, IsSideLed}
-use Rattle.est_micro.specs.Parts.{AgreeBut, AreInputsAlone}
+use Rattle.est_micro.specs.Parts.{AreInputsAlone}
 use Rattle.est_micro.specs.Runs.{AreSignalsUpdated, Ready, table_of}
 use Rattle.est_micro.specs.declared.find_begin.Found.{Found}
 use Rattle.est_micro.specs.declared.sides.Side.{Side}
@@ -40,7 +37,6 @@ use Rattle.est_micro.proofs.BegunNodes.{widen}
 use Rattle.est_micro.proofs.Frames.{changes_then}
 use Rattle.est_micro.proofs.PassRounds.{exchange_ready, passed_nothing, ready_by, ready_less, same_output}
 use Rattle.est_micro.proofs.Rounds.{may_be}
-use Rattle.est_micro.proofs.Unasked.{emitted_there, heard_but, opened_less}
 
 -- before a side was swept
 pub leads_begin : (unasked : ℕ → Bool) (k : Kernel) (x : State) (inputs : ℕ → Bool) (cells : List Status) (e : Known)
@@ -142,14 +138,6 @@ leads_ready unasked k x inputs e old new l change leads ready =
 pub both_of : (f : Bool → Bool → Bool) {a b x y : Bool} → a ≡ x → b ≡ y → f a b ≡ f x y
 both_of f z w = rw (z, w) refl
 
-pub both_true : (a b : Bool) → (a && b) ≡ true → (a ≡ true) × (b ≡ true)
-both_true true b h = (refl, h)
-both_true false b h = let z : false ≡ true = h in cc
-
-opposite_of : (a : Bool) → not a ≡ true → a ≡ false
-opposite_of false h = refl
-opposite_of true h = let z : false ≡ true = h in cc
-
 no_more : (a b : Bool) → (a ≡ true → b ≡ true) → b ≡ false → a ≡ false
 no_more false b f h = refl
 no_more true b f h = let z : true ≡ false = sym (f refl) ∙ h in cc
@@ -164,13 +152,20 @@ pub record IsAsked (emitted present unasked offered : Bool) : Type 0 where
 pub is_asked : (signal emitted possible present unasked offered : Bool)
     → ((signal && (emitted && possible)) && not (present || (unasked || offered))) ≡ true
     → IsAsked emitted present unasked offered
-is_asked signal emitted possible present unasked offered h =
-    let a = both_true _ _ h in
-    let b = both_true _ _ a.0 in
-    let c = both_true _ _ b.1 in
-    let d = or_parts _ _ (opposite_of _ a.1) in
-    let e = or_parts _ _ d.1 in
-    record { emitted_is = c.0; present_is = d.0; unasked_is = e.0; offered_is = e.1 }
+is_asked false e p s u o h = let z : false ≡ true = h in cc
+is_asked true false p s u o h = let z : false ≡ true = h in cc
+is_asked true true false s u o h = let z : false ≡ true = h in cc
+is_asked true true true true u o h = let z : false ≡ true = h in cc
+is_asked true true true false true o h = let z : false ≡ true = h in cc
+is_asked true true true false false true h = let z : false ≡ true = h in cc
+is_asked true true true false false false h =
+    record { emitted_is = refl; present_is = refl; unasked_is = refl; offered_is = refl }
+
+-- one that is silent was looked at, and no emission may emit it
+pub was_asked : (asked emitted : Bool) → (asked && not emitted) ≡ true → (asked ≡ true) × (emitted ≡ false)
+was_asked true false h = (refl, refl)
+was_asked true true h = let z : false ≡ true = h in cc
+was_asked false e h = let z : false ≡ true = h in cc
 
 pub silent_leads : (k : Kernel) (x : State) (inputs : ℕ → Bool) (cells : List Status) (e m : Known)
     (silent : ℕ → Bool) → ((n : ℕ) → silent n ≡ true → IsBelow Absent (last_of k x inputs (outer n)))
@@ -226,13 +221,13 @@ silent_leads k x inputs cells e m silent absent free same less local leads =
 pub silent_absent : (k : Kernel) (x : State) (inputs : ℕ → Bool) (cells : List Status) (l : Env) (n : ℕ)
     (listed : List Emission) → listed ≡ emissions true k.root (output_count k.interface) 0 → Leads k x inputs cells l
     → emittable k.interface n ≡ true → inputs n ≡ false
-    → not (list_any (is_of is_possible (cell_at cells) n) listed) ≡ true
+    → list_any (is_of is_possible (cell_at cells) n) listed ≡ false
     → IsBelow Absent (last_of k x inputs (outer n))
 silent_absent k x inputs cells l n listed z leads emitted offered silent =
     let T = sheet_in (cell_at cells) true k.root (output_count k.interface) 0 in
     let possible : emits is_possible true k.root T (outer n) ≡ false
     = emitted_listed is_possible n true k.root (output_count k.interface) 0 (cell_at cells)
-    ∙ (ap (λ (xs : List Emission). list_any (is_of is_possible (cell_at cells) n) xs) (sym z) ∙ opposite_of _ silent) in
+    ∙ (ap (λ (xs : List Emission). list_any (is_of is_possible (cell_at cells) n) xs) (sym z) ∙ silent) in
     absent_below k x inputs cells l n leads (rw (emitted, offered) refl)
     (no_more _ _ (emits_whole true k.root T (outer n)) possible) possible
 

@@ -1,7 +1,7 @@
 use Rattle.std.proofs.Common.{◌≡◌, ◌&&◌, ◌||◌, ℕ, true, not, refl, ap, sym, ◌∙◌}
 use Rattle.est_kernel.specs.Bits.{bits}
 use Rattle.est_rounds.specs.Views.{env_of}
-use Rattle.est_micro.proofs.LeadRounds.{IsAsked, both_of, both_true, is_asked, silent_absent, silent_leads}
+use Rattle.est_micro.proofs.LeadRounds.{IsAsked, both_of, is_asked, silent_absent, silent_leads, was_asked}
 use Rattle.est_micro.proofs.lead.without_silent.Goals as goal
 
 pub returns : goal.returns
@@ -23,11 +23,11 @@ returns c = record {
       → IsAsked (bits c.args.net.now.emittable n) (bits e.present.interface n) (unasked n) (inputs n)
       = λ n z. is_asked _ _ _ _ _ _
       (sym (c.difference-open.ensures n ∙ both_of (λ a b. a && not b) (wanted n) (told n))
-      ∙ (both_true _ _ (sym (c.silent_among-silent.ensures n) ∙ z)).0) in
+      ∙ (was_asked _ _ (sym (c.silent_among-silent.ensures n) ∙ z)).0) in
       silent_leads kernel c.args.question.now.state.now others c.args.net.now.cells.items e _ silent
       (λ n z. silent_absent kernel c.args.question.now.state.now others c.args.net.now.cells.items (env_of e) n _
       c.requires.net.emissions leads (sym (ap (λ f. f n) c.requires.net.signals) ∙ (asked n z).emitted_is)
       (agree n (asked n z).unasked_is ∙ (asked n z).offered_is)
-      (both_true _ _ (sym (c.silent_among-silent.ensures n) ∙ z)).1)
+      (was_asked _ _ (sym (c.silent_among-silent.ensures n) ∙ z)).1)
       (λ n z. (asked n z).present_is) refl c.difference.ensures refl leads;
 }
