@@ -32,7 +32,7 @@ CRATES = {
     "est_net": ("cell_set", "emissions", "extents", "layout", "net", "pause_run", "reach", "reading", "table"),
     "est_micro": ("cells", "decided", "direction", "extents", "find_begin", "find_resume", "idle", "lead", "learning", "micro", "must_can", "next_pauses", "outputs", "pass_begin",
                   "pass_resume", "passes", "question", "settling",
-                  "side_order", "sides", "sweep_begin", "sweep_resume"),
+                  "side_order", "sides", "sweep_begin", "sweep_kind", "sweep_resume"),
 }
 BY_HAND = {"est_kernel": ("interface", "kernel", "state")}  # modules of bench/port.rs
 INSTANTS = 20

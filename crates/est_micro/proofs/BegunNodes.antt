@@ -447,6 +447,26 @@ local_begun at s a p gate go status e inside old m0 m1 m2 new r1 r own learns go
     (hidden_found s.index _ _ _ _ r1.judged own w.found hidden) is_left (let x = w.past in omega arith)
 
 -- places are still within the cells after a part was swept
+-- the cells of a part are there, after one cell was told
+pub within_same : (k : ℕ) (old m0 : List Status) → k ≤ length old → length m0 ≡ length old → k ≤ length m0
+within_same k old m0 h l = omega arith
+
+pub within_first : (a n m : ℕ) (old m0 : List Status) → a + n + m ≤ length old → length m0 ≡ length old
+    → a + n ≤ length m0
+within_first a n m old m0 h l = omega arith
+
+pub within_first_local : (a n : ℕ) (old m0 : List Status) → a + 4 + n ≤ length old → length m0 ≡ length old
+    → a + 3 + 1 + n ≤ length m0
+within_first_local a n old m0 h l = omega arith
+
+pub within_after : (a n m past : ℕ) (old m0 m1 : List Status) → past ≡ a + n → a + n + m ≤ length old
+    → length m0 ≡ length old → length m1 ≡ length m0 → past + m ≤ length m1
+within_after a n m past old m0 m1 e h l k = omega arith
+
+pub within_two_same : (k m : ℕ) (old m0 m1 : List Status) → k + m ≤ length old → length m0 ≡ length old
+    → length m1 ≡ length m0 → k ≤ length m1
+within_two_same k m old m0 m1 h l n = omega arith
+
 pub within_one : (lo k : ℕ) (old m0 m1 : List Status) (s : Statement) (at : StatementPlace) (gate : Status) (e : Known)
     (r : Swept)
     → lo + k ≤ length old → length m0 ≡ length old → IsBegun s at gate e m0 m1 r → lo ≤ length m1

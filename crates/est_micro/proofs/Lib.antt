@@ -2,6 +2,7 @@ mod Told
 mod SweepsAreSound
 mod SweepsComeToRest
 mod Frames
+mod FreshCells
 mod KeptExtents
 mod KernelNets
 mod Telling

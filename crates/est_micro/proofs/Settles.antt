@@ -1,6 +1,7 @@
 -- Rounds until nothing changes.
 use Rattle.std.specs.Prelude.{◌≡◌, ◌≤◌, ◌⊎◌, ℕ, Bool, true, false, List, length, replicate}
 use Rattle.std.proofs.Common.{refl, ap, sym, ◌∙◌, arith, inl, inr, subst}
+use Rattle.std.proofs.lemmas.List.{length-replicate}
 use Rattle.est_kernel.specs.Bits.{bits}
 use Rattle.est_kernel.specs.Interfaces.{emittable}
 use Rattle.est_kernel.specs.View.{term_of}
@@ -28,7 +29,7 @@ use Rattle.est_cells.proofs.WholeTable.{at_rest}
 use Rattle.est_cells.specs.Opening.{open_sheet}
 use Rattle.est_cells.specs.Tables.{Sheet, Below}
 use Rattle.est_cells.specs.Whole.{known, sheet_gates, sheet_meaning}
-use Rattle.est_net.specs.Cells.{cell_at, decided, learned}
+use Rattle.est_net.specs.Cells.{AllOpen, cell_at, decided, learned}
 use Rattle.est_net.specs.Layout.{cell_count, output_count, rank, sheet_in}
 use Rattle.est_net.specs.Reach.{HasEmissions}
 use Rattle.est_rounds.specs.Views.{env_of}
@@ -227,3 +228,13 @@ start_ready unasked k x inputs sure possible n new e closed size none all h long
           ∙ (ap (λ (v : Status). learned v (output_gate inputs sure possible m)) (open_there n (rank i m) (omega arith))
           ∙ told_offered inputs sure possible m p);
     }
+
+-- the cells of the statement are open after those of the signals were told first
+pub open_after : (i : List Declaration) (unasked inputs sure possible : ℕ → Bool) (n : ℕ) (new : List Status) (e : Known)
+    → AreSignalsUpdated i unasked inputs sure possible (replicate n Unknown) new e
+    → AllOpen (output_count i) (length new) new
+unfolding AllOpen
+open_after i unasked inputs sure possible n new e h a l u =
+    let s = h.changes.size in
+    let r = length-replicate n Unknown in
+    h.changes.after a l ∙ open_there n a (omega (arith, s, r, u))

@@ -2,7 +2,7 @@
 use Rattle.std.specs.Prelude.{◌≡◌, ◌≢◌, ◌<◌, ◌≤◌, ◌+◌, ◌⊎◌, ℕ, zero, suc, Bool, true, false, ltb, nat_eq, ◌&&◌, ◌||◌}
 use Rattle.std.specs.Prelude.{List, length}
 use Rattle.std.proofs.Common.{refl, ap, sym, ◌∙◌, arith, inl, inr, subst}
-use Rattle.std.proofs.lemmas.Bool.{ltb-true, lt-ltb, eq-eqb, eqb-true}
+use Rattle.std.proofs.lemmas.Bool.{ltb-true, ltb-false, lt-ltb, eq-eqb, eqb-true}
 use mathlib.Core.Path.{fun_ext}
 use Rattle.est_kernel.specs.Codes.{Codes, code, either_code, no_codes}
 use Rattle.est_kernel.specs.CodeViews.{codes_of}
@@ -11,13 +11,13 @@ use Rattle.est_meaning.specs.declared.status.Status.{Status}
 use Rattle.est_meaning.specs.declared.status.Status.TheVariants.{Absent}
 use Rattle.est_meaning.proofs.PauseWordLemmas.{or_false}
 use Rattle.est_cells.specs.Tables.{is_sure, is_possible}
-use Rattle.est_net.specs.Cells.{cell_at, decided, learned, Learns}
+use Rattle.est_net.specs.Cells.{AllOpen, AreFalse, cell_at, decided, learned, Learns}
 use Rattle.est_net.specs.Layout.{sure_codes, possible_codes}
 use Rattle.est_net.proofs.OwnerValues.{read_back}
 use Rattle.est_net.proofs.Ranges.{last_or_before}
 use Rattle.est_rounds.specs.declared.acts.MustCan.{MustCan}
 use Rattle.est_micro.specs.Sweeps.{sure_told, may_told}
-use Rattle.est_micro.specs.Inner.Views.{AreTold}
+use Rattle.est_micro.specs.Inner.Views.{AreTold, IsFresh}
 use Rattle.est_micro.proofs.Frames.{and_same}
 
 -- the first n code cells from place c on are told
@@ -187,3 +187,71 @@ one_read c n j old mid new now status a b x y h l v s p q r t = record {
       (read_same b _ _ n h.possible_read (λ k m. ap is_possible (sym (l.others (c + k) (omega arith))))) r t
       (ap is_possible s);
 }
+
+-- codes of which the first two are read, where no other one may be given
+rest_read : (codes : Codes) (f g : ℕ → Bool) (n : ℕ) → 2 ≤ n → ReadSoFar codes f 2 → ((k : ℕ) → k < 2 → f k ≡ g k)
+    → ((k : ℕ) → 2 ≤ k → k < n → g k ≡ false) → ReadSoFar codes g n
+rest_read codes f g n two h same none k = h k ∙ go (ltb k 2) refl (ltb k n) refl
+  where
+    go : (a : Bool) → ltb k 2 ≡ a → (b : Bool) → ltb k n ≡ b → (a && f k) ≡ (b && g k)
+    go true d true e = same k (ltb-true k 2 d)
+    go true d false e = let l : k < 2 = ltb-true k 2 d in
+        (let z : false ≡ true = sym e ∙ lt-ltb k n (omega arith) in cc)
+    go false d true e = sym (none k (ltb-false k 2 d) (ltb-true k n e))
+    go false d false e = refl
+
+-- the cells of codes above 1 are false at once
+pub rest_false : (c n : ℕ) (j : MustCan) (old mid new : List Status) (sure possible : Codes) → 2 ≤ n
+    → ((k : ℕ) → 2 ≤ k → codes_of j.must.codes k ≡ false) → ((k : ℕ) → 2 ≤ k → codes_of j.can.codes k ≡ false)
+    → AllOpen c (c + n) old → ToldAndRead c 2 j old mid sure possible → AreFalse (c + 2) (c + n) mid new
+    → ToldAndRead c n j old new sure possible
+unfolding AllOpen
+rest_false c n j old mid new sure possible two must can opened h f =
+    let x = h.told in
+    let p = x.more in
+    let q = f.more in
+    record {
+      told = record {
+        told = λ k l. told k l (ltb k 2) refl;
+        before = λ i l. f.before i (omega arith) ∙ x.before i l;
+        after = λ i l. f.after i l ∙ x.after i (omega arith);
+        size = f.size ∙ x.size;
+        more = omega arith;
+        quiet = λ d. f.quiet (omega arith) ∙ x.quiet (omega arith);
+      };
+      sure_read = rest_read sure _ _ n two h.sure_read (λ k l. ap is_sure (sym (f.before (c + k) (omega arith))))
+          (λ k l u. ap is_sure (f.false_now (c + k) (omega arith) (omega arith)));
+      possible_read = rest_read possible _ _ n two h.possible_read
+          (λ k l. ap is_possible (sym (f.before (c + k) (omega arith))))
+          (λ k l u. ap is_possible (f.false_now (c + k) (omega arith) (omega arith)));
+    }
+  where
+    told : (k : ℕ) → k < n → (b : Bool) → ltb k 2 ≡ b → cell_at new (c + k)
+        ≡ learned (cell_at old (c + k)) (verdict (codes_of j.must.codes k) (codes_of j.can.codes k))
+    told k l true e = let u : k < 2 = ltb-true k 2 e in f.before (c + k) (omega arith) ∙ h.told.told k u
+    told k l false e =
+        let u : 2 ≤ k = ltb-false k 2 e in
+        f.false_now (c + k) (omega arith) (omega arith)
+        ∙ sym (ap (λ (v : Status). learned v (verdict (codes_of j.must.codes k) (codes_of j.can.codes k)))
+        (opened (c + k) (omega arith) (omega arith))
+        ∙ (ap (λ (b : Bool). verdict b (codes_of j.can.codes k)) (must k u)
+        ∙ ap (λ (b : Bool). verdict false b) (can k u)))
+
+-- the first two codes are told, and read
+pub two_read : (c : ℕ) (j : MustCan) (old mid new : List Status) (s t a b x y : Codes) → s ≡ no_codes → t ≡ no_codes
+    → Learns (c + 0) (verdict (codes_of j.must.codes 0) (codes_of j.can.codes 0)) old mid
+    → a 0 ≡ (s 0 || is_sure (cell_at mid (c + 0))) → ((k : ℕ) → k ≢ 0 → a k ≡ s k)
+    → b 0 ≡ (t 0 || is_possible (cell_at mid (c + 0))) → ((k : ℕ) → k ≢ 0 → b k ≡ t k)
+    → Learns (c + 1) (verdict (codes_of j.must.codes 1) (codes_of j.can.codes 1)) mid new
+    → x 1 ≡ (a 1 || is_sure (cell_at new (c + 1))) → ((k : ℕ) → k ≢ 1 → x k ≡ a k)
+    → y 1 ≡ (b 1 || is_possible (cell_at new (c + 1))) → ((k : ℕ) → k ≢ 1 → y k ≡ b k)
+    → ToldAndRead c 2 j old new x y
+two_read c j old mid new s t a b x y e f l h i m n o p q u v =
+    one_read c 1 j old mid new _ _ a b x y
+    (one_read c 0 j old old mid _ _ s t a b (nothing_read c j old s t e f) l refl refl h i m n) o refl refl p q u v
+
+-- in the first sweep of an instant the cells of further codes are open
+pub fresh_further : (first : Bool) (c n m k : ℕ) (j : MustCan) (old new : List Status) → ToldSoFar c n j old new
+    → n ≤ k → k ≤ m → IsFresh first c (c + m) old → IsFresh first (c + k) (c + m) new
+unfolding IsFresh AllOpen
+fresh_further first c n m k j old new x a b h e i l u = x.after i (omega arith) ∙ h e i (omega arith) u

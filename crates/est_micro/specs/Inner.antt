@@ -1,3 +1,4 @@
+pub mod FirstSweep
 pub mod Hearing
 pub mod Leads
 pub mod Outcomes

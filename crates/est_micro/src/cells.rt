@@ -9,10 +9,11 @@ ghost use Rattle.est_net.specs.Cells.{Learns, cell_at};
 ghost use Rattle.est_net.specs.Kept.{kept};
 ghost use Rattle.est_net.specs.Layout.{sure_codes, possible_codes};
 ghost use Rattle.est_micro.specs.Sweeps.{told};
-ghost use Rattle.est_micro.specs.Inner.Views.{AreTold, IsJudged, IsFinished};
+ghost use Rattle.est_micro.specs.Inner.Views.{AreTold, IsFinished, IsFresh, IsJudged};
 
 use crate::direction::Direction;
 use crate::learning::tell_cell;
+use crate::sweep_kind::SweepKind;
 use est_kernel::code_set::CodeSet;
 use est_kernel::completion::Completion;
 use est_kernel::statement::TrapIndex;
@@ -132,7 +133,7 @@ fn with_cell(read: CodesRead, code: usize, status: Status) -> CodesRead
 
 /// Tells a code cell what is judged of its code, and adds what it then says to what was read.
 #[inline(always)]
-fn tell_code(
+fn tell_code<K: SweepKind>(
     net: &mut Net,
     cell: usize,
     code: usize,
@@ -140,6 +141,7 @@ fn tell_code(
     read: CodesRead,
 ) -> CodesRead
     requires within { cell + code < length net.old.cells.items }
+    requires fresh { IsFresh K.first (cell + code) (cell + code + 1) net.old.cells.items }
     requires few { code < 64 }
     ensures learns { Learns (cell + code)
         (verdict (codes_of judged.now.must.codes code) (codes_of judged.now.can.codes code))
@@ -154,15 +156,25 @@ fn tell_code(
         → codes_of result.possible k ≡ codes_of read.possible k }
     ensures kept { kept net.new ≡ kept net.old }
 {
-    let status = tell_cell(net, cell + code, verdict_on(judged, code));
+    let status = tell_cell::<K>(net, cell + code, verdict_on(judged, code));
     with_cell(read, code, status)
 }
 
+/// Whether a code above 1 is among these.
+fn has_exit(codes: CodeSet) -> bool
+    ensures { result ≡ false → (k : ℕ) → 2 ≤ k → codes_of codes k ≡ false }
+{
+    let ends = with_code(CodeSet::empty(), 0, codes.has(Completion::End));
+    with_code(ends, 1, codes.has(Completion::Pause)) != codes
+}
+
 /// Tells `count` code cells what is judged of their codes, and reads them. Codes 0 and 1, which
-/// every statement has, stand before the loop: there each is a constant for the compiler.
+/// every statement has, stand before the loop: there each is a constant for the compiler. Where no
+/// code above 1 may be given, those cells are false at once in the first sweep of an instant.
 #[inline(always)]
-fn tell(net: &mut Net, cell: usize, count: usize, judged: &MustCan) -> CodesRead
+fn tell<K: SweepKind>(net: &mut Net, cell: usize, count: usize, judged: &MustCan) -> CodesRead
     requires within { cell + count ≤ length net.old.cells.items }
+    requires fresh { IsFresh K.first cell (cell + count) net.old.cells.items }
     requires some { 2 ≤ count }
     requires few { count ≤ 64 }
     ensures told { AreTold cell count judged.now net.old.cells.items net.new.cells.items }
@@ -175,10 +187,19 @@ fn tell(net: &mut Net, cell: usize, count: usize, judged: &MustCan) -> CodesRead
         sure: CodeSet::empty(),
         possible: CodeSet::empty(),
     };
-    let first = tell_code(net, cell, 0, judged, none);
-    let mut read = tell_code(net, cell, 1, judged, first);
+    let first = tell_code::<K>(net, cell, 0, judged, none);
+    let mut read = tell_code::<K>(net, cell, 1, judged, first);
+    if K::is_first() {
+        if count == 2 {
+            return read;
+        }
+        if !has_exit(judged.must.codes) && !has_exit(judged.can.codes) {
+            net.fill(cell + 2, cell + count);
+            return read;
+        }
+    }
     for code in 2..count {
-        read = tell_code(net, cell, code, judged, read);
+        read = tell_code::<K>(net, cell, code, judged, read);
     }
     read
 }
@@ -203,15 +224,22 @@ pub fn nothing(past: usize) -> Swept
 
 /// Tells a statement's code cells what is judged of it, and reads them.
 #[inline(always)]
-pub fn finish_statement(net: &mut Net, at: &StatementPlace, own: &MustCan, past: usize) -> Swept
+pub fn finish_statement<K: SweepKind>(
+    net: &mut Net,
+    at: &StatementPlace,
+    own: &MustCan,
+    past: usize,
+) -> Swept
     requires within { at.now.cell + at.now.traps + 3 ≤ length net.old.cells.items }
+    requires fresh { IsFresh K.first (at.now.cell + 1) (at.now.cell + at.now.traps + 3)
+        net.old.cells.items }
     requires few { at.now.traps ≤ 62 }
     ensures finished { IsFinished at.now.cell at.now.traps own.now past net.old.cells.items
         net.new.cells.items
         result }
     ensures kept { kept net.new ≡ kept net.old }
 {
-    let read = tell(net, at.cell + 1, at.traps + 2, own);
+    let read = tell::<K>(net, at.cell + 1, at.traps + 2, own);
     Swept {
         judged: MustCan {
             must: Acts {

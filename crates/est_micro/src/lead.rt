@@ -32,6 +32,7 @@ use crate::question::Question;
 use crate::side_order::SideOrder;
 use crate::sides::{Side, Sides};
 use crate::sweep_begin::sweep_begun;
+use crate::sweep_kind::LaterSweep;
 use crate::sweep_resume::sweep_resumed;
 use est_kernel::mask;
 use est_kernel::state::State;
@@ -123,12 +124,12 @@ fn lead_side(net: &mut Net, found: &Found<'_>, side: &Side<'_>, known: &Env) -> 
         traps,
     };
     let swept = match found.pauses {
-        None => sweep_begun(net, &place, side.statement, found.gate, known),
+        None => sweep_begun::<LaterSweep>(net, &place, side.statement, found.gate, known),
         Some(pauses) => {
             if !is_live(net, side.number, traps, side.statement, pauses) {
                 return *known;
             }
-            sweep_resumed(net, &place, side.statement, pauses, found.gate, known)
+            sweep_resumed::<LaterSweep>(net, &place, side.statement, pauses, found.gate, known)
         }
     };
     must_can::with_emitted(known, swept.judged.must.signals)
@@ -172,15 +173,9 @@ fn lead_sides(
     known.possible.interface != env.possible.interface
 }
 
-/// A pass over the sides of a `||` in an order, if it is wanted and there is one. Answers whether
-/// some signal was found to be absent.
-pub fn lead_round(
-    net: &mut Net,
-    question: &Question<'_>,
-    env: &Env,
-    order: &SideOrder,
-    is_wanted: bool,
-) -> bool
+/// A pass over the sides of a `||` in an order, if there is one. Answers whether some signal was
+/// found to be absent.
+pub fn lead_round(net: &mut Net, question: &Question<'_>, env: &Env, order: &SideOrder) -> bool
     requires net { IsNetOf net.old question.now.kernel.now }
     requires state { IsState question.now.kernel.now.root question.now.state.now }
     requires apart { AreInputsAlone question.now.kernel.now.interface (bits question.now.unasked) }
@@ -194,7 +189,7 @@ pub fn lead_round(
     ensures net { IsNetOf net.new question.now.kernel.now }
     ensures kept { kept net.new ≡ kept net.old }
 {
-    if !is_wanted || order.count == 0 {
+    if order.count == 0 {
         return false;
     }
     match find(net, question, env, order) {

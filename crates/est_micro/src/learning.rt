@@ -1,31 +1,48 @@
 //! What a cell is told. Each cell that is decided by it is decided by a write of the table.
 
-ghost use Rattle.std.specs.Prelude.{◌≡◌, ◌<◌, ◌≤◌, length};
-ghost use Rattle.est_meaning.specs.declared.status.Status.TheVariants.{Absent};
+ghost use Rattle.std.specs.Prelude.{◌≡◌, ◌<◌, ◌≤◌, ◌+◌, Some, length, slice_get};
+ghost use Rattle.est_meaning.specs.declared.status.Status.TheVariants.{Absent, Unknown};
 ghost use Rattle.est_net.specs.Cells.{AreFalse, Learns, NoneTrue, cell_at};
 ghost use Rattle.est_net.specs.Kept.{kept};
+ghost use Rattle.est_micro.specs.Inner.Views.{IsFresh};
 
+use crate::sweep_kind::{LaterSweep, SweepKind};
 use est_meaning::status::Status;
 use est_net::net::Net;
 
-/// Tells a cell something, and answers what it then knows. It is decided by it if it is open and
-/// what it is told isn't Unknown.
+/// Tells an open cell something, and answers what it then knows.
 #[inline(always)]
-pub fn tell_cell(net: &mut Net, cell: usize, now: Status) -> Status
-    requires { cell < length net.old.cells.items }
+fn tell_open(net: &mut Net, cell: usize, now: Status) -> Status
+    requires { slice_get net.old.cells.items cell ≡ Some Unknown }
     ensures learns { Learns cell now net.old.cells.items net.new.cells.items }
     ensures known { result ≡ cell_at net.new.cells.items cell }
     ensures kept { kept net.new ≡ kept net.old }
 {
-    if net.is_decided(cell) {
-        return net.status(cell);
-    }
     match now {
         Status::Present => net.write(cell, true),
         Status::Absent => net.write(cell, false),
         Status::Unknown => {}
     }
     now
+}
+
+/// Tells a cell something, and answers what it then knows. It is decided by it if it is open and
+/// what it is told isn't Unknown. In the first sweep of an instant it is open, and is not read.
+#[inline(always)]
+pub fn tell_cell<K: SweepKind>(net: &mut Net, cell: usize, now: Status) -> Status
+    requires within { cell < length net.old.cells.items }
+    requires fresh { IsFresh K.first cell (cell + 1) net.old.cells.items }
+    ensures learns { Learns cell now net.old.cells.items net.new.cells.items }
+    ensures known { result ≡ cell_at net.new.cells.items cell }
+    ensures kept { kept net.new ≡ kept net.old }
+{
+    if K::is_first() {
+        tell_open(net, cell, now)
+    } else if net.is_decided(cell) {
+        net.status(cell)
+    } else {
+        tell_open(net, cell, now)
+    }
 }
 
 /// Tells the cells of a range, of which none is true, that they are false, one after another.
@@ -37,7 +54,7 @@ fn tell_false(net: &mut Net, from: usize, past: usize)
     ensures kept { kept net.new ≡ kept net.old }
 {
     for cell in from..past {
-        tell_cell(net, cell, Status::Absent);
+        tell_cell::<LaterSweep>(net, cell, Status::Absent);
     }
 }
 

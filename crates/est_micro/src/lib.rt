@@ -7,11 +7,12 @@
 //!
 //! A run (`settling`) is asked a `question`. It goes over the statement in sweeps (`sweep_begin`,
 //! `sweep_resume`), and tells each open cell what follows from the others. A sweep goes in program
-//! order, or visits the second side of each `||` first (`direction`). Of a statement that goes on
-//! and whose cells are all decided, a later sweep only reads them (`decided`); one that takes no
-//! part is filled at once (`idle`, `extents`). After each sweep the run tells the cells of the
-//! signals what is emitted (`outputs`). After a sweep that decided little, passes look again at
-//! what reads the signals that were just decided (`passes`, by `pass_begin` and `pass_resume`).
+//! order, or visits the second side of each `||` first (`direction`). In the first one each cell is
+//! open, and none is read before it is told (`sweep_kind`). Of a statement that goes on and whose
+//! cells are all decided, a later sweep only reads them (`decided`). A statement that takes no part
+//! is filled at once (`idle`, `extents`). After each sweep the run tells the cells of the signals
+//! what is emitted (`outputs`). After a sweep that decided little, passes look again at what reads
+//! the signals that were just decided (`passes`, by `pass_begin` and `pass_resume`).
 //!
 //! Where the `sides` of a `||` tell each other, the run has an order in which they do
 //! (`side_order`). In it a pass sweeps them one by one (`lead`, which finds the `||` by
@@ -53,5 +54,6 @@ mod settling;
 mod side_order;
 mod sides;
 mod sweep_begin;
+mod sweep_kind;
 mod sweep_resume;
 mod waiting;

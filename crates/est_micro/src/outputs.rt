@@ -14,6 +14,7 @@ ghost use Rattle.est_micro.specs.Runs.{AreSignalsUpdated};
 use crate::cells::{is_true, may_be_true};
 use crate::learning::tell_cell;
 use crate::question::Question;
+use crate::sweep_kind::LaterSweep;
 use est_kernel::code_set::CodeSet;
 use est_kernel::mask;
 use est_meaning::status::Status;
@@ -78,7 +79,7 @@ fn update_signal(
     if !mask::has(signals, n) {
         return so_far;
     }
-    let status = tell_cell(net, so_far.cell, gate(inputs, judged, n));
+    let status = tell_cell::<LaterSweep>(net, so_far.cell, gate(inputs, judged, n));
     Reading {
         sure: put(so_far.sure, n, is_true(status)),
         possible: put(so_far.possible, n, may_be_true(status)),

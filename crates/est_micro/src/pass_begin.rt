@@ -23,6 +23,7 @@ ghost use Rattle.est_micro.specs.Inner.Passes.{Passes};
 use crate::cells::StatementPlace;
 use crate::extents::{number_after, past};
 use crate::sweep_begin::sweep_begun;
+use crate::sweep_kind::LaterSweep;
 use est_kernel::mask;
 use est_kernel::statement::Statement;
 use est_meaning::status::Status;
@@ -58,7 +59,7 @@ pub fn visit(net: &mut Net, at: &StatementPlace, s: &Statement, gate: Status, en
         net.old.cells.items net.new.cells.items }
     ensures kept { kept net.new ≡ kept net.old }
 {
-    sweep_begun(net, at, s, gate, env);
+    sweep_begun::<LaterSweep>(net, at, s, gate, env);
 }
 
 /// Passes over the sides of a `||`.

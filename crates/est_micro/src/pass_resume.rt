@@ -21,6 +21,7 @@ ghost use Rattle.est_micro.specs.Inner.Passes.{PassesOn, SidePasses};
 use crate::cells::StatementPlace;
 use crate::extents::{is_live, number_after, past};
 use crate::pass_begin::{is_reader, pass_begun};
+use crate::sweep_kind::LaterSweep;
 use crate::sweep_resume::sweep_resumed;
 use est_kernel::pause_set::PauseSet;
 use est_kernel::statement::Statement;
@@ -49,7 +50,7 @@ pub fn visit_resumed(
         (env_of env.now) net.old.cells.items net.new.cells.items }
     ensures kept { kept net.new ≡ kept net.old }
 {
-    sweep_resumed(net, at, s, pauses, run, env);
+    sweep_resumed::<LaterSweep>(net, at, s, pauses, run, env);
 }
 
 /// Passes over a side of a `||`, if it goes on.

@@ -151,7 +151,7 @@ fn lead_again(net: &mut Net, question: &Question<'_>, env: &mut Env, order: &Sid
     ensures net { IsNetOf net.new question.now.kernel.now }
     ensures kept { kept net.new ≡ kept net.old }
 {
-    let is_absent = lead_round(net, question, env, order, true);
+    let is_absent = lead_round(net, question, env, order);
     let said = judged(net);
     *env = update_signals(net, question, &said);
     is_absent

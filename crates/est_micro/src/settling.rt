@@ -1,16 +1,18 @@
 //! A run over the table of a kernel: rounds, until nothing more can be decided. A round is a sweep,
 //! after which the cells of the signals are told what is emitted.
 
-ghost use Rattle.std.specs.Prelude.{◌≡◌, ◌≢◌, ◌⊎◌, ℕ, Bool, true, false};
+ghost use Rattle.std.specs.Prelude.{◌≡◌, ◌≢◌, ◌⊎◌, ℕ, Bool, true, false, length};
 ghost use Rattle.est_kernel.specs.Bits.{bits};
 ghost use Rattle.est_meaning.specs.States.{IsState};
+ghost use Rattle.est_net.specs.Cells.{AllOpen};
 ghost use Rattle.est_net.specs.Kept.{kept, reopened};
 ghost use Rattle.est_net.specs.Layout.{output_count};
 ghost use Rattle.est_rounds.specs.Views.{env_of};
 ghost use Rattle.est_micro.specs.Engine.{IsNetOf};
 ghost use Rattle.est_micro.specs.Parts.{AgreeBut, AreInputsAlone};
 ghost use Rattle.est_micro.specs.Runs.{IsSettledBut, sheet_swept};
-ghost use Rattle.est_micro.specs.Inner.Views.{IsSwept};
+ghost use Rattle.est_micro.specs.Inner.FirstSweep.{IsFirstSweep};
+ghost use Rattle.est_micro.specs.Inner.Views.{IsFresh, IsSwept};
 
 use crate::cells::{StatementPlace, Swept};
 use crate::direction::Direction;
@@ -20,6 +22,7 @@ use crate::passes::{catch_up, newly_decided};
 use crate::question::Question;
 use crate::side_order::SideOrder;
 use crate::sweep_begin::sweep_begun;
+use crate::sweep_kind::{FirstSweep, LaterSweep, SweepKind};
 use crate::sweep_resume::sweep_resumed;
 use est_kernel::state::State;
 use est_meaning::status::Status;
@@ -27,9 +30,16 @@ use est_net::net::Net;
 use est_rounds::signal_set::Env;
 
 /// Sweeps the cells of a kernel's statement by what is known.
-fn sweep(net: &mut Net, question: &Question<'_>, env: &Env, direction: Direction) -> Swept
+fn sweep<K: SweepKind>(
+    net: &mut Net,
+    question: &Question<'_>,
+    env: &Env,
+    direction: Direction,
+) -> Swept
     requires net { IsNetOf net.old question.now.kernel.now }
     requires state { IsState question.now.kernel.now.root question.now.state.now }
+    requires fresh { IsFresh K.first (output_count question.now.kernel.now.interface)
+        (length net.old.cells.items) net.old.cells.items }
     ensures swept { IsSwept true question.now.kernel.now.root
         (output_count question.now.kernel.now.interface) 0
         (sheet_swept direction question.now.kernel.now.root question.now.state.now
@@ -46,10 +56,11 @@ fn sweep(net: &mut Net, question: &Question<'_>, env: &Env, direction: Direction
         traps: 0,
         direction,
     };
+    let run = Status::Present;
     match question.state {
-        State::Fresh => sweep_begun(net, &place, root, Status::Present, env),
-        State::Done => sweep_begun(net, &place, root, Status::Absent, env),
-        State::Paused(pauses) => sweep_resumed(net, &place, root, pauses, Status::Present, env),
+        State::Fresh => sweep_begun::<K>(net, &place, root, run, env),
+        State::Done => sweep_begun::<K>(net, &place, root, Status::Absent, env),
+        State::Paused(pauses) => sweep_resumed::<K>(net, &place, root, pauses, run, env),
     }
 }
 
@@ -72,6 +83,47 @@ pub struct RunEnd {
     /// How the next run is to begin: as the last sweep went, and with the order of the sides if it
     /// told of a signal that it is absent, or goes across the text.
     pub next: Beginning,
+}
+
+/// What the first sweep of an instant finds, and whether some signal was found to be absent before.
+#[derive(Clone, Copy)]
+struct Started {
+    swept: Swept,
+    is_absent: bool,
+}
+
+/// The first sweep of an instant. If a pass over the sides of a `||` is wanted, and there is an
+/// order, that comes before it, and then some of the cells are decided.
+fn sweep_first(
+    net: &mut Net,
+    question: &Question<'_>,
+    env: &Env,
+    beginning: Beginning,
+    order: &SideOrder,
+) -> Started
+    requires net { IsNetOf net.old question.now.kernel.now }
+    requires state { IsState question.now.kernel.now.root question.now.state.now }
+    requires apart { AreInputsAlone question.now.kernel.now.interface (bits question.now.unasked) }
+    requires open { AllOpen (output_count question.now.kernel.now.interface)
+        (length net.old.cells.items) net.old.cells.items }
+    ensures swept { IsFirstSweep (bits question.now.unasked) (bits question.now.inputs)
+        question.now.kernel.now question.now.state.now beginning.direction env.now
+        net.old.cells.items net.new.cells.items result.swept }
+    ensures net { IsNetOf net.new question.now.kernel.now }
+    ensures kept { kept net.new ≡ kept net.old }
+{
+    let direction = beginning.direction;
+    if beginning.leads && order.count != 0 {
+        let is_absent = lead_round(net, question, env, order);
+        let swept = sweep::<LaterSweep>(net, question, env, direction);
+        Started { swept, is_absent }
+    } else {
+        let swept = sweep::<FirstSweep>(net, question, env, direction);
+        Started {
+            swept,
+            is_absent: false,
+        }
+    }
 }
 
 /// Whether more may be decided: the last round has decided something, and there is an open cell.
@@ -148,11 +200,12 @@ pub fn decide_cells(
     let possible = net.reach().from_state(question.state);
     net.clear();
     let mut env = update_signals(net, question, &in_doubt(possible));
-    let mut is_absent = lead_round(net, question, &env, order, beginning.leads);
+    let started = sweep_first(net, question, &env, beginning, order);
+    let mut swept = started.swept;
+    let mut is_absent = started.is_absent;
     let mut decided_before = 0;
     let mut direction = beginning.direction;
     let mut env_before = env;
-    let mut swept = sweep(net, question, &env, direction);
     env = update_signals(net, question, &swept.judged);
     let mut decided = net.steps();
     while goes_on(decided, decided_before, cell_count) {
@@ -163,7 +216,7 @@ pub fn decide_cells(
         }
         decided_before = net.steps();
         env_before = env;
-        swept = sweep(net, question, &env, direction);
+        swept = sweep::<LaterSweep>(net, question, &env, direction);
         env = update_signals(net, question, &swept.judged);
         decided = net.steps();
     }

@@ -21,7 +21,7 @@ ghost use Rattle.est_net.specs.Extents.{HasExtents};
 ghost use Rattle.est_net.specs.Kept.{kept};
 ghost use Rattle.est_net.specs.Owners.{statements};
 ghost use Rattle.est_rounds.specs.Views.{env_of, set_of};
-ghost use Rattle.est_micro.specs.Inner.Views.{IsChosen, IsJudged, IsResumed};
+ghost use Rattle.est_micro.specs.Inner.Views.{IsChosen, IsFresh, IsJudged, IsResumed};
 ghost use Rattle.est_micro.specs.declared.direction.Direction.TheVariants.{Forwards, Backwards};
 
 use crate::cells::{self, StatementPlace, Swept};
@@ -29,6 +29,7 @@ use crate::direction::Direction;
 use crate::extents::{is_live, number_after, past};
 use crate::learning::tell_cell;
 use crate::sweep_begin::sweep_begun;
+use crate::sweep_kind::SweepKind;
 use crate::{decided, must_can};
 use est_kernel::completion::Completion;
 use est_kernel::pause_set::PauseSet;
@@ -41,23 +42,24 @@ use est_rounds::signal_set::{self, Env};
 
 /// Sweeps a pause, which ends where it is run.
 #[inline(always)]
-fn resume_pause(net: &mut Net, at: &StatementPlace, run: Status) -> Swept
+fn resume_pause<K: SweepKind>(net: &mut Net, at: &StatementPlace, run: Status) -> Swept
     requires within { at.now.cell + at.now.traps + 3 ≤ length net.old.cells.items }
+    requires fresh { IsFresh K.first at.now.cell (at.now.cell + at.now.traps + 3) net.old.cells.items }
     requires few { at.now.traps ≤ 62 }
     ensures swept { (e n pauses : _)
         → IsResumed (Pause n) at.now
         pauses run e net.old.cells.items net.new.cells.items result }
     ensures kept { kept net.new ≡ kept net.old }
 {
-    tell_cell(net, at.cell, Status::Absent);
+    tell_cell::<K>(net, at.cell, Status::Absent);
     let own = must_can::leaf(run, Completion::End);
-    cells::finish_statement(net, at, &own, at.cell + at.traps + 3)
+    cells::finish_statement::<K>(net, at, &own, at.cell + at.traps + 3)
 }
 
 /// Sweeps a part. If it is on (one of its pauses is set), it goes on where it is run; else the gate
 /// tells whether it is begun.
 #[cycle(sweep_resumed)]
-fn sweep_part(
+fn sweep_part<K: SweepKind>(
     net: &mut Net,
     at: &StatementPlace,
     p: &Statement,
@@ -74,21 +76,22 @@ fn sweep_part(
         p.now }
     requires within { at.now.cell + sheet_size true p.now at.now.traps
         ≤ length net.old.cells.items }
+    requires fresh { IsFresh K.first at.now.cell (at.now.cell + sheet_size true p.now at.now.traps) net.old.cells.items }
     requires traps { at.now.traps + trap_depth (term_of p.now) ≤ 62 }
     ensures swept { IsChosen p.now at.now pauses.now is_on gate run env.now net.old.cells.items
         net.new.cells.items result }
     ensures kept { kept net.new ≡ kept net.old }
 {
     if is_on {
-        sweep_resumed(net, at, p, pauses, run, env)
+        sweep_resumed::<K>(net, at, p, pauses, run, env)
     } else {
-        sweep_begun(net, at, p, gate, env)
+        sweep_begun::<K>(net, at, p, gate, env)
     }
 }
 
 /// Sweeps a `present` whose test has this status.
 #[cycle(sweep_resumed)]
-fn resume_present(
+fn resume_present<K: SweepKind>(
     net: &mut Net,
     at: &StatementPlace,
     asked: Status,
@@ -109,6 +112,8 @@ fn resume_present(
     requires within { at.now.cell + at.now.traps + 3 + sheet_size true p.now at.now.traps
         + sheet_size true q.now at.now.traps
         ≤ length net.old.cells.items }
+    requires fresh { IsFresh K.first at.now.cell (at.now.cell + at.now.traps + 3 + sheet_size true p.now at.now.traps
+        + sheet_size true q.now at.now.traps) net.old.cells.items }
     requires first_traps { at.now.traps + trap_depth (term_of p.now) ≤ 62 }
     requires second_traps { at.now.traps + trap_depth (term_of q.now) ≤ 62 }
     ensures swept { (t a b : _) → asked ≡ status_of (env_of env.now) (query_of t)
@@ -116,7 +121,7 @@ fn resume_present(
         net.new.cells.items result }
     ensures kept { kept net.new ≡ kept net.old }
 {
-    let go = tell_cell(net, at.cell, Status::Absent);
+    let go = tell_cell::<K>(net, at.cell, Status::Absent);
     let place = StatementPlace {
         number: at.number + 1,
         main: at.main,
@@ -125,7 +130,7 @@ fn resume_present(
         traps: at.traps,
     };
     let is_on = is_live(net, place.number, at.traps, p, pauses);
-    let first = sweep_part(net, &place, p, pauses, is_on, go.and(asked), run, env);
+    let first = sweep_part::<K>(net, &place, p, pauses, is_on, go.and(asked), run, env);
     let place = StatementPlace {
         number: number_after(net, &place, p),
         main: at.main,
@@ -133,7 +138,7 @@ fn resume_present(
         cell: first.past,
         traps: at.traps,
     };
-    let second = sweep_part(
+    let second = sweep_part::<K>(
         net,
         &place,
         q,
@@ -144,12 +149,12 @@ fn resume_present(
         env,
     );
     let own = must_can::either(&first.judged, &second.judged);
-    cells::finish_statement(net, at, &own, second.past)
+    cells::finish_statement::<K>(net, at, &own, second.past)
 }
 
 /// Sweeps a `suspend` whose test has this status.
 #[cycle(sweep_resumed)]
-fn resume_suspend(
+fn resume_suspend<K: SweepKind>(
     net: &mut Net,
     at: &StatementPlace,
     asked: Status,
@@ -165,13 +170,14 @@ fn resume_suspend(
         at.now.traps p.now }
     requires within { at.now.cell + at.now.traps + 3 + sheet_size true p.now at.now.traps
         ≤ length net.old.cells.items }
+    requires fresh { IsFresh K.first at.now.cell (at.now.cell + at.now.traps + 3 + sheet_size true p.now at.now.traps) net.old.cells.items }
     requires traps { at.now.traps + trap_depth (term_of p.now) ≤ 62 }
     ensures swept { (t a : _) → asked ≡ status_of (env_of env.now) (query_of t)
         → IsResumed (Suspend' t a p.now) at.now pauses.now run env.now net.old.cells.items
         net.new.cells.items result }
     ensures kept { kept net.new ≡ kept net.old }
 {
-    tell_cell(net, at.cell, Status::Absent);
+    tell_cell::<K>(net, at.cell, Status::Absent);
     let place = StatementPlace {
         number: at.number + 1,
         main: at.main,
@@ -179,15 +185,15 @@ fn resume_suspend(
         cell: at.cell + at.traps + 3,
         traps: at.traps,
     };
-    let body = sweep_resumed(net, &place, p, pauses, run.and(asked.opposite()), env);
+    let body = sweep_resumed::<K>(net, &place, p, pauses, run.and(asked.opposite()), env);
     let held = must_can::leaf(run.and(asked), Completion::Pause);
     let own = must_can::with_codes(&body.judged, &held);
-    cells::finish_statement(net, at, &own, body.past)
+    cells::finish_statement::<K>(net, at, &own, body.past)
 }
 
 /// Sweeps a `;`.
 #[cycle(sweep_resumed)]
-fn resume_seq(
+fn resume_seq<K: SweepKind>(
     net: &mut Net,
     at: &StatementPlace,
     p: &Statement,
@@ -207,6 +213,8 @@ fn resume_seq(
     requires within { at.now.cell + at.now.traps + 3 + sheet_size true p.now at.now.traps
         + sheet_size true q.now at.now.traps
         ≤ length net.old.cells.items }
+    requires fresh { IsFresh K.first at.now.cell (at.now.cell + at.now.traps + 3 + sheet_size true p.now at.now.traps
+        + sheet_size true q.now at.now.traps) net.old.cells.items }
     requires first_traps { at.now.traps + trap_depth (term_of p.now) ≤ 62 }
     requires second_traps { at.now.traps + trap_depth (term_of q.now) ≤ 62 }
     ensures swept { (a b : _)
@@ -214,7 +222,7 @@ fn resume_seq(
         net.new.cells.items result }
     ensures kept { kept net.new ≡ kept net.old }
 {
-    let go = tell_cell(net, at.cell, Status::Absent);
+    let go = tell_cell::<K>(net, at.cell, Status::Absent);
     let place = StatementPlace {
         number: at.number + 1,
         main: at.main,
@@ -223,7 +231,7 @@ fn resume_seq(
         traps: at.traps,
     };
     let is_on = is_live(net, place.number, at.traps, p, pauses);
-    let first = sweep_part(net, &place, p, pauses, is_on, go, run, env);
+    let first = sweep_part::<K>(net, &place, p, pauses, is_on, go, run, env);
     let inside = must_can::with_emitted(env, first.judged.must.signals);
     let later = must_can::ends(&first.judged);
     let place = StatementPlace {
@@ -233,14 +241,14 @@ fn resume_seq(
         cell: first.past,
         traps: at.traps,
     };
-    let second = sweep_part(net, &place, q, pauses, !is_on, later, run, &inside);
+    let second = sweep_part::<K>(net, &place, q, pauses, !is_on, later, run, &inside);
     let own = must_can::followed(&first.judged, &second.judged);
-    cells::finish_statement(net, at, &own, second.past)
+    cells::finish_statement::<K>(net, at, &own, second.past)
 }
 
 /// Sweeps a loop.
 #[cycle(sweep_resumed)]
-fn resume_loop(
+fn resume_loop<K: SweepKind>(
     net: &mut Net,
     at: &StatementPlace,
     p: &Statement,
@@ -256,13 +264,15 @@ fn resume_loop(
     requires within { at.now.cell + at.now.traps + 3 + sheet_size true p.now at.now.traps
         + sheet_size false p.now at.now.traps
         ≤ length net.old.cells.items }
+    requires fresh { IsFresh K.first at.now.cell (at.now.cell + at.now.traps + 3 + sheet_size true p.now at.now.traps
+        + sheet_size false p.now at.now.traps) net.old.cells.items }
     requires traps { at.now.traps + trap_depth (term_of p.now) ≤ 62 }
     ensures swept { (a : _)
         → IsResumed (Loop' a p.now) at.now pauses.now run env.now net.old.cells.items
         net.new.cells.items result }
     ensures kept { kept net.new ≡ kept net.old }
 {
-    tell_cell(net, at.cell, Status::Absent);
+    tell_cell::<K>(net, at.cell, Status::Absent);
     let place = StatementPlace {
         number: at.number + 1,
         main: at.main,
@@ -270,7 +280,7 @@ fn resume_loop(
         cell: at.cell + at.traps + 3,
         traps: at.traps,
     };
-    let first = sweep_resumed(net, &place, p, pauses, run, env);
+    let first = sweep_resumed::<K>(net, &place, p, pauses, run, env);
     let inside = must_can::with_emitted(env, first.judged.must.signals);
     let later = must_can::ends(&first.judged);
     let place = StatementPlace {
@@ -280,9 +290,9 @@ fn resume_loop(
         cell: first.past,
         traps: at.traps,
     };
-    let again = sweep_begun(net, &place, p, later, &inside);
+    let again = sweep_begun::<K>(net, &place, p, later, &inside);
     let own = must_can::followed(&first.judged, &again.judged);
-    cells::finish_statement(net, at, &own, again.past)
+    cells::finish_statement::<K>(net, at, &own, again.past)
 }
 
 /// What counts of a side of a `||`: one that has ended gives code 0 where the `||` is run.
@@ -318,7 +328,7 @@ fn second_lives(
 
 /// Sweeps a `||`, the first side before the second.
 #[cycle(sweep_resumed)]
-fn resume_par(
+fn resume_par<K: SweepKind>(
     net: &mut Net,
     at: &StatementPlace,
     p: &Statement,
@@ -339,6 +349,8 @@ fn resume_par(
     requires within { at.now.cell + at.now.traps + 3 + sheet_size true p.now at.now.traps
         + sheet_size true q.now at.now.traps
         ≤ length net.old.cells.items }
+    requires fresh { IsFresh K.first at.now.cell (at.now.cell + at.now.traps + 3 + sheet_size true p.now at.now.traps
+        + sheet_size true q.now at.now.traps) net.old.cells.items }
     requires first_traps { at.now.traps + trap_depth (term_of p.now) ≤ 62 }
     requires second_traps { at.now.traps + trap_depth (term_of q.now) ≤ 62 }
     ensures swept { (a b : _)
@@ -346,7 +358,7 @@ fn resume_par(
         net.new.cells.items result }
     ensures kept { kept net.new ≡ kept net.old }
 {
-    let go = tell_cell(net, at.cell, Status::Absent);
+    let go = tell_cell::<K>(net, at.cell, Status::Absent);
     let place = StatementPlace {
         number: at.number + 1,
         main: at.main,
@@ -357,7 +369,7 @@ fn resume_par(
     let number = number_after(net, &place, p);
     let first_on = is_live(net, place.number, at.traps, p, pauses);
     let second_on = second_lives(net, number, at.traps, first_on, q, pauses);
-    let first = sweep_part(net, &place, p, pauses, first_on, go, run, env);
+    let first = sweep_part::<K>(net, &place, p, pauses, first_on, go, run, env);
     let inside = must_can::with_emitted(env, first.judged.must.signals);
     let place = StatementPlace {
         number,
@@ -366,16 +378,16 @@ fn resume_par(
         cell: first.past,
         traps: at.traps,
     };
-    let second = sweep_part(net, &place, q, pauses, second_on, go, run, &inside);
+    let second = sweep_part::<K>(net, &place, q, pauses, second_on, go, run, &inside);
     let left = judge_side(first_on, &first, run);
     let right = judge_side(second_on, &second, run);
     let own = must_can::beside(&left, &right);
-    cells::finish_statement(net, at, &own, second.past)
+    cells::finish_statement::<K>(net, at, &own, second.past)
 }
 
 /// Sweeps a `||`, the second side before the first.
 #[cycle(sweep_resumed)]
-fn resume_par_back(
+fn resume_par_back<K: SweepKind>(
     net: &mut Net,
     at: &StatementPlace,
     p: &Statement,
@@ -396,6 +408,8 @@ fn resume_par_back(
     requires within { at.now.cell + at.now.traps + 3 + sheet_size true p.now at.now.traps
         + sheet_size true q.now at.now.traps
         ≤ length net.old.cells.items }
+    requires fresh { IsFresh K.first at.now.cell (at.now.cell + at.now.traps + 3 + sheet_size true p.now at.now.traps
+        + sheet_size true q.now at.now.traps) net.old.cells.items }
     requires first_traps { at.now.traps + trap_depth (term_of p.now) ≤ 62 }
     requires second_traps { at.now.traps + trap_depth (term_of q.now) ≤ 62 }
     ensures swept { (a b : _)
@@ -403,7 +417,7 @@ fn resume_par_back(
         net.new.cells.items result }
     ensures kept { kept net.new ≡ kept net.old }
 {
-    let go = tell_cell(net, at.cell, Status::Absent);
+    let go = tell_cell::<K>(net, at.cell, Status::Absent);
     let place = StatementPlace {
         number: at.number + 1,
         main: at.main,
@@ -421,18 +435,18 @@ fn resume_par_back(
         cell: past(net, &place, p),
         traps: at.traps,
     };
-    let second = sweep_part(net, &later, q, pauses, second_on, go, run, env);
+    let second = sweep_part::<K>(net, &later, q, pauses, second_on, go, run, env);
     let inside = must_can::with_emitted(env, second.judged.must.signals);
-    let first = sweep_part(net, &place, p, pauses, first_on, go, run, &inside);
+    let first = sweep_part::<K>(net, &place, p, pauses, first_on, go, run, &inside);
     let left = judge_side(first_on, &first, run);
     let right = judge_side(second_on, &second, run);
     let own = must_can::beside(&left, &right);
-    cells::finish_statement(net, at, &own, second.past)
+    cells::finish_statement::<K>(net, at, &own, second.past)
 }
 
 /// Sweeps a trap.
 #[cycle(sweep_resumed)]
-fn resume_trap(
+fn resume_trap<K: SweepKind>(
     net: &mut Net,
     at: &StatementPlace,
     p: &Statement,
@@ -447,13 +461,15 @@ fn resume_trap(
         (at.now.traps + 1) p.now }
     requires within { at.now.cell + at.now.traps + 3 + sheet_size true p.now
         (at.now.traps + 1) ≤ length net.old.cells.items }
+    requires fresh { IsFresh K.first at.now.cell (at.now.cell + at.now.traps + 3 + sheet_size true p.now
+        (at.now.traps + 1)) net.old.cells.items }
     requires traps { at.now.traps + 1 + trap_depth (term_of p.now) ≤ 62 }
     ensures swept { (a : _)
         → IsResumed (Trap' a p.now) at.now pauses.now run env.now net.old.cells.items
         net.new.cells.items result }
     ensures kept { kept net.new ≡ kept net.old }
 {
-    tell_cell(net, at.cell, Status::Absent);
+    tell_cell::<K>(net, at.cell, Status::Absent);
     let place = StatementPlace {
         number: at.number + 1,
         main: at.main,
@@ -461,15 +477,15 @@ fn resume_trap(
         cell: at.cell + at.traps + 3,
         traps: at.traps + 1,
     };
-    let body = sweep_resumed(net, &place, p, pauses, run, env);
+    let body = sweep_resumed::<K>(net, &place, p, pauses, run, env);
     let own = must_can::out_of_trap(&body.judged);
-    cells::finish_statement(net, at, &own, body.past)
+    cells::finish_statement::<K>(net, at, &own, body.past)
 }
 
 /// Sweeps a local signal's binder: its body, and then the cell of its status, by what the body
 /// emits.
 #[cycle(sweep_resumed)]
-fn resume_local(
+fn resume_local<K: SweepKind>(
     net: &mut Net,
     at: &StatementPlace,
     s: LocalSignal,
@@ -485,13 +501,14 @@ fn resume_local(
         at.now.traps p.now }
     requires within { at.now.cell + at.now.traps + 4 + sheet_size true p.now at.now.traps
         ≤ length net.old.cells.items }
+    requires fresh { IsFresh K.first at.now.cell (at.now.cell + at.now.traps + 4 + sheet_size true p.now at.now.traps) net.old.cells.items }
     requires traps { at.now.traps + trap_depth (term_of p.now) ≤ 62 }
     ensures swept { (a : _)
         → IsResumed (Binder' s a p.now) at.now pauses.now run env.now net.old.cells.items
         net.new.cells.items result }
     ensures kept { kept net.new ≡ kept net.old }
 {
-    tell_cell(net, at.cell, Status::Absent);
+    tell_cell::<K>(net, at.cell, Status::Absent);
     let cell = at.cell + at.traps + 3;
     let inside = signal_set::set_local(env, s, net.status(cell));
     let place = StatementPlace {
@@ -501,15 +518,15 @@ fn resume_local(
         cell: cell + 1,
         traps: at.traps,
     };
-    let body = sweep_resumed(net, &place, p, pauses, run, &inside);
-    tell_cell(net, cell, must_can::status_of(&body.judged, s));
+    let body = sweep_resumed::<K>(net, &place, p, pauses, run, &inside);
+    tell_cell::<K>(net, cell, must_can::status_of(&body.judged, s));
     let own = must_can::hiding(&body.judged, s);
-    cells::finish_statement(net, at, &own, body.past)
+    cells::finish_statement::<K>(net, at, &own, body.past)
 }
 
 /// Sweeps the cells of a statement that goes on from its pauses, if it is run, one after another.
 #[cycle(sweep_resumed)]
-fn resume_each(
+fn resume_each<K: SweepKind>(
     net: &mut Net,
     at: &StatementPlace,
     s: &Statement,
@@ -524,6 +541,7 @@ fn resume_each(
         s.now }
     requires within { at.now.cell + sheet_size true s.now at.now.traps
         ≤ length net.old.cells.items }
+    requires fresh { IsFresh K.first at.now.cell (at.now.cell + sheet_size true s.now at.now.traps) net.old.cells.items }
     requires traps { at.now.traps + trap_depth (term_of s.now) ≤ 62 }
     ensures swept { IsResumed s.now at.now pauses.now run env.now net.old.cells.items
         net.new.cells.items
@@ -533,32 +551,32 @@ fn resume_each(
     match s {
         Statement::Present(t, p, q) => {
             let asked = answer_to(env, t);
-            resume_present(net, at, asked, p, q, pauses, run, env)
+            resume_present::<K>(net, at, asked, p, q, pauses, run, env)
         }
         Statement::Suspend(t, p) => {
             let asked = answer_to(env, t);
-            resume_suspend(net, at, asked, p, pauses, run, env)
+            resume_suspend::<K>(net, at, asked, p, pauses, run, env)
         }
-        Statement::Seq(p, q) => resume_seq(net, at, p, q, pauses, run, env),
-        Statement::Loop(p) => resume_loop(net, at, p, pauses, run, env),
+        Statement::Seq(p, q) => resume_seq::<K>(net, at, p, q, pauses, run, env),
+        Statement::Loop(p) => resume_loop::<K>(net, at, p, pauses, run, env),
         Statement::Par(p, q) => match at.direction {
-            Direction::Forwards => resume_par(net, at, p, q, pauses, run, env),
-            Direction::Backwards => resume_par_back(net, at, p, q, pauses, run, env),
+            Direction::Forwards => resume_par::<K>(net, at, p, q, pauses, run, env),
+            Direction::Backwards => resume_par_back::<K>(net, at, p, q, pauses, run, env),
         },
-        Statement::Trap(p) => resume_trap(net, at, p, pauses, run, env),
-        Statement::Local(s, p) => resume_local(net, at, *s, p, pauses, run, env),
-        Statement::Pause(_) => resume_pause(net, at, run),
+        Statement::Trap(p) => resume_trap::<K>(net, at, p, pauses, run, env),
+        Statement::Local(s, p) => resume_local::<K>(net, at, *s, p, pauses, run, env),
+        Statement::Pause(_) => resume_pause::<K>(net, at, run),
         // These have no pause.
-        Statement::Nothing => resume_pause(net, at, run),
-        Statement::Emit(_) => resume_pause(net, at, run),
-        Statement::Exit(_) => resume_pause(net, at, run),
+        Statement::Nothing => resume_pause::<K>(net, at, run),
+        Statement::Emit(_) => resume_pause::<K>(net, at, run),
+        Statement::Exit(_) => resume_pause::<K>(net, at, run),
     }
 }
 
 /// Sweeps the cells of a statement that goes on from its pauses, if it is run. Where all
 /// of them are decided, they are only read.
 #[cycle(sweep_resumed)]
-pub fn sweep_resumed(
+pub fn sweep_resumed<K: SweepKind>(
     net: &mut Net,
     at: &StatementPlace,
     s: &Statement,
@@ -573,15 +591,16 @@ pub fn sweep_resumed(
         s.now }
     requires within { at.now.cell + sheet_size true s.now at.now.traps
         ≤ length net.old.cells.items }
+    requires fresh { IsFresh K.first at.now.cell (at.now.cell + sheet_size true s.now at.now.traps) net.old.cells.items }
     requires traps { at.now.traps + trap_depth (term_of s.now) ≤ 62 }
     ensures swept { IsResumed s.now at.now pauses.now run env.now net.old.cells.items
         net.new.cells.items
         result }
     ensures kept { kept net.new ≡ kept net.old }
 {
-    if decided::is_decided(net, at, s) {
+    if !K::is_first() && decided::is_decided(net, at, s) {
         decided::read(net, at, s)
     } else {
-        resume_each(net, at, s, pauses, run, env)
+        resume_each::<K>(net, at, s, pauses, run, env)
     }
 }

@@ -10,7 +10,7 @@ use Rattle.est_meaning.specs.declared.status.Status.{Status}
 use Rattle.est_meaning.specs.declared.status.Status.TheVariants.{Absent}
 use Rattle.est_cells.specs.Gates.{gates, live_gates}
 use Rattle.est_cells.specs.Tables.{Cells, Parts, Sheet, sheet_size, emits, is_sure, is_possible}
-use Rattle.est_net.specs.Cells.{AllDecided, NoneTrue, cell_at, decided, learned}
+use Rattle.est_net.specs.Cells.{AllDecided, AllOpen, NoneTrue, cell_at, decided, learned}
 use Rattle.est_net.specs.Layout.{sure_codes, possible_codes, sheet_in}
 use Rattle.est_rounds.specs.Views.{set_of, env_of}
 use Rattle.est_rounds.specs.declared.acts.MustCan.{MustCan}
@@ -27,6 +27,10 @@ pub record Changes (lo hi : ℕ) (old new : List Status) : Type 0 where
   pub size : length new ≡ length old
   pub more : decided old ≤ decided new
   pub quiet : decided new ≡ decided old → new ≡ old
+
+-- in the first sweep of an instant (first is true) each cell from place lo on and before place hi is open
+unfoldable pub IsFresh : (first : Bool) (lo hi : ℕ) → List Status → Type 0
+IsFresh first lo hi cells = first ≡ true → AllOpen lo hi cells
 
 -- what is surely given and emitted, and what is possibly
 pub record IsJudged (sure may : Codes) (emitted possible : Signals) (j : MustCan) : Type 0 where

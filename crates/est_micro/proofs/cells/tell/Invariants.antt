@@ -5,7 +5,7 @@ use Rattle.est_micro.proofs.Telling.{ToldAndRead}
 use Rattle.est_micro.proofs.cells.tell.Given as goal
 
 abbrev pub invariant-loop-code : goal.invariant-loop-code
-invariant-loop-code l = record {
+invariant-loop-code g l = record {
   told : ToldAndRead l.cell l.code l.judged l.fn.net.cells.items l.net.cells.items (codes_of l.read.sure)
       (codes_of l.read.possible);
   kept : kept l.net ≡ kept l.fn.net;

@@ -5,14 +5,14 @@ use Rattle.est_meaning.specs.declared.status.Status.{Status}
 use Rattle.est_micro.proofs.cells.tell_code.Goals as goal
 
 pub returns-clause-learns : goal.returns-clause-learns
-returns-clause-learns c = rw (← c.verdict_on.ensures) c.tell_cell-status.ensures.learns
+returns-clause-learns g c = rw (← c.verdict_on.ensures) c.tell_cell-status.ensures.learns
 
 pub returns-clause-sure : goal.returns-clause-sure
-returns-clause-sure c =
+returns-clause-sure g c =
     c.with_cell.ensures.sure
     ∙ ap (λ (v : Status). codes_of c.args.read.sure c.args.code || is_sure v) c.tell_cell-status.ensures.known
 
 pub returns-clause-possible : goal.returns-clause-possible
-returns-clause-possible c =
+returns-clause-possible g c =
     c.with_cell.ensures.possible
     ∙ ap (λ (v : Status). codes_of c.args.read.possible c.args.code || is_possible v) c.tell_cell-status.ensures.known

@@ -5,6 +5,7 @@ use Rattle.est_micro.specs.Inner.Views.{IsBegun, IsResumed}
 use Rattle.est_micro.specs.Sweeps.{told}
 use Rattle.est_micro.specs.declared.cells.Swept.{Swept}
 use Rattle.est_micro.proofs.LedSides.{side_led, side_led_on}
+use Rattle.est_micro.proofs.FreshCells.{fresh_not}
 use Rattle.est_micro.proofs.lead.lead_side.Goals.{in-None, in-Some+else-not-is_live}
 use Rattle.est_micro.proofs.lead.lead_side.Goals as goal
 
@@ -25,3 +26,9 @@ returns-clause-led c =
           w.sweep_resumed-swept.ensures.swept
           (c.with_emitted.ensures ∙ ap (λ (s : Swept). told known (set_of s.judged.must.signals)) w.swept-is))
     ]
+
+pub sweep_begun-swept-requires-clause-fresh : goal.sweep_begun-swept-requires-clause-fresh
+sweep_begun-swept-requires-clause-fresh c = fresh_not _ _ _
+
+pub sweep_resumed-swept-requires-clause-fresh : goal.sweep_resumed-swept-requires-clause-fresh
+sweep_resumed-swept-requires-clause-fresh c = fresh_not _ _ _

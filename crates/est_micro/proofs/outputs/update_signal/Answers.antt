@@ -1,5 +1,6 @@
 use Rattle.std.proofs.Common.{◌≡◌, ◌||◌, ◌&&◌, ◌+◌, Bool, true, false, cond, refl, sym, ap, ◌∙◌, arith}
 use Rattle.est_cells.specs.Tables.{is_sure, is_possible}
+use Rattle.est_micro.proofs.FreshCells.{fresh_not}
 use Rattle.est_micro.proofs.outputs.update_signal.Goals as goal
 
 not_one : (a f b : Bool) → f ≡ false → a ≡ (a || (f && b))
@@ -39,3 +40,6 @@ pub returns-clause-possible : goal.returns-clause-possible
 returns-clause-possible c =
     c.put-2.ensures.here ∙ one _ _ _ _ (sym c.has.ensures ∙ c.if-not-has.false)
     (c.may_be_true.ensures ∙ ap is_possible c.tell_cell-status.ensures.known)
+
+pub tell_cell-status-requires-clause-fresh : goal.tell_cell-status-requires-clause-fresh
+tell_cell-status-requires-clause-fresh c = fresh_not _ _ _
