@@ -55,7 +55,7 @@ def without_clauses(text):
     for line in (r"(?:[ \t]*///[^\n]*\n)?[ \t]*ghost [^\n]*\n(?:[ \t]+[^{}\n]*\},\n)?", r"//![^\n]*\n", r"#\[(?:derive\(Drop\)|cycle\(\w+\))\]\n",
                  r"[ \t]*#!?\[tactic\([^\n]*\n", r"use std::alloc::[^\n]*\n"):
         text = re.sub(f"^{line}", "", text, flags=re.M)
-    while clause := re.search(r"^[ \t]*(?:requires|ensures)\b[^\n{]*\{", text, flags=re.M):
+    while clause := re.search(r"^[ \t]*(?:requires|ensures)\b[^{]*\{", text, flags=re.M):
         text = text[:clause.start()] + text[after_braces(text, clause.end()):].lstrip(" \t").removeprefix("\n")
     return text
 

@@ -4,15 +4,18 @@ use Rattle.std.proofs.Common.{refl, ap, sym, ◌∙◌, arith, subst}
 use Rattle.std.proofs.lemmas.Option.{slice_get-get_or}
 use Rattle.est_kernel.specs.declared.pause_set.PauseSet.{PauseSet}
 use Rattle.est_kernel.specs.declared.statement.Statement.{Statement}
+use Rattle.est_kernel.specs.Codes.{no_codes}
+use Rattle.est_meaning.specs.Signals.{no_signals}
 use Rattle.est_meaning.specs.declared.status.Status.{Status}
 use Rattle.est_meaning.specs.declared.status.Status.TheVariants.{Present, Absent, Unknown}
 use Rattle.est_cells.specs.Tables.{sheet_size}
-use Rattle.est_net.specs.Cells.{AllOpen, Learns, NoneTrue, cell_at, is_known, learned}
+use Rattle.est_net.specs.Cells.{AllOpen, AreFalse, Learns, NoneTrue, cell_at, is_known, learned}
 use Rattle.est_rounds.specs.declared.signal_set.Env.{Env as Known}
-use Rattle.est_micro.specs.Inner.Views.{Changes, IsBegun, IsChosen, IsFresh, IsIdle, IsResumed}
+use Rattle.est_micro.specs.Inner.Views.{Changes, IsBegun, IsFresh, IsIdle, IsJudged, IsResumed}
 use Rattle.est_micro.specs.declared.cells.StatementPlace.{StatementPlace}
 use Rattle.est_micro.specs.declared.cells.Swept.{Swept}
 use Rattle.est_micro.proofs.Frames.{size_least}
+use Rattle.est_micro.proofs.IdleSheets.{idle_begun}
 
 -- in a narrower range
 pub fresh_part : (first : Bool) (lo hi a b : ℕ) (cells : List Status) → lo ≤ a → b ≤ hi → IsFresh first lo hi cells
@@ -74,7 +77,8 @@ pub fresh_next : (first : Bool) (cell lo n m past : ℕ) (gate : Status) (old m0
 fresh_next first cell lo n m past gate old m0 m1 x y e c h =
     subst (λ (z : ℕ). IsFresh first z (z + m) m1) (sym e)
     (fresh_after first (lo + n) (lo + n + m) lo (lo + n) m0 m1 y (omega arith)
-    (fresh_told first cell cell (lo + n + m) (lo + n) (lo + n + m) gate old m0 x (omega arith) (omega arith) (omega arith)
+    (fresh_told first cell cell (lo + n + m) (lo + n) (lo + n + m) gate old m0 x (omega arith) (omega arith)
+        (omega arith)
     h))
 
 -- so too where the second is swept before the first
@@ -82,7 +86,8 @@ pub fresh_back : (first : Bool) (cell lo n m past : ℕ) (gate : Status) (old m0
     → Learns cell gate old m0 → past ≡ lo + n → cell < lo → IsFresh first cell (lo + n + m) old
     → IsFresh first past (past + m) m0
 fresh_back first cell lo n m past gate old m0 x e c h = subst (λ (z : ℕ). IsFresh first z (z + m) m0) (sym e)
-    (fresh_told first cell cell (lo + n + m) (lo + n) (lo + n + m) gate old m0 x (omega arith) (omega arith) (omega arith)
+    (fresh_told first cell cell (lo + n + m) (lo + n) (lo + n + m) gate old m0 x (omega arith) (omega arith)
+        (omega arith)
     h)
 
 -- the cells of codes, after those of the parts
@@ -150,3 +155,21 @@ pub open_fresh : (first : Bool) (lo hi : ℕ) (cells : List Status) → first �
     → AllOpen lo hi cells
 unfolding IsFresh
 open_fresh first lo hi cells e h = h e
+
+-- a cell that is told that it is false
+pub absent_told : (first : Bool) (cell hi : ℕ) (old new : List Status) → first ≡ true → IsFresh first cell hi old
+    → cell < hi → Learns cell Absent old new → Absent ≡ cell_at new cell
+unfolding IsFresh AllOpen
+absent_told first cell hi old new e h l x =
+    sym (x.here ∙ ap (λ (v : Status). learned v Absent) (h e cell (omega arith) l))
+
+-- a part that is over
+pub over_begun : (first : Bool) (s : Statement) (at : StatementPlace) (e : Known) (old new : List Status) (past : ℕ)
+    (r : Swept)
+    → first ≡ true → IsFresh first at.cell (at.cell + sheet_size at.main s at.traps) old
+    → past ≡ at.cell + sheet_size at.main s at.traps → AreFalse at.cell past old new
+    → IsJudged no_codes no_codes no_signals no_signals r.judged → r.past ≡ past → IsBegun s at Absent e old new r
+over_begun first s at e old new past r f h p a j q =
+    idle_begun s at Absent e old new past r
+    (fresh_idle s at Absent old past refl p
+    (subst (λ (z : ℕ). AllOpen at.cell z old) (sym p) (open_fresh first _ _ old f h))) a j q

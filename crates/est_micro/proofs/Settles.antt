@@ -230,7 +230,8 @@ start_ready unasked k x inputs sure possible n new e closed size none all h long
     }
 
 -- the cells of the statement are open after those of the signals were told first
-pub open_after : (i : List Declaration) (unasked inputs sure possible : ℕ → Bool) (n : ℕ) (new : List Status) (e : Known)
+pub open_after : (i : List Declaration) (unasked inputs sure possible : ℕ → Bool) (n : ℕ) (new : List Status)
+    (e : Known)
     → AreSignalsUpdated i unasked inputs sure possible (replicate n Unknown) new e
     → AllOpen (output_count i) (length new) new
 unfolding AllOpen

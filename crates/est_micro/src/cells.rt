@@ -1,9 +1,11 @@
 //! The cells of one statement: they are told what is judged of it, and read.
-ghost use Rattle.std.specs.Prelude.{◌≡◌, ◌≢◌, ◌<◌, ◌≤◌, ◌+◌, ◌||◌, ℕ, false, length};
+ghost use Rattle.std.specs.Prelude.{◌≡◌, ◌≢◌, ◌<◌, ◌≤◌, ◌+◌, ◌||◌, ℕ, Some, false, length};
+ghost use Rattle.std.specs.Prelude.{slice_get};
 ghost use Rattle.est_kernel.specs.CodeViews.{code_of, codes_of};
 ghost use Rattle.est_kernel.specs.Codes.{no_codes};
 ghost use Rattle.est_meaning.specs.Signals.{no_signals, union};
 ghost use Rattle.est_meaning.specs.Environments.{verdict};
+ghost use Rattle.est_meaning.specs.declared.status.Status.TheVariants.{Unknown};
 ghost use Rattle.est_cells.specs.Tables.{is_sure, is_possible};
 ghost use Rattle.est_net.specs.Cells.{Learns, cell_at};
 ghost use Rattle.est_net.specs.Kept.{kept};
@@ -12,7 +14,7 @@ ghost use Rattle.est_micro.specs.Sweeps.{told};
 ghost use Rattle.est_micro.specs.Inner.Views.{AreTold, IsFinished, IsFresh, IsJudged};
 
 use crate::direction::Direction;
-use crate::learning::tell_cell;
+use crate::learning::decide_open;
 use crate::sweep_kind::SweepKind;
 use est_kernel::code_set::CodeSet;
 use est_kernel::completion::Completion;
@@ -60,19 +62,6 @@ fn completion_of(code: usize) -> Completion
             index: code as u16 - 2,
         })
     }
-}
-
-/// What is judged of a code.
-fn verdict_on(judged: &MustCan, code: usize) -> Status
-    requires { code < 64 }
-    ensures { result ≡ verdict (codes_of judged.now.must.codes code)
-        (codes_of judged.now.can.codes code) }
-{
-    let completion = completion_of(code);
-    signal_set::decide(
-        judged.must.codes.has(completion),
-        judged.can.codes.has(completion),
-    )
 }
 
 /// The codes with this one, if it is to be with them.
@@ -131,6 +120,40 @@ fn with_cell(read: CodesRead, code: usize, status: Status) -> CodesRead
     }
 }
 
+/// Tells an open code cell what is judged of its code, and adds what it then says to what was read.
+#[inline(always)]
+fn tell_open_code(
+    net: &mut Net,
+    cell: usize,
+    code: usize,
+    judged: &MustCan,
+    read: CodesRead,
+) -> CodesRead
+    requires open { slice_get net.old.cells.items (cell + code) ≡ Some Unknown }
+    requires few { code < 64 }
+    ensures learns { Learns (cell + code)
+        (verdict (codes_of judged.now.must.codes code) (codes_of judged.now.can.codes code))
+        net.old.cells.items net.new.cells.items }
+    ensures sure { codes_of result.sure code
+        ≡ (codes_of read.sure code || is_sure (cell_at net.new.cells.items (cell + code))) }
+    ensures other_sure { (k : ℕ) → k ≢ code → codes_of result.sure k ≡ codes_of read.sure k }
+    ensures possible { codes_of result.possible code
+        ≡ (codes_of read.possible code
+        || is_possible (cell_at net.new.cells.items (cell + code))) }
+    ensures other_possible { (k : ℕ) → k ≢ code
+        → codes_of result.possible k ≡ codes_of read.possible k }
+    ensures kept { kept net.new ≡ kept net.old }
+{
+    let completion = completion_of(code);
+    let sure = judged.must.codes.has(completion);
+    let possible = judged.can.codes.has(completion);
+    decide_open(net, cell + code, sure, possible);
+    CodesRead {
+        sure: with_code(read.sure, code, sure),
+        possible: with_code(read.possible, code, sure || possible),
+    }
+}
+
 /// Tells a code cell what is judged of its code, and adds what it then says to what was read.
 #[inline(always)]
 fn tell_code<K: SweepKind>(
@@ -156,8 +179,13 @@ fn tell_code<K: SweepKind>(
         → codes_of result.possible k ≡ codes_of read.possible k }
     ensures kept { kept net.new ≡ kept net.old }
 {
-    let status = tell_cell::<K>(net, cell + code, verdict_on(judged, code));
-    with_cell(read, code, status)
+    if K::is_first() {
+        tell_open_code(net, cell, code, judged, read)
+    } else if net.is_decided(cell + code) {
+        with_cell(read, code, net.status(cell + code))
+    } else {
+        tell_open_code(net, cell, code, judged, read)
+    }
 }
 
 /// Whether a code above 1 is among these.
@@ -192,6 +220,9 @@ fn tell<K: SweepKind>(net: &mut Net, cell: usize, count: usize, judged: &MustCan
     if K::is_first() {
         if count == 2 {
             return read;
+        }
+        if count == 3 {
+            return tell_code::<K>(net, cell, 2, judged, read);
         }
         if !has_exit(judged.must.codes) && !has_exit(judged.can.codes) {
             net.fill(cell + 2, cell + count);

@@ -20,11 +20,12 @@ ghost use Rattle.est_micro.specs.Parts.{AgreeBut, AreInputsAlone};
 ghost use Rattle.est_micro.specs.Inner.Leads.{Leads, SheetChanges};
 ghost use Rattle.est_micro.specs.Inner.Passes.{SheetPasses};
 ghost use Rattle.est_micro.specs.Inner.Sides.{IsFound, IsOneOf, IsSideLed};
+ghost use Rattle.est_micro.specs.Inner.Views.{IsFresh};
 ghost use Rattle.est_micro.specs.Runs.{Ready};
 
 use crate::cells::StatementPlace;
 use crate::direction::Direction;
-use crate::extents::is_live;
+use crate::extents::{is_live, past};
 use crate::find_begin::{Found, find_begun};
 use crate::find_resume::find_resumed;
 use crate::must_can;
@@ -32,7 +33,7 @@ use crate::question::Question;
 use crate::side_order::SideOrder;
 use crate::sides::{Side, Sides};
 use crate::sweep_begin::sweep_begun;
-use crate::sweep_kind::LaterSweep;
+use crate::sweep_kind::{FirstSweep, LaterSweep, SweepKind};
 use crate::sweep_resume::sweep_resumed;
 use est_kernel::mask;
 use est_kernel::state::State;
@@ -104,13 +105,17 @@ fn without_silent(net: &Net, question: &Question<'_>, known: &Env, signals: u64)
     }
 }
 
-/// Sweeps a side of the `||` that was found, unless it is over. Answers what is known then.
-fn lead_side(net: &mut Net, found: &Found<'_>, side: &Side<'_>, known: &Env) -> Env
+/// Sweeps a side of the `||` that was found, unless it is over, where all its cells are open or in
+/// a later sweep. Answers what is known then.
+fn sweep_led<K: SweepKind>(net: &mut Net, found: &Found<'_>, side: &Side<'_>, known: &Env) -> Env
     requires side { IsOneOf net.old.extents.items found.now.place found.now.statement.now
         side.now }
     requires main { IfSome found.now.pauses (λ p. found.now.place.main ≡ true) }
     requires within { side.now.cell + sheet_size found.now.place.main side.now.statement.now
         found.now.place.traps ≤ length net.old.cells.items }
+    requires fresh { IsFresh K.first side.now.cell (side.now.cell
+        + sheet_size found.now.place.main side.now.statement.now found.now.place.traps)
+        net.old.cells.items }
     ensures led { IsSideLed found.now side.now (env_of known.now) (env_of result)
         net.old.cells.items net.new.cells.items }
     ensures kept { kept net.new ≡ kept net.old }
@@ -124,15 +129,38 @@ fn lead_side(net: &mut Net, found: &Found<'_>, side: &Side<'_>, known: &Env) -> 
         traps,
     };
     let swept = match found.pauses {
-        None => sweep_begun::<LaterSweep>(net, &place, side.statement, found.gate, known),
+        None => sweep_begun::<K>(net, &place, side.statement, found.gate, known),
         Some(pauses) => {
             if !is_live(net, side.number, traps, side.statement, pauses) {
                 return *known;
             }
-            sweep_resumed::<LaterSweep>(net, &place, side.statement, pauses, found.gate, known)
+            sweep_resumed::<K>(net, &place, side.statement, pauses, found.gate, known)
         }
     };
     must_can::with_emitted(known, swept.judged.must.signals)
+}
+
+/// Sweeps a side of the `||` that was found, unless it is over. Answers what is known then.
+fn lead_side(net: &mut Net, found: &Found<'_>, side: &Side<'_>, known: &Env) -> Env
+    requires side { IsOneOf net.old.extents.items found.now.place found.now.statement.now
+        side.now }
+    requires main { IfSome found.now.pauses (λ p. found.now.place.main ≡ true) }
+    requires within { side.now.cell + sheet_size found.now.place.main side.now.statement.now
+        found.now.place.traps ≤ length net.old.cells.items }
+    ensures led { IsSideLed found.now side.now (env_of known.now) (env_of result)
+        net.old.cells.items net.new.cells.items }
+    ensures kept { kept net.new ≡ kept net.old }
+{
+    let place = StatementPlace {
+        number: side.number,
+        cell: side.cell,
+        ..found.place
+    };
+    if net.all_open(place.cell, past(net, &place, side.statement)) {
+        sweep_led::<FirstSweep>(net, found, side, known)
+    } else {
+        sweep_led::<LaterSweep>(net, found, side, known)
+    }
 }
 
 /// Sweeps the sides of the `||` that was found, in the order. Answers whether some signal was found

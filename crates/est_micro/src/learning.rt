@@ -1,6 +1,7 @@
 //! What a cell is told. Each cell that is decided by it is decided by a write of the table.
 
 ghost use Rattle.std.specs.Prelude.{◌≡◌, ◌<◌, ◌≤◌, ◌+◌, Some, length, slice_get};
+ghost use Rattle.est_meaning.specs.Environments.{verdict};
 ghost use Rattle.est_meaning.specs.declared.status.Status.TheVariants.{Absent, Unknown};
 ghost use Rattle.est_net.specs.Cells.{AreFalse, Learns, NoneTrue, cell_at};
 ghost use Rattle.est_net.specs.Kept.{kept};
@@ -24,6 +25,21 @@ fn tell_open(net: &mut Net, cell: usize, now: Status) -> Status
         Status::Unknown => {}
     }
     now
+}
+
+/// Tells an open cell what is judged: it is true if it surely is, and false if it possibly isn't.
+#[inline(always)]
+pub fn decide_open(net: &mut Net, cell: usize, sure: bool, possible: bool)
+    requires { slice_get net.old.cells.items cell ≡ Some Unknown }
+    ensures learns { Learns cell (verdict sure possible) net.old.cells.items net.new.cells.items }
+    ensures known { cell_at net.new.cells.items cell ≡ verdict sure possible }
+    ensures kept { kept net.new ≡ kept net.old }
+{
+    if sure {
+        net.write(cell, true);
+    } else if !possible {
+        net.write(cell, false);
+    }
 }
 
 /// Tells a cell something, and answers what it then knows. It is decided by it if it is open and

@@ -207,13 +207,6 @@ fn collect_pauses_inside(
     ensures { CollectsIn s.now at.now.main at.now.cell at.now.traps net.now.cells.items pauses.now
         next.old next.new }
 {
-    let inside = StatementPlace {
-        number: at.number + 1,
-        main: at.main,
-        direction: at.direction,
-        cell: at.cell + at.traps + 3,
-        traps: at.traps,
-    };
     match s {
         Statement::Nothing => {}
         Statement::Emit(_) => {}
@@ -227,20 +220,34 @@ fn collect_pauses_inside(
             if at.main {
                 collect_pauses_of_loop(net, at, p, pauses, next);
             } else {
+                let inside = StatementPlace {
+                    number: at.number + 1,
+                    main: at.main,
+                    direction: at.direction,
+                    cell: at.cell + at.traps + 3,
+                    traps: at.traps,
+                };
                 collect_pauses(net, &inside, p, pauses, next);
             }
         }
         Statement::Trap(p) => {
             let body = StatementPlace {
+                number: at.number + 1,
+                main: at.main,
+                direction: at.direction,
+                cell: at.cell + at.traps + 3,
                 traps: at.traps + 1,
-                ..inside
             };
             collect_pauses(net, &body, p, pauses, next);
         }
         Statement::Local(_, p) => {
+            let cell = at.cell + at.traps + 3;
             let body = StatementPlace {
-                cell: inside.cell + 1,
-                ..inside
+                number: at.number + 1,
+                main: at.main,
+                direction: at.direction,
+                cell: cell + 1,
+                traps: at.traps,
             };
             collect_pauses(net, &body, p, pauses, next);
         }
@@ -249,6 +256,7 @@ fn collect_pauses_inside(
 
 /// Puts the pauses at which a statement stands into `next`: none if it does not give code 1.
 #[cycle(collect_pauses)]
+#[inline(always)]
 pub fn collect_pauses(
     net: &Net,
     at: &StatementPlace,

@@ -47,7 +47,8 @@ fn begin_leaf<K: SweepKind>(
 ) -> Swept
     requires code { code_of completion < 64 }
     requires within { at.now.cell + at.now.traps + 3 ≤ length net.old.cells.items }
-    requires fresh { IsFresh K.first at.now.cell (at.now.cell + at.now.traps + 3) net.old.cells.items }
+    requires fresh
+        { IsFresh K.first at.now.cell (at.now.cell + at.now.traps + 3) net.old.cells.items }
     requires few { at.now.traps ≤ 62 }
     ensures nothing { (e : _) → code_of completion ≡ 0
         → IsBegun Nothing at.now gate e net.old.cells.items net.new.cells.items result }
@@ -71,7 +72,8 @@ fn begin_emit<K: SweepKind>(
 ) -> Swept
     requires bit { HasSignalBit signal }
     requires within { at.now.cell + at.now.traps + 3 ≤ length net.old.cells.items }
-    requires fresh { IsFresh K.first at.now.cell (at.now.cell + at.now.traps + 3) net.old.cells.items }
+    requires fresh
+        { IsFresh K.first at.now.cell (at.now.cell + at.now.traps + 3) net.old.cells.items }
     requires few { at.now.traps ≤ 62 }
     ensures swept { (e : _)
         → IsBegun (Emit signal) at.now gate e net.old.cells.items net.new.cells.items result }
@@ -101,7 +103,9 @@ fn begin_present<K: SweepKind>(
     requires within { at.now.cell + at.now.traps + 3 + sheet_size at.now.main p.now at.now.traps
         + sheet_size at.now.main q.now at.now.traps
         ≤ length net.old.cells.items }
-    requires fresh { IsFresh K.first at.now.cell (at.now.cell + at.now.traps + 3 + sheet_size at.now.main p.now at.now.traps
+    requires fresh
+        { IsFresh K.first at.now.cell
+        (at.now.cell + at.now.traps + 3 + sheet_size at.now.main p.now at.now.traps
         + sheet_size at.now.main q.now at.now.traps) net.old.cells.items }
     requires first_traps { at.now.traps + trap_depth (term_of p.now) ≤ 62 }
     requires second_traps { at.now.traps + trap_depth (term_of q.now) ≤ 62 }
@@ -145,7 +149,10 @@ fn begin_suspend<K: SweepKind>(
         at.now.traps p.now }
     requires within { at.now.cell + at.now.traps + 3 + sheet_size at.now.main p.now at.now.traps
         ≤ length net.old.cells.items }
-    requires fresh { IsFresh K.first at.now.cell (at.now.cell + at.now.traps + 3 + sheet_size at.now.main p.now at.now.traps) net.old.cells.items }
+    requires fresh
+        { IsFresh K.first at.now.cell
+        (at.now.cell + at.now.traps + 3 + sheet_size at.now.main p.now at.now.traps)
+        net.old.cells.items }
     requires traps { at.now.traps + trap_depth (term_of p.now) ≤ 62 }
     ensures swept { (t a : _)
         → IsBegun (Suspend' t a p.now) at.now gate env.now net.old.cells.items
@@ -183,7 +190,9 @@ fn begin_seq<K: SweepKind>(
     requires within { at.now.cell + at.now.traps + 3 + sheet_size at.now.main p.now at.now.traps
         + sheet_size at.now.main q.now at.now.traps
         ≤ length net.old.cells.items }
-    requires fresh { IsFresh K.first at.now.cell (at.now.cell + at.now.traps + 3 + sheet_size at.now.main p.now at.now.traps
+    requires fresh
+        { IsFresh K.first at.now.cell
+        (at.now.cell + at.now.traps + 3 + sheet_size at.now.main p.now at.now.traps
         + sheet_size at.now.main q.now at.now.traps) net.old.cells.items }
     requires first_traps { at.now.traps + trap_depth (term_of p.now) ≤ 62 }
     requires second_traps { at.now.traps + trap_depth (term_of q.now) ≤ 62 }
@@ -232,7 +241,9 @@ fn begin_loop<K: SweepKind>(
     requires within { at.now.cell + at.now.traps + 3 + sheet_size true p.now at.now.traps
         + sheet_size false p.now at.now.traps
         ≤ length net.old.cells.items }
-    requires fresh { IsFresh K.first at.now.cell (at.now.cell + at.now.traps + 3 + sheet_size true p.now at.now.traps
+    requires fresh
+        { IsFresh K.first at.now.cell
+        (at.now.cell + at.now.traps + 3 + sheet_size true p.now at.now.traps
         + sheet_size false p.now at.now.traps) net.old.cells.items }
     requires traps { at.now.traps + trap_depth (term_of p.now) ≤ 62 }
     ensures swept { (a : _)
@@ -276,7 +287,9 @@ fn begin_again<K: SweepKind>(
         at.now.traps p.now }
     requires within { at.now.cell + at.now.traps + 3 + sheet_size false p.now at.now.traps
         ≤ length net.old.cells.items }
-    requires fresh { IsFresh K.first at.now.cell (at.now.cell + at.now.traps + 3 + sheet_size false p.now at.now.traps) net.old.cells.items }
+    requires fresh
+        { IsFresh K.first at.now.cell
+        (at.now.cell + at.now.traps + 3 + sheet_size false p.now at.now.traps) net.old.cells.items }
     requires traps { at.now.traps + trap_depth (term_of p.now) ≤ 62 }
     ensures swept { (a : _)
         → IsBegun (Loop' a p.now) at.now gate env.now net.old.cells.items
@@ -310,7 +323,9 @@ fn sweep_side<K: SweepKind>(
         s.now }
     requires within { at.now.cell + sheet_size at.now.main s.now at.now.traps
         ≤ length net.old.cells.items }
-    requires fresh { IsFresh K.first at.now.cell (at.now.cell + sheet_size at.now.main s.now at.now.traps) net.old.cells.items }
+    requires fresh
+        { IsFresh K.first at.now.cell (at.now.cell + sheet_size at.now.main s.now at.now.traps)
+        net.old.cells.items }
     requires traps { at.now.traps + trap_depth (term_of s.now) ≤ 62 }
     ensures swept { IsBegun s.now at.now gate env.now net.old.cells.items net.new.cells.items
         result }
@@ -342,7 +357,9 @@ fn begin_par<K: SweepKind>(
     requires within { at.now.cell + at.now.traps + 3 + sheet_size at.now.main p.now at.now.traps
         + sheet_size at.now.main q.now at.now.traps
         ≤ length net.old.cells.items }
-    requires fresh { IsFresh K.first at.now.cell (at.now.cell + at.now.traps + 3 + sheet_size at.now.main p.now at.now.traps
+    requires fresh
+        { IsFresh K.first at.now.cell
+        (at.now.cell + at.now.traps + 3 + sheet_size at.now.main p.now at.now.traps
         + sheet_size at.now.main q.now at.now.traps) net.old.cells.items }
     requires first_traps { at.now.traps + trap_depth (term_of p.now) ≤ 62 }
     requires second_traps { at.now.traps + trap_depth (term_of q.now) ≤ 62 }
@@ -393,7 +410,9 @@ fn begin_par_back<K: SweepKind>(
     requires within { at.now.cell + at.now.traps + 3 + sheet_size at.now.main p.now at.now.traps
         + sheet_size at.now.main q.now at.now.traps
         ≤ length net.old.cells.items }
-    requires fresh { IsFresh K.first at.now.cell (at.now.cell + at.now.traps + 3 + sheet_size at.now.main p.now at.now.traps
+    requires fresh
+        { IsFresh K.first at.now.cell
+        (at.now.cell + at.now.traps + 3 + sheet_size at.now.main p.now at.now.traps
         + sheet_size at.now.main q.now at.now.traps) net.old.cells.items }
     requires first_traps { at.now.traps + trap_depth (term_of p.now) ≤ 62 }
     requires second_traps { at.now.traps + trap_depth (term_of q.now) ≤ 62 }
@@ -439,7 +458,8 @@ fn begin_trap<K: SweepKind>(
         (at.now.traps + 1) p.now }
     requires within { at.now.cell + at.now.traps + 3 + sheet_size at.now.main p.now
         (at.now.traps + 1) ≤ length net.old.cells.items }
-    requires fresh { IsFresh K.first at.now.cell (at.now.cell + at.now.traps + 3 + sheet_size at.now.main p.now
+    requires fresh
+        { IsFresh K.first at.now.cell (at.now.cell + at.now.traps + 3 + sheet_size at.now.main p.now
         (at.now.traps + 1)) net.old.cells.items }
     requires traps { at.now.traps + 1 + trap_depth (term_of p.now) ≤ 62 }
     ensures swept { (a : _)
@@ -476,7 +496,10 @@ fn begin_local<K: SweepKind>(
         at.now.traps p.now }
     requires within { at.now.cell + at.now.traps + 4 + sheet_size at.now.main p.now at.now.traps
         ≤ length net.old.cells.items }
-    requires fresh { IsFresh K.first at.now.cell (at.now.cell + at.now.traps + 4 + sheet_size at.now.main p.now at.now.traps) net.old.cells.items }
+    requires fresh
+        { IsFresh K.first at.now.cell
+        (at.now.cell + at.now.traps + 4 + sheet_size at.now.main p.now at.now.traps)
+        net.old.cells.items }
     requires traps { at.now.traps + trap_depth (term_of p.now) ≤ 62 }
     ensures swept { (a : _)
         → IsBegun (Binder' s a p.now) at.now gate env.now net.old.cells.items
@@ -514,7 +537,9 @@ fn begin_each<K: SweepKind>(
         s.now }
     requires within { at.now.cell + sheet_size at.now.main s.now at.now.traps
         ≤ length net.old.cells.items }
-    requires fresh { IsFresh K.first at.now.cell (at.now.cell + sheet_size at.now.main s.now at.now.traps) net.old.cells.items }
+    requires fresh
+        { IsFresh K.first at.now.cell (at.now.cell + sheet_size at.now.main s.now at.now.traps)
+        net.old.cells.items }
     requires traps { at.now.traps + trap_depth (term_of s.now) ≤ 62 }
     ensures swept { IsBegun s.now at.now gate env.now net.old.cells.items net.new.cells.items
         result }
@@ -562,7 +587,9 @@ fn begin_known<K: SweepKind>(
         s.now }
     requires within { at.now.cell + sheet_size at.now.main s.now at.now.traps
         ≤ length net.old.cells.items }
-    requires fresh { IsFresh K.first at.now.cell (at.now.cell + sheet_size at.now.main s.now at.now.traps) net.old.cells.items }
+    requires fresh
+        { IsFresh K.first at.now.cell (at.now.cell + sheet_size at.now.main s.now at.now.traps)
+        net.old.cells.items }
     requires traps { at.now.traps + trap_depth (term_of s.now) ≤ 62 }
     ensures swept { IsBegun s.now at.now gate env.now net.old.cells.items net.new.cells.items
         result }
@@ -580,6 +607,7 @@ fn begin_known<K: SweepKind>(
 /// Sweeps the cells of a statement that is begun, if at all, by the gate. Where it is not, all of
 /// them are false at once in the first sweep of an instant.
 #[cycle(sweep_begun)]
+#[inline(always)]
 pub fn sweep_begun<K: SweepKind>(
     net: &mut Net,
     at: &StatementPlace,
@@ -592,7 +620,9 @@ pub fn sweep_begun<K: SweepKind>(
         s.now }
     requires within { at.now.cell + sheet_size at.now.main s.now at.now.traps
         ≤ length net.old.cells.items }
-    requires fresh { IsFresh K.first at.now.cell (at.now.cell + sheet_size at.now.main s.now at.now.traps) net.old.cells.items }
+    requires fresh
+        { IsFresh K.first at.now.cell (at.now.cell + sheet_size at.now.main s.now at.now.traps)
+        net.old.cells.items }
     requires traps { at.now.traps + trap_depth (term_of s.now) ≤ 62 }
     ensures swept { IsBegun s.now at.now gate env.now net.old.cells.items net.new.cells.items
         result }

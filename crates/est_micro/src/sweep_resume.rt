@@ -44,7 +44,8 @@ use est_rounds::signal_set::{self, Env};
 #[inline(always)]
 fn resume_pause<K: SweepKind>(net: &mut Net, at: &StatementPlace, run: Status) -> Swept
     requires within { at.now.cell + at.now.traps + 3 ≤ length net.old.cells.items }
-    requires fresh { IsFresh K.first at.now.cell (at.now.cell + at.now.traps + 3) net.old.cells.items }
+    requires fresh
+        { IsFresh K.first at.now.cell (at.now.cell + at.now.traps + 3) net.old.cells.items }
     requires few { at.now.traps ≤ 62 }
     ensures swept { (e n pauses : _)
         → IsResumed (Pause n) at.now
@@ -76,7 +77,9 @@ fn sweep_part<K: SweepKind>(
         p.now }
     requires within { at.now.cell + sheet_size true p.now at.now.traps
         ≤ length net.old.cells.items }
-    requires fresh { IsFresh K.first at.now.cell (at.now.cell + sheet_size true p.now at.now.traps) net.old.cells.items }
+    requires fresh
+        { IsFresh K.first at.now.cell (at.now.cell + sheet_size true p.now at.now.traps)
+        net.old.cells.items }
     requires traps { at.now.traps + trap_depth (term_of p.now) ≤ 62 }
     ensures swept { IsChosen p.now at.now pauses.now is_on gate run env.now net.old.cells.items
         net.new.cells.items result }
@@ -112,7 +115,9 @@ fn resume_present<K: SweepKind>(
     requires within { at.now.cell + at.now.traps + 3 + sheet_size true p.now at.now.traps
         + sheet_size true q.now at.now.traps
         ≤ length net.old.cells.items }
-    requires fresh { IsFresh K.first at.now.cell (at.now.cell + at.now.traps + 3 + sheet_size true p.now at.now.traps
+    requires fresh
+        { IsFresh K.first at.now.cell
+        (at.now.cell + at.now.traps + 3 + sheet_size true p.now at.now.traps
         + sheet_size true q.now at.now.traps) net.old.cells.items }
     requires first_traps { at.now.traps + trap_depth (term_of p.now) ≤ 62 }
     requires second_traps { at.now.traps + trap_depth (term_of q.now) ≤ 62 }
@@ -170,7 +175,9 @@ fn resume_suspend<K: SweepKind>(
         at.now.traps p.now }
     requires within { at.now.cell + at.now.traps + 3 + sheet_size true p.now at.now.traps
         ≤ length net.old.cells.items }
-    requires fresh { IsFresh K.first at.now.cell (at.now.cell + at.now.traps + 3 + sheet_size true p.now at.now.traps) net.old.cells.items }
+    requires fresh
+        { IsFresh K.first at.now.cell
+        (at.now.cell + at.now.traps + 3 + sheet_size true p.now at.now.traps) net.old.cells.items }
     requires traps { at.now.traps + trap_depth (term_of p.now) ≤ 62 }
     ensures swept { (t a : _) → asked ≡ status_of (env_of env.now) (query_of t)
         → IsResumed (Suspend' t a p.now) at.now pauses.now run env.now net.old.cells.items
@@ -189,6 +196,66 @@ fn resume_suspend<K: SweepKind>(
     let held = must_can::leaf(run.and(asked), Completion::Pause);
     let own = must_can::with_codes(&body.judged, &held);
     cells::finish_statement::<K>(net, at, &own, body.past)
+}
+
+/// Sweeps a `;` whose first part is over, in the first sweep of an instant: the cells of that part
+/// are false at once.
+#[cycle(sweep_resumed)]
+#[inline(always)]
+fn resume_second<K: SweepKind>(
+    net: &mut Net,
+    at: &StatementPlace,
+    p: &Statement,
+    q: &Statement,
+    pauses: &PauseSet,
+    run: Status,
+    env: &Env,
+) -> Swept
+    requires main { at.now.main ≡ true }
+    requires first { K.first ≡ true }
+    requires over { is_live p.now (pauses_of pauses.now) ≡ false }
+    requires live { is_live q.now (pauses_of pauses.now) ≡ true }
+    requires fits { FitsMasks p.now × FitsMasks q.now }
+    requires first_extents { HasExtents net.old.extents.items (at.now.number + 1)
+        at.now.traps p.now }
+    requires second_extents { HasExtents net.old.extents.items
+        (at.now.number + 1 + statements p.now) at.now.traps q.now }
+    requires within { at.now.cell + at.now.traps + 3 + sheet_size true p.now at.now.traps
+        + sheet_size true q.now at.now.traps
+        ≤ length net.old.cells.items }
+    requires fresh
+        { IsFresh K.first at.now.cell
+        (at.now.cell + at.now.traps + 3 + sheet_size true p.now at.now.traps
+        + sheet_size true q.now at.now.traps) net.old.cells.items }
+    requires first_traps { at.now.traps + trap_depth (term_of p.now) ≤ 62 }
+    requires second_traps { at.now.traps + trap_depth (term_of q.now) ≤ 62 }
+    ensures swept { (a b : _)
+        → IsResumed (Seq' a p.now b q.now) at.now pauses.now run env.now net.old.cells.items
+        net.new.cells.items result }
+    ensures kept { kept net.new ≡ kept net.old }
+{
+    tell_cell::<K>(net, at.cell, Status::Absent);
+    let place = StatementPlace {
+        number: at.number + 1,
+        main: at.main,
+        direction: at.direction,
+        cell: at.cell + at.traps + 3,
+        traps: at.traps,
+    };
+    let later = past(net, &place, p);
+    net.fill(place.cell, later);
+    let first = cells::nothing(later);
+    let inside = must_can::with_emitted(env, first.judged.must.signals);
+    let place = StatementPlace {
+        number: number_after(net, &place, p),
+        main: at.main,
+        direction: at.direction,
+        cell: first.past,
+        traps: at.traps,
+    };
+    let second = sweep_resumed::<K>(net, &place, q, pauses, run, &inside);
+    let own = must_can::followed(&first.judged, &second.judged);
+    cells::finish_statement::<K>(net, at, &own, second.past)
 }
 
 /// Sweeps a `;`.
@@ -213,7 +280,9 @@ fn resume_seq<K: SweepKind>(
     requires within { at.now.cell + at.now.traps + 3 + sheet_size true p.now at.now.traps
         + sheet_size true q.now at.now.traps
         ≤ length net.old.cells.items }
-    requires fresh { IsFresh K.first at.now.cell (at.now.cell + at.now.traps + 3 + sheet_size true p.now at.now.traps
+    requires fresh
+        { IsFresh K.first at.now.cell
+        (at.now.cell + at.now.traps + 3 + sheet_size true p.now at.now.traps
         + sheet_size true q.now at.now.traps) net.old.cells.items }
     requires first_traps { at.now.traps + trap_depth (term_of p.now) ≤ 62 }
     requires second_traps { at.now.traps + trap_depth (term_of q.now) ≤ 62 }
@@ -222,6 +291,10 @@ fn resume_seq<K: SweepKind>(
         net.new.cells.items result }
     ensures kept { kept net.new ≡ kept net.old }
 {
+    let is_on = is_live(net, at.number + 1, at.traps, p, pauses);
+    if K::is_first() && !is_on {
+        return resume_second::<K>(net, at, p, q, pauses, run, env);
+    }
     let go = tell_cell::<K>(net, at.cell, Status::Absent);
     let place = StatementPlace {
         number: at.number + 1,
@@ -230,7 +303,6 @@ fn resume_seq<K: SweepKind>(
         cell: at.cell + at.traps + 3,
         traps: at.traps,
     };
-    let is_on = is_live(net, place.number, at.traps, p, pauses);
     let first = sweep_part::<K>(net, &place, p, pauses, is_on, go, run, env);
     let inside = must_can::with_emitted(env, first.judged.must.signals);
     let later = must_can::ends(&first.judged);
@@ -264,7 +336,9 @@ fn resume_loop<K: SweepKind>(
     requires within { at.now.cell + at.now.traps + 3 + sheet_size true p.now at.now.traps
         + sheet_size false p.now at.now.traps
         ≤ length net.old.cells.items }
-    requires fresh { IsFresh K.first at.now.cell (at.now.cell + at.now.traps + 3 + sheet_size true p.now at.now.traps
+    requires fresh
+        { IsFresh K.first at.now.cell
+        (at.now.cell + at.now.traps + 3 + sheet_size true p.now at.now.traps
         + sheet_size false p.now at.now.traps) net.old.cells.items }
     requires traps { at.now.traps + trap_depth (term_of p.now) ≤ 62 }
     ensures swept { (a : _)
@@ -349,7 +423,9 @@ fn resume_par<K: SweepKind>(
     requires within { at.now.cell + at.now.traps + 3 + sheet_size true p.now at.now.traps
         + sheet_size true q.now at.now.traps
         ≤ length net.old.cells.items }
-    requires fresh { IsFresh K.first at.now.cell (at.now.cell + at.now.traps + 3 + sheet_size true p.now at.now.traps
+    requires fresh
+        { IsFresh K.first at.now.cell
+        (at.now.cell + at.now.traps + 3 + sheet_size true p.now at.now.traps
         + sheet_size true q.now at.now.traps) net.old.cells.items }
     requires first_traps { at.now.traps + trap_depth (term_of p.now) ≤ 62 }
     requires second_traps { at.now.traps + trap_depth (term_of q.now) ≤ 62 }
@@ -408,7 +484,9 @@ fn resume_par_back<K: SweepKind>(
     requires within { at.now.cell + at.now.traps + 3 + sheet_size true p.now at.now.traps
         + sheet_size true q.now at.now.traps
         ≤ length net.old.cells.items }
-    requires fresh { IsFresh K.first at.now.cell (at.now.cell + at.now.traps + 3 + sheet_size true p.now at.now.traps
+    requires fresh
+        { IsFresh K.first at.now.cell
+        (at.now.cell + at.now.traps + 3 + sheet_size true p.now at.now.traps
         + sheet_size true q.now at.now.traps) net.old.cells.items }
     requires first_traps { at.now.traps + trap_depth (term_of p.now) ≤ 62 }
     requires second_traps { at.now.traps + trap_depth (term_of q.now) ≤ 62 }
@@ -461,7 +539,8 @@ fn resume_trap<K: SweepKind>(
         (at.now.traps + 1) p.now }
     requires within { at.now.cell + at.now.traps + 3 + sheet_size true p.now
         (at.now.traps + 1) ≤ length net.old.cells.items }
-    requires fresh { IsFresh K.first at.now.cell (at.now.cell + at.now.traps + 3 + sheet_size true p.now
+    requires fresh
+        { IsFresh K.first at.now.cell (at.now.cell + at.now.traps + 3 + sheet_size true p.now
         (at.now.traps + 1)) net.old.cells.items }
     requires traps { at.now.traps + 1 + trap_depth (term_of p.now) ≤ 62 }
     ensures swept { (a : _)
@@ -501,7 +580,9 @@ fn resume_local<K: SweepKind>(
         at.now.traps p.now }
     requires within { at.now.cell + at.now.traps + 4 + sheet_size true p.now at.now.traps
         ≤ length net.old.cells.items }
-    requires fresh { IsFresh K.first at.now.cell (at.now.cell + at.now.traps + 4 + sheet_size true p.now at.now.traps) net.old.cells.items }
+    requires fresh
+        { IsFresh K.first at.now.cell
+        (at.now.cell + at.now.traps + 4 + sheet_size true p.now at.now.traps) net.old.cells.items }
     requires traps { at.now.traps + trap_depth (term_of p.now) ≤ 62 }
     ensures swept { (a : _)
         → IsResumed (Binder' s a p.now) at.now pauses.now run env.now net.old.cells.items
@@ -541,7 +622,9 @@ fn resume_each<K: SweepKind>(
         s.now }
     requires within { at.now.cell + sheet_size true s.now at.now.traps
         ≤ length net.old.cells.items }
-    requires fresh { IsFresh K.first at.now.cell (at.now.cell + sheet_size true s.now at.now.traps) net.old.cells.items }
+    requires fresh
+        { IsFresh K.first at.now.cell (at.now.cell + sheet_size true s.now at.now.traps)
+        net.old.cells.items }
     requires traps { at.now.traps + trap_depth (term_of s.now) ≤ 62 }
     ensures swept { IsResumed s.now at.now pauses.now run env.now net.old.cells.items
         net.new.cells.items
@@ -591,7 +674,9 @@ pub fn sweep_resumed<K: SweepKind>(
         s.now }
     requires within { at.now.cell + sheet_size true s.now at.now.traps
         ≤ length net.old.cells.items }
-    requires fresh { IsFresh K.first at.now.cell (at.now.cell + sheet_size true s.now at.now.traps) net.old.cells.items }
+    requires fresh
+        { IsFresh K.first at.now.cell (at.now.cell + sheet_size true s.now at.now.traps)
+        net.old.cells.items }
     requires traps { at.now.traps + trap_depth (term_of s.now) ≤ 62 }
     ensures swept { IsResumed s.now at.now pauses.now run env.now net.old.cells.items
         net.new.cells.items

@@ -33,6 +33,38 @@ returns-then-count-eq2 g c =
       kept = b.kept ∙ a.kept;
     }
 
+pub tell_code-requires-clause-fresh : goal.tell_code-requires-clause-fresh
+tell_code-requires-clause-fresh g c =
+    let a = c.tell_code-first.ensures in
+    let b = c.tell_code-read.ensures in
+    let e : c.args.count ≡ 3 = search rules in
+    let h = two_read c.args.cell c.args.judged.now c.args.net.now.cells.items _ _ _ _ _ _ _ _ c.empty.ensures
+    c.empty-2.ensures a.learns a.sure a.other_sure a.possible a.other_possible b.learns b.sure b.other_sure b.possible
+    b.other_possible in
+    fresh_part _ _ (c.args.cell + c.args.count) _ _ _ (omega arith) (omega (arith, e))
+    (fresh_further _ c.args.cell 2 c.args.count 2 c.args.judged.now _ _ h.told (omega arith) c.requires.some
+    c.requires.fresh)
+
+pub returns-then-count-eq3 : goal.returns-then-count-eq3
+returns-then-count-eq3 g c =
+    let a = c.tell_code-first.ensures in
+    let b = c.tell_code-read.ensures in
+    let d = c.tell_code.ensures in
+    let e : 3 ≡ c.args.count = search rules in
+    let h = subst (λ (z : ℕ). ToldAndRead c.args.cell z c.args.judged.now c.args.net.now.cells.items
+    c.tell_code.new.net.cells.items (codes_of c.tell_code.result.sure) (codes_of c.tell_code.result.possible)) e
+    (one_read c.args.cell 2 c.args.judged.now c.args.net.now.cells.items _ _ _ _ _ _ _ _
+    (two_read c.args.cell c.args.judged.now c.args.net.now.cells.items _ _ _ _ _ _ _ _ c.empty.ensures
+    c.empty-2.ensures a.learns a.sure a.other_sure a.possible a.other_possible b.learns b.sure b.other_sure b.possible
+    b.other_possible) d.learns refl refl d.sure d.other_sure d.possible d.other_possible) in
+    record {
+      told = told_done c.args.cell c.args.count c.args.judged.now c.args.net.now.cells.items _ h.told;
+      sure = read_sure_done _ (cell_at c.tell_code.new.net.cells.items) c.args.cell c.args.count h.sure_read;
+      possible = read_possible_done _ (cell_at c.tell_code.new.net.cells.items) c.args.cell c.args.count
+          h.possible_read;
+      kept = d.kept ∙ (b.kept ∙ a.kept);
+    }
+
 pub fill-requires-clause-open : goal.fill-requires-clause-open
 fill-requires-clause-open g c =
     let a = c.tell_code-first.ensures in

@@ -1,34 +1,12 @@
-use Rattle.std.proofs.Common.{◌≡◌, true, sym, ◌∙◌, ap, subst, Bor, Option, IfSome}
-use Rattle.est_kernel.specs.declared.pause_set.PauseSet.{PauseSet}
-use Rattle.est_rounds.specs.Views.{env_of, set_of}
-use Rattle.est_micro.specs.Inner.Views.{IsBegun, IsResumed}
-use Rattle.est_micro.specs.Sweeps.{told}
-use Rattle.est_micro.specs.declared.cells.Swept.{Swept}
-use Rattle.est_micro.proofs.LedSides.{side_led, side_led_on}
-use Rattle.est_micro.proofs.FreshCells.{fresh_not}
-use Rattle.est_micro.proofs.lead.lead_side.Goals.{in-None, in-Some+else-not-is_live}
+use Rattle.std.proofs.Common.{ℕ, sym, subst}
+use Rattle.est_net.specs.Cells.{AllOpen}
+use Rattle.est_micro.proofs.FreshCells.{fresh_not, fresh_open}
 use Rattle.est_micro.proofs.lead.lead_side.Goals as goal
 
-pub returns-clause-led : goal.returns-clause-led
-unfolding IsBegun IsResumed
-returns-clause-led c =
-    let found = c.args.found.now in
-    let known = env_of c.args.known.now in
-    elim c.match-found.branch [
-      | in-None w ↦
-          rw w.net-is (side_led _ found c.args.side.now known _ _ _ _ w.in-None.is c.requires.side
-          w.sweep_begun-swept.ensures.swept
-          (c.with_emitted.ensures ∙ ap (λ (s : Swept). told known (set_of s.judged.must.signals)) w.swept-is))
-      | in-Some+else-not-is_live w ↦
-          rw w.net-is (side_led_on _ found c.args.side.now _ known _ _ _ _ w.in-Some.is
-          (subst (λ (o : Option (Bor PauseSet)). IfSome o (λ p. found.place.main ≡ true)) w.in-Some.is c.requires.main)
-          (sym w.is_live.ensures ∙ w.if-not-is_live.false) c.requires.side
-          w.sweep_resumed-swept.ensures.swept
-          (c.with_emitted.ensures ∙ ap (λ (s : Swept). told known (set_of s.judged.must.signals)) w.swept-is))
-    ]
+pub sweep_led-requires-clause-fresh : goal.sweep_led-requires-clause-fresh
+sweep_led-requires-clause-fresh c =
+    fresh_open _ _ _ _ (subst (λ (z : ℕ). AllOpen c.args.side.now.cell z c.args.net.now.cells.items) c.past.ensures
+    (c.all_open.ensures.0 c.if-all_open.true))
 
-pub sweep_begun-swept-requires-clause-fresh : goal.sweep_begun-swept-requires-clause-fresh
-sweep_begun-swept-requires-clause-fresh c = fresh_not _ _ _
-
-pub sweep_resumed-swept-requires-clause-fresh : goal.sweep_resumed-swept-requires-clause-fresh
-sweep_resumed-swept-requires-clause-fresh c = fresh_not _ _ _
+pub sweep_led-requires-else-all_open-clause-fresh : goal.sweep_led-requires-else-all_open-clause-fresh
+sweep_led-requires-else-all_open-clause-fresh c = fresh_not _ _ _

@@ -76,16 +76,6 @@ collect_pauses_of_suspend-gives_pause-requires t c =
     let least = size_least c.args.at.now.main c.args.p.now c.args.at.now.traps in
     omega (arith, least, c.requires.within)
 
-pub collect_pauses_inside-overflow_add-inside-2 : goal.collect_pauses_inside-overflow_add-inside-2
-collect_pauses_inside-overflow_add-inside-2 t c =
-    let least = size_least c.args.at.now.main c.args.s.now c.args.at.now.traps in
-    omega (arith, least, c.requires.within, c.args.net.now.cells.ok.0)
-
-pub collect_pauses_inside-overflow_add-inside-3 : goal.collect_pauses_inside-overflow_add-inside-3
-collect_pauses_inside-overflow_add-inside-3 t c =
-    let least = size_least c.args.at.now.main c.args.s.now c.args.at.now.traps in
-    omega (arith, least, c.requires.within, c.args.net.now.cells.ok.0)
-
 pub collect_pauses_inside-returns-in-Suspend : goal.collect_pauses_inside-returns-in-Suspend
 collect_pauses_inside-returns-in-Suspend t c =
     rw (c.in-Suspend.is, sym c.deref-in-Suspend.ensures) (c.collect_pauses_of_suspend.ensures _ _)

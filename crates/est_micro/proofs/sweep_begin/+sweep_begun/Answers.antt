@@ -171,7 +171,8 @@ begin_present-sweep_begun-first-requires g t c κs bound = (
         (
           within_first _ _ _ c.args.net.now.cells.items _ c.requires.within c.tell_cell-go.ensures.learns.size,
           (
-            fresh_told _ c.args.at.now.cell _ _ _ _ _ _ _ c.tell_cell-go.ensures.learns (omega arith) (omega arith) (omega arith) c.requires.fresh,
+            fresh_told _ c.args.at.now.cell _ _ _ _ _ _ _ c.tell_cell-go.ensures.learns (omega arith) (omega arith)
+                (omega arith) c.requires.fresh,
             c.requires.first_traps,
           ),
         ),
@@ -194,7 +195,9 @@ begin_present-sweep_begun-second-requires g t c κs bound = (
           within_next c.args.net.now.cells.items _ _ _ _ _ _ _ _ c.sweep_begun-first.ensures.swept c.requires.within
               c.tell_cell-go.ensures.learns.size,
           (
-            fresh_next _ c.args.at.now.cell _ _ _ _ _ _ _ _ c.tell_cell-go.ensures.learns (changes_begun _ _ _ _ _ _ _ c.sweep_begun-first.ensures.swept) (past_begun _ _ _ _ _ _ _ c.sweep_begun-first.ensures.swept) (omega arith) c.requires.fresh,
+            fresh_next _ c.args.at.now.cell _ _ _ _ _ _ _ _ c.tell_cell-go.ensures.learns
+                (changes_begun _ _ _ _ _ _ _ c.sweep_begun-first.ensures.swept)
+                (past_begun _ _ _ _ _ _ _ c.sweep_begun-first.ensures.swept) (omega arith) c.requires.fresh,
             c.requires.second_traps,
           ),
         ),
@@ -215,7 +218,8 @@ begin_seq-sweep_begun-first-requires g t c κs bound = (
         (
           within_first _ _ _ c.args.net.now.cells.items _ c.requires.within c.tell_cell-go.ensures.learns.size,
           (
-            fresh_told _ c.args.at.now.cell _ _ _ _ _ _ _ c.tell_cell-go.ensures.learns (omega arith) (omega arith) (omega arith) c.requires.fresh,
+            fresh_told _ c.args.at.now.cell _ _ _ _ _ _ _ c.tell_cell-go.ensures.learns (omega arith) (omega arith)
+                (omega arith) c.requires.fresh,
             c.requires.first_traps,
           ),
         ),
@@ -238,7 +242,9 @@ begin_seq-sweep_begun-second-requires g t c κs bound = (
           within_next c.args.net.now.cells.items _ _ _ _ _ _ _ _ c.sweep_begun-first.ensures.swept c.requires.within
               c.tell_cell-go.ensures.learns.size,
           (
-            fresh_next _ c.args.at.now.cell _ _ _ _ _ _ _ _ c.tell_cell-go.ensures.learns (changes_begun _ _ _ _ _ _ _ c.sweep_begun-first.ensures.swept) (past_begun _ _ _ _ _ _ _ c.sweep_begun-first.ensures.swept) (omega arith) c.requires.fresh,
+            fresh_next _ c.args.at.now.cell _ _ _ _ _ _ _ _ c.tell_cell-go.ensures.learns
+                (changes_begun _ _ _ _ _ _ _ c.sweep_begun-first.ensures.swept)
+                (past_begun _ _ _ _ _ _ _ c.sweep_begun-first.ensures.swept) (omega arith) c.requires.fresh,
             c.requires.second_traps,
           ),
         ),
@@ -259,7 +265,8 @@ begin_suspend-sweep_begun-body-requires g t c κs bound = (
         (
           within_same _ c.args.net.now.cells.items _ c.requires.within c.tell_cell-go.ensures.learns.size,
           (
-            fresh_told _ c.args.at.now.cell _ _ _ _ _ _ _ c.tell_cell-go.ensures.learns (omega arith) (omega arith) (omega arith) c.requires.fresh,
+            fresh_told _ c.args.at.now.cell _ _ _ _ _ _ _ c.tell_cell-go.ensures.learns (omega arith) (omega arith)
+                (omega arith) c.requires.fresh,
             c.requires.traps,
           ),
         ),
@@ -280,7 +287,8 @@ begin_trap-sweep_begun-body-requires g t c κs bound = (
         (
           within_same _ c.args.net.now.cells.items _ c.requires.within c.tell_cell-go.ensures.learns.size,
           (
-            fresh_told _ c.args.at.now.cell _ _ _ _ _ _ _ c.tell_cell-go.ensures.learns (omega arith) (omega arith) (omega arith) c.requires.fresh,
+            fresh_told _ c.args.at.now.cell _ _ _ _ _ _ _ c.tell_cell-go.ensures.learns (omega arith) (omega arith)
+                (omega arith) c.requires.fresh,
             c.requires.traps,
           ),
         ),
@@ -299,9 +307,11 @@ begin_local-sweep_begun-body-requires g t c κs bound = (
       (
         still _ _ _ _ _ c.tell_cell-go.ensures.kept c.requires.extents,
         (
-          within_first_local (c.args.at.now.cell + c.args.at.now.traps) _ c.args.net.now.cells.items _ c.requires.within c.tell_cell-go.ensures.learns.size,
+          within_first_local (c.args.at.now.cell + c.args.at.now.traps) _ c.args.net.now.cells.items _ c.requires.within
+              c.tell_cell-go.ensures.learns.size,
           (
-            fresh_told _ c.args.at.now.cell _ _ _ _ _ _ _ c.tell_cell-go.ensures.learns (omega arith) (omega arith) (omega arith) c.requires.fresh,
+            fresh_told _ c.args.at.now.cell _ _ _ _ _ _ _ c.tell_cell-go.ensures.learns (omega arith) (omega arith)
+                (omega arith) c.requires.fresh,
             c.requires.traps,
           ),
         ),
@@ -320,9 +330,16 @@ begin_again-sweep_begun-body-requires g t c κs bound = (
       (
         still _ _ _ _ _ c.tell_cell-go.ensures.kept c.requires.extents,
         (
-          within_same (c.args.at.now.cell + c.args.at.now.traps + 3 + (sheet_size c.args.at.now.main c.args.p.now c.args.at.now.traps)) c.args.net.now.cells.items _ (rw c.requires.main c.requires.within) c.tell_cell-go.ensures.learns.size,
+          within_same
+              (c.args.at.now.cell + c.args.at.now.traps + 3
+              + (sheet_size c.args.at.now.main c.args.p.now c.args.at.now.traps)) c.args.net.now.cells.items _
+              (rw c.requires.main c.requires.within) c.tell_cell-go.ensures.learns.size,
           (
-            fresh_told _ c.args.at.now.cell c.args.at.now.cell (c.args.at.now.cell + c.args.at.now.traps + 3 + (sheet_size c.args.at.now.main c.args.p.now c.args.at.now.traps)) _ _ _ _ _ c.tell_cell-go.ensures.learns (omega arith) (omega arith) (omega arith) (rw c.requires.main c.requires.fresh),
+            fresh_told _ c.args.at.now.cell c.args.at.now.cell
+                (c.args.at.now.cell + c.args.at.now.traps + 3 +
+                (sheet_size c.args.at.now.main c.args.p.now c.args.at.now.traps)) _ _ _ _ _
+                c.tell_cell-go.ensures.learns (omega arith) (omega arith) (omega arith)
+                (rw c.requires.main c.requires.fresh),
             c.requires.traps,
           ),
         ),
@@ -341,9 +358,16 @@ begin_loop-sweep_begun-first-requires g t c κs bound = (
       (
         still _ _ _ _ _ c.tell_cell-go.ensures.kept c.requires.extents,
         (
-          within_first (c.args.at.now.cell + c.args.at.now.traps + 3) (sheet_size c.args.at.now.main c.args.p.now c.args.at.now.traps) (sheet_size false c.args.p.now c.args.at.now.traps) c.args.net.now.cells.items _ (rw c.requires.main c.requires.within) c.tell_cell-go.ensures.learns.size,
+          within_first (c.args.at.now.cell + c.args.at.now.traps + 3)
+              (sheet_size c.args.at.now.main c.args.p.now c.args.at.now.traps)
+              (sheet_size false c.args.p.now c.args.at.now.traps) c.args.net.now.cells.items _
+              (rw c.requires.main c.requires.within) c.tell_cell-go.ensures.learns.size,
           (
-            fresh_told _ c.args.at.now.cell c.args.at.now.cell (c.args.at.now.cell + c.args.at.now.traps + 3 + (sheet_size c.args.at.now.main c.args.p.now c.args.at.now.traps) + (sheet_size false c.args.p.now c.args.at.now.traps)) _ _ _ _ _ c.tell_cell-go.ensures.learns (omega arith) (omega arith) (omega arith) (rw c.requires.main c.requires.fresh),
+            fresh_told _ c.args.at.now.cell c.args.at.now.cell
+                (c.args.at.now.cell + c.args.at.now.traps + 3 +
+                (sheet_size c.args.at.now.main c.args.p.now c.args.at.now.traps)
+                + (sheet_size false c.args.p.now c.args.at.now.traps)) _ _ _ _ _ c.tell_cell-go.ensures.learns
+                (omega arith) (omega arith) (omega arith) (rw c.requires.main c.requires.fresh),
             c.requires.traps,
           ),
         ),
@@ -365,7 +389,12 @@ begin_loop-sweep_begun-again-requires g t c κs bound = (
           within_next c.args.net.now.cells.items _ _ _ _ _ _ _ _ c.sweep_begun-first.ensures.swept
               (rw c.requires.main c.requires.within) c.tell_cell-go.ensures.learns.size,
           (
-            fresh_next _ c.args.at.now.cell (c.args.at.now.cell + c.args.at.now.traps + 3) (sheet_size c.args.at.now.main c.args.p.now c.args.at.now.traps) (sheet_size false c.args.p.now c.args.at.now.traps) _ _ _ _ _ c.tell_cell-go.ensures.learns (changes_begun _ _ _ _ _ _ _ c.sweep_begun-first.ensures.swept) (past_begun _ _ _ _ _ _ _ c.sweep_begun-first.ensures.swept) (omega arith) (rw c.requires.main c.requires.fresh),
+            fresh_next _ c.args.at.now.cell (c.args.at.now.cell + c.args.at.now.traps + 3)
+                (sheet_size c.args.at.now.main c.args.p.now c.args.at.now.traps)
+                (sheet_size false c.args.p.now c.args.at.now.traps) _ _ _ _ _ c.tell_cell-go.ensures.learns
+                (changes_begun _ _ _ _ _ _ _ c.sweep_begun-first.ensures.swept)
+                (past_begun _ _ _ _ _ _ _ c.sweep_begun-first.ensures.swept) (omega arith)
+                (rw c.requires.main c.requires.fresh),
             c.requires.traps,
           ),
         ),
@@ -386,7 +415,8 @@ begin_par-sweep_side-first-requires g t c κs bound = (
         (
           within_first _ _ _ c.args.net.now.cells.items _ c.requires.within c.tell_cell-go.ensures.learns.size,
           (
-            fresh_told _ c.args.at.now.cell _ _ _ _ _ _ _ c.tell_cell-go.ensures.learns (omega arith) (omega arith) (omega arith) c.requires.fresh,
+            fresh_told _ c.args.at.now.cell _ _ _ _ _ _ _ c.tell_cell-go.ensures.learns (omega arith) (omega arith)
+                (omega arith) c.requires.fresh,
             c.requires.first_traps,
           ),
         ),
@@ -409,7 +439,9 @@ begin_par-sweep_side-second-requires g t c κs bound = (
           within_next c.args.net.now.cells.items _ _ _ _ _ _ _ _ c.sweep_side-first.ensures.swept c.requires.within
               c.tell_cell-go.ensures.learns.size,
           (
-            fresh_next _ c.args.at.now.cell _ _ _ _ _ _ _ _ c.tell_cell-go.ensures.learns (changes_begun _ _ _ _ _ _ _ c.sweep_side-first.ensures.swept) (past_begun _ _ _ _ _ _ _ c.sweep_side-first.ensures.swept) (omega arith) c.requires.fresh,
+            fresh_next _ c.args.at.now.cell _ _ _ _ _ _ _ _ c.tell_cell-go.ensures.learns
+                (changes_begun _ _ _ _ _ _ _ c.sweep_side-first.ensures.swept)
+                (past_begun _ _ _ _ _ _ _ c.sweep_side-first.ensures.swept) (omega arith) c.requires.fresh,
             c.requires.second_traps,
           ),
         ),
@@ -431,7 +463,8 @@ begin_par_back-sweep_side-second-requires g t c κs bound = (
           within_back _ _ _ _ c.args.net.now.cells.items _ c.past.ensures c.requires.within
               c.tell_cell-go.ensures.learns.size,
           (
-            fresh_back _ c.args.at.now.cell _ _ _ _ _ _ _ c.tell_cell-go.ensures.learns c.past.ensures (omega arith) c.requires.fresh,
+            fresh_back _ c.args.at.now.cell _ _ _ _ _ _ _ c.tell_cell-go.ensures.learns c.past.ensures
+                (omega arith) c.requires.fresh,
             c.requires.second_traps,
           ),
         ),
@@ -453,7 +486,9 @@ begin_par_back-sweep_side-first-requires g t c κs bound = (
           within_one _ _ c.args.net.now.cells.items _ _ _ _ _ _ _ c.requires.within c.tell_cell-go.ensures.learns.size
               c.sweep_side-second.ensures.swept,
           (
-            fresh_kept _ c.args.at.now.cell _ _ _ _ _ _ _ _ _ c.tell_cell-go.ensures.learns (changes_begun _ _ _ _ _ _ _ c.sweep_side-second.ensures.swept) (omega arith) (let e = c.past.ensures in omega (arith, e)) (omega arith) c.requires.fresh,
+            fresh_kept _ c.args.at.now.cell _ _ _ _ _ _ _ _ _ c.tell_cell-go.ensures.learns
+                (changes_begun _ _ _ _ _ _ _ c.sweep_side-second.ensures.swept) (omega arith)
+                (let e = c.past.ensures in omega (arith, e)) (omega arith) c.requires.fresh,
             c.requires.first_traps,
           ),
         ),
@@ -464,58 +499,73 @@ begin_par_back-sweep_side-first-requires g t c κs bound = (
 
 pub begin_suspend-finish_statement-requires-clause-fresh : goal.begin_suspend-finish_statement-requires-clause-fresh
 begin_suspend-finish_statement-requires-clause-fresh g t c =
-    fresh_codes _ c.args.at.now.cell _ _ _ _ _ _ _ _ c.tell_cell-go.ensures.learns (changes_begun _ _ _ _ _ _ _ c.sweep_begun-body.ensures.swept)
+    fresh_codes _ c.args.at.now.cell _ _ _ _ _ _ _ _ c.tell_cell-go.ensures.learns
+        (changes_begun _ _ _ _ _ _ _ c.sweep_begun-body.ensures.swept)
     (omega arith) (omega arith) c.requires.fresh
 
 pub begin_trap-finish_statement-requires-clause-fresh : goal.begin_trap-finish_statement-requires-clause-fresh
 begin_trap-finish_statement-requires-clause-fresh g t c =
-    fresh_codes _ c.args.at.now.cell _ _ _ _ _ _ _ _ c.tell_cell-go.ensures.learns (changes_begun _ _ _ _ _ _ _ c.sweep_begun-body.ensures.swept)
+    fresh_codes _ c.args.at.now.cell _ _ _ _ _ _ _ _ c.tell_cell-go.ensures.learns
+        (changes_begun _ _ _ _ _ _ _ c.sweep_begun-body.ensures.swept)
     (omega arith) (omega arith) c.requires.fresh
 
 pub begin_again-finish_statement-requires-clause-fresh : goal.begin_again-finish_statement-requires-clause-fresh
 begin_again-finish_statement-requires-clause-fresh g t c =
-    fresh_codes _ c.args.at.now.cell _ _ _ _ _ _ _ _ c.tell_cell-go.ensures.learns (changes_begun _ _ _ _ _ _ _ c.sweep_begun-body.ensures.swept)
+    fresh_codes _ c.args.at.now.cell _ _ _ _ _ _ _ _ c.tell_cell-go.ensures.learns
+        (changes_begun _ _ _ _ _ _ _ c.sweep_begun-body.ensures.swept)
     (omega arith) (omega arith) c.requires.fresh
 
 pub begin_present-finish_statement-requires-clause-fresh : goal.begin_present-finish_statement-requires-clause-fresh
 begin_present-finish_statement-requires-clause-fresh g t c =
     let e = past_begun _ _ _ _ _ _ _ c.sweep_begun-first.ensures.swept in
-    fresh_codes_two _ c.args.at.now.cell _ _ _ _ _ _ _ _ _ _ _ c.tell_cell-go.ensures.learns (changes_begun _ _ _ _ _ _ _ c.sweep_begun-first.ensures.swept)
-    (changes_begun _ _ _ _ _ _ _ c.sweep_begun-second.ensures.swept) (omega arith) (omega (arith, e)) (omega arith) c.requires.fresh
+    fresh_codes_two _ c.args.at.now.cell _ _ _ _ _ _ _ _ _ _ _ c.tell_cell-go.ensures.learns
+        (changes_begun _ _ _ _ _ _ _ c.sweep_begun-first.ensures.swept)
+    (changes_begun _ _ _ _ _ _ _ c.sweep_begun-second.ensures.swept) (omega arith) (omega (arith, e))
+        (omega arith) c.requires.fresh
 
 pub begin_seq-finish_statement-requires-clause-fresh : goal.begin_seq-finish_statement-requires-clause-fresh
 begin_seq-finish_statement-requires-clause-fresh g t c =
     let e = past_begun _ _ _ _ _ _ _ c.sweep_begun-first.ensures.swept in
-    fresh_codes_two _ c.args.at.now.cell _ _ _ _ _ _ _ _ _ _ _ c.tell_cell-go.ensures.learns (changes_begun _ _ _ _ _ _ _ c.sweep_begun-first.ensures.swept)
-    (changes_begun _ _ _ _ _ _ _ c.sweep_begun-second.ensures.swept) (omega arith) (omega (arith, e)) (omega arith) c.requires.fresh
+    fresh_codes_two _ c.args.at.now.cell _ _ _ _ _ _ _ _ _ _ _ c.tell_cell-go.ensures.learns
+        (changes_begun _ _ _ _ _ _ _ c.sweep_begun-first.ensures.swept)
+    (changes_begun _ _ _ _ _ _ _ c.sweep_begun-second.ensures.swept) (omega arith) (omega (arith, e))
+        (omega arith) c.requires.fresh
 
 pub begin_loop-finish_statement-requires-clause-fresh : goal.begin_loop-finish_statement-requires-clause-fresh
 begin_loop-finish_statement-requires-clause-fresh g t c =
     let e = past_begun _ _ _ _ _ _ _ c.sweep_begun-first.ensures.swept in
-    fresh_codes_two _ c.args.at.now.cell _ _ _ _ _ _ _ _ _ _ _ c.tell_cell-go.ensures.learns (changes_begun _ _ _ _ _ _ _ c.sweep_begun-first.ensures.swept)
-    (changes_begun _ _ _ _ _ _ _ c.sweep_begun-again.ensures.swept) (omega arith) (omega (arith, e)) (omega arith) c.requires.fresh
+    fresh_codes_two _ c.args.at.now.cell _ _ _ _ _ _ _ _ _ _ _ c.tell_cell-go.ensures.learns
+        (changes_begun _ _ _ _ _ _ _ c.sweep_begun-first.ensures.swept)
+    (changes_begun _ _ _ _ _ _ _ c.sweep_begun-again.ensures.swept) (omega arith) (omega (arith, e))
+        (omega arith) c.requires.fresh
 
 pub begin_par-finish_statement-requires-clause-fresh : goal.begin_par-finish_statement-requires-clause-fresh
 begin_par-finish_statement-requires-clause-fresh g t c =
     let e = past_begun _ _ _ _ _ _ _ c.sweep_side-first.ensures.swept in
-    fresh_codes_two _ c.args.at.now.cell _ _ _ _ _ _ _ _ _ _ _ c.tell_cell-go.ensures.learns (changes_begun _ _ _ _ _ _ _ c.sweep_side-first.ensures.swept)
-    (changes_begun _ _ _ _ _ _ _ c.sweep_side-second.ensures.swept) (omega arith) (omega (arith, e)) (omega arith) c.requires.fresh
+    fresh_codes_two _ c.args.at.now.cell _ _ _ _ _ _ _ _ _ _ _ c.tell_cell-go.ensures.learns
+        (changes_begun _ _ _ _ _ _ _ c.sweep_side-first.ensures.swept)
+    (changes_begun _ _ _ _ _ _ _ c.sweep_side-second.ensures.swept) (omega arith) (omega (arith, e))
+        (omega arith) c.requires.fresh
 
 pub begin_par_back-finish_statement-requires-clause-fresh : goal.begin_par_back-finish_statement-requires-clause-fresh
 begin_par_back-finish_statement-requires-clause-fresh g t c =
     let e = c.past.ensures in
-    fresh_codes_two _ c.args.at.now.cell _ _ _ _ _ _ _ _ _ _ _ c.tell_cell-go.ensures.learns (changes_begun _ _ _ _ _ _ _ c.sweep_side-second.ensures.swept)
-    (changes_begun _ _ _ _ _ _ _ c.sweep_side-first.ensures.swept) (omega (arith, e)) (omega arith) (omega arith) c.requires.fresh
+    fresh_codes_two _ c.args.at.now.cell _ _ _ _ _ _ _ _ _ _ _ c.tell_cell-go.ensures.learns
+        (changes_begun _ _ _ _ _ _ _ c.sweep_side-second.ensures.swept)
+    (changes_begun _ _ _ _ _ _ _ c.sweep_side-first.ensures.swept) (omega (arith, e)) (omega arith)
+        (omega arith) c.requires.fresh
 
 pub begin_local-tell_cell-requires-clause-fresh : goal.begin_local-tell_cell-requires-clause-fresh
 begin_local-tell_cell-requires-clause-fresh g t c =
-    fresh_kept _ c.args.at.now.cell _ _ _ _ _ _ _ _ _ c.tell_cell-go.ensures.learns (changes_begun _ _ _ _ _ _ _ c.sweep_begun-body.ensures.swept) (omega arith) (omega arith) (omega arith)
+    fresh_kept _ c.args.at.now.cell _ _ _ _ _ _ _ _ _ c.tell_cell-go.ensures.learns
+        (changes_begun _ _ _ _ _ _ _ c.sweep_begun-body.ensures.swept) (omega arith) (omega arith) (omega arith)
     c.requires.fresh
 
 pub begin_local-finish_statement-requires-clause-fresh : goal.begin_local-finish_statement-requires-clause-fresh
 begin_local-finish_statement-requires-clause-fresh g t c =
     fresh_untold _ _ _ _ _ _ _ c.tell_cell.ensures.learns (omega arith)
-    (fresh_codes _ c.args.at.now.cell _ _ _ _ _ _ _ _ c.tell_cell-go.ensures.learns (changes_begun _ _ _ _ _ _ _ c.sweep_begun-body.ensures.swept) (omega arith) (omega arith) c.requires.fresh)
+    (fresh_codes _ c.args.at.now.cell _ _ _ _ _ _ _ _ c.tell_cell-go.ensures.learns
+        (changes_begun _ _ _ _ _ _ _ c.sweep_begun-body.ensures.swept) (omega arith) (omega arith) c.requires.fresh)
 
 pub begin_present-tell_cell-go-requires-clause-fresh : goal.begin_present-tell_cell-go-requires-clause-fresh
 begin_present-tell_cell-go-requires-clause-fresh g t c =

@@ -34,3 +34,6 @@ decreases-resume_trap g l = 4 * the_size l.p.now + 3
 
 abbrev pub decreases-resume_local : goal.decreases-resume_local
 decreases-resume_local g l = 4 * the_size l.p.now + 3
+
+abbrev pub decreases-resume_second : goal.decreases-resume_second
+decreases-resume_second g l = 4 * max (the_size l.p.now) (the_size l.q.now) + 2
