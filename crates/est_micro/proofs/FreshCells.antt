@@ -78,7 +78,7 @@ fresh_next first cell lo n m past gate old m0 m1 x y e c h =
     subst (λ (z : ℕ). IsFresh first z (z + m) m1) (sym e)
     (fresh_after first (lo + n) (lo + n + m) lo (lo + n) m0 m1 y (omega arith)
     (fresh_told first cell cell (lo + n + m) (lo + n) (lo + n + m) gate old m0 x (omega arith) (omega arith)
-        (omega arith)
+    (omega arith)
     h))
 
 -- so too where the second is swept before the first
@@ -87,7 +87,7 @@ pub fresh_back : (first : Bool) (cell lo n m past : ℕ) (gate : Status) (old m0
     → IsFresh first past (past + m) m0
 fresh_back first cell lo n m past gate old m0 x e c h = subst (λ (z : ℕ). IsFresh first z (z + m) m0) (sym e)
     (fresh_told first cell cell (lo + n + m) (lo + n) (lo + n + m) gate old m0 x (omega arith) (omega arith)
-        (omega arith)
+    (omega arith)
     h)
 
 -- the cells of codes, after those of the parts

@@ -47,8 +47,7 @@ fn begin_leaf<K: SweepKind>(
 ) -> Swept
     requires code { code_of completion < 64 }
     requires within { at.now.cell + at.now.traps + 3 ≤ length net.old.cells.items }
-    requires fresh
-        { IsFresh K.first at.now.cell (at.now.cell + at.now.traps + 3) net.old.cells.items }
+    requires fresh { IsFresh K.first at.now.cell (at.now.cell + at.now.traps + 3) net.old.cells.items }
     requires few { at.now.traps ≤ 62 }
     ensures nothing { (e : _) → code_of completion ≡ 0
         → IsBegun Nothing at.now gate e net.old.cells.items net.new.cells.items result }
@@ -72,8 +71,7 @@ fn begin_emit<K: SweepKind>(
 ) -> Swept
     requires bit { HasSignalBit signal }
     requires within { at.now.cell + at.now.traps + 3 ≤ length net.old.cells.items }
-    requires fresh
-        { IsFresh K.first at.now.cell (at.now.cell + at.now.traps + 3) net.old.cells.items }
+    requires fresh { IsFresh K.first at.now.cell (at.now.cell + at.now.traps + 3) net.old.cells.items }
     requires few { at.now.traps ≤ 62 }
     ensures swept { (e : _)
         → IsBegun (Emit signal) at.now gate e net.old.cells.items net.new.cells.items result }
@@ -103,8 +101,7 @@ fn begin_present<K: SweepKind>(
     requires within { at.now.cell + at.now.traps + 3 + sheet_size at.now.main p.now at.now.traps
         + sheet_size at.now.main q.now at.now.traps
         ≤ length net.old.cells.items }
-    requires fresh
-        { IsFresh K.first at.now.cell
+    requires fresh { IsFresh K.first at.now.cell
         (at.now.cell + at.now.traps + 3 + sheet_size at.now.main p.now at.now.traps
         + sheet_size at.now.main q.now at.now.traps) net.old.cells.items }
     requires first_traps { at.now.traps + trap_depth (term_of p.now) ≤ 62 }
@@ -149,8 +146,7 @@ fn begin_suspend<K: SweepKind>(
         at.now.traps p.now }
     requires within { at.now.cell + at.now.traps + 3 + sheet_size at.now.main p.now at.now.traps
         ≤ length net.old.cells.items }
-    requires fresh
-        { IsFresh K.first at.now.cell
+    requires fresh { IsFresh K.first at.now.cell
         (at.now.cell + at.now.traps + 3 + sheet_size at.now.main p.now at.now.traps)
         net.old.cells.items }
     requires traps { at.now.traps + trap_depth (term_of p.now) ≤ 62 }
@@ -190,8 +186,7 @@ fn begin_seq<K: SweepKind>(
     requires within { at.now.cell + at.now.traps + 3 + sheet_size at.now.main p.now at.now.traps
         + sheet_size at.now.main q.now at.now.traps
         ≤ length net.old.cells.items }
-    requires fresh
-        { IsFresh K.first at.now.cell
+    requires fresh { IsFresh K.first at.now.cell
         (at.now.cell + at.now.traps + 3 + sheet_size at.now.main p.now at.now.traps
         + sheet_size at.now.main q.now at.now.traps) net.old.cells.items }
     requires first_traps { at.now.traps + trap_depth (term_of p.now) ≤ 62 }
@@ -241,8 +236,7 @@ fn begin_loop<K: SweepKind>(
     requires within { at.now.cell + at.now.traps + 3 + sheet_size true p.now at.now.traps
         + sheet_size false p.now at.now.traps
         ≤ length net.old.cells.items }
-    requires fresh
-        { IsFresh K.first at.now.cell
+    requires fresh { IsFresh K.first at.now.cell
         (at.now.cell + at.now.traps + 3 + sheet_size true p.now at.now.traps
         + sheet_size false p.now at.now.traps) net.old.cells.items }
     requires traps { at.now.traps + trap_depth (term_of p.now) ≤ 62 }
@@ -287,8 +281,7 @@ fn begin_again<K: SweepKind>(
         at.now.traps p.now }
     requires within { at.now.cell + at.now.traps + 3 + sheet_size false p.now at.now.traps
         ≤ length net.old.cells.items }
-    requires fresh
-        { IsFresh K.first at.now.cell
+    requires fresh { IsFresh K.first at.now.cell
         (at.now.cell + at.now.traps + 3 + sheet_size false p.now at.now.traps) net.old.cells.items }
     requires traps { at.now.traps + trap_depth (term_of p.now) ≤ 62 }
     ensures swept { (a : _)
@@ -323,8 +316,7 @@ fn sweep_side<K: SweepKind>(
         s.now }
     requires within { at.now.cell + sheet_size at.now.main s.now at.now.traps
         ≤ length net.old.cells.items }
-    requires fresh
-        { IsFresh K.first at.now.cell (at.now.cell + sheet_size at.now.main s.now at.now.traps)
+    requires fresh { IsFresh K.first at.now.cell (at.now.cell + sheet_size at.now.main s.now at.now.traps)
         net.old.cells.items }
     requires traps { at.now.traps + trap_depth (term_of s.now) ≤ 62 }
     ensures swept { IsBegun s.now at.now gate env.now net.old.cells.items net.new.cells.items
@@ -357,8 +349,7 @@ fn begin_par<K: SweepKind>(
     requires within { at.now.cell + at.now.traps + 3 + sheet_size at.now.main p.now at.now.traps
         + sheet_size at.now.main q.now at.now.traps
         ≤ length net.old.cells.items }
-    requires fresh
-        { IsFresh K.first at.now.cell
+    requires fresh { IsFresh K.first at.now.cell
         (at.now.cell + at.now.traps + 3 + sheet_size at.now.main p.now at.now.traps
         + sheet_size at.now.main q.now at.now.traps) net.old.cells.items }
     requires first_traps { at.now.traps + trap_depth (term_of p.now) ≤ 62 }
@@ -410,8 +401,7 @@ fn begin_par_back<K: SweepKind>(
     requires within { at.now.cell + at.now.traps + 3 + sheet_size at.now.main p.now at.now.traps
         + sheet_size at.now.main q.now at.now.traps
         ≤ length net.old.cells.items }
-    requires fresh
-        { IsFresh K.first at.now.cell
+    requires fresh { IsFresh K.first at.now.cell
         (at.now.cell + at.now.traps + 3 + sheet_size at.now.main p.now at.now.traps
         + sheet_size at.now.main q.now at.now.traps) net.old.cells.items }
     requires first_traps { at.now.traps + trap_depth (term_of p.now) ≤ 62 }
@@ -458,8 +448,7 @@ fn begin_trap<K: SweepKind>(
         (at.now.traps + 1) p.now }
     requires within { at.now.cell + at.now.traps + 3 + sheet_size at.now.main p.now
         (at.now.traps + 1) ≤ length net.old.cells.items }
-    requires fresh
-        { IsFresh K.first at.now.cell (at.now.cell + at.now.traps + 3 + sheet_size at.now.main p.now
+    requires fresh { IsFresh K.first at.now.cell (at.now.cell + at.now.traps + 3 + sheet_size at.now.main p.now
         (at.now.traps + 1)) net.old.cells.items }
     requires traps { at.now.traps + 1 + trap_depth (term_of p.now) ≤ 62 }
     ensures swept { (a : _)
@@ -496,8 +485,7 @@ fn begin_local<K: SweepKind>(
         at.now.traps p.now }
     requires within { at.now.cell + at.now.traps + 4 + sheet_size at.now.main p.now at.now.traps
         ≤ length net.old.cells.items }
-    requires fresh
-        { IsFresh K.first at.now.cell
+    requires fresh { IsFresh K.first at.now.cell
         (at.now.cell + at.now.traps + 4 + sheet_size at.now.main p.now at.now.traps)
         net.old.cells.items }
     requires traps { at.now.traps + trap_depth (term_of p.now) ≤ 62 }
@@ -537,8 +525,7 @@ fn begin_each<K: SweepKind>(
         s.now }
     requires within { at.now.cell + sheet_size at.now.main s.now at.now.traps
         ≤ length net.old.cells.items }
-    requires fresh
-        { IsFresh K.first at.now.cell (at.now.cell + sheet_size at.now.main s.now at.now.traps)
+    requires fresh { IsFresh K.first at.now.cell (at.now.cell + sheet_size at.now.main s.now at.now.traps)
         net.old.cells.items }
     requires traps { at.now.traps + trap_depth (term_of s.now) ≤ 62 }
     ensures swept { IsBegun s.now at.now gate env.now net.old.cells.items net.new.cells.items
@@ -587,8 +574,7 @@ fn begin_known<K: SweepKind>(
         s.now }
     requires within { at.now.cell + sheet_size at.now.main s.now at.now.traps
         ≤ length net.old.cells.items }
-    requires fresh
-        { IsFresh K.first at.now.cell (at.now.cell + sheet_size at.now.main s.now at.now.traps)
+    requires fresh { IsFresh K.first at.now.cell (at.now.cell + sheet_size at.now.main s.now at.now.traps)
         net.old.cells.items }
     requires traps { at.now.traps + trap_depth (term_of s.now) ≤ 62 }
     ensures swept { IsBegun s.now at.now gate env.now net.old.cells.items net.new.cells.items
@@ -620,8 +606,7 @@ pub fn sweep_begun<K: SweepKind>(
         s.now }
     requires within { at.now.cell + sheet_size at.now.main s.now at.now.traps
         ≤ length net.old.cells.items }
-    requires fresh
-        { IsFresh K.first at.now.cell (at.now.cell + sheet_size at.now.main s.now at.now.traps)
+    requires fresh { IsFresh K.first at.now.cell (at.now.cell + sheet_size at.now.main s.now at.now.traps)
         net.old.cells.items }
     requires traps { at.now.traps + trap_depth (term_of s.now) ≤ 62 }
     ensures swept { IsBegun s.now at.now gate env.now net.old.cells.items net.new.cells.items

@@ -44,8 +44,7 @@ use est_rounds::signal_set::{self, Env};
 #[inline(always)]
 fn resume_pause<K: SweepKind>(net: &mut Net, at: &StatementPlace, run: Status) -> Swept
     requires within { at.now.cell + at.now.traps + 3 ≤ length net.old.cells.items }
-    requires fresh
-        { IsFresh K.first at.now.cell (at.now.cell + at.now.traps + 3) net.old.cells.items }
+    requires fresh { IsFresh K.first at.now.cell (at.now.cell + at.now.traps + 3) net.old.cells.items }
     requires few { at.now.traps ≤ 62 }
     ensures swept { (e n pauses : _)
         → IsResumed (Pause n) at.now
@@ -77,8 +76,7 @@ fn sweep_part<K: SweepKind>(
         p.now }
     requires within { at.now.cell + sheet_size true p.now at.now.traps
         ≤ length net.old.cells.items }
-    requires fresh
-        { IsFresh K.first at.now.cell (at.now.cell + sheet_size true p.now at.now.traps)
+    requires fresh { IsFresh K.first at.now.cell (at.now.cell + sheet_size true p.now at.now.traps)
         net.old.cells.items }
     requires traps { at.now.traps + trap_depth (term_of p.now) ≤ 62 }
     ensures swept { IsChosen p.now at.now pauses.now is_on gate run env.now net.old.cells.items
@@ -115,8 +113,7 @@ fn resume_present<K: SweepKind>(
     requires within { at.now.cell + at.now.traps + 3 + sheet_size true p.now at.now.traps
         + sheet_size true q.now at.now.traps
         ≤ length net.old.cells.items }
-    requires fresh
-        { IsFresh K.first at.now.cell
+    requires fresh { IsFresh K.first at.now.cell
         (at.now.cell + at.now.traps + 3 + sheet_size true p.now at.now.traps
         + sheet_size true q.now at.now.traps) net.old.cells.items }
     requires first_traps { at.now.traps + trap_depth (term_of p.now) ≤ 62 }
@@ -175,8 +172,7 @@ fn resume_suspend<K: SweepKind>(
         at.now.traps p.now }
     requires within { at.now.cell + at.now.traps + 3 + sheet_size true p.now at.now.traps
         ≤ length net.old.cells.items }
-    requires fresh
-        { IsFresh K.first at.now.cell
+    requires fresh { IsFresh K.first at.now.cell
         (at.now.cell + at.now.traps + 3 + sheet_size true p.now at.now.traps) net.old.cells.items }
     requires traps { at.now.traps + trap_depth (term_of p.now) ≤ 62 }
     ensures swept { (t a : _) → asked ≡ status_of (env_of env.now) (query_of t)
@@ -223,8 +219,7 @@ fn resume_second<K: SweepKind>(
     requires within { at.now.cell + at.now.traps + 3 + sheet_size true p.now at.now.traps
         + sheet_size true q.now at.now.traps
         ≤ length net.old.cells.items }
-    requires fresh
-        { IsFresh K.first at.now.cell
+    requires fresh { IsFresh K.first at.now.cell
         (at.now.cell + at.now.traps + 3 + sheet_size true p.now at.now.traps
         + sheet_size true q.now at.now.traps) net.old.cells.items }
     requires first_traps { at.now.traps + trap_depth (term_of p.now) ≤ 62 }
@@ -280,8 +275,7 @@ fn resume_seq<K: SweepKind>(
     requires within { at.now.cell + at.now.traps + 3 + sheet_size true p.now at.now.traps
         + sheet_size true q.now at.now.traps
         ≤ length net.old.cells.items }
-    requires fresh
-        { IsFresh K.first at.now.cell
+    requires fresh { IsFresh K.first at.now.cell
         (at.now.cell + at.now.traps + 3 + sheet_size true p.now at.now.traps
         + sheet_size true q.now at.now.traps) net.old.cells.items }
     requires first_traps { at.now.traps + trap_depth (term_of p.now) ≤ 62 }
@@ -336,8 +330,7 @@ fn resume_loop<K: SweepKind>(
     requires within { at.now.cell + at.now.traps + 3 + sheet_size true p.now at.now.traps
         + sheet_size false p.now at.now.traps
         ≤ length net.old.cells.items }
-    requires fresh
-        { IsFresh K.first at.now.cell
+    requires fresh { IsFresh K.first at.now.cell
         (at.now.cell + at.now.traps + 3 + sheet_size true p.now at.now.traps
         + sheet_size false p.now at.now.traps) net.old.cells.items }
     requires traps { at.now.traps + trap_depth (term_of p.now) ≤ 62 }
@@ -423,8 +416,7 @@ fn resume_par<K: SweepKind>(
     requires within { at.now.cell + at.now.traps + 3 + sheet_size true p.now at.now.traps
         + sheet_size true q.now at.now.traps
         ≤ length net.old.cells.items }
-    requires fresh
-        { IsFresh K.first at.now.cell
+    requires fresh { IsFresh K.first at.now.cell
         (at.now.cell + at.now.traps + 3 + sheet_size true p.now at.now.traps
         + sheet_size true q.now at.now.traps) net.old.cells.items }
     requires first_traps { at.now.traps + trap_depth (term_of p.now) ≤ 62 }
@@ -484,8 +476,7 @@ fn resume_par_back<K: SweepKind>(
     requires within { at.now.cell + at.now.traps + 3 + sheet_size true p.now at.now.traps
         + sheet_size true q.now at.now.traps
         ≤ length net.old.cells.items }
-    requires fresh
-        { IsFresh K.first at.now.cell
+    requires fresh { IsFresh K.first at.now.cell
         (at.now.cell + at.now.traps + 3 + sheet_size true p.now at.now.traps
         + sheet_size true q.now at.now.traps) net.old.cells.items }
     requires first_traps { at.now.traps + trap_depth (term_of p.now) ≤ 62 }
@@ -539,8 +530,7 @@ fn resume_trap<K: SweepKind>(
         (at.now.traps + 1) p.now }
     requires within { at.now.cell + at.now.traps + 3 + sheet_size true p.now
         (at.now.traps + 1) ≤ length net.old.cells.items }
-    requires fresh
-        { IsFresh K.first at.now.cell (at.now.cell + at.now.traps + 3 + sheet_size true p.now
+    requires fresh { IsFresh K.first at.now.cell (at.now.cell + at.now.traps + 3 + sheet_size true p.now
         (at.now.traps + 1)) net.old.cells.items }
     requires traps { at.now.traps + 1 + trap_depth (term_of p.now) ≤ 62 }
     ensures swept { (a : _)
@@ -580,8 +570,7 @@ fn resume_local<K: SweepKind>(
         at.now.traps p.now }
     requires within { at.now.cell + at.now.traps + 4 + sheet_size true p.now at.now.traps
         ≤ length net.old.cells.items }
-    requires fresh
-        { IsFresh K.first at.now.cell
+    requires fresh { IsFresh K.first at.now.cell
         (at.now.cell + at.now.traps + 4 + sheet_size true p.now at.now.traps) net.old.cells.items }
     requires traps { at.now.traps + trap_depth (term_of p.now) ≤ 62 }
     ensures swept { (a : _)
@@ -622,8 +611,7 @@ fn resume_each<K: SweepKind>(
         s.now }
     requires within { at.now.cell + sheet_size true s.now at.now.traps
         ≤ length net.old.cells.items }
-    requires fresh
-        { IsFresh K.first at.now.cell (at.now.cell + sheet_size true s.now at.now.traps)
+    requires fresh { IsFresh K.first at.now.cell (at.now.cell + sheet_size true s.now at.now.traps)
         net.old.cells.items }
     requires traps { at.now.traps + trap_depth (term_of s.now) ≤ 62 }
     ensures swept { IsResumed s.now at.now pauses.now run env.now net.old.cells.items
@@ -674,8 +662,7 @@ pub fn sweep_resumed<K: SweepKind>(
         s.now }
     requires within { at.now.cell + sheet_size true s.now at.now.traps
         ≤ length net.old.cells.items }
-    requires fresh
-        { IsFresh K.first at.now.cell (at.now.cell + sheet_size true s.now at.now.traps)
+    requires fresh { IsFresh K.first at.now.cell (at.now.cell + sheet_size true s.now at.now.traps)
         net.old.cells.items }
     requires traps { at.now.traps + trap_depth (term_of s.now) ≤ 62 }
     ensures swept { IsResumed s.now at.now pauses.now run env.now net.old.cells.items

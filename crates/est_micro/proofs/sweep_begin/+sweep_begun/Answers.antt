@@ -500,72 +500,72 @@ begin_par_back-sweep_side-first-requires g t c κs bound = (
 pub begin_suspend-finish_statement-requires-clause-fresh : goal.begin_suspend-finish_statement-requires-clause-fresh
 begin_suspend-finish_statement-requires-clause-fresh g t c =
     fresh_codes _ c.args.at.now.cell _ _ _ _ _ _ _ _ c.tell_cell-go.ensures.learns
-        (changes_begun _ _ _ _ _ _ _ c.sweep_begun-body.ensures.swept)
+    (changes_begun _ _ _ _ _ _ _ c.sweep_begun-body.ensures.swept)
     (omega arith) (omega arith) c.requires.fresh
 
 pub begin_trap-finish_statement-requires-clause-fresh : goal.begin_trap-finish_statement-requires-clause-fresh
 begin_trap-finish_statement-requires-clause-fresh g t c =
     fresh_codes _ c.args.at.now.cell _ _ _ _ _ _ _ _ c.tell_cell-go.ensures.learns
-        (changes_begun _ _ _ _ _ _ _ c.sweep_begun-body.ensures.swept)
+    (changes_begun _ _ _ _ _ _ _ c.sweep_begun-body.ensures.swept)
     (omega arith) (omega arith) c.requires.fresh
 
 pub begin_again-finish_statement-requires-clause-fresh : goal.begin_again-finish_statement-requires-clause-fresh
 begin_again-finish_statement-requires-clause-fresh g t c =
     fresh_codes _ c.args.at.now.cell _ _ _ _ _ _ _ _ c.tell_cell-go.ensures.learns
-        (changes_begun _ _ _ _ _ _ _ c.sweep_begun-body.ensures.swept)
+    (changes_begun _ _ _ _ _ _ _ c.sweep_begun-body.ensures.swept)
     (omega arith) (omega arith) c.requires.fresh
 
 pub begin_present-finish_statement-requires-clause-fresh : goal.begin_present-finish_statement-requires-clause-fresh
 begin_present-finish_statement-requires-clause-fresh g t c =
     let e = past_begun _ _ _ _ _ _ _ c.sweep_begun-first.ensures.swept in
     fresh_codes_two _ c.args.at.now.cell _ _ _ _ _ _ _ _ _ _ _ c.tell_cell-go.ensures.learns
-        (changes_begun _ _ _ _ _ _ _ c.sweep_begun-first.ensures.swept)
+    (changes_begun _ _ _ _ _ _ _ c.sweep_begun-first.ensures.swept)
     (changes_begun _ _ _ _ _ _ _ c.sweep_begun-second.ensures.swept) (omega arith) (omega (arith, e))
-        (omega arith) c.requires.fresh
+    (omega arith) c.requires.fresh
 
 pub begin_seq-finish_statement-requires-clause-fresh : goal.begin_seq-finish_statement-requires-clause-fresh
 begin_seq-finish_statement-requires-clause-fresh g t c =
     let e = past_begun _ _ _ _ _ _ _ c.sweep_begun-first.ensures.swept in
     fresh_codes_two _ c.args.at.now.cell _ _ _ _ _ _ _ _ _ _ _ c.tell_cell-go.ensures.learns
-        (changes_begun _ _ _ _ _ _ _ c.sweep_begun-first.ensures.swept)
+    (changes_begun _ _ _ _ _ _ _ c.sweep_begun-first.ensures.swept)
     (changes_begun _ _ _ _ _ _ _ c.sweep_begun-second.ensures.swept) (omega arith) (omega (arith, e))
-        (omega arith) c.requires.fresh
+    (omega arith) c.requires.fresh
 
 pub begin_loop-finish_statement-requires-clause-fresh : goal.begin_loop-finish_statement-requires-clause-fresh
 begin_loop-finish_statement-requires-clause-fresh g t c =
     let e = past_begun _ _ _ _ _ _ _ c.sweep_begun-first.ensures.swept in
     fresh_codes_two _ c.args.at.now.cell _ _ _ _ _ _ _ _ _ _ _ c.tell_cell-go.ensures.learns
-        (changes_begun _ _ _ _ _ _ _ c.sweep_begun-first.ensures.swept)
+    (changes_begun _ _ _ _ _ _ _ c.sweep_begun-first.ensures.swept)
     (changes_begun _ _ _ _ _ _ _ c.sweep_begun-again.ensures.swept) (omega arith) (omega (arith, e))
-        (omega arith) c.requires.fresh
+    (omega arith) c.requires.fresh
 
 pub begin_par-finish_statement-requires-clause-fresh : goal.begin_par-finish_statement-requires-clause-fresh
 begin_par-finish_statement-requires-clause-fresh g t c =
     let e = past_begun _ _ _ _ _ _ _ c.sweep_side-first.ensures.swept in
     fresh_codes_two _ c.args.at.now.cell _ _ _ _ _ _ _ _ _ _ _ c.tell_cell-go.ensures.learns
-        (changes_begun _ _ _ _ _ _ _ c.sweep_side-first.ensures.swept)
+    (changes_begun _ _ _ _ _ _ _ c.sweep_side-first.ensures.swept)
     (changes_begun _ _ _ _ _ _ _ c.sweep_side-second.ensures.swept) (omega arith) (omega (arith, e))
-        (omega arith) c.requires.fresh
+    (omega arith) c.requires.fresh
 
 pub begin_par_back-finish_statement-requires-clause-fresh : goal.begin_par_back-finish_statement-requires-clause-fresh
 begin_par_back-finish_statement-requires-clause-fresh g t c =
     let e = c.past.ensures in
     fresh_codes_two _ c.args.at.now.cell _ _ _ _ _ _ _ _ _ _ _ c.tell_cell-go.ensures.learns
-        (changes_begun _ _ _ _ _ _ _ c.sweep_side-second.ensures.swept)
+    (changes_begun _ _ _ _ _ _ _ c.sweep_side-second.ensures.swept)
     (changes_begun _ _ _ _ _ _ _ c.sweep_side-first.ensures.swept) (omega (arith, e)) (omega arith)
-        (omega arith) c.requires.fresh
+    (omega arith) c.requires.fresh
 
 pub begin_local-tell_cell-requires-clause-fresh : goal.begin_local-tell_cell-requires-clause-fresh
 begin_local-tell_cell-requires-clause-fresh g t c =
     fresh_kept _ c.args.at.now.cell _ _ _ _ _ _ _ _ _ c.tell_cell-go.ensures.learns
-        (changes_begun _ _ _ _ _ _ _ c.sweep_begun-body.ensures.swept) (omega arith) (omega arith) (omega arith)
+    (changes_begun _ _ _ _ _ _ _ c.sweep_begun-body.ensures.swept) (omega arith) (omega arith) (omega arith)
     c.requires.fresh
 
 pub begin_local-finish_statement-requires-clause-fresh : goal.begin_local-finish_statement-requires-clause-fresh
 begin_local-finish_statement-requires-clause-fresh g t c =
     fresh_untold _ _ _ _ _ _ _ c.tell_cell.ensures.learns (omega arith)
     (fresh_codes _ c.args.at.now.cell _ _ _ _ _ _ _ _ c.tell_cell-go.ensures.learns
-        (changes_begun _ _ _ _ _ _ _ c.sweep_begun-body.ensures.swept) (omega arith) (omega arith) c.requires.fresh)
+    (changes_begun _ _ _ _ _ _ _ c.sweep_begun-body.ensures.swept) (omega arith) (omega arith) c.requires.fresh)
 
 pub begin_present-tell_cell-go-requires-clause-fresh : goal.begin_present-tell_cell-go-requires-clause-fresh
 begin_present-tell_cell-go-requires-clause-fresh g t c =

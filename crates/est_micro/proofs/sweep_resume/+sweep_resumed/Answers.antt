@@ -206,7 +206,7 @@ pub resume_present-finish_statement-requires-clause-fresh : goal.resume_present-
 resume_present-finish_statement-requires-clause-fresh g t c =
     let e = c.sweep_part-first.ensures.swept.past in
     fresh_codes_two _ c.args.at.now.cell _ _ _ _ _ _ _ _ _ _ _ c.tell_cell-go.ensures.learns
-        c.sweep_part-first.ensures.swept.changes
+    c.sweep_part-first.ensures.swept.changes
     c.sweep_part-second.ensures.swept.changes (omega arith) (omega (arith, e)) (omega arith) c.requires.fresh
 
 pub resume_seq-sweep_part-first-requires : goal.resume_seq-sweep_part-first-requires
@@ -272,7 +272,7 @@ pub resume_seq-finish_statement-requires-clause-fresh : goal.resume_seq-finish_s
 resume_seq-finish_statement-requires-clause-fresh g t c =
     let e = c.sweep_part-first.ensures.swept.past in
     fresh_codes_two _ c.args.at.now.cell _ _ _ _ _ _ _ _ _ _ _ c.tell_cell-go.ensures.learns
-        c.sweep_part-first.ensures.swept.changes
+    c.sweep_part-first.ensures.swept.changes
     c.sweep_part-second.ensures.swept.changes (omega arith) (omega (arith, e)) (omega arith) c.requires.fresh
 
 pub resume_par-sweep_part-first-requires : goal.resume_par-sweep_part-first-requires
@@ -339,7 +339,7 @@ pub resume_par-finish_statement-requires-clause-fresh : goal.resume_par-finish_s
 resume_par-finish_statement-requires-clause-fresh g t c =
     let e = c.sweep_part-first.ensures.swept.past in
     fresh_codes_two _ c.args.at.now.cell _ _ _ _ _ _ _ _ _ _ _ c.tell_cell-go.ensures.learns
-        c.sweep_part-first.ensures.swept.changes
+    c.sweep_part-first.ensures.swept.changes
     c.sweep_part-second.ensures.swept.changes (omega arith) (omega (arith, e)) (omega arith) c.requires.fresh
 
 pub resume_par_back-sweep_part-second-requires : goal.resume_par_back-sweep_part-second-requires
@@ -405,7 +405,7 @@ pub resume_par_back-finish_statement-requires-clause-fresh : goal.resume_par_bac
 resume_par_back-finish_statement-requires-clause-fresh g t c =
     let e = rw c.requires.main at c.past.ensures in
     fresh_codes_two _ c.args.at.now.cell _ _ _ _ _ _ _ _ _ _ _ c.tell_cell-go.ensures.learns
-        c.sweep_part-second.ensures.swept.changes
+    c.sweep_part-second.ensures.swept.changes
     c.sweep_part-first.ensures.swept.changes (omega (arith, e)) (omega arith) (omega arith) c.requires.fresh
 
 pub resume_suspend-sweep_resumed-body-requires : goal.resume_suspend-sweep_resumed-body-requires
@@ -524,41 +524,41 @@ resume_loop-sweep_resumed-first-requires g t c κs bound = (
 pub resume_suspend-finish_statement-requires-clause-fresh : goal.resume_suspend-finish_statement-requires-clause-fresh
 resume_suspend-finish_statement-requires-clause-fresh g t c =
     fresh_codes _ c.args.at.now.cell _ _ _ _ _ _ _ _ c.tell_cell.ensures.learns
-        (changes_resumed _ _ _ _ _ _ _ _ c.sweep_resumed-body.ensures.swept)
+    (changes_resumed _ _ _ _ _ _ _ _ c.sweep_resumed-body.ensures.swept)
     (omega arith) (omega arith) c.requires.fresh
 
 pub resume_trap-finish_statement-requires-clause-fresh : goal.resume_trap-finish_statement-requires-clause-fresh
 resume_trap-finish_statement-requires-clause-fresh g t c =
     fresh_codes _ c.args.at.now.cell _ _ _ _ _ _ _ _ c.tell_cell.ensures.learns
-        (changes_resumed _ _ _ _ _ _ _ _ c.sweep_resumed-body.ensures.swept)
+    (changes_resumed _ _ _ _ _ _ _ _ c.sweep_resumed-body.ensures.swept)
     (omega arith) (omega arith) c.requires.fresh
 
 pub resume_loop-sweep_begun-again-requires-clause-fresh : goal.resume_loop-sweep_begun-again-requires-clause-fresh
 resume_loop-sweep_begun-again-requires-clause-fresh g t c =
     fresh_next _ c.args.at.now.cell _ _ _ _ _ _ _ _ c.tell_cell.ensures.learns
-        (changes_resumed _ _ _ _ _ _ _ _ c.sweep_resumed-first.ensures.swept)
+    (changes_resumed _ _ _ _ _ _ _ _ c.sweep_resumed-first.ensures.swept)
     (past_resumed _ _ _ _ _ _ _ _ c.sweep_resumed-first.ensures.swept) (omega arith) c.requires.fresh
 
 pub resume_loop-finish_statement-requires-clause-fresh : goal.resume_loop-finish_statement-requires-clause-fresh
 resume_loop-finish_statement-requires-clause-fresh g t c =
     let e = past_resumed _ _ _ _ _ _ _ _ c.sweep_resumed-first.ensures.swept in
     fresh_codes_two _ c.args.at.now.cell _ _ _ _ _ _ _ _ _ _ _ c.tell_cell.ensures.learns
-        (changes_resumed _ _ _ _ _ _ _ _ c.sweep_resumed-first.ensures.swept)
+    (changes_resumed _ _ _ _ _ _ _ _ c.sweep_resumed-first.ensures.swept)
     (changes_begun _ _ _ _ _ _ _ c.sweep_begun-again.ensures.swept) (omega arith) (omega (arith, e))
-        (omega arith) c.requires.fresh
+    (omega arith) c.requires.fresh
 
 pub resume_local-tell_cell-requires-2-clause-fresh : goal.resume_local-tell_cell-requires-2-clause-fresh
 resume_local-tell_cell-requires-2-clause-fresh g t c =
     fresh_kept _ c.args.at.now.cell _ _ _ _ _ _ _ _ _ c.tell_cell.ensures.learns
-        (changes_resumed _ _ _ _ _ _ _ _ c.sweep_resumed-body.ensures.swept) (omega arith) (omega arith) (omega arith)
+    (changes_resumed _ _ _ _ _ _ _ _ c.sweep_resumed-body.ensures.swept) (omega arith) (omega arith) (omega arith)
     c.requires.fresh
 
 pub resume_local-finish_statement-requires-clause-fresh : goal.resume_local-finish_statement-requires-clause-fresh
 resume_local-finish_statement-requires-clause-fresh g t c =
     fresh_untold _ _ _ _ _ _ _ c.tell_cell-2.ensures.learns (omega arith)
     (fresh_codes _ c.args.at.now.cell _ _ _ _ _ _ _ _ c.tell_cell.ensures.learns
-        (changes_resumed _ _ _ _ _ _ _ _ c.sweep_resumed-body.ensures.swept) (omega arith)
-        (omega arith) c.requires.fresh)
+    (changes_resumed _ _ _ _ _ _ _ _ c.sweep_resumed-body.ensures.swept) (omega arith)
+    (omega arith) c.requires.fresh)
 
 pub sweep_part-sweep_begun-requires-clause-fresh : goal.sweep_part-sweep_begun-requires-clause-fresh
 sweep_part-sweep_begun-requires-clause-fresh g t c =
@@ -610,7 +610,7 @@ resume_second-fill-requires-clause-open g t c =
 pub resume_second-sweep_resumed-second-requires : goal.resume_second-sweep_resumed-second-requires
 resume_second-sweep_resumed-second-requires g t c κs bound =
     let b = over_begun _ c.args.p.now
-        (part_at c.args.at.now (c.args.at.now.number + 1) (c.args.at.now.cell + c.args.at.now.traps + 3)) c.args.env.now
+    (part_at c.args.at.now (c.args.at.now.number + 1) (c.args.at.now.cell + c.args.at.now.traps + 3)) c.args.env.now
     _ _ _ _ c.requires.first
     (fresh_told _ c.args.at.now.cell c.args.at.now.cell
     (c.args.at.now.cell + c.args.at.now.traps + 3
@@ -661,7 +661,7 @@ resume_second-finish_statement-requires-clause-within g t c =
 pub resume_second-finish_statement-requires-clause-fresh : goal.resume_second-finish_statement-requires-clause-fresh
 resume_second-finish_statement-requires-clause-fresh g t c =
     let b = over_begun _ c.args.p.now
-        (part_at c.args.at.now (c.args.at.now.number + 1) (c.args.at.now.cell + c.args.at.now.traps + 3)) c.args.env.now
+    (part_at c.args.at.now (c.args.at.now.number + 1) (c.args.at.now.cell + c.args.at.now.traps + 3)) c.args.env.now
     _ _ _ _ c.requires.first
     (fresh_told _ c.args.at.now.cell c.args.at.now.cell
     (c.args.at.now.cell + c.args.at.now.traps + 3
@@ -677,8 +677,8 @@ resume_second-finish_statement-requires-clause-fresh g t c =
 pub resume_second-returns-clause-swept : goal.resume_second-returns-clause-swept
 resume_second-returns-clause-swept g t c = λ a b.
     let first =
-        over_begun _ c.args.p.now
-        (part_at c.args.at.now (c.args.at.now.number + 1) (c.args.at.now.cell + c.args.at.now.traps + 3)) c.args.env.now
+    over_begun _ c.args.p.now
+    (part_at c.args.at.now (c.args.at.now.number + 1) (c.args.at.now.cell + c.args.at.now.traps + 3)) c.args.env.now
     _ _ _ _ c.requires.first
     (fresh_told _ c.args.at.now.cell c.args.at.now.cell
     (c.args.at.now.cell + c.args.at.now.traps + 3
