@@ -47,7 +47,8 @@ fn begin_leaf<K: SweepKind>(
 ) -> Swept
     requires code { code_of completion < 64 }
     requires within { at.now.cell + at.now.traps + 3 ≤ length net.old.cells.items }
-    requires fresh { IsFresh K.first at.now.cell (at.now.cell + at.now.traps + 3) net.old.cells.items }
+    requires fresh { IsFresh K.first at.now.cell
+        (at.now.cell + at.now.traps + 3) net.old.cells.items }
     requires few { at.now.traps ≤ 62 }
     ensures nothing { (e : _) → code_of completion ≡ 0
         → IsBegun Nothing at.now gate e net.old.cells.items net.new.cells.items result }
@@ -71,7 +72,8 @@ fn begin_emit<K: SweepKind>(
 ) -> Swept
     requires bit { HasSignalBit signal }
     requires within { at.now.cell + at.now.traps + 3 ≤ length net.old.cells.items }
-    requires fresh { IsFresh K.first at.now.cell (at.now.cell + at.now.traps + 3) net.old.cells.items }
+    requires fresh { IsFresh K.first at.now.cell
+        (at.now.cell + at.now.traps + 3) net.old.cells.items }
     requires few { at.now.traps ≤ 62 }
     ensures swept { (e : _)
         → IsBegun (Emit signal) at.now gate e net.old.cells.items net.new.cells.items result }
@@ -316,7 +318,8 @@ fn sweep_side<K: SweepKind>(
         s.now }
     requires within { at.now.cell + sheet_size at.now.main s.now at.now.traps
         ≤ length net.old.cells.items }
-    requires fresh { IsFresh K.first at.now.cell (at.now.cell + sheet_size at.now.main s.now at.now.traps)
+    requires fresh { IsFresh K.first at.now.cell
+        (at.now.cell + sheet_size at.now.main s.now at.now.traps)
         net.old.cells.items }
     requires traps { at.now.traps + trap_depth (term_of s.now) ≤ 62 }
     ensures swept { IsBegun s.now at.now gate env.now net.old.cells.items net.new.cells.items
@@ -448,7 +451,8 @@ fn begin_trap<K: SweepKind>(
         (at.now.traps + 1) p.now }
     requires within { at.now.cell + at.now.traps + 3 + sheet_size at.now.main p.now
         (at.now.traps + 1) ≤ length net.old.cells.items }
-    requires fresh { IsFresh K.first at.now.cell (at.now.cell + at.now.traps + 3 + sheet_size at.now.main p.now
+    requires fresh { IsFresh K.first at.now.cell
+        (at.now.cell + at.now.traps + 3 + sheet_size at.now.main p.now
         (at.now.traps + 1)) net.old.cells.items }
     requires traps { at.now.traps + 1 + trap_depth (term_of p.now) ≤ 62 }
     ensures swept { (a : _)
@@ -525,7 +529,8 @@ fn begin_each<K: SweepKind>(
         s.now }
     requires within { at.now.cell + sheet_size at.now.main s.now at.now.traps
         ≤ length net.old.cells.items }
-    requires fresh { IsFresh K.first at.now.cell (at.now.cell + sheet_size at.now.main s.now at.now.traps)
+    requires fresh { IsFresh K.first at.now.cell
+        (at.now.cell + sheet_size at.now.main s.now at.now.traps)
         net.old.cells.items }
     requires traps { at.now.traps + trap_depth (term_of s.now) ≤ 62 }
     ensures swept { IsBegun s.now at.now gate env.now net.old.cells.items net.new.cells.items
@@ -574,7 +579,8 @@ fn begin_known<K: SweepKind>(
         s.now }
     requires within { at.now.cell + sheet_size at.now.main s.now at.now.traps
         ≤ length net.old.cells.items }
-    requires fresh { IsFresh K.first at.now.cell (at.now.cell + sheet_size at.now.main s.now at.now.traps)
+    requires fresh { IsFresh K.first at.now.cell
+        (at.now.cell + sheet_size at.now.main s.now at.now.traps)
         net.old.cells.items }
     requires traps { at.now.traps + trap_depth (term_of s.now) ≤ 62 }
     ensures swept { IsBegun s.now at.now gate env.now net.old.cells.items net.new.cells.items
@@ -606,7 +612,8 @@ pub fn sweep_begun<K: SweepKind>(
         s.now }
     requires within { at.now.cell + sheet_size at.now.main s.now at.now.traps
         ≤ length net.old.cells.items }
-    requires fresh { IsFresh K.first at.now.cell (at.now.cell + sheet_size at.now.main s.now at.now.traps)
+    requires fresh { IsFresh K.first at.now.cell
+        (at.now.cell + sheet_size at.now.main s.now at.now.traps)
         net.old.cells.items }
     requires traps { at.now.traps + trap_depth (term_of s.now) ≤ 62 }
     ensures swept { IsBegun s.now at.now gate env.now net.old.cells.items net.new.cells.items

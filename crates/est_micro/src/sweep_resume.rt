@@ -44,7 +44,8 @@ use est_rounds::signal_set::{self, Env};
 #[inline(always)]
 fn resume_pause<K: SweepKind>(net: &mut Net, at: &StatementPlace, run: Status) -> Swept
     requires within { at.now.cell + at.now.traps + 3 ≤ length net.old.cells.items }
-    requires fresh { IsFresh K.first at.now.cell (at.now.cell + at.now.traps + 3) net.old.cells.items }
+    requires fresh { IsFresh K.first at.now.cell
+        (at.now.cell + at.now.traps + 3) net.old.cells.items }
     requires few { at.now.traps ≤ 62 }
     ensures swept { (e n pauses : _)
         → IsResumed (Pause n) at.now
@@ -530,7 +531,8 @@ fn resume_trap<K: SweepKind>(
         (at.now.traps + 1) p.now }
     requires within { at.now.cell + at.now.traps + 3 + sheet_size true p.now
         (at.now.traps + 1) ≤ length net.old.cells.items }
-    requires fresh { IsFresh K.first at.now.cell (at.now.cell + at.now.traps + 3 + sheet_size true p.now
+    requires fresh { IsFresh K.first at.now.cell
+        (at.now.cell + at.now.traps + 3 + sheet_size true p.now
         (at.now.traps + 1)) net.old.cells.items }
     requires traps { at.now.traps + 1 + trap_depth (term_of p.now) ≤ 62 }
     ensures swept { (a : _)
