@@ -25,7 +25,7 @@ use Rattle.est_net.specs.Kept.{Kept}
 use Rattle.est_net.specs.Layout.{output_count, sheet_in}
 use Rattle.est_net.specs.declared.extents.Extent.{Extent}
 use Rattle.est_micro.specs.Inner.Passes.{EndsBy}
-use Rattle.est_micro.specs.Inner.Sides.{IsFound, IsFoundAt, IsFoundIn, IsPart}
+use Rattle.est_micro.specs.Inner.Sides.{IsFound, IsFoundIn, IsPart}
 use Rattle.est_micro.specs.Inner.Views.{Changes}
 use Rattle.est_micro.specs.declared.find_begin.Found.{Found}
 use Rattle.est_micro.proofs.Frames.{sheet_same}

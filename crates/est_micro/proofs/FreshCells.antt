@@ -114,15 +114,15 @@ fresh_kept first cell lo hi low past end gate old m0 m1 x y a b c h =
     (fresh_told first cell cell end lo hi gate old m0 x a (omega arith) c h)
 
 -- a cell that is open
-pub open_now : (first : Bool) (cell : ℕ) (cells : List Status) → first ≡ true → cell < length cells
+pub open_in_first : (first : Bool) (cell : ℕ) (cells : List Status) → first ≡ true → cell < length cells
     → IsFresh first cell (cell + 1) cells → slice_get cells cell ≡ Some Unknown
 unfolding IsFresh AllOpen
-open_now first cell cells e l h =
+open_in_first first cell cells e l h =
     slice_get-get_or cells cell Absent l ∙ ap Some (h e cell (omega arith) (omega arith))
 
-pub open_unknown : (cell : ℕ) (cells : List Status) → cell < length cells → false ≡ is_known (cell_at cells cell)
+pub open_undecided : (cell : ℕ) (cells : List Status) → cell < length cells → false ≡ is_known (cell_at cells cell)
     → slice_get cells cell ≡ Some Unknown
-open_unknown cell cells l e = slice_get-get_or cells cell Absent l ∙ ap Some (unknown (cell_at cells cell) e)
+open_undecided cell cells l e = slice_get-get_or cells cell Absent l ∙ ap Some (unknown (cell_at cells cell) e)
   where
     unknown : (v : Status) → false ≡ is_known v → v ≡ Unknown
     unknown Unknown e = refl
@@ -147,14 +147,14 @@ fresh_idle s at gate cells past e p h =
     }
 
 -- what is open is fresh
-pub fresh_open : (first : Bool) (lo hi : ℕ) (cells : List Status) → AllOpen lo hi cells → IsFresh first lo hi cells
+pub fresh_of_open : (first : Bool) (lo hi : ℕ) (cells : List Status) → AllOpen lo hi cells → IsFresh first lo hi cells
 unfolding IsFresh
-fresh_open first lo hi cells h e = h
+fresh_of_open first lo hi cells h e = h
 
-pub open_fresh : (first : Bool) (lo hi : ℕ) (cells : List Status) → first ≡ true → IsFresh first lo hi cells
+pub open_of_fresh : (first : Bool) (lo hi : ℕ) (cells : List Status) → first ≡ true → IsFresh first lo hi cells
     → AllOpen lo hi cells
 unfolding IsFresh
-open_fresh first lo hi cells e h = h e
+open_of_fresh first lo hi cells e h = h e
 
 -- a cell that is told that it is false
 pub absent_told : (first : Bool) (cell hi : ℕ) (old new : List Status) → first ≡ true → IsFresh first cell hi old
@@ -172,4 +172,4 @@ pub over_begun : (first : Bool) (s : Statement) (at : StatementPlace) (e : Known
 over_begun first s at e old new past r f h p a j q =
     idle_begun s at Absent e old new past r
     (fresh_idle s at Absent old past refl p
-    (subst (λ (z : ℕ). AllOpen at.cell z old) (sym p) (open_fresh first _ _ old f h))) a j q
+    (subst (λ (z : ℕ). AllOpen at.cell z old) (sym p) (open_of_fresh first _ _ old f h))) a j q

@@ -27,6 +27,7 @@ use Rattle.est_net.specs.declared.extents.Extent.{Extent}
 use Rattle.est_rounds.specs.Views.{env_of, set_of}
 use Rattle.est_rounds.specs.declared.signal_set.Env.{Env as Known}
 use Rattle.est_rounds.specs.declared.signal_set.SignalSet.{SignalSet}
+use Rattle.est_micro.specs.Inner.Closing.{IsFoundClosed}
 use Rattle.est_micro.specs.Inner.Leads.{Leads, SheetChanges, last_of}
 use Rattle.est_micro.specs.Inner.Sides.{IsFound, IsOneOf, IsSideLed}
 use Rattle.est_micro.specs.Parts.{AreInputsAlone}
@@ -89,6 +90,42 @@ side_changes k xs Meant f side e old mid new l m found one led =
     let c = one.from in
     let d = one.within in
     widen side.cell (output_count k.interface) _ _ mid new (omega arith) (omega arith) led.changes
+
+-- after what was found is closed
+pub leads_closed : (k : Kernel) (x : State) (inputs : ℕ → Bool) (xs : List Extent) (f : Found) (e : Env)
+    (old mid new : List Status) (l : Env)
+    → IsFound xs true k.root (output_count k.interface) 0 (λ r z. sheet_meaning k.root x z) Present e old f
+    → IsFoundClosed f mid new → Leads k x inputs old e → Leads k x inputs mid l → Leads k x inputs new l
+leads_closed k x inputs xs f e old mid new l found closed start leads =
+    let i = k.interface in
+    let last = last_of k x inputs in
+    let from = found.place.from in
+    let at = found.part Present last (inr refl) start.less start.sound.sheet in
+    record {
+      sound = record {
+        outputs = λ n z. subst (λ (v : Status). IsBelow v (last (outer n)))
+            (sym (same_output k mid new n _
+            (record {
+              before = λ j u. closed.changes.before j (omega arith);
+              after = closed.changes.after;
+              size = closed.changes.size;
+              more = closed.changes.more;
+              quiet = closed.changes.quiet;
+            }) (judged_within i inputs n z) (may_be i inputs n z)))
+            (leads.sound.outputs n z);
+        sheet = closed.below true k.root (output_count i) 0 (sheet_meaning k.root x last) last at leads.sound.sheet;
+      };
+      less = leads.less;
+      heard = leads.heard;
+    }
+
+pub found_changes : (k : Kernel) (xs : List Extent) (Meant : Status → Env → Sheet true k.root) (f : Found) (e : Env)
+    (old mid new : List Status) → IsFound xs true k.root (output_count k.interface) 0 Meant Present e old f
+    → IsFoundClosed f mid new → SheetChanges k mid new
+found_changes k xs Meant f e old mid new found closed =
+    let a = found.place.from in
+    let b = found.place.within in
+    widen f.place.cell (output_count k.interface) _ _ mid new (omega arith) (omega arith) closed.changes
 
 pub sheet_then : (k : Kernel) (old mid new : List Status) → SheetChanges k old mid → SheetChanges k mid new
     → SheetChanges k old new

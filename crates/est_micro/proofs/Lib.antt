@@ -26,6 +26,7 @@ mod LeadRounds
 mod AllDecided
 mod Outcomes
 mod PartReactions
+mod ClosedSides
 mod Collecting
 mod IdleSheets
 mod Hearing

@@ -16,7 +16,7 @@ use Rattle.est_rounds.specs.declared.acts.MustCan.{MustCan}
 use Rattle.est_micro.specs.Sweeps.{entered, left, one_way, sure_told, may_told}
 use Rattle.est_micro.specs.declared.direction.Direction.{Direction}
 use Rattle.est_micro.specs.declared.direction.Direction.TheVariants.{Forwards, Backwards}
-use Rattle.est_micro.specs.Inner.Views.{Changes, IsJudged, IsFinished, IsSwept, node_swept}
+use Rattle.est_micro.specs.Inner.Views.{AreTold, Changes, IsJudged, IsFinished, IsSwept, node_swept}
 use Rattle.est_micro.specs.declared.cells.Swept.{Swept}
 use Rattle.est_micro.proofs.Frames.{Same, size_least, sure_same, possible_same, same_node_of, parts_same, sheet_same}
 use Rattle.est_micro.proofs.Frames.{changes_then, learn_changes}
@@ -44,6 +44,61 @@ JudgedOf main s T j = IsJudged T.cells.must T.cells.may (emits is_sure main s T)
 abbrev pub Owned : (main : Bool) (s : Statement) → (Sheet main s → Cells) → Sheet main s → MustCan → Type 0
 Owned main s G T j = IsJudged (G T).must (G T).may (emits is_sure main s T) (emits is_possible main s T) j
 
+-- what is judged by the gates is told
+pub record GivenBy (y : Cells) (own : MustCan) : Type 0 where
+  pub must : codes_of own.must.codes ≡ y.must
+  pub can : codes_of own.can.codes ≡ y.may
+
+-- a node whose go cell is learnt, and whose parts are P of what they were, before its codes are told and after
+pub record NodeTold (main : Bool) (s : Statement) (c t : ℕ) (P : Status → Parts main s → Parts main s)
+    (G : Sheet main s → Cells) (gate : Status) (old m2 new : List Status) : Type 0 where
+  pub left_is : let S = sheet_in (cell_at m2) main s c t in sheet_in (cell_at new) main s c t ≡ left S (G S)
+  pub sheet : sheet_in (cell_at new) main s c t ≡ node_swept main s P G gate (sheet_in (cell_at old) main s c t)
+  pub changes : Changes c (c + sheet_size main s t) old new
+
+pub node_told : (main : Bool) (s : Statement) (c t : ℕ) (P : Status → Parts main s → Parts main s)
+    (G : Sheet main s → Cells) (gate : Status) (old m0 m2 new : List Status) (own : MustCan)
+    → Learns c gate old m0
+    → parts_in (cell_at m2) main s c t ≡ P (cell_at m0 c) (parts_in (cell_at old) main s c t)
+    → Changes (c + t + 3) (c + sheet_size main s t) m0 m2
+    → GivenBy (G (sheet_in (cell_at m2) main s c t)) own → AreTold (c + 1) (t + 2) own m2 new
+    → NodeTold main s c t P G gate old m2 new
+node_told main s c t P G gate old m0 m2 new own learns parts changes given told =
+    let o = size_least main s t in
+    let f0 = cell_at old in
+    let f1 = cell_at m0 in
+    let f2 = cell_at m2 in
+    let f3 = cell_at new in
+    let S0 = sheet_in f0 main s c t in
+    let S2 = sheet_in f2 main s c t in
+    let h = learned (f0 c) gate in
+    let U = entered h S0 (P h S0.parts) in
+    let kept : Same (c + 1) (c + 1 + (t + 2)) f2 f0 = λ i l u. changes.before i (omega arith)
+    ∙ learns.later i (omega arith) in
+    let go : f2 c ≡ h = changes.before c (omega arith) ∙ learns.here in
+    let same : S2 ≡ U = same_node_of (f2 c) h _ _ _ _ _ _ go (sure_same f2 f0 (c + 1) (t + 2) kept)
+    (possible_same f2 f0 (c + 1) (t + 2) kept)
+    (parts ∙ ap (λ (z : Status). P z (parts_in f0 main s c t)) learns.here) in
+    let y = G S2 in
+    let told_sure : sure_codes f3 (c + 1) (t + 2) ≡ sure_told S2.cells.must S2.cells.may y.must y.may
+    = told.sure ∙ (ap (λ (z : Codes). sure_told S2.cells.must S2.cells.may z (codes_of own.can.codes)) given.must
+    ∙ ap (λ (z : Codes). sure_told S2.cells.must S2.cells.may y.must z) given.can) in
+    let told_may : possible_codes f3 (c + 1) (t + 2) ≡ may_told S2.cells.must S2.cells.may y.must y.may
+    = told.may ∙ (ap (λ (z : Codes). may_told S2.cells.must S2.cells.may z (codes_of own.can.codes)) given.must
+    ∙ ap (λ (z : Codes). may_told S2.cells.must S2.cells.may y.must z) given.can) in
+    let sheet3 : sheet_in f3 main s c t ≡ left S2 y
+    = same_node_of (f3 c) (f2 c) _ _ _ _ _ _ (told.changes.before c (omega arith)) told_sure told_may
+    (parts_same f3 f2 main s c t (λ i l u. told.changes.after i (omega arith))) in
+    record {
+      left_is = sheet3;
+      sheet = sheet3 ∙ ap (λ (z : Sheet main s). left z (G z)) same;
+      changes = changes_then c (c + 1) (c + 1) (c + sheet_size main s t) c (c + sheet_size main s t) old m0 new
+          (omega arith) (omega arith) (omega arith) (omega arith) (learn_changes c gate old m0 learns)
+          (changes_then (c + t + 3) (c + sheet_size main s t) (c + 1) (c + 1 + (t + 2)) (c + 1)
+          (c + sheet_size main s t) m0 m2 new
+          (omega arith) (omega arith) (omega arith) (omega arith) changes told.changes);
+    }
+
 pub node_is_swept : (main : Bool) (s : Statement) (c t : ℕ) (P : Status → Parts main s → Parts main s)
     (G : Sheet main s → Cells)
     (gate : Status) (old m0 m2 new : List Status) (own : MustCan) (past : ℕ) (r : Swept)
@@ -55,46 +110,19 @@ pub node_is_swept : (main : Bool) (s : Statement) (c t : ℕ) (P : Status → Pa
     → past ≡ c + sheet_size main s t
     → IsSwept main s c t (node_swept main s P G gate) old new r
 node_is_swept main s c t P G gate old m0 m2 new own past r learns parts changes owned is_left after =
-    let o = size_least main s t in
-    let f0 = cell_at old in
-    let f1 = cell_at m0 in
-    let f2 = cell_at m2 in
-    let f3 = cell_at new in
-    let S0 = sheet_in f0 main s c t in
-    let S2 = sheet_in f2 main s c t in
-    let h = learned (f0 c) gate in
-    let U = entered h S0 (P h S0.parts) in
-    let told = is_left.told in
-    let kept : Same (c + 1) (c + 1 + (t + 2)) f2 f0 = λ i l u. changes.before i (omega arith)
-    ∙ learns.later i (omega arith) in
-    let go : f2 c ≡ h = changes.before c (omega arith) ∙ learns.here in
-    let same : S2 ≡ U = same_node_of (f2 c) h _ _ _ _ _ _ go (sure_same f2 f0 (c + 1) (t + 2) kept)
-    (possible_same f2 f0 (c + 1) (t + 2) kept)
-    (parts ∙ ap (λ (z : Status). P z (parts_in f0 main s c t)) learns.here) in
-    let y = G S2 in
-    let told_sure : sure_codes f3 (c + 1) (t + 2) ≡ sure_told S2.cells.must S2.cells.may y.must y.may
-    = told.sure ∙ (ap (λ (z : Codes). sure_told S2.cells.must S2.cells.may z (codes_of own.can.codes)) owned.must
-    ∙ ap (λ (z : Codes). sure_told S2.cells.must S2.cells.may y.must z) owned.can) in
-    let told_may : possible_codes f3 (c + 1) (t + 2) ≡ may_told S2.cells.must S2.cells.may y.must y.may
-    = told.may ∙ (ap (λ (z : Codes). may_told S2.cells.must S2.cells.may z (codes_of own.can.codes)) owned.must
-    ∙ ap (λ (z : Codes). may_told S2.cells.must S2.cells.may y.must z) owned.can) in
-    let sheet3 : sheet_in f3 main s c t ≡ left S2 y
-    = same_node_of (f3 c) (f2 c) _ _ _ _ _ _ (told.changes.before c (omega arith)) told_sure told_may
-    (parts_same f3 f2 main s c t (λ i l u. told.changes.after i (omega arith))) in
+    let S2 = sheet_in (cell_at m2) main s c t in
+    let h = node_told main s c t P G gate old m0 m2 new own learns parts changes
+    (record { must = owned.must; can = owned.can }) is_left.told in
     record {
-      sheet = sheet3 ∙ ap (λ (z : Sheet main s). left z (G z)) same;
-      changes = changes_then c (c + 1) (c + 1) (c + sheet_size main s t) c (c + sheet_size main s t) old m0 new
-          (omega arith) (omega arith) (omega arith) (omega arith) (learn_changes c gate old m0 learns)
-          (changes_then (c + t + 3) (c + sheet_size main s t) (c + 1) (c + 1 + (t + 2)) (c + 1)
-          (c + sheet_size main s t) m0 m2 new
-          (omega arith) (omega arith) (omega arith) (omega arith) changes told.changes);
+      sheet = h.sheet;
+      changes = h.changes;
       found = record {
         must = is_left.found.must;
         can = is_left.found.can;
-        emits = is_left.found.emits ∙ (owned.emits ∙ (sym (emits_left is_sure main s S2 y)
-            ∙ ap (λ (z : Sheet main s). emits is_sure main s z) (sym sheet3)));
-        may_emit = is_left.found.may_emit ∙ (owned.may_emit ∙ (sym (emits_left is_possible main s S2 y)
-            ∙ ap (λ (z : Sheet main s). emits is_possible main s z) (sym sheet3)));
+        emits = is_left.found.emits ∙ (owned.emits ∙ (sym (emits_left is_sure main s S2 (G S2))
+            ∙ ap (λ (z : Sheet main s). emits is_sure main s z) (sym h.left_is)));
+        may_emit = is_left.found.may_emit ∙ (owned.may_emit ∙ (sym (emits_left is_possible main s S2 (G S2))
+            ∙ ap (λ (z : Sheet main s). emits is_possible main s z) (sym h.left_is)));
       };
       past = is_left.past_is ∙ after;
     }

@@ -2,7 +2,6 @@
 -- statement, or what its codes are told, is a pass too.
 use Rattle.std.specs.Prelude.{◌≡◌, ◌≤◌, ◌+◌, ℕ, Bool, true, false, List}
 use Rattle.std.proofs.Common.{refl, sym, arith, subst}
-use Rattle.est_kernel.specs.CodeViews.{codes_of}
 use Rattle.est_kernel.specs.View.{query_of, term_of}
 use Rattle.est_kernel.specs.declared.statement.LocalSignal.{LocalSignal}
 use Rattle.est_kernel.specs.declared.statement.Statement.{Statement}
@@ -16,10 +15,9 @@ use Rattle.est_cells.proofs.Order.{ends_below}
 use Rattle.est_cells.proofs.Sound.{local_sound}
 use Rattle.est_cells.specs.Gates.{ends, emitted_status}
 use Rattle.est_cells.specs.Meaning.{begun, begun_parts, cells_at, status_at}
-use Rattle.est_cells.specs.Tables.{Below, Cells, PartsBelow, Sheet, emits, is_sure, sheet_size}
+use Rattle.est_cells.specs.Tables.{Below, PartsBelow, Sheet, emits, is_sure, sheet_size}
 use Rattle.est_net.specs.Cells.{Learns, cell_at}
 use Rattle.est_net.specs.Layout.{node_in, parts_in, sheet_in}
-use Rattle.est_rounds.specs.declared.acts.MustCan.{MustCan}
 use Rattle.est_micro.specs.Inner.Hearing.{Heard}
 use Rattle.est_micro.specs.Inner.Passes.{Keeps, Passes}
 use Rattle.est_micro.specs.Sweeps.{swept}
@@ -213,11 +211,6 @@ local_status main s a p c t g now l old new z k =
           (local_sound main p s.index r e (sheet_in (cell_at old) main p (c + t + 4) t) o.parts.body)));
       body = after_it main p (c + t + 4) t _ _ old new _ h (omega arith) o.parts.body;
     })
-
--- what is judged by the gates is told
-pub record GivenBy (y : Cells) (own : MustCan) : Type 0 where
-  pub must : codes_of own.must.codes ≡ y.must
-  pub can : codes_of own.can.codes ≡ y.may
 
 -- a sweep is a pass
 pub sweep_passes : (way : Direction) (main : Bool) (s : Statement) (c t : ℕ) (g : Status) (l : Env)

@@ -1,5 +1,5 @@
 -- The parts of a statement's sheet: those of its parts are parts of it.
-use Rattle.std.specs.Prelude.{◌≡◌, ◌≤◌, ◌+◌, ◌||◌, ℕ, Bool, true, false, cond, List}
+use Rattle.std.specs.Prelude.{◌≡◌, ◌≤◌, ◌+◌, ℕ, Bool, true, false, cond, List}
 use Rattle.std.proofs.Common.{refl, sym, arith, subst}
 use Rattle.std.proofs.lemmas.Bool.{or_left, or_right}
 use Rattle.est_kernel.specs.View.{query_of, term_of}

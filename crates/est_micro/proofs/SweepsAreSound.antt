@@ -30,7 +30,8 @@ abbrev PartsSound : (main : Bool) (s : Statement) → (Status → Parts main s �
     → Type 0
 PartsSound main s f x r e = (h : Status) → IsBelow h r → PartsBelow main s (f h x) (begun_parts main s r e)
 
-sweep_sound : (main : Bool) (s : Statement) (f : Status → Parts main s → Parts main s) (r g : Status) (e l : Env)
+-- a statement that is begun, if at all, whose parts stay below what is meant
+pub sweep_sound : (main : Bool) (s : Statement) (f : Status → Parts main s → Parts main s) (r g : Status) (e l : Env)
     (T : Sheet main s)
     → IsBelow g r → KnowsLess l e → Below main s T (begun main s r e) → PartsSound main s f T.parts r e
     → Below main s (sweep_by main s f l g T) (begun main s r e)

@@ -18,6 +18,7 @@ use Rattle.est_net.proofs.Ranges.{last_or_before}
 use Rattle.est_rounds.specs.declared.acts.MustCan.{MustCan}
 use Rattle.est_micro.specs.Sweeps.{sure_told, may_told}
 use Rattle.est_micro.specs.Inner.Views.{AreTold, IsFresh}
+use Rattle.est_micro.specs.declared.cells.CodesRead.{CodesRead}
 use Rattle.est_micro.proofs.Frames.{and_same}
 
 -- the first n code cells from place c on are told
@@ -185,6 +186,30 @@ one_read c n j old mid new now status a b x y h l v s p q r t = record {
       (read_same a _ _ n h.sure_read (λ k m. ap is_sure (sym (l.others (c + k) (omega arith))))) p q (ap is_sure s);
   possible_read = read_more b y (λ k. is_possible (cell_at new (c + k))) n (is_possible status)
       (read_same b _ _ n h.possible_read (λ k m. ap is_possible (sym (l.others (c + k) (omega arith))))) r t
+      (ap is_possible s);
+}
+
+-- the first n code cells from place c on are read
+pub record CodesSoFar (cells : List Status) (c n : ℕ) (read : CodesRead) : Type 0 where
+  pub sure : ReadSoFar (codes_of read.sure) (λ k. is_sure (cell_at cells (c + k))) n
+  pub possible : ReadSoFar (codes_of read.possible) (λ k. is_possible (cell_at cells (c + k))) n
+
+pub none_read : (cells : List Status) (c : ℕ) (read : CodesRead) → codes_of read.sure ≡ no_codes
+    → codes_of read.possible ≡ no_codes → CodesSoFar cells c 0 read
+none_read cells c read e f = record {
+  sure = read_none _ (λ k. is_sure (cell_at cells (c + k))) (none_there _ e);
+  possible = read_none _ (λ k. is_possible (cell_at cells (c + k))) (none_there _ f);
+}
+
+pub code_read : (cells : List Status) (c n : ℕ) (old new : CodesRead) (status : Status) → CodesSoFar cells c n old
+    → status ≡ cell_at cells (c + n)
+    → codes_of new.sure n ≡ (codes_of old.sure n || is_sure status)
+    → ((k : ℕ) → k ≢ n → codes_of new.sure k ≡ codes_of old.sure k)
+    → codes_of new.possible n ≡ (codes_of old.possible n || is_possible status)
+    → ((k : ℕ) → k ≢ n → codes_of new.possible k ≡ codes_of old.possible k) → CodesSoFar cells c (n + 1) new
+code_read cells c n old new status h s p q r t = record {
+  sure = read_more _ _ (λ k. is_sure (cell_at cells (c + k))) n (is_sure status) h.sure p q (ap is_sure s);
+  possible = read_more _ _ (λ k. is_possible (cell_at cells (c + k))) n (is_possible status) h.possible r t
       (ap is_possible s);
 }
 

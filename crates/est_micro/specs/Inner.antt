@@ -1,3 +1,4 @@
+pub mod Closing
 pub mod FirstSweep
 pub mod Hearing
 pub mod Leads

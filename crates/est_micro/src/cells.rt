@@ -99,9 +99,9 @@ pub fn may_be_true(status: Status) -> bool
 
 /// The codes whose cells are true, and those whose cells aren't false.
 #[derive(Clone, Copy)]
-struct CodesRead {
-    sure: CodeSet,
-    possible: CodeSet,
+pub struct CodesRead {
+    pub sure: CodeSet,
+    pub possible: CodeSet,
 }
 
 /// What was read, and one more code as its cell says.
@@ -118,6 +118,29 @@ fn with_cell(read: CodesRead, code: usize, status: Status) -> CodesRead
         sure: with_code(read.sure, code, is_true(status)),
         possible: with_code(read.possible, code, may_be_true(status)),
     }
+}
+
+/// Reads `count` code cells from a place on. Codes 0 and 1, which every statement has, stand before
+/// the loop: there each is a constant for the compiler.
+#[inline(always)]
+pub fn read_codes(net: &Net, cell: usize, count: usize) -> CodesRead
+    requires within { cell + count ≤ length net.now.cells.items }
+    requires some { 2 ≤ count }
+    requires few { count ≤ 64 }
+    ensures sure { codes_of result.sure ≡ sure_codes (cell_at net.now.cells.items) cell count }
+    ensures possible { codes_of result.possible
+        ≡ possible_codes (cell_at net.now.cells.items) cell count }
+{
+    let none = CodesRead {
+        sure: CodeSet::empty(),
+        possible: CodeSet::empty(),
+    };
+    let first = with_cell(none, 0, net.status(cell));
+    let mut read = with_cell(first, 1, net.status(cell + 1));
+    for code in 2..count {
+        read = with_cell(read, code, net.status(cell + code));
+    }
+    read
 }
 
 /// Tells an open code cell what is judged of its code, and adds what it then says to what was read.
@@ -196,11 +219,12 @@ fn has_exit(codes: CodeSet) -> bool
     with_code(ends, 1, codes.has(Completion::Pause)) != codes
 }
 
-/// Tells `count` code cells what is judged of their codes, and reads them. Codes 0 and 1, which
-/// every statement has, stand before the loop: there each is a constant for the compiler. Where no
-/// code above 1 may be given, those cells are false at once in the first sweep of an instant.
+/// Tells `count` code cells what is judged of their codes, and reads them. Codes 0 and 1 stand
+/// before the loop, as in `read_codes`. In the first sweep of an instant a third code is told
+/// without the loop; where there are more, and none of them may be given, their cells are false at
+/// once.
 #[inline(always)]
-fn tell<K: SweepKind>(net: &mut Net, cell: usize, count: usize, judged: &MustCan) -> CodesRead
+pub fn tell<K: SweepKind>(net: &mut Net, cell: usize, count: usize, judged: &MustCan) -> CodesRead
     requires within { cell + count ≤ length net.old.cells.items }
     requires fresh { IsFresh K.first cell (cell + count) net.old.cells.items }
     requires some { 2 ≤ count }

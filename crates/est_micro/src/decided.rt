@@ -114,6 +114,7 @@ fn add_loop(
 
 /// Puts the emitted signals of a local signal's scope into the set, but for that signal.
 #[cycle(add)]
+#[inline(never)]
 fn add_local(
     net: &Net,
     main: bool,
@@ -177,20 +178,6 @@ fn add_emitted(
     }
 }
 
-/// The codes whose cells are true, of `count` of them from a place on.
-fn read_codes(net: &Net, cell: usize, count: usize) -> CodeSet
-    requires within { cell + count ≤ length net.now.cells.items }
-    requires few { count ≤ 64 }
-    ensures { codes_of result ≡ sure_codes (cell_at net.now.cells.items) cell count }
-{
-    let mut codes = CodeSet::empty();
-    for code in 0..count {
-        let is_given = cells::is_true(net.status(cell + code));
-        codes = cells::with_code(codes, code, is_given);
-    }
-    codes
-}
-
 /// Whether all cells of a statement are decided. They are gone through only where the codes 0 and 1
 /// are decided: as a rule all others are decided then too.
 #[inline(always)]
@@ -227,7 +214,7 @@ pub fn read(net: &Net, at: &StatementPlace, s: &Statement) -> Swept
     let past = add_emitted(net, at.main, at.cell, at.traps, s, &mut emitted);
     let acts = Acts {
         signals: emitted,
-        codes: read_codes(net, at.cell + 1, at.traps + 2),
+        codes: cells::read_codes(net, at.cell + 1, at.traps + 2).sure,
     };
     let judged = MustCan {
         must: acts,

@@ -1,9 +1,9 @@
 //! A pass over the sides of a `||` in the order in which they tell each other (`side_order`).
 //!
 //! Each side is swept by what is known then: present is what those before it surely emit, and
-//! absent what no emission may emit any more. The cells of the signals are not told: the run does
-//! that, after its sweep. What a pass leaves out costs time alone, since a run ends by a full
-//! sweep.
+//! absent what no emission may emit any more. Then the `||` is closed, if it is begun (`closing`).
+//! The cells of the signals are not told: the run does that, after its sweep. What a pass leaves
+//! out costs time alone, since a run ends by a full sweep.
 
 ghost use Rattle.std.specs.Prelude.{◌≡◌, ◌≤◌, ◌+◌, ℕ, Bool, true, length, IfSome};
 ghost use Rattle.est_kernel.specs.Bits.{bits};
@@ -12,6 +12,7 @@ ghost use Rattle.est_meaning.specs.declared.status.Status.TheVariants.{Present};
 ghost use Rattle.est_cells.specs.Tables.{sheet_size};
 ghost use Rattle.est_cells.specs.Whole.{sheet_meaning};
 ghost use Rattle.est_net.specs.Cells.{decided};
+ghost use Rattle.est_net.specs.Extents.{HasExtents};
 ghost use Rattle.est_net.specs.Kept.{kept};
 ghost use Rattle.est_net.specs.Layout.{output_count};
 ghost use Rattle.est_rounds.specs.Views.{env_of};
@@ -19,11 +20,13 @@ ghost use Rattle.est_micro.specs.Engine.{IsNetOf};
 ghost use Rattle.est_micro.specs.Parts.{AgreeBut, AreInputsAlone};
 ghost use Rattle.est_micro.specs.Inner.Leads.{Leads, SheetChanges};
 ghost use Rattle.est_micro.specs.Inner.Passes.{SheetPasses};
+ghost use Rattle.est_micro.specs.Inner.Closing.{IsFoundClosed};
 ghost use Rattle.est_micro.specs.Inner.Sides.{IsFound, IsOneOf, IsSideLed};
 ghost use Rattle.est_micro.specs.Inner.Views.{IsFresh};
 ghost use Rattle.est_micro.specs.Runs.{Ready};
 
 use crate::cells::StatementPlace;
+use crate::closing::close;
 use crate::direction::Direction;
 use crate::extents::{is_live, past};
 use crate::find_begin::{Found, find_begun};
@@ -105,8 +108,8 @@ fn without_silent(net: &Net, question: &Question<'_>, known: &Env, signals: u64)
     }
 }
 
-/// Sweeps a side of the `||` that was found, unless it is over, where all its cells are open or in
-/// a later sweep. Answers what is known then.
+/// Sweeps a side of the `||` that was found, unless it is over. Answers what is known then. As the
+/// first sweep of an instant does it, all cells of the side have to be open.
 fn sweep_led<K: SweepKind>(net: &mut Net, found: &Found<'_>, side: &Side<'_>, known: &Env) -> Env
     requires side { IsOneOf net.old.extents.items found.now.place found.now.statement.now
         side.now }
@@ -163,8 +166,24 @@ fn lead_side(net: &mut Net, found: &Found<'_>, side: &Side<'_>, known: &Env) -> 
     }
 }
 
-/// Sweeps the sides of the `||` that was found, in the order. Answers whether some signal was found
-/// to be absent.
+/// Closes the `||` that was found, if it is begun.
+fn close_found(net: &mut Net, found: &Found<'_>)
+    requires extents { HasExtents net.old.extents.items found.now.place.number
+        found.now.place.traps found.now.statement.now }
+    requires within { found.now.place.cell + sheet_size found.now.place.main
+        found.now.statement.now found.now.place.traps ≤ length net.old.cells.items }
+    requires few { found.now.place.traps ≤ 62 }
+    ensures closed { IsFoundClosed found.now net.old.cells.items net.new.cells.items }
+    ensures kept { kept net.new ≡ kept net.old }
+{
+    if found.pauses.is_none() {
+        let top = &found.place;
+        close(net, top, top.number, top.cell, found.statement, found.gate);
+    }
+}
+
+/// Sweeps the sides of the `||` that was found, in the order, and then closes it. Answers whether
+/// some signal was found to be absent.
 fn lead_sides(
     net: &mut Net,
     question: &Question<'_>,
@@ -198,6 +217,7 @@ fn lead_sides(
             known = lead_side(net, found, &side, &heard);
         }
     }
+    close_found(net, found);
     known.possible.interface != env.possible.interface
 }
 

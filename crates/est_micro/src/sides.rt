@@ -53,45 +53,38 @@ impl<'a> Sides<'a> {
         }
     }
 
-    /// Adds the sides of a statement.
-    fn add(&mut self, net: &Net, at: &StatementPlace, s: &'a Statement)
+    /// Adds the sides of the statement of this number whose cells begin here. It is that at the
+    /// top, or its second side, and so on.
+    fn add(&mut self, net: &Net, top: &StatementPlace, number: usize, cell: usize, s: &'a Statement)
         requires fits { FitsMasks s.now }
-        requires extents { HasExtents net.now.extents.items at.now.number at.now.traps s.now }
-        requires within { at.now.cell + sheet_size at.now.main s.now at.now.traps
+        requires extents { HasExtents net.now.extents.items number top.now.traps s.now }
+        requires within { cell + sheet_size top.now.main s.now top.now.traps
             ≤ length net.now.cells.items }
-        requires traps { at.now.traps + trap_depth (term_of s.now) ≤ 62 }
-        ensures { (top r : _) → IsSideOf net.now.extents.items top r s.now
-            at.now.number at.now.cell → top.traps ≡ at.now.traps → top.main ≡ at.now.main
-            → AreSidesOf net.now.extents.items top r self.old.list self.old.count
-            → AreSidesOf net.now.extents.items top r self.new.list self.new.count }
+        requires traps { top.now.traps + trap_depth (term_of s.now) ≤ 62 }
+        ensures { (r : _) → IsSideOf net.now.extents.items top.now r s.now number cell
+            → AreSidesOf net.now.extents.items top.now r self.old.list self.old.count
+            → AreSidesOf net.now.extents.items top.now r self.new.list self.new.count }
     {
         match s {
             Statement::Par(p, q) => {
                 let place = StatementPlace {
-                    number: at.number + 1,
-                    main: at.main,
-                    direction: at.direction,
-                    cell: at.cell + at.traps + 3,
-                    traps: at.traps,
-                };
-                let next = StatementPlace {
-                    number: number_after(net, &place, p),
-                    main: at.main,
-                    direction: at.direction,
-                    cell: past(net, &place, p),
-                    traps: at.traps,
+                    number: number + 1,
+                    cell: cell + top.traps + 3,
+                    ..*top
                 };
                 self.push(Side {
                     statement: p,
                     number: place.number,
                     cell: place.cell,
                 });
-                self.add(net, &next, q)
+                let next_number = number_after(net, &place, p);
+                let next_cell = past(net, &place, p);
+                self.add(net, top, next_number, next_cell, q)
             }
             _ => self.push(Side {
                 statement: s,
-                number: at.number,
-                cell: at.cell,
+                number,
+                cell,
             }),
         }
     }
@@ -110,7 +103,7 @@ impl<'a> Sides<'a> {
             number: at.number,
             cell: at.cell,
         });
-        sides.add(net, at, s);
+        sides.add(net, at, at.number, at.cell, s);
         sides
     }
 

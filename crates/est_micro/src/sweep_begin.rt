@@ -564,8 +564,16 @@ fn begin_each<K: SweepKind>(
     }
 }
 
+/// Whether a statement has sides.
+fn has_sides(s: &Statement) -> bool {
+    match s {
+        Statement::Par(_, _) => true,
+        _ => false,
+    }
+}
+
 /// Sweeps cells of which something may be known. Where the statement is not begun, and none of them
-/// is true, all of them are false at once.
+/// is true, all of them are false at once. Those of a `||` that are all decided are only read.
 #[cycle(sweep_begun)]
 fn begin_known<K: SweepKind>(
     net: &mut Net,
@@ -592,7 +600,12 @@ fn begin_known<K: SweepKind>(
             fill_false(net, at.cell, past);
             cells::nothing(past)
         }
-        None => begin_each::<K>(net, at, s, gate, env),
+        None => {
+            if has_sides(s) && decided::is_decided(net, at, s) {
+                return decided::read(net, at, s);
+            }
+            begin_each::<K>(net, at, s, gate, env)
+        }
     }
 }
 

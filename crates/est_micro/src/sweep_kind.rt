@@ -1,5 +1,6 @@
-//! Whether a sweep is the first one of an instant. A function that sweeps is compiled for both: in
-//! the first one, each of its cells is open, and none is read before it is told.
+//! Whether a sweep is the first one of an instant. A function that sweeps is compiled for both. In
+//! the first one each of its cells is open, so a cell is told what is judged without a look at what
+//! it knows.
 
 ghost use Rattle.std.specs.Prelude.{◌≡◌, Bool, true, false};
 

@@ -1,7 +1,7 @@
-use Rattle.std.proofs.Common.{◌≡◌, ◌∙◌, ◌+◌, ℕ, refl, arith, rules, subst, sym}
+use Rattle.std.proofs.Common.{◌≡◌, ◌∙◌, ◌+◌, ℕ, refl, arith, rules, subst}
 use Rattle.est_kernel.specs.CodeViews.{codes_of}
 use Rattle.est_net.specs.Cells.{cell_at}
-use Rattle.est_micro.proofs.FreshCells.{fresh_part, fresh_told, open_fresh}
+use Rattle.est_micro.proofs.FreshCells.{fresh_part, fresh_told, open_of_fresh}
 use Rattle.est_micro.proofs.Telling.{ToldAndRead, fresh_further, one_read, read_possible_done, read_sure_done}
 use Rattle.est_micro.proofs.Telling.{rest_false, told_done, two_read}
 use Rattle.est_micro.proofs.cells.tell.Goals as goal
@@ -72,7 +72,7 @@ fill-requires-clause-open g c =
     let h = two_read c.args.cell c.args.judged.now c.args.net.now.cells.items _ _ _ _ _ _ _ _ c.empty.ensures
     c.empty-2.ensures a.learns a.sure a.other_sure a.possible a.other_possible b.learns b.sure b.other_sure b.possible
     b.other_possible in
-    open_fresh _ _ _ _ (search rules) (fresh_further _ c.args.cell 2 c.args.count 2 c.args.judged.now _ _ h.told
+    open_of_fresh _ _ _ _ (search rules) (fresh_further _ c.args.cell 2 c.args.count 2 c.args.judged.now _ _ h.told
     (omega arith) c.requires.some c.requires.fresh)
 
 pub returns-then-not-has_exit-2 : goal.returns-then-not-has_exit-2
@@ -81,7 +81,7 @@ returns-then-not-has_exit-2 g c =
     let b = c.tell_code-read.ensures in
     let h = rest_false c.args.cell c.args.count c.args.judged.now c.args.net.now.cells.items _ _ _ _ c.requires.some
     (c.has_exit.ensures (search rules)) (c.has_exit-then-not-has_exit.ensures (search rules))
-    (open_fresh _ _ _ _ (search rules) c.requires.fresh)
+    (open_of_fresh _ _ _ _ (search rules) c.requires.fresh)
     (two_read c.args.cell c.args.judged.now c.args.net.now.cells.items _ _ _ _ _ _ _ _ c.empty.ensures
     c.empty-2.ensures a.learns a.sure a.other_sure a.possible a.other_possible b.learns b.sure b.other_sure b.possible
     b.other_possible) c.fill.ensures.cells in

@@ -11,4 +11,4 @@ read_codes-requires-clause-within c =
 pub returns : goal.returns
 returns c =
     decided_read c.args.s.now c.args.at.now _ _ _ _ _ _ c.no_signal-emitted.ensures c.add_emitted-past.ensures
-    c.requires.decided c.read_codes.ensures refl
+    c.requires.decided c.read_codes.ensures.sure refl

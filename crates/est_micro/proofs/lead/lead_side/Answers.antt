@@ -1,11 +1,11 @@
-use Rattle.std.proofs.Common.{ℕ, sym, subst}
+use Rattle.std.proofs.Common.{ℕ, subst}
 use Rattle.est_net.specs.Cells.{AllOpen}
-use Rattle.est_micro.proofs.FreshCells.{fresh_not, fresh_open}
+use Rattle.est_micro.proofs.FreshCells.{fresh_not, fresh_of_open}
 use Rattle.est_micro.proofs.lead.lead_side.Goals as goal
 
 pub sweep_led-requires-clause-fresh : goal.sweep_led-requires-clause-fresh
 sweep_led-requires-clause-fresh c =
-    fresh_open _ _ _ _ (subst (λ (z : ℕ). AllOpen c.args.side.now.cell z c.args.net.now.cells.items) c.past.ensures
+    fresh_of_open _ _ _ _ (subst (λ (z : ℕ). AllOpen c.args.side.now.cell z c.args.net.now.cells.items) c.past.ensures
     (c.all_open.ensures.0 c.if-all_open.true))
 
 pub sweep_led-requires-else-all_open-clause-fresh : goal.sweep_led-requires-else-all_open-clause-fresh

@@ -5,7 +5,8 @@ use Rattle.est_rounds.specs.Views.{env_of}
 use Rattle.est_micro.specs.Inner.Sides.{IsOneOf}
 use Rattle.est_micro.specs.declared.sides.Side.{Side}
 use Rattle.est_micro.proofs.BegunNodes.{nothing_changes}
-use Rattle.est_micro.proofs.LeadRounds.{leads_begin, leads_ready, leads_side, sheet_then, side_changes}
+use Rattle.est_micro.proofs.LeadRounds.{found_changes, leads_begin, leads_closed, leads_ready, leads_side, sheet_then}
+use Rattle.est_micro.proofs.LeadRounds.{side_changes}
 use Rattle.est_micro.proofs.lead.lead_sides.Goals.{in-Some, in_default}
 use Rattle.est_micro.proofs.lead.lead_sides.Goals as goal
 
@@ -55,5 +56,21 @@ loop-n-preserved c =
 
 pub returns-clause-ready : goal.returns-clause-ready
 returns-clause-ready c = λ others agree ready.
-    leads_ready (bits c.args.question.now.unasked) c.args.question.now.kernel.now c.args.question.now.state.now others
-    c.args.env.now _ _ _ c.loop-n.invariant.1 (c.loop-n.invariant.2 others agree ready) ready
+    let kernel = c.args.question.now.kernel.now in
+    let state = c.args.question.now.state.now in
+    let was = c.loop-n.invariant in
+    let closed = c.close_found.ensures.closed in
+    let start = leads_begin (bits c.args.question.now.unasked) kernel state others _ c.args.env.now c.requires.apart ready
+    in
+    leads_ready (bits c.args.question.now.unasked) kernel state others c.args.env.now _ _ _
+    (sheet_then kernel _ _ _ was.1
+    (found_changes kernel _ _ c.args.found.now (env_of c.args.env.now) _ _ _ c.requires.found closed))
+    (leads_closed kernel state others _ c.args.found.now (env_of c.args.env.now) _ _ _ _ c.requires.found closed start
+    (was.2 others agree ready)) ready
+
+pub returns-clause-changes : goal.returns-clause-changes
+returns-clause-changes c =
+    let kernel = c.args.question.now.kernel.now in
+    sheet_then kernel _ _ _ c.loop-n.invariant.1
+    (found_changes kernel _ _ c.args.found.now (env_of c.args.env.now) _ _ _ c.requires.found
+    c.close_found.ensures.closed)

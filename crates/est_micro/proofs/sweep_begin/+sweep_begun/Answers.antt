@@ -10,7 +10,7 @@ use Rattle.est_micro.proofs.BegunNodes.{loop_begun, local_begun, within_one, wit
 use Rattle.est_micro.proofs.BegunNodes.{within_back, within_first, within_first_local, within_same, within_told}
 use Rattle.est_micro.proofs.DecidedSheets.{read_begun}
 use Rattle.est_micro.proofs.FreshCells.{changes_begun, fresh_back, fresh_codes, fresh_codes_two, fresh_idle, fresh_kept}
-use Rattle.est_micro.proofs.FreshCells.{fresh_next, fresh_part, fresh_told, fresh_untold, open_fresh, past_begun}
+use Rattle.est_micro.proofs.FreshCells.{fresh_next, fresh_part, fresh_told, fresh_untold, open_of_fresh, past_begun}
 use Rattle.est_micro.proofs.IdleSheets.{idle_begun}
 use Rattle.est_micro.proofs.KeptExtents.{still, still_at}
 use Rattle.est_micro.proofs.sweep_begin.+sweep_begun.Goals as goal
@@ -154,6 +154,10 @@ pub begin_known-returns-in-Some-clause-swept : goal.begin_known-returns-in-Some-
 begin_known-returns-in-Some-clause-swept g t c =
     idle_begun c.args.s.now c.args.at.now c.args.gate c.args.env.now c.args.net.now.cells.items _ _ _
     (rw c.in-Some.is at c.past_idle.ensures) c.fill_false.ensures.cells c.nothing.ensures.judged c.nothing.ensures.past
+
+pub begin_known-returns-then-is_decided-clause-swept : goal.begin_known-returns-then-is_decided-clause-swept
+begin_known-returns-then-is_decided-clause-swept g t c =
+    read_begun c.args.s.now c.args.at.now c.args.gate c.args.env.now _ _ c.read.ensures
 
 pub sweep_side-returns-then-is_decided-clause-swept : goal.sweep_side-returns-then-is_decided-clause-swept
 sweep_side-returns-then-is_decided-clause-swept g t c =
@@ -606,7 +610,7 @@ begin_local-tell_cell-go-requires-clause-fresh g t c =
 pub sweep_begun-fill-requires-clause-open : goal.sweep_begun-fill-requires-clause-open
 sweep_begun-fill-requires-clause-open g t c =
     let e = c.past-past.ensures in
-    open_fresh _ _ _ _ (search rules)
+    open_of_fresh _ _ _ _ (search rules)
     (fresh_part _ _ _ _ _ _ (omega arith) (omega (arith, e)) c.requires.fresh)
 
 pub sweep_begun-returns-in-Absent-clause-swept : goal.sweep_begun-returns-in-Absent-clause-swept
@@ -614,6 +618,6 @@ sweep_begun-returns-in-Absent-clause-swept g t c =
     let e = c.past-past.ensures in
     idle_begun c.args.s.now c.args.at.now c.args.gate c.args.env.now c.args.net.now.cells.items _ _ _
     (fresh_idle _ _ _ _ _ c.in-Absent.is e
-    (open_fresh _ _ _ _ (search rules)
+    (open_of_fresh _ _ _ _ (search rules)
     (fresh_part _ _ _ _ _ _ (omega arith) (omega (arith, e)) c.requires.fresh)))
     c.fill.ensures.cells c.nothing.ensures.judged c.nothing.ensures.past

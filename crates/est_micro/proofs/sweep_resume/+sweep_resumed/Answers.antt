@@ -11,7 +11,7 @@ use Rattle.est_micro.proofs.BegunNodes.{part_at, within_two_same}
 use Rattle.est_micro.proofs.DecidedSheets.{read_resumed}
 use Rattle.est_micro.proofs.FreshCells.{changes_begun, changes_resumed, fresh_back, fresh_codes, fresh_codes_two}
 use Rattle.est_micro.proofs.FreshCells.{absent_told, fresh_kept, fresh_next, fresh_part, fresh_told, fresh_untold}
-use Rattle.est_micro.proofs.FreshCells.{open_fresh, over_begun, past_begun, past_resumed}
+use Rattle.est_micro.proofs.FreshCells.{open_of_fresh, over_begun, past_begun, past_resumed}
 use Rattle.est_micro.proofs.KeptExtents.{still, still_at}
 use Rattle.est_micro.proofs.ResumedNodes.{present_resumed, seq_resumed, par_resumed, par_resumed_back}
 use Rattle.est_micro.proofs.ResumedNodes.{suspend_resumed, trap_resumed}
@@ -603,7 +603,7 @@ resume_second-tell_cell-requires-clause-fresh g t c =
 pub resume_second-fill-requires-clause-open : goal.resume_second-fill-requires-clause-open
 resume_second-fill-requires-clause-open g t c =
     let e = rw c.requires.main at c.past-later.ensures in
-    open_fresh _ _ _ _ c.requires.first
+    open_of_fresh _ _ _ _ c.requires.first
     (fresh_told _ c.args.at.now.cell _ _ _ _ _ _ _ c.tell_cell.ensures.learns (omega arith) (omega arith)
     (omega (arith, e)) c.requires.fresh)
 
