@@ -140,6 +140,8 @@ bench: build library
 	python3 bench/instants.py $(BENCHES)
 	python3 bench/engines.py $(BENCHES) 500000
 	python3 bench/worklist.py $(BENCHES)
+	python3 bench/worklist.py --plain $(BENCHES) 5
+	python3 bench/icarus.py $(BENCHES)
 	python3 bench/texts.py $(BENCHES)
 	python3 bench/loads.py $(BENCHES)
 	python3 bench/loads.py $(BENCHES) --search 300

@@ -5,11 +5,13 @@ usage: icarus.py PROGRAM [PAIRS] [NAME ..]
 
 PROGRAM is the built `crates/benches/out/benches`. The programs are those of bench/worklist.py, all but the largest one, or those that are
 named. Each is printed as a module, its gates as Verilog (bench/verilog.py). Both run the same instants, and their outputs have to have one
-sum; else the script ends with 1. A time is processor time, that of a run less that of a run of one instant. Each row has the medians of PAIRS
-pairs (5 if left out), the two in turn: microseconds an instant of both, and the median of their ratios; and how many cells the engine decides
-in an instant, and how many nets Icarus has. Icarus is Debian's package iverilog.
+sum; else the script ends with 1. A time is processor time, that of a run less that of a run of one instant. Each row has the cells that the
+engine decides in an instant, how many nets Icarus has, and how many changes of nets there are in an instant: where none changes, Icarus does
+nothing. Then come medians of PAIRS pairs (5 if left out), the two in turn: microseconds an instant of both, and their ratio. Icarus is Debian's
+package iverilog; without it nothing is timed.
 """
 import pathlib
+import shutil
 import statistics
 import subprocess
 import sys
@@ -29,6 +31,10 @@ module bench;
   integer at, count;
   machine one(clock, offered, emitted);
   initial begin
+    if ($test$plusargs("changes")) begin
+      $dumpfile("FOLDER/changes.vcd");
+      $dumpvars(0, one);
+    end
     if (!$value$plusargs("instants=%d", count)) count = 1;
     for (at = 0; at < count; at = at + 1) begin
 OFFERS
@@ -56,9 +62,18 @@ def simulated(name, folder):
     inputs, outputs, statement, masks = worklist.programs()[name][1:]
     (folder / f"{name}.strl").write_text(worklist.module_of(inputs, outputs, statement), encoding="utf-8")
     machine = verilog.verilog(folder / f"{name}.strl").split("module bench;")[0]
-    (folder / f"{name}.v").write_text(machine + BENCH.replace("OFFERS", offers(masks)), encoding="utf-8")
+    bench = BENCH.replace("OFFERS", offers(masks)).replace("FOLDER", str(folder))
+    (folder / f"{name}.v").write_text(machine + bench, encoding="utf-8")
     subprocess.run(["iverilog", "-g2005", "-o", folder / f"{name}.vvp", folder / f"{name}.v"], check=True)
     return (lambda count: ["vvp", "-n", folder / f"{name}.vvp", f"+instants={count}"]), machine.count("assign n")
+
+
+def changes(icarus, folder):
+    """How many changes of nets of one bit there are in an instant, but for the clock's."""
+    def changed(count):
+        subprocess.run([*icarus(count), "+changes"], capture_output=True, check=True)
+        return sum(line[0] in "01xz" for line in (folder / "changes.vcd").read_text(encoding="utf-8").splitlines())
+    return (changed(1 + CHECKED) - changed(1)) / CHECKED - 2
 
 
 def compare(words_of, case, name):
@@ -71,10 +86,12 @@ def compare(words_of, case, name):
 def main(words):
     if not words:
         sys.exit(__doc__.strip())
+    if not shutil.which("iverilog"):
+        return print("icarus.py: iverilog is not there")
     engine, others = str(pathlib.Path(words[0]).resolve()), words[1:]
     pairs = int(others.pop(0)) if others and others[0].isdigit() else 5
     sys.setrecursionlimit(20000)
-    print("| Program | Cells | Nets of Icarus | Engine, microseconds | Icarus, microseconds | Engine over Icarus |\n|---|---|---|---|---|---|")
+    print("| Program | Cells | Nets of Icarus | Changes | Engine, microseconds | Icarus, microseconds | Engine over Icarus |\n|---|---|---|---|---|---|---|")
     with tempfile.TemporaryDirectory() as made:
         folder = pathlib.Path(made)
         for name in others or [each for each in worklist.programs() if each != LARGEST]:
@@ -85,7 +102,7 @@ def main(words):
             taken = worklist.timed(words_of, program, pairs)
             times = {each: statistics.median(values) * 1e6 for each, values in taken.items()}
             ratio = statistics.median(e / i for e, i in zip(taken["engine"], taken["icarus"]))
-            print(f"| `{name}` | {program.cells:,} | {nets:,} | {times['engine']:.2f} | {times['icarus']:.2f} | {ratio:.2f} |", flush=True)
+            print(f"| `{name}` | {program.cells:,} | {nets:,} | {changes(icarus, folder):.0f} | {times['engine']:.2f} | {times['icarus']:.2f} | {ratio:.2f} |", flush=True)
 
 
 if __name__ == "__main__":

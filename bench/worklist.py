@@ -3,6 +3,7 @@
 
 usage: worklist.py PROGRAM [PAIRS] [NAME ..]
        worklist.py --check PROGRAM [NAME ..]
+       worklist.py --plain PROGRAM [PAIRS] [NAME ..]
        worklist.py --exponents PROGRAM [FAMILY ..]
 
 PROGRAM is the built `crates/benches/out/benches`. Each program below is written as kernel statements. This script prints it as a
@@ -13,6 +14,9 @@ be as many, all of them decided in the last instant, and the sums of their outpu
 A time is the processor time of a run, user and system, less that of a run of one instant, over instants and cells. Each row has the medians
 of PAIRS pairs (10 if left out), the two programs in turn, and the median of their ratios. The instructions are callgrind's, one run each. The
 plain engine is timed too where local signals nest at most six deep. --check compares sums alone, over few instants.
+
+--plain times the engine beside the plain engine alone, in all programs in which that can be, and in further ones: microseconds an instant of
+both, and the median of their ratios. Their outputs have to have one sum.
 
 --exponents counts the engine's instructions an instant in programs of one kind and of growing size, and prints for each such family the
 exponent: the slope of the line that fits the logarithms of instructions over those of cells best. 1 is linear.
@@ -267,6 +271,37 @@ def programs():
     }
 
 
+def idle():
+    """A pause that is held for ever under 16 loops and 15 traps, before a large statement that is never reached."""
+    body = seq(wait("I0"), *[emit("O0")] * 950, PAUSE)
+    for _ in range(16):
+        body = loop(body)
+    for n in reversed(range(15)):
+        body = ("trap", f"T{n}", body)
+    return par(body, sustain("O1"))
+
+
+def further():
+    """Programs that are run beside the plain engine alone, as `programs` has them."""
+    none, one = [0], ["I0"]
+    links = [present(f"O{n}", emit(f"O{n + 1}")) for n in range(62)]
+    first = present("I0", emit("O0"))
+    return {
+        "one": ("a test of an input", one, names("O", 1), loop(first, PAUSE), [0, 1]),
+        "local1": ("a local signal", [], names("O", 1), loop(told(names("S", 1), "O0"), PAUSE), none),
+        "pauses3": ("an emission and three pauses", [], names("O", 1), loop(emit("O0"), PAUSE, PAUSE, PAUSE), none),
+        "pauses240": ("240 pauses and an emission", [], names("O", 1), loop(*[PAUSE] * 240, emit("O0")), none),
+        "aborts50": ("50 aborts side by side, for one input", one, names("O", 1),
+                     par(*[loop(abort(seq(emit("O0"), halt()), "I0"))] * 50), [0, 1, 0, 0, 1]),
+        "absent13": ("14 outputs, each told by the one before, of which the first is mostly absent", one, names("O", 14),
+                     par(*(loop(link, PAUSE) for link in [first, *links[:13]])), [0, 0, 0, 0, 1]),
+        "absent63": ("63 outputs, each told by the one before, of which none is present", one, names("O", 63),
+                     loop(par(first, *links), PAUSE), none),
+        "ended240": ("240 parts side by side that have ended", [], names("O", 1), ended(240), none),
+        "idle": ("a large statement that is never reached", one, names("O", 2), idle(), none),
+    }
+
+
 # The text of a module.
 
 def text_of(p):
@@ -444,7 +479,7 @@ class Program:
 
     def __init__(self, name, folder, made=None):
         self.name = name
-        inputs, outputs, statement, masks = made or programs()[name][1:]
+        inputs, outputs, statement, masks = made or {**programs(), **further()}[name][1:]
         self.locals = locals_of(statement)
         self.case = f"{','.join(f'{mask:x}' for mask in masks)} {module_of(inputs, outputs, statement)}\n"
         layout = Layout(inputs, outputs, statement)
@@ -527,6 +562,25 @@ def row(words_of, program, pairs):
     return ratio
 
 
+def beside_plain(engine, names_of, pairs):
+    """Prints a row for each program beside the plain engine."""
+    print("| Program | Cells | Engine, microseconds | Plain engine, microseconds | Engine over plain engine |\n|---|---|---|---|---|")
+    ratios = []
+    with tempfile.TemporaryDirectory() as folder:
+        for name in names_of or (*programs(), *further()):
+            program = Program(name, pathlib.Path(folder))
+            if program.locals > MOST_LOCALS:
+                continue
+            words_of = {each: (lambda count, each=each: [engine, each, str(count)]) for each in ("micro", "plain")}
+            if len({run(words(CHECKED), program.case)[1].split()[2] for words in words_of.values()}) != 1:
+                sys.exit(f"worklist.py: {name}: the engines differ")
+            taken = timed(words_of, program, pairs)
+            micro, plain = (statistics.median(taken[each]) * 1e6 for each in ("micro", "plain"))
+            ratios.append(statistics.median(e / p for e, p in zip(taken["micro"], taken["plain"])))
+            print(f"| `{name}` | {program.cells:,} | {micro:.2f} | {plain:.2f} | {ratios[-1]:.2f} |", flush=True)
+    print(f"geometric mean of engine over plain engine: {statistics.geometric_mean(ratios):.2f}")
+
+
 def exponent(points):
     """The slope of the line that fits the logarithms of these pairs best."""
     logs = [(math.log(x), math.log(y)) for x, y in points]
@@ -557,13 +611,15 @@ def exponents(engine, names_of):
 def main(words):
     if words[:1] == ["--exponents"] and len(words) > 1:
         return exponents(str(pathlib.Path(words[1]).resolve()), words[2:])
-    check = words[:1] == ["--check"]
-    words = words[check:]
+    check, plain = words[:1] == ["--check"], words[:1] == ["--plain"]
+    words = words[check or plain:]
     if not words:
         sys.exit(__doc__.strip())
     engine, others = str(pathlib.Path(words[0]).resolve()), words[1:]
     pairs = int(others.pop(0)) if others and others[0].isdigit() else 10
     sys.setrecursionlimit(20000)
+    if plain:
+        return beside_plain(engine, others, pairs)
     with tempfile.TemporaryDirectory() as made:
         folder = pathlib.Path(made)
         subprocess.run(["cc", "-O2", "-o", folder / "worklist", HERE / "worklist.c"], check=True)

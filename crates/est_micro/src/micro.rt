@@ -11,7 +11,7 @@ ghost use Rattle.est_rounds.specs.Contract.{HasNoReaction, IsReaction};
 ghost use Rattle.est_micro.specs.Engine.{GoesOnFrom, HasValues, IsAsMeant, IsNetOf};
 ghost use Rattle.est_micro.specs.Inner.Outcomes.{HasNoCode, IsOutcomeOf};
 
-use crate::cells::{StatementPlace, Swept};
+use crate::cells::Swept;
 use crate::direction::Direction;
 use crate::next_pauses::collect_pauses;
 use crate::question::Question;
@@ -54,15 +54,9 @@ fn outcome(
 {
     let must = swept.judged.must;
     if must.codes.has(Completion::Pause) {
-        let place = StatementPlace {
-            number: 0,
-            main: true,
-            direction: Direction::Forwards,
-            cell: net.output_count(),
-            traps: 0,
-        };
+        let cell = net.output_count();
         let mut next = PauseSet::new();
-        collect_pauses(net, &place, kernel.root(), from, &mut next);
+        collect_pauses(net, 0, true, cell, 0, kernel.root(), from, &mut next);
         return Some(Outcome {
             outputs: must.signals.interface,
             next: State::Paused(next),

@@ -17,6 +17,7 @@ ghost use Rattle.est_net.specs.Owners.{statements};
 ghost use Rattle.est_micro.specs.Inner.Pausing.{Collects, CollectsIn};
 
 use crate::cells::{StatementPlace, is_true};
+use crate::direction::Direction;
 use crate::extents::{number_after, past};
 use est_kernel::pause_set::PauseSet;
 use est_kernel::statement::{PauseIndex, Statement};
@@ -87,190 +88,177 @@ fn keep_pauses(on: bool, s: &Statement, pauses: &PauseSet, next: &mut PauseSet)
 
 /// Puts the pauses of two parts into `next`.
 #[cycle(collect_pauses)]
+#[inline(always)]
 fn collect_pauses_of_two(
     net: &Net,
-    at: &StatementPlace,
+    number: usize,
+    main: bool,
+    cell: usize,
+    traps: usize,
     p: &Statement,
     q: &Statement,
     pauses: &PauseSet,
     next: &mut PauseSet,
 )
-    requires first_extents { HasExtents net.now.extents.items (at.now.number + 1)
-        at.now.traps p.now }
-    requires second_extents { HasExtents net.now.extents.items
-        (at.now.number + 1 + statements p.now) at.now.traps q.now }
-    requires within { at.now.cell + at.now.traps + 3 + sheet_size at.now.main p.now at.now.traps
-        + sheet_size at.now.main q.now at.now.traps
+    requires first_extents { HasExtents net.now.extents.items (number + 1) traps p.now }
+    requires second_extents { HasExtents net.now.extents.items (number + 1 + statements p.now) traps
+        q.now }
+    requires within { cell + traps + 3 + sheet_size main p.now traps + sheet_size main q.now traps
         ≤ length net.now.cells.items }
-    ensures present { (t a b : _) → CollectsIn (Present' t a p.now b q.now) at.now.main at.now.cell
-        at.now.traps net.now.cells.items pauses.now next.old next.new }
-    ensures seq { (a b : _) → CollectsIn (Seq' a p.now b q.now) at.now.main at.now.cell
-        at.now.traps net.now.cells.items pauses.now next.old next.new }
-    ensures par { (a b : _) → CollectsIn (Par' a p.now b q.now) at.now.main at.now.cell
-        at.now.traps net.now.cells.items pauses.now next.old next.new }
+    ensures present { (t a b : _) → CollectsIn (Present' t a p.now b q.now) main cell traps
+        net.now.cells.items pauses.now next.old next.new }
+    ensures seq { (a b : _) → CollectsIn (Seq' a p.now b q.now) main cell traps
+        net.now.cells.items pauses.now next.old next.new }
+    ensures par { (a b : _) → CollectsIn (Par' a p.now b q.now) main cell traps
+        net.now.cells.items pauses.now next.old next.new }
 {
     let first = StatementPlace {
-        number: at.number + 1,
-        main: at.main,
-        direction: at.direction,
-        cell: at.cell + at.traps + 3,
-        traps: at.traps,
+        number: number + 1,
+        main,
+        direction: Direction::Forwards,
+        cell: cell + traps + 3,
+        traps,
     };
-    collect_pauses(net, &first, p, pauses, next);
-    let second = StatementPlace {
-        number: number_after(net, &first, p),
-        main: at.main,
-        direction: at.direction,
-        cell: past(net, &first, p),
-        traps: at.traps,
-    };
-    collect_pauses(net, &second, q, pauses, next);
+    let second = number_after(net, &first, p);
+    let past = past(net, &first, p);
+    collect_pauses(net, first.number, main, first.cell, traps, p, pauses, next);
+    collect_pauses(net, second, main, past, traps, q, pauses, next)
 }
 
 /// Puts the pauses of a suspended statement into `next`: where the suspension alone pauses, those
 /// that it had.
 #[cycle(collect_pauses)]
+#[inline(always)]
 fn collect_pauses_of_suspend(
     net: &Net,
-    at: &StatementPlace,
+    number: usize,
+    main: bool,
+    cell: usize,
+    traps: usize,
     p: &Statement,
     pauses: &PauseSet,
     next: &mut PauseSet,
 )
-    requires extents { HasExtents net.now.extents.items (at.now.number + 1) at.now.traps p.now }
-    requires within { at.now.cell + at.now.traps + 3 + sheet_size at.now.main p.now at.now.traps
+    requires extents { HasExtents net.now.extents.items (number + 1) traps p.now }
+    requires within { cell + traps + 3 + sheet_size main p.now traps
         ≤ length net.now.cells.items }
-    ensures { (t a : _) → CollectsIn (Suspend' t a p.now) at.now.main at.now.cell at.now.traps
+    ensures { (t a : _) → CollectsIn (Suspend' t a p.now) main cell traps
         net.now.cells.items pauses.now next.old next.new }
 {
-    let body = StatementPlace {
-        number: at.number + 1,
-        main: at.main,
-        direction: at.direction,
-        cell: at.cell + at.traps + 3,
-        traps: at.traps,
-    };
-    if gives_pause(net, body.cell, at.traps) {
-        collect_pauses(net, &body, p, pauses, next);
+    let body = cell + traps + 3;
+    if gives_pause(net, body, traps) {
+        collect_pauses(net, number + 1, main, body, traps, p, pauses, next)
     } else {
-        keep_pauses(true, p, pauses, next);
+        keep_pauses(true, p, pauses, next)
     }
 }
 
 /// Puts the pauses of a loop's body into `next`, and those of its restart.
 #[cycle(collect_pauses)]
+#[inline(always)]
 fn collect_pauses_of_loop(
     net: &Net,
-    at: &StatementPlace,
+    number: usize,
+    main: bool,
+    cell: usize,
+    traps: usize,
     p: &Statement,
     pauses: &PauseSet,
     next: &mut PauseSet,
 )
-    requires main { at.now.main ≡ true }
-    requires extents { HasExtents net.now.extents.items (at.now.number + 1) at.now.traps p.now }
-    requires within { at.now.cell + at.now.traps + 3 + sheet_size true p.now at.now.traps
-        + sheet_size false p.now at.now.traps
+    requires main { main ≡ true }
+    requires extents { HasExtents net.now.extents.items (number + 1) traps p.now }
+    requires within { cell + traps + 3 + sheet_size true p.now traps
+        + sheet_size false p.now traps
         ≤ length net.now.cells.items }
-    ensures { (a : _) → CollectsIn (Loop' a p.now) at.now.main at.now.cell at.now.traps
+    ensures { (a : _) → CollectsIn (Loop' a p.now) main cell traps
         net.now.cells.items pauses.now next.old next.new }
 {
     let body = StatementPlace {
-        number: at.number + 1,
-        main: at.main,
-        direction: at.direction,
-        cell: at.cell + at.traps + 3,
-        traps: at.traps,
+        number: number + 1,
+        main,
+        direction: Direction::Forwards,
+        cell: cell + traps + 3,
+        traps,
     };
-    collect_pauses(net, &body, p, pauses, next);
-    let again = StatementPlace {
-        number: at.number + 1,
-        main: false,
-        direction: at.direction,
-        cell: past(net, &body, p),
-        traps: at.traps,
-    };
-    collect_pauses(net, &again, p, pauses, next);
+    let past = past(net, &body, p);
+    collect_pauses(net, body.number, main, body.cell, traps, p, pauses, next);
+    collect_pauses(net, body.number, false, past, traps, p, pauses, next)
 }
 
-/// Puts the pauses of a statement that gives code 1 into `next`.
+/// Puts the pauses of a statement that gives code 1 into `next`. Its place is handed on by value,
+/// so that the last call in each arm needs no frame of its own.
 #[cycle(collect_pauses)]
 fn collect_pauses_inside(
     net: &Net,
-    at: &StatementPlace,
+    number: usize,
+    main: bool,
+    cell: usize,
+    traps: usize,
     s: &Statement,
     pauses: &PauseSet,
     next: &mut PauseSet,
 )
-    requires extents { HasExtents net.now.extents.items at.now.number at.now.traps s.now }
-    requires within { at.now.cell + sheet_size at.now.main s.now at.now.traps
-        ≤ length net.now.cells.items }
-    ensures { CollectsIn s.now at.now.main at.now.cell at.now.traps net.now.cells.items pauses.now
-        next.old next.new }
+    requires extents { HasExtents net.now.extents.items number traps s.now }
+    requires within { cell + sheet_size main s.now traps ≤ length net.now.cells.items }
+    ensures { CollectsIn s.now main cell traps net.now.cells.items pauses.now next.old next.new }
 {
     match s {
         Statement::Nothing => {}
         Statement::Emit(_) => {}
         Statement::Exit(_) => {}
         Statement::Pause(n) => put_pause(next, *n, true),
-        Statement::Present(_, p, q) => collect_pauses_of_two(net, at, p, q, pauses, next),
-        Statement::Seq(p, q) => collect_pauses_of_two(net, at, p, q, pauses, next),
-        Statement::Par(p, q) => collect_pauses_of_two(net, at, p, q, pauses, next),
-        Statement::Suspend(_, p) => collect_pauses_of_suspend(net, at, p, pauses, next),
+        Statement::Present(_, p, q) => {
+            collect_pauses_of_two(net, number, main, cell, traps, p, q, pauses, next)
+        }
+        Statement::Seq(p, q) => {
+            collect_pauses_of_two(net, number, main, cell, traps, p, q, pauses, next)
+        }
+        Statement::Par(p, q) => {
+            collect_pauses_of_two(net, number, main, cell, traps, p, q, pauses, next)
+        }
+        Statement::Suspend(_, p) => {
+            collect_pauses_of_suspend(net, number, main, cell, traps, p, pauses, next)
+        }
         Statement::Loop(p) => {
-            if at.main {
-                collect_pauses_of_loop(net, at, p, pauses, next);
+            if main {
+                collect_pauses_of_loop(net, number, main, cell, traps, p, pauses, next)
             } else {
-                let inside = StatementPlace {
-                    number: at.number + 1,
-                    main: at.main,
-                    direction: at.direction,
-                    cell: at.cell + at.traps + 3,
-                    traps: at.traps,
-                };
-                collect_pauses(net, &inside, p, pauses, next);
+                let inside = cell + traps + 3;
+                collect_pauses(net, number + 1, main, inside, traps, p, pauses, next)
             }
         }
         Statement::Trap(p) => {
-            let body = StatementPlace {
-                number: at.number + 1,
-                main: at.main,
-                direction: at.direction,
-                cell: at.cell + at.traps + 3,
-                traps: at.traps + 1,
-            };
-            collect_pauses(net, &body, p, pauses, next);
+            let body = cell + traps + 3;
+            collect_pauses(net, number + 1, main, body, traps + 1, p, pauses, next)
         }
         Statement::Local(_, p) => {
-            let cell = at.cell + at.traps + 3;
-            let body = StatementPlace {
-                number: at.number + 1,
-                main: at.main,
-                direction: at.direction,
-                cell: cell + 1,
-                traps: at.traps,
-            };
-            collect_pauses(net, &body, p, pauses, next);
+            let status = cell + traps + 3;
+            collect_pauses(net, number + 1, main, status + 1, traps, p, pauses, next)
         }
     }
 }
 
-/// Puts the pauses at which a statement stands into `next`: none if it does not give code 1.
+/// Puts the pauses at which a statement stands into `next`: none if it does not give code 1. It has
+/// this number, is of the incarnation that can go on if `main` says so, and its cells begin here,
+/// inside this many traps.
 #[cycle(collect_pauses)]
 #[inline(always)]
 pub fn collect_pauses(
     net: &Net,
-    at: &StatementPlace,
+    number: usize,
+    main: bool,
+    cell: usize,
+    traps: usize,
     s: &Statement,
     pauses: &PauseSet,
     next: &mut PauseSet,
 )
-    requires extents { HasExtents net.now.extents.items at.now.number at.now.traps s.now }
-    requires within { at.now.cell + sheet_size at.now.main s.now at.now.traps
-        ≤ length net.now.cells.items }
-    ensures { Collects s.now at.now.main at.now.cell at.now.traps net.now.cells.items pauses.now
-        next.old next.new }
+    requires extents { HasExtents net.now.extents.items number traps s.now }
+    requires within { cell + sheet_size main s.now traps ≤ length net.now.cells.items }
+    ensures { Collects s.now main cell traps net.now.cells.items pauses.now next.old next.new }
 {
-    if gives_pause(net, at.cell, at.traps) {
-        collect_pauses_inside(net, at, s, pauses, next);
+    if gives_pause(net, cell, traps) {
+        collect_pauses_inside(net, number, main, cell, traps, s, pauses, next)
     }
 }

@@ -168,6 +168,14 @@ filled_more lo n hi old mid new a b long all x e =
     one_false lo n hi old mid new a b (λ i l u. not_present (cell_at old i) (all i l u)) x
     (assigned_false mid new n Absent (omega arith) (ap (λ (v : Status). learned v Absent) (sym here)) e)
 
+pub two_filled : (lo hi : ℕ) (old mid new : List Status) → lo + 2 ≤ hi → hi ≤ length old → AllOpen lo hi old
+    → mid ≡ set old lo (known_as false) → new ≡ set mid (lo + 1) (known_as false) → AreFalse lo (lo + 2) old new
+two_filled lo hi old mid new a long all e f =
+    let same : lo + 1 + 1 ≡ lo + 2 = omega arith in
+    subst (λ (n : ℕ). AreFalse lo n old new) same
+    (filled_more lo (lo + 1) hi old mid new (omega arith) (omega arith) long all
+    (filled_more lo lo hi old old mid (omega arith) (omega arith) long all (none_false lo old) e) f)
+
 -- at most as many cells are decided as there are
 step_small : (v : Status) → steps_of v ≤ 1
 step_small Present = omega arith

@@ -66,6 +66,15 @@ pause_added i end exit old new x signals new_is pause_is end_is none =
           (ap (λ (f : ℕ → Bool). f n) end_is ∙ e));
     }
 
+-- one after which nothing is emitted may be left out
+pub pause_left_out : (i : PauseIndex) (end exit : ℕ → Bool) (old : List FromPause) (signals : ℕ)
+    → ((n : ℕ) → end n ≡ false) → ((n : ℕ) → bits signals n ≡ false) → IsAdded (Pause i) end exit old old signals
+pause_left_out i end exit old signals silent none = record {
+  begun = none;
+  grown = λ set n h. h;
+  tells = λ n set has e. (let z : true ≡ false = sym e ∙ silent n in cc);
+}
+
 -- two parts of which each may be begun
 pub two_added : (p q : Statement) (end exit : ℕ → Bool) (old mid new : List FromPause) (x y signals : ℕ)
     → IsAdded p end exit old mid x → IsAdded q end exit mid new y

@@ -43,7 +43,7 @@ pub struct FromPause {
 pub struct Reach {
     /// In the first instant.
     pub first: u64,
-    /// For each pause.
+    /// For each pause after which something may be emitted.
     pub pauses: Vec<FromPause>,
 }
 
@@ -97,7 +97,8 @@ fn begun(s: &Statement, later: Later) -> u64
     }
 }
 
-/// Adds a pause, or memory was refused. Beginning a pause emits nothing.
+/// Adds a pause, or memory was refused. One after which nothing is emitted is left out. Beginning a
+/// pause emits nothing.
 fn add_pause(
     pauses: &mut Vec<FromPause>,
     pause: PauseIndex,
@@ -106,12 +107,16 @@ fn add_pause(
     ensures { IfOk result (IsAdded (Pause pause) (bits later.end) (bits later.exit)
         pauses.old.items pauses.new.items) }
 {
+    let none = no_signal();
+    if later.end == none {
+        return Ok(none);
+    }
     let from = FromPause {
         pause,
         signals: later.end,
     };
     pauses.push(from)?;
-    Ok(no_signal())
+    Ok(none)
 }
 
 /// Adds the pauses of two parts of which each may be begun, or memory was refused.

@@ -8,7 +8,7 @@ use Rattle.est_micro.proofs.micro.outcome.Goals as goal
 
 pub collect_pauses-requires-clause-within : goal.collect_pauses-requires-clause-within
 collect_pauses-requires-clause-within c =
-    root_within c.args.net.now c.args.kernel.now _ _ c.requires.net c.root.ensures c.output_count.ensures
+    root_within c.args.net.now c.args.kernel.now _ _ c.requires.net c.root.ensures c.output_count-cell.ensures
 
 pub collect_pauses-requires-clause-extents : goal.collect_pauses-requires-clause-extents
 collect_pauses-requires-clause-extents c = rw c.root.ensures c.requires.net.extents
@@ -23,7 +23,7 @@ returns-then-has-clause-some c =
           (pauses_of c.args.from.now) _ k.distinct k.loop_safe
           c.requires.state c.requires.lives c.requires.from h one
           (all_collected k _ _ _ c.args.from.now _ _ c.root.ensures
-          (c.output_count.ensures ∙ c.requires.net.outputs) c.new-next.ensures c.collect_pauses.ensures);
+          (c.output_count-cell.ensures ∙ c.requires.net.outputs) c.new-next.ensures c.collect_pauses.ensures);
       values = λ i h. values_by_code k c.args.state.now (bits i.signals) _ c.args.swept.now k.loop_safe
           c.requires.state h 1 one;
     }

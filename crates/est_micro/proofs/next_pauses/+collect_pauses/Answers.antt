@@ -11,25 +11,25 @@ use Rattle.est_micro.proofs.next_pauses.+collect_pauses.Goals as goal
 pub collect_pauses_of_two-returns-clause-present : goal.collect_pauses_of_two-returns-clause-present
 collect_pauses_of_two-returns-clause-present t c = λ x a b. record {
   put_in = λ i. two_collected _ _ _ _
-      (λ (z : ℕ). stays c.args.at.now.main c.args.q.now (pauses_of c.args.pauses.now)
-      (sheet_in (cell_at c.args.net.now.cells.items) c.args.at.now.main c.args.q.now z c.args.at.now.traps) i) _ _
-      (c.collect_pauses-2.ensures i) (c.collect_pauses.ensures i) c.past.ensures;
+      (λ (z : ℕ). stays c.args.main c.args.q.now (pauses_of c.args.pauses.now)
+      (sheet_in (cell_at c.args.net.now.cells.items) c.args.main c.args.q.now z c.args.traps) i) _ _
+      (c.collect_pauses-2.ensures i) (c.collect_pauses.ensures i) c.past-past.ensures;
 }
 
 pub collect_pauses_of_two-returns-clause-seq : goal.collect_pauses_of_two-returns-clause-seq
 collect_pauses_of_two-returns-clause-seq t c = λ a b. record {
   put_in = λ i. two_collected _ _ _ _
-      (λ (z : ℕ). stays c.args.at.now.main c.args.q.now (pauses_of c.args.pauses.now)
-      (sheet_in (cell_at c.args.net.now.cells.items) c.args.at.now.main c.args.q.now z c.args.at.now.traps) i) _ _
-      (c.collect_pauses-2.ensures i) (c.collect_pauses.ensures i) c.past.ensures;
+      (λ (z : ℕ). stays c.args.main c.args.q.now (pauses_of c.args.pauses.now)
+      (sheet_in (cell_at c.args.net.now.cells.items) c.args.main c.args.q.now z c.args.traps) i) _ _
+      (c.collect_pauses-2.ensures i) (c.collect_pauses.ensures i) c.past-past.ensures;
 }
 
 pub collect_pauses_of_two-returns-clause-par : goal.collect_pauses_of_two-returns-clause-par
 collect_pauses_of_two-returns-clause-par t c = λ a b. record {
   put_in = λ i. two_collected _ _ _ _
-      (λ (z : ℕ). stays c.args.at.now.main c.args.q.now (pauses_of c.args.pauses.now)
-      (sheet_in (cell_at c.args.net.now.cells.items) c.args.at.now.main c.args.q.now z c.args.at.now.traps) i) _ _
-      (c.collect_pauses-2.ensures i) (c.collect_pauses.ensures i) c.past.ensures;
+      (λ (z : ℕ). stays c.args.main c.args.q.now (pauses_of c.args.pauses.now)
+      (sheet_in (cell_at c.args.net.now.cells.items) c.args.main c.args.q.now z c.args.traps) i) _ _
+      (c.collect_pauses-2.ensures i) (c.collect_pauses.ensures i) c.past-past.ensures;
 }
 
 pub collect_pauses_of_suspend-returns-then-gives_pause : goal.collect_pauses_of_suspend-returns-then-gives_pause
@@ -44,8 +44,8 @@ collect_pauses_of_suspend-returns-else-gives_pause t c = λ x a. record {
 
 pub collect_pauses_of_loop-returns : goal.collect_pauses_of_loop-returns
 collect_pauses_of_loop-returns t c = λ a.
-    loop_collected c.args.at.now.main c.args.at.now.cell c.args.at.now.traps a c.args.p.now _ c.args.pauses.now _ _ _ _
-    c.requires.main c.past.ensures c.collect_pauses.ensures c.collect_pauses-2.ensures
+    loop_collected c.args.main c.args.cell c.args.traps a c.args.p.now _ c.args.pauses.now _ _ _ _
+    c.requires.main c.past-past.ensures c.collect_pauses.ensures c.collect_pauses-2.ensures
 
 pub collect_pauses-returns-then-gives_pause : goal.collect_pauses-returns-then-gives_pause
 collect_pauses-returns-then-gives_pause t c = λ i.
@@ -56,24 +56,24 @@ pub collect_pauses-returns-else-gives_pause : goal.collect_pauses-returns-else-g
 collect_pauses-returns-else-gives_pause t c = λ i.
     none_collected _ _ _ (sym c.gives_pause.ensures ∙ c.if-gives_pause.false)
 
-pub collect_pauses_inside-returns-then-at : goal.collect_pauses_inside-returns-then-at
-collect_pauses_inside-returns-then-at t c = rw (c.in-Loop.is, sym c.deref-then-at.ensures)
+pub collect_pauses_inside-returns-then-main : goal.collect_pauses_inside-returns-then-main
+collect_pauses_inside-returns-then-main t c = rw (c.in-Loop.is, sym c.deref-then-main.ensures)
     (c.collect_pauses_of_loop.ensures _)
 
-pub collect_pauses_inside-returns-else-at : goal.collect_pauses_inside-returns-else-at
-collect_pauses_inside-returns-else-at t c =
-    rw (c.in-Loop.is, sym c.deref-else-at.ensures)
-    (again_collected c.args.at.now.main c.args.at.now.cell c.args.at.now.traps _ _ _ c.args.pauses.now _ _
-    c.if-at.false c.collect_pauses.ensures)
+pub collect_pauses_inside-returns-else-main : goal.collect_pauses_inside-returns-else-main
+collect_pauses_inside-returns-else-main t c =
+    rw (c.in-Loop.is, sym c.deref-else-main.ensures)
+    (again_collected c.args.main c.args.cell c.args.traps _ _ _ c.args.pauses.now _ _
+    c.if-main.false c.collect_pauses.ensures)
 
 pub collect_pauses-gives_pause-requires : goal.collect_pauses-gives_pause-requires
 collect_pauses-gives_pause-requires t c =
-    let least = size_least c.args.at.now.main c.args.s.now c.args.at.now.traps in
+    let least = size_least c.args.main c.args.s.now c.args.traps in
     omega (arith, least, c.requires.within)
 
 pub collect_pauses_of_suspend-gives_pause-requires : goal.collect_pauses_of_suspend-gives_pause-requires
 collect_pauses_of_suspend-gives_pause-requires t c =
-    let least = size_least c.args.at.now.main c.args.p.now c.args.at.now.traps in
+    let least = size_least c.args.main c.args.p.now c.args.traps in
     omega (arith, least, c.requires.within)
 
 pub collect_pauses_inside-returns-in-Suspend : goal.collect_pauses_inside-returns-in-Suspend
@@ -87,5 +87,5 @@ collect_pauses_inside-returns-in-Trap t c =
 pub collect_pauses_inside-returns-in-Local : goal.collect_pauses_inside-returns-in-Local
 collect_pauses_inside-returns-in-Local t c =
     rw (c.in-Local.is, sym c.deref-in-Local.ensures)
-    (local_collected c.args.at.now.main c.args.at.now.cell c.args.at.now.traps
+    (local_collected c.args.main c.args.cell c.args.traps
     _ _ _ _ _ _ _ c.collect_pauses-in-Local.ensures)
