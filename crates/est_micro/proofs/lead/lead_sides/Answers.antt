@@ -60,8 +60,8 @@ returns-clause-ready c = λ others agree ready.
     let state = c.args.question.now.state.now in
     let was = c.loop-n.invariant in
     let closed = c.close_found.ensures.closed in
-    let start = leads_begin (bits c.args.question.now.unasked) kernel state others _ c.args.env.now c.requires.apart ready
-    in
+    let start = leads_begin (bits c.args.question.now.unasked) kernel state others _ c.args.env.now c.requires.apart
+    ready in
     leads_ready (bits c.args.question.now.unasked) kernel state others c.args.env.now _ _ _
     (sheet_then kernel _ _ _ was.1
     (found_changes kernel _ _ c.args.found.now (env_of c.args.env.now) _ _ _ c.requires.found closed))

@@ -17,7 +17,8 @@ returns-in-Par t c = λ r h k.
     let whole = subst (λ (z : Statement). IsSideOf xs top r z n d) c.in-Par.is h in
     let first = subst (λ (z : Statement). IsSideOf xs top r z (n + 1) (d + top.traps + 3)) (sym c.deref.ensures)
     (first_of xs top r _ p _ q n d whole) in
-    let second = subst (λ (z : Statement). IsSideOf xs top r z c.number_after-next_number.result c.past-next_cell.result)
+    let second =
+    subst (λ (z : Statement). IsSideOf xs top r z c.number_after-next_number.result c.past-next_cell.result)
     (sym c.deref-in-Par-3.ensures)
     (second_at xs top r _ p _ q n d top.traps c.number_after-next_number.result c.past-next_cell.result top.main refl
     refl
