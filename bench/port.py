@@ -69,7 +69,8 @@ def ported(crate, module):
         text = re.sub(r"alloc: Global,\s+", "", text)
         for ours, theirs in (("(alloc, ", "("), ("(alloc)", "()"), ("AllocError", "()")):
             text = text.replace(ours, theirs)
-        text = re.sub(r"(\.push\(.*\))\?;", r"\1;", text)
+        text = re.sub(r"(\.(?:push|resize)\(.*\))\?;", r"\1;", text)
+        text = re.sub(r"=> (cells\.resize\(.*\)),", r"=> Ok(\1),", text)
     if module == "micro":
         text = text[:text.index("impl Engine for")].replace("use est_rounds::engine::Engine;\n", "")
     text = text.replace("use crate::", f"use crate::{crate}::")

@@ -13,10 +13,10 @@ use std::alloc::AllocError;
 fn add_open(cells: &mut Vec<Status>, count: usize) -> Result<(), AllocError>
     ensures { IfOk result (λ _. length cells.new.items ≡ length cells.old.items + count) }
 {
-    for _ in 0..count {
-        cells.push(Status::Unknown)?;
+    match cells.len().checked_add(count) {
+        Some(past) => cells.resize(past, Status::Unknown),
+        None => Err(AllocError),
     }
-    Ok(())
 }
 
 /// Adds the cells of a statement inside `traps` traps, open, or memory was refused. `main` says

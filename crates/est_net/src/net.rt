@@ -76,9 +76,7 @@ fn open_cells(alloc: Global, count: usize) -> Result<Vec<Status>, AllocError>
     ensures { IfOk result (λ cells. length cells.items ≡ count) }
 {
     let mut cells = Vec::new(alloc);
-    for _ in 0..count {
-        cells.push(Status::Unknown)?;
-    }
+    cells.resize(count, Status::Unknown)?;
     Ok(cells)
 }
 
