@@ -42,12 +42,6 @@ max_itself a = fun_ext (λ k. go k (a k) refl)
     go k true h = rw (h, some_here a k h) refl
     go k false h = rw h refl
 
--- a statement of which nothing was told
-pub nothing_closed : (main : Bool) (s : Statement) (c t : ℕ) (g : Status) (cells : List Status)
-    → Closes main s c t g cells cells
-nothing_closed main s c t g cells =
-    record { changes = nothing_changes _ _ cells; sound = λ r e i b. b }
-
 -- what the code cells of a statement say
 pub record CodesAt (c t : ℕ) (cells : List Status) (read : CodesRead) : Type 0 where
   pub sure : codes_of read.sure ≡ sure_codes (cell_at cells) (c + 1) (t + 2)

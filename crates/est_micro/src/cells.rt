@@ -65,7 +65,7 @@ fn completion_of(code: usize) -> Completion
 }
 
 /// The codes with this one, if it is to be with them.
-pub fn with_code(codes: CodeSet, code: usize, is_in: bool) -> CodeSet
+fn with_code(codes: CodeSet, code: usize, is_in: bool) -> CodeSet
     requires { code < 64 }
     ensures here { codes_of result code ≡ (codes_of codes code || is_in) }
     ensures others { (k : ℕ) → k ≢ code → codes_of result k ≡ codes_of codes k }
@@ -220,9 +220,8 @@ fn has_exit(codes: CodeSet) -> bool
 }
 
 /// Tells `count` code cells what is judged of their codes, and reads them. Codes 0 and 1 stand
-/// before the loop, as in `read_codes`. In the first sweep of an instant a third code is told
-/// without the loop; where there are more, and none of them may be given, their cells are false at
-/// once.
+/// before the loop, as in `read_codes`. In the first sweep of an instant one code above 1 is
+/// told without the loop; of several, if none may be given, all cells are false at once.
 #[inline(always)]
 pub fn tell<K: SweepKind>(net: &mut Net, cell: usize, count: usize, judged: &MustCan) -> CodesRead
     requires within { cell + count ≤ length net.old.cells.items }

@@ -1,6 +1,6 @@
-//! A `||` whose sides were swept in an order: its own cells, and those of each `||` that is its
-//! second side, are told what the code cells of the sides say. Then all of them are decided as a
-//! rule, and the sweep that comes after only reads them.
+//! Closes a `||` whose sides were swept in an order, and each `||` that is its second side: tells
+//! its go cell the gate, and its code cells what the codes of the sides say. Then all of its cells
+//! are decided as a rule, and the sweep that comes after only reads them.
 //!
 //! What calls itself here does so on a part of the statement that it was given, and goes as deep as
 //! the statement is.

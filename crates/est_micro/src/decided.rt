@@ -4,7 +4,6 @@
 //! the statement is.
 
 ghost use Rattle.std.specs.Prelude.{◌≡◌, ◌↔◌, ◌<◌, ◌≤◌, ◌+◌, true, false, length};
-ghost use Rattle.est_kernel.specs.CodeViews.{codes_of};
 ghost use Rattle.est_kernel.specs.Masks.{FitsMasks, HasSignalBit};
 ghost use Rattle.est_kernel.specs.View.{name_of};
 ghost use Rattle.est_kernel.specs.declared.statement.Statement.TheVariants.{Loop'};
@@ -13,14 +12,12 @@ ghost use Rattle.est_meaning.specs.Signals.{union};
 ghost use Rattle.est_cells.specs.Tables.{if_run, is_sure, sheet_size};
 ghost use Rattle.est_net.specs.Cells.{AllDecided, cell_at};
 ghost use Rattle.est_net.specs.Extents.{HasExtents};
-ghost use Rattle.est_net.specs.Layout.{sure_codes};
 ghost use Rattle.est_rounds.specs.Views.{set_of};
 ghost use Rattle.est_micro.specs.Inner.Views.{AddsBoth, AddsEmitted, IsRead};
 
 use crate::cells::{self, StatementPlace, Swept};
 use crate::extents::past;
 use crate::must_can;
-use est_kernel::code_set::CodeSet;
 use est_kernel::statement::{LocalSignal, Signal, Statement};
 use est_net::net::Net;
 use est_rounds::acts::{Acts, MustCan};
@@ -112,7 +109,8 @@ fn add_loop(
     add_emitted(net, false, past, traps, p, emitted)
 }
 
-/// Puts the emitted signals of a local signal's scope into the set, but for that signal.
+/// Puts the emitted signals of a local signal's scope into the set, but for that signal. It has a
+/// frame of its own, so that its caller's last calls need none.
 #[cycle(add)]
 #[inline(never)]
 fn add_local(

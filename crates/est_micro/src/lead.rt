@@ -1,9 +1,9 @@
 //! A pass over the sides of a `||` in the order in which they tell each other (`side_order`).
 //!
 //! Each side is swept by what is known then: present is what those before it surely emit, and
-//! absent what no emission may emit any more. Then the `||` is closed, if it is begun (`closing`).
-//! The cells of the signals are not told: the run does that, after its sweep. What a pass leaves
-//! out costs time alone, since a run ends by a full sweep.
+//! absent what no emission may emit any more. Then the `||` is closed, unless it goes on from its
+//! pauses (`closing`). The cells of the signals are not told: the run does that, after its sweep.
+//! What a pass leaves out costs time alone, since a run ends by a full sweep.
 
 ghost use Rattle.std.specs.Prelude.{◌≡◌, ◌≤◌, ◌+◌, ℕ, Bool, true, length, IfSome};
 ghost use Rattle.est_kernel.specs.Bits.{bits};
@@ -108,8 +108,8 @@ fn without_silent(net: &Net, question: &Question<'_>, known: &Env, signals: u64)
     }
 }
 
-/// Sweeps a side of the `||` that was found, unless it is over. Answers what is known then. As the
-/// first sweep of an instant does it, all cells of the side have to be open.
+/// Sweeps a side of the `||` that was found, unless it is over. Answers what is known then. Where
+/// `K` is the first sweep, all cells of the side have to be open.
 fn sweep_led<K: SweepKind>(net: &mut Net, found: &Found<'_>, side: &Side<'_>, known: &Env) -> Env
     requires side { IsOneOf net.old.extents.items found.now.place found.now.statement.now
         side.now }
@@ -166,7 +166,7 @@ fn lead_side(net: &mut Net, found: &Found<'_>, side: &Side<'_>, known: &Env) -> 
     }
 }
 
-/// Closes the `||` that was found, if it is begun.
+/// Closes the `||` that was found, unless it goes on from its pauses.
 fn close_found(net: &mut Net, found: &Found<'_>)
     requires extents { HasExtents net.old.extents.items found.now.place.number
         found.now.place.traps found.now.statement.now }

@@ -18,10 +18,10 @@
 //! Where the `sides` of a `||` tell each other, the run has an order in which they do
 //! (`side_order`). In it a pass sweeps them one by one (`lead`, which finds the `||` by
 //! `find_begin` and `find_resume`), and knows after each what is emitted surely, and what is
-//! emitted nowhere any more. Then the `||` is told what the codes of its sides say (`closing`). A
-//! run begins so where the order goes across the text, or the run before found an absent signal so;
-//! else it does so after a slow sweep, in place of passes. The order is a guess: a bad one costs
-//! time, and changes no answer.
+//! emitted nowhere any more. Then the `||` is told what the codes of its sides say, unless it goes
+//! on from its pauses (`closing`). A run begins so where the order goes across the text, or the run
+//! before found an absent signal so; else it does so after a slow sweep, in place of passes. The
+//! order is a guess: a bad one costs time, and changes no answer.
 //!
 //! `learning` tells one cell, `cells` those of one statement; `must_can` puts together what is
 //! judged of a statement from what is judged of its parts. `micro` reads the outcome off the cells,

@@ -564,7 +564,7 @@ fn begin_each<K: SweepKind>(
     }
 }
 
-/// Whether a statement has sides.
+/// Whether a statement is a `||`.
 fn has_sides(s: &Statement) -> bool {
     match s {
         Statement::Par(_, _) => true,

@@ -97,8 +97,8 @@ fn begun(s: &Statement, later: Later) -> u64
     }
 }
 
-/// Adds a pause, or memory was refused. One after which nothing is emitted is left out. Beginning a
-/// pause emits nothing.
+/// Adds a pause, or memory was refused. One after which nothing may be emitted is left out.
+/// Beginning a pause emits nothing.
 fn add_pause(
     pauses: &mut Vec<FromPause>,
     pause: PauseIndex,

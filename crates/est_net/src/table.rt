@@ -44,8 +44,8 @@ fn fill_three(cells: &mut [Status], from: usize)
     decide(cells, from + 2, false);
 }
 
-/// Decides the cells of a range, all of them open, to be false. As many as a statement without
-/// parts has inside no trap are decided without a loop, which would be a call.
+/// Decides the cells of a range, all of them open, to be false. Three cells, as a statement without
+/// parts has inside no trap, are decided one by one: the loop would become a call.
 pub fn fill(cells: &mut [Status], from: usize, past: usize)
     requires range { from ≤ past }
     requires within { past ≤ length cells.old }

@@ -1,5 +1,4 @@
--- A `||` whose sides were swept is closed: its cells are told what the codes of its sides say (this project's own
--- form).
+-- What closing a `||` whose sides were swept keeps, whichever of its cells it tells (this project's own form).
 use Rattle.std.specs.Prelude.{◌+◌, ℕ, Bool, List}
 use Rattle.est_kernel.specs.declared.statement.Statement.{Statement}
 use Rattle.est_meaning.specs.Environments.{Env}
