@@ -4,13 +4,17 @@
 usage: icarus.py PROGRAM [PAIRS] [NAME ..]
 
 PROGRAM is the built `crates/benches/out/benches`. The programs are those of bench/worklist.py, all but the largest one, or those that are
-named. Each is printed as a module, its gates as Verilog (bench/verilog.py). Both run the same instants, and their outputs have to have one
-sum; else the script ends with 1. A time is processor time, that of a run less that of a run of one instant. Each row has the cells that the
-engine decides in an instant, how many nets Icarus has, and how many changes of nets there are in an instant: where none changes, Icarus does
-nothing. Then come medians of PAIRS pairs (5 if left out), the two in turn: microseconds an instant of both, and their ratio. Icarus is Debian's
-package iverilog; without it nothing is timed.
+named. Each is printed as a module, its gates as Verilog (bench/verilog.py). Both run the same instants. The engine has to decide all cells,
+and the outputs of both have to have one sum; else the script ends with 1. A time is processor time, that of a run less that of a run of one
+instant; that of Icarus has in it the clock, what offers inputs and what adds up outputs.
+
+Each row has the cells that the engine decides in an instant, the gates of Icarus, and how many of them have another value in an instant than in the
+one before, on average over instants 2 to 201. Icarus looks again only at a gate whose operands have changed. Then come the medians of PAIRS
+pairs (5 if left out), the two in turn: microseconds an instant of both, and their ratio. Icarus is Debian's package iverilog; without it nothing
+is timed.
 """
 import pathlib
+import re
 import shutil
 import statistics
 import subprocess
@@ -20,7 +24,6 @@ import tempfile
 import verilog
 import worklist
 
-HERE = pathlib.Path(__file__).resolve().parent
 LARGEST = "deep60x12"
 CHECKED = 200  # instants whose sums are compared
 BENCH = """\
@@ -58,8 +61,8 @@ def offers(masks):
 
 
 def simulated(name, folder):
-    """The words that simulate a program, and how many nets there are."""
-    inputs, outputs, statement, masks = worklist.programs()[name][1:]
+    """The words that simulate a program, and how many gates there are."""
+    inputs, outputs, statement, masks = {**worklist.programs(), **worklist.further()}[name][1:]
     (folder / f"{name}.strl").write_text(worklist.module_of(inputs, outputs, statement), encoding="utf-8")
     machine = verilog.verilog(folder / f"{name}.strl").split("module bench;")[0]
     bench = BENCH.replace("OFFERS", offers(masks)).replace("FOLDER", str(folder))
@@ -69,18 +72,20 @@ def simulated(name, folder):
 
 
 def changes(icarus, folder):
-    """How many changes of nets of one bit there are in an instant, but for the clock's."""
+    """How many gates change in an instant."""
     def changed(count):
         subprocess.run([*icarus(count), "+changes"], capture_output=True, check=True)
-        return sum(line[0] in "01xz" for line in (folder / "changes.vcd").read_text(encoding="utf-8").splitlines())
-    return (changed(1 + CHECKED) - changed(1)) / CHECKED - 2
+        told = (folder / "changes.vcd").read_text(encoding="utf-8")
+        gates = set(re.findall(r"^\$var wire 1 (\S+) n\d+ \$end$", told, flags=re.M))
+        return sum(line[1:] in gates for line in told.splitlines() if line[0] in "01xz")
+    return (changed(1 + CHECKED) - changed(1)) / CHECKED
 
 
-def compare(words_of, case, name):
-    """The sums of both have to be one."""
-    sums = [int(worklist.run(words(CHECKED), case)[1].split()[place], 16) for words, place in zip(words_of.values(), (2, 0))]
-    if sums[0] != sums[1]:
-        sys.exit(f"icarus.py: {name}: the outputs differ: {sums[0]:x} and {sums[1]:x}")
+def compare(words_of, program):
+    """All cells have to be decided, and the sums of both to be one."""
+    engine, icarus = (worklist.run(words(CHECKED), program.case)[1].split() for words in words_of.values())
+    if engine[:2] != [str(program.cells)] * 2 or int(engine[2], 16) != int(icarus[0], 16):
+        sys.exit(f"icarus.py: {program.name}: {program.cells} cells, and {engine} and {icarus}")
 
 
 def main(words):
@@ -91,18 +96,18 @@ def main(words):
     engine, others = str(pathlib.Path(words[0]).resolve()), words[1:]
     pairs = int(others.pop(0)) if others and others[0].isdigit() else 5
     sys.setrecursionlimit(20000)
-    print("| Program | Cells | Nets of Icarus | Changes | Engine, microseconds | Icarus, microseconds | Engine over Icarus |\n|---|---|---|---|---|---|---|")
+    print("| Program | Cells | Gates of Icarus | That change | Engine, microseconds | Icarus, microseconds | Engine over Icarus |\n|---|---|---|---|---|---|---|")
     with tempfile.TemporaryDirectory() as made:
         folder = pathlib.Path(made)
         for name in others or [each for each in worklist.programs() if each != LARGEST]:
             program = worklist.Program(name, folder)
-            icarus, nets = simulated(name, folder)
+            icarus, gates = simulated(name, folder)
             words_of = {"engine": lambda count: [engine, "micro", str(count)], "icarus": icarus}
-            compare(words_of, program.case, name)
+            compare(words_of, program)
             taken = worklist.timed(words_of, program, pairs)
             times = {each: statistics.median(values) * 1e6 for each, values in taken.items()}
             ratio = statistics.median(e / i for e, i in zip(taken["engine"], taken["icarus"]))
-            print(f"| `{name}` | {program.cells:,} | {nets:,} | {changes(icarus, folder):.0f} | {times['engine']:.2f} | {times['icarus']:.2f} | {ratio:.2f} |", flush=True)
+            print(f"| `{name}` | {program.cells:,} | {gates:,} | {changes(icarus, folder):.0f} | {times['engine']:.2f} | {times['icarus']:.2f} | {ratio:.2f} |", flush=True)
 
 
 if __name__ == "__main__":

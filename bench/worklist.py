@@ -15,8 +15,9 @@ A time is the processor time of a run, user and system, less that of a run of on
 of PAIRS pairs (10 if left out), the two programs in turn, and the median of their ratios. The instructions are callgrind's, one run each. The
 plain engine is timed too where local signals nest at most six deep. --check compares sums alone, over few instants.
 
---plain times the engine beside the plain engine alone, in all programs in which that can be, and in further ones: microseconds an instant of
-both, and the median of their ratios. Their outputs have to have one sum.
+--plain times the engine beside the plain engine alone, in all programs where local signals nest at most six deep, and in further ones:
+microseconds an instant of both, and the median of their ratios. The engine has to decide all cells, and the outputs of both have to have one
+sum.
 
 --exponents counts the engine's instructions an instant in programs of one kind and of growing size, and prints for each such family the
 exponent: the slope of the line that fits the logarithms of instructions over those of cells best. 1 is linear.
@@ -272,9 +273,9 @@ def programs():
 
 
 def idle():
-    """A pause that is held for ever under 16 loops and 15 traps, before a large statement that is never reached."""
+    """A pause that is held for ever under 15 loops and 15 traps, before a large statement that is never reached."""
     body = seq(wait("I0"), *[emit("O0")] * 950, PAUSE)
-    for _ in range(16):
+    for _ in range(15):
         body = loop(body)
     for n in reversed(range(15)):
         body = ("trap", f"T{n}", body)
@@ -572,13 +573,15 @@ def beside_plain(engine, names_of, pairs):
             if program.locals > MOST_LOCALS:
                 continue
             words_of = {each: (lambda count, each=each: [engine, each, str(count)]) for each in ("micro", "plain")}
-            if len({run(words(CHECKED), program.case)[1].split()[2] for words in words_of.values()}) != 1:
-                sys.exit(f"worklist.py: {name}: the engines differ")
+            told, wanted = (run(words(CHECKED), program.case)[1].split() for words in words_of.values())
+            if told[:2] != [str(program.cells)] * 2 or told[2] != wanted[2]:
+                sys.exit(f"worklist.py: {name}: {program.cells} cells, and {told} and {wanted}")
             taken = timed(words_of, program, pairs)
             micro, plain = (statistics.median(taken[each]) * 1e6 for each in ("micro", "plain"))
             ratios.append(statistics.median(e / p for e, p in zip(taken["micro"], taken["plain"])))
             print(f"| `{name}` | {program.cells:,} | {micro:.2f} | {plain:.2f} | {ratios[-1]:.2f} |", flush=True)
-    print(f"geometric mean of engine over plain engine: {statistics.geometric_mean(ratios):.2f}")
+    if ratios:
+        print(f"geometric mean of engine over plain engine: {statistics.geometric_mean(ratios):.2f}")
 
 
 def exponent(points):

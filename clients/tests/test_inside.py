@@ -14,6 +14,13 @@ from estserve_client.library_text import join_texts
 from estserve_client.module_text import main_of
 
 RUNS = (ROOT / "tests" / "lab" / "motors.strl").read_text()
+NESTED = """
+module MAIN: input GO; output DONE; run PAIR [signal GO/START, DONE/END] end module
+module PAIR: input START; output END;
+  signal MIDDLE in run RELAY [signal START/I, MIDDLE/O] || run RELAY [signal MIDDLE/I, END/O] end
+end module
+module RELAY: input I; output O; await I; emit O end module
+"""
 
 
 @needs_lab
@@ -108,6 +115,19 @@ class Runs(InAFolder):
         )
         self.assertEqual(inner["MOTOR_1.OFF"], outer["S"])
         self.assertEqual(inner["MOTOR_2.GO"], outer["S"])
+
+    def test_a_vcd_file_has_scopes_in_scopes(self):
+        out = self.folder / "out.vcd"
+        ran = self.ran_with(NESTED, ";\nGO\n;\n", "--locals", "--vcd", out)
+        self.assertEqual((ran.printed, ran.told, ran.status), ("", "", 0))
+        lines = out.read_text().splitlines()
+        outer, pair, relays = (read_vcd(lines, depth) for depth in (1, 2, 3))
+        self.assertEqual(sorted(pair), ["PAIR.END", "PAIR.MIDDLE", "PAIR.START"])
+        self.assertEqual(pair["PAIR.MIDDLE"], {1: "0", 2: "1", 3: "0"})
+        # Each name is the one that the module around it hands on.
+        means = {"1.I": outer["GO"], "1.O": pair["PAIR.MIDDLE"]}
+        means.update({"2.I": pair["PAIR.MIDDLE"], "2.O": outer["DONE"]})
+        self.assertEqual(relays, {f"PAIR.RELAY_{name}": wave for name, wave in means.items()})
 
     def test_the_lines_that_ran_are_traced(self):
         ran = self.ran_with(RUNS, ";\nA\n", "--trace")
