@@ -31,10 +31,8 @@ pub struct Micro {
     pub(crate) net: Net,
     /// How the next run begins, as the last one told.
     pub(crate) beginning: Beginning,
-    /// In which order a run first looks at the sides of a `||`.
-    pub(crate) order: SideOrder,
-    /// Whether the order was made. The first run makes it.
-    has_order: bool,
+    /// In which order a run first looks at the sides of a `||`; made by the first run.
+    pub(crate) order: Option<SideOrder>,
 }
 
 /// The outcome of a kernel that had not ended, where its cells give a code: its pauses are read off
@@ -107,19 +105,23 @@ impl Micro {
                 direction: Direction::Forwards,
                 leads: true,
             },
-            order: SideOrder::none(0),
-            has_order: false,
+            order: None,
         }
     }
 
-    /// Makes the order in which a run first looks at the sides of a `||`, if it wasn't made.
-    pub(crate) fn make_order(&mut self, kernel: &Kernel)
+    /// In which order a run first looks at the sides of a `||`: that of the first run, which makes
+    /// it.
+    pub(crate) fn side_order(&mut self, kernel: &Kernel) -> SideOrder
         requires net { IsNetOf self.old.net kernel.now }
         ensures net { self.new.net ≡ self.old.net }
     {
-        if !self.has_order {
-            self.order = side_order_of(&self.net, kernel.root());
-            self.has_order = true;
+        match self.order {
+            Some(order) => order,
+            None => {
+                let order = side_order_of(&self.net, kernel.root());
+                self.order = Some(order);
+                order
+            }
         }
     }
 
@@ -161,8 +163,8 @@ impl Micro {
             inputs: inputs.signals,
             unasked: 0,
         };
-        self.make_order(kernel);
-        let run_end = decide_cells(&mut self.net, &question, self.beginning, &self.order);
+        let order = self.side_order(kernel);
+        let run_end = decide_cells(&mut self.net, &question, self.beginning, &order);
         self.beginning = run_end.next;
         match read_outcome(&self.net, kernel, state, &run_end.swept) {
             Some(outcome) => Ok(outcome),

@@ -1,8 +1,8 @@
 //! Ranges of cells, each open or decided: the one assignment that decides a cell, and what is read
 //! of many cells at once.
 
-ghost use Rattle.std.specs.Prelude.{◌≡◌, ◌↔◌, ◌<◌, ◌≤◌, ◌+◌, ◌&&◌, true, length, nat_eq, set};
-ghost use Rattle.std.specs.Prelude.{slice_get, Some, replicate};
+ghost use Rattle.std.specs.Prelude.{◌≡◌, ◌↔◌, ◌<◌, ◌≤◌, ◌+◌, ◌&&◌, true, length, set, slice_get};
+ghost use Rattle.std.specs.Prelude.{Some, replicate};
 ghost use Rattle.est_net.specs.Cells.{AllDecided, AllOpen, AreFalse, cell_at};
 ghost use Rattle.est_net.specs.Cells.{decided, is_known, is_open, known_as};
 ghost use Rattle.est_meaning.specs.declared.status.Status.TheVariants.{Unknown};
@@ -77,14 +77,12 @@ fn read(cells: &[Status], cell: usize) -> Status
     cells[cell]
 }
 
-/// A mark that is 0 where this one is and that holds. It is made of a byte, so that the compiler
-/// goes through many cells at once.
+/// Whether both hold.
 #[inline(always)]
-fn mark_unless(holds: bool, mark: u8) -> u8
-    ensures { nat_eq result 0 ≡ (nat_eq mark 0 && holds) }
+fn both(a: bool, b: bool) -> bool
+    ensures { result ≡ (a && b) }
 {
-    let one = if holds { 0 } else { 1 };
-    if mark < one { one } else { mark }
+    a && b
 }
 
 /// Whether a cell is decided.
@@ -98,18 +96,18 @@ pub fn is_decided(status: Status) -> bool
     }
 }
 
-/// Whether each cell of a range is decided. It looks at all of them, since the compiler looks at
-/// many at once where there is no way out of the loop.
+/// Whether each cell of a range is decided. It looks at all of them, since without a way out of the
+/// loop the compiler looks at many at once.
 pub fn all_decided(cells: &[Status], from: usize, past: usize) -> bool
     requires range { from ≤ past }
     requires within { past ≤ length cells.now }
     ensures { (result ≡ true) ↔ AllDecided from past cells.now }
 {
-    let mut mark: u8 = 0;
+    let mut all = true;
     for cell in from..past {
-        mark = mark_unless(is_decided(read(cells, cell)), mark);
+        all = both(all, is_decided(read(cells, cell)));
     }
-    mark == 0
+    all
 }
 
 /// Whether a cell is open.
@@ -123,15 +121,16 @@ fn is_open(status: Status) -> bool
     }
 }
 
-/// Whether each cell of a range is open. It looks at all of them, as `all_decided` does.
+/// Whether each cell of a range is open. It looks at all of them, since without a way out of the
+/// loop the compiler looks at many at once.
 pub fn all_open(cells: &[Status], from: usize, past: usize) -> bool
     requires range { from ≤ past }
     requires within { past ≤ length cells.now }
     ensures { (result ≡ true) ↔ AllOpen from past cells.now }
 {
-    let mut mark: u8 = 0;
+    let mut all = true;
     for cell in from..past {
-        mark = mark_unless(is_open(read(cells, cell)), mark);
+        all = both(all, is_open(read(cells, cell)));
     }
-    mark == 0
+    all
 }
