@@ -16,7 +16,7 @@ use Rattle.est_micro.specs.Inner.Passes.{EndsBy, IsMeantBegun, IsMeantResumed, P
 use Rattle.est_micro.proofs.Passing.{IsGate, again_first, by_go, keeps_nothing, keeps_then, loop_first, par_first}
 use Rattle.est_micro.proofs.Passing.{par_second, seq_first, seq_second, suspend_body, trap_body}
 use Rattle.est_micro.proofs.PassingOn.{ends_known, loop_on_again, loop_on_first, par_on_first, par_on_second}
-use Rattle.est_micro.proofs.PassingOn.{seq_on_over, seq_on_first, seq_on_next, seq_on_second}
+use Rattle.est_micro.proofs.PassingOn.{seq_on_first, seq_on_next, seq_on_second}
 
 -- what a statement's cell of code 0 knows
 status_read : (v : Status) → v ≡ verdict (is_sure v) (is_possible v)
@@ -150,11 +150,3 @@ loop_on_passed bits a p c t g later l e old mid new w h x k =
     (loop_on_first bits a p c t g l old mid h)
     (loop_on_again bits a p c t g later l mid new x
     (subst (λ (d : ℕ). Passes false p d t later l mid new) w k))
-
-pub seq_over_passed : (bits : ℕ → Bool) (a : _) (p : Statement) (b : _) (q : Statement) (c t : ℕ) (g : Status)
-    (l : Env) (e : ℕ) (old mid new : List Status) → is_live p bits ≡ false → e ≡ c + t + 3 + sheet_size true p t
-    → Passes true p (c + t + 3) t Absent l old mid → PassesOn q bits e t g l mid new
-    → PassesOn (Seq' a p b q) bits c t g l old new
-seq_over_passed bits a p b q c t g l e old mid new z w h k =
-    keeps_then true (Seq' a p b q) c t (IsMeantResumed (Seq' a p b q) bits g l) old mid new
-    (seq_on_over bits a p b q c t g l old mid z h) (seq_on_later bits a p b q c t g l e mid new z w k)

@@ -1,6 +1,6 @@
 -- The same of a statement that goes on from its pauses.
 use Rattle.std.specs.Prelude.{◌≡◌, ◌≤◌, ◌+◌, ℕ, Bool, true, false, cond, List}
-use Rattle.std.proofs.Common.{refl, sym, arith, inr, subst}
+use Rattle.std.proofs.Common.{refl, sym, arith, subst}
 use Rattle.est_kernel.specs.Term.{Term, seq}
 use Rattle.est_kernel.specs.View.{query_of, term_of}
 use Rattle.est_kernel.specs.declared.statement.Statement.{Statement}
@@ -188,19 +188,6 @@ seq_on_second bits a p b q c t g l old new z k =
     })
 
 -- a first part that is over
-pub seq_on_over : (bits : ℕ → Bool) (a : _) (p : Statement) (b : _) (q : Statement) (c t : ℕ) (g : Status) (l : Env)
-    (old new : List Status) → is_live p bits ≡ false → Passes true p (c + t + 3) t Absent l old new
-    → PassesOn (Seq' a p b q) bits c t g l old new
-seq_on_over bits a p b q c t g l old new z k =
-    let d = c + t + 3 in
-    parts_pass_on (Seq' a p b q) bits c t g l old new d (d + sheet_size true p t) (omega arith)
-    (omega arith) k.changes (λ r e i j u o. record {
-      first = off_it (is_live p bits) p (resumed p bits r e) (begun true p Absent e)
-          (sheet_in (cell_at old) true p d t) (sheet_in (cell_at new) true p d t) e l z
-          (λ v w. passed true p d t Absent l old new k Absent e (inr refl) j v w) (heard_left _ _ e l u) o.parts.first;
-      second = after_it true q (d + sheet_size true p t) t _ _ old new _ k.changes (omega arith) o.parts.second;
-    })
-
 pub loop_on_first : (bits : ℕ → Bool) (a : _) (p : Statement) (c t : ℕ) (g : Status) (l : Env)
     (old new : List Status) → PassesOn p bits (c + t + 3) t g l old new → PassesOn (Loop' a p) bits c t g l old new
 loop_on_first bits a p c t g l old new k =

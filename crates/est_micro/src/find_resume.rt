@@ -1,6 +1,6 @@
 //! Finds the `||` of an order in a statement that goes on from its pauses, if it is run.
 //!
-//! It goes down to the `||`, and sweeps what says whether that is begun, and what is over.
+//! It goes down to the `||`, and sweeps nothing but what says whether that is begun.
 //!
 //! What calls itself here does so on a part of the statement that it was given, and goes as deep as
 //! the statement is.
@@ -120,7 +120,6 @@ fn sweep_second(
         cell: past(net, &place, p),
         traps: at.traps,
     };
-    visit(net, &place, p, Status::Absent, env);
     sweep_to_end(net, &next, q, pauses, run, env)
 }
 
@@ -387,7 +386,6 @@ fn find_seq_on<'a>(
         cell: past(net, &place, p),
         traps: at.traps,
     };
-    visit(net, &place, p, Status::Absent, env);
     find_resumed(net, &next, q, pauses, run, env, order)
 }
 

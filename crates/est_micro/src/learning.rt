@@ -83,8 +83,12 @@ pub fn fill_false(net: &mut Net, from: usize, past: usize)
     ensures cells { AreFalse from past net.old.cells.items net.new.cells.items }
     ensures kept { kept net.new ≡ kept net.old }
 {
-    if net.all_open(from, past) {
-        net.fill(from, past);
+    if from < past && !net.is_decided(from) {
+        if net.all_open(from, past) {
+            net.fill(from, past);
+        } else {
+            tell_false(net, from, past);
+        }
     } else if !net.all_decided(from, past) {
         tell_false(net, from, past);
     }

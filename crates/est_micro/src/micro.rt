@@ -31,8 +31,10 @@ pub struct Micro {
     pub(crate) net: Net,
     /// How the next run begins, as the last one told.
     pub(crate) beginning: Beginning,
-    /// In which order a run first looks at the sides of a `||`; made by the first run.
-    pub(crate) order: Option<SideOrder>,
+    /// In which order a run first looks at the sides of a `||`.
+    pub(crate) order: SideOrder,
+    /// Whether the order was made. The first run makes it.
+    has_order: bool,
 }
 
 /// The outcome of a kernel that had not ended, where its cells give a code: its pauses are read off
@@ -105,23 +107,19 @@ impl Micro {
                 direction: Direction::Forwards,
                 leads: true,
             },
-            order: None,
+            order: SideOrder::none(0),
+            has_order: false,
         }
     }
 
-    /// In which order a run first looks at the sides of a `||`: that of the first run, which makes
-    /// it.
-    pub(crate) fn side_order(&mut self, kernel: &Kernel) -> SideOrder
+    /// Makes the order in which a run first looks at the sides of a `||`, if it wasn't made.
+    pub(crate) fn make_order(&mut self, kernel: &Kernel)
         requires net { IsNetOf self.old.net kernel.now }
         ensures net { self.new.net ≡ self.old.net }
     {
-        match self.order {
-            Some(order) => order,
-            None => {
-                let order = side_order_of(&self.net, kernel.root());
-                self.order = Some(order);
-                order
-            }
+        if !self.has_order {
+            self.order = side_order_of(&self.net, kernel.root());
+            self.has_order = true;
         }
     }
 
@@ -163,8 +161,8 @@ impl Micro {
             inputs: inputs.signals,
             unasked: 0,
         };
-        let order = self.side_order(kernel);
-        let run_end = decide_cells(&mut self.net, &question, self.beginning, &order);
+        self.make_order(kernel);
+        let run_end = decide_cells(&mut self.net, &question, self.beginning, &self.order);
         self.beginning = run_end.next;
         match read_outcome(&self.net, kernel, state, &run_end.swept) {
             Some(outcome) => Ok(outcome),

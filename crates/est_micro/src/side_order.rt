@@ -126,7 +126,7 @@ impl Uses {
 
 impl SideOrder {
     /// No side of the `||` of this number.
-    fn none(number: usize) -> SideOrder {
+    pub fn none(number: usize) -> SideOrder {
         SideOrder {
             number,
             count: 0,

@@ -77,12 +77,12 @@ fn read(cells: &[Status], cell: usize) -> Status
     cells[cell]
 }
 
-/// Whether both hold.
+/// Whether both hold. With `&` in place of `&&` the compiler looks at many cells at once.
 #[inline(always)]
 fn both(a: bool, b: bool) -> bool
     ensures { result ≡ (a && b) }
 {
-    a && b
+    a & b
 }
 
 /// Whether a cell is decided.
@@ -96,8 +96,8 @@ pub fn is_decided(status: Status) -> bool
     }
 }
 
-/// Whether each cell of a range is decided. It looks at all of them, since without a way out of the
-/// loop the compiler looks at many at once.
+/// Whether each cell of a range is decided. It looks at all of them, many at once, since the loop
+/// has no other way out.
 pub fn all_decided(cells: &[Status], from: usize, past: usize) -> bool
     requires range { from ≤ past }
     requires within { past ≤ length cells.now }
@@ -121,8 +121,7 @@ fn is_open(status: Status) -> bool
     }
 }
 
-/// Whether each cell of a range is open. It looks at all of them, since without a way out of the
-/// loop the compiler looks at many at once.
+/// Whether each cell of a range is open. It looks at all of them, as `all_decided` does.
 pub fn all_open(cells: &[Status], from: usize, past: usize) -> bool
     requires range { from ≤ past }
     requires within { past ≤ length cells.now }

@@ -3,11 +3,11 @@ use Rattle.est_kernel.specs.Pauses.{pauses_of}
 use Rattle.est_meaning.specs.Environments.{and_status, opposite}
 use Rattle.est_rounds.specs.Views.{env_of}
 use Rattle.est_micro.specs.Inner.Passes.{SidePasses}
-use Rattle.est_cells.specs.Meaning.{begun, resumed}
+use Rattle.est_cells.specs.Meaning.{begun}
 use Rattle.est_micro.proofs.FoundSides.{found_again_on, found_kept, found_loop_on, found_par_first_on}
 use Rattle.est_micro.proofs.FoundSides.{found_par_second_on, found_seq_first_on, found_seq_second_on, found_suspend_on}
 use Rattle.est_micro.proofs.FoundSides.{found_trap_on, some_too}
-use Rattle.est_micro.proofs.PassedNodes.{first_side, loop_on_passed, second_side, seq_over_passed}
+use Rattle.est_micro.proofs.PassedNodes.{first_side, loop_on_passed, second_side, seq_on_later}
 use Rattle.est_micro.proofs.PassingOn.{loop_on_first, seq_on_first, suspend_on_body, trap_on_body}
 use Rattle.est_micro.proofs.find_resume.+find_resumed.Goals as goal
 
@@ -43,10 +43,9 @@ find_first_on-returns-clause-passes t c = λ a b.
 
 pub find_seq_on-returns-clause-passes : goal.find_seq_on-returns-clause-passes
 find_seq_on-returns-clause-passes t c = λ a b.
-    seq_over_passed (pauses_of c.args.pauses.now) a c.args.p.now b c.args.q.now c.args.at.now.cell c.args.at.now.traps
-    c.args.run (env_of c.args.env.now) _ _ _ _ (sym c.is_live.ensures ∙ c.if-is_live.false)
-    (rw c.requires.main at c.past.ensures) (rw c.requires.main at c.visit.ensures.passes)
-    c.find_resumed.ensures.passes
+    seq_on_later (pauses_of c.args.pauses.now) a c.args.p.now b c.args.q.now c.args.at.now.cell c.args.at.now.traps
+    c.args.run (env_of c.args.env.now) _ _ _ (sym c.is_live.ensures ∙ c.if-is_live.false)
+    (rw c.requires.main at c.past.ensures) c.find_resumed.ensures.passes
 
 pub find_loop_on-returns-then-goes_on-clause-passes : goal.find_loop_on-returns-then-goes_on-clause-passes
 find_loop_on-returns-then-goes_on-clause-passes t c = λ a.
@@ -125,10 +124,7 @@ find_seq_on-returns-clause-found t c = λ a b.
     some_too c.find_resumed.result
     (λ f k. found_seq_second_on c.args.net.now.extents.items (pauses_of c.args.pauses.now) a c.args.p.now b
     c.args.q.now c.args.at.now.cell c.args.at.now.traps c.past.result c.args.run (env_of c.args.env.now) _ f
-    (rw c.requires.main at c.past.ensures) (sym c.is_live.ensures ∙ c.if-is_live.false)
-    (found_kept _ _ true c.args.q.now c.past.result c.args.at.now.traps
-    (resumed c.args.q.now (pauses_of c.args.pauses.now))
-    c.args.run (env_of c.args.env.now) _ f c.visit.ensures.kept k)) c.find_resumed.ensures.found
+    (rw c.requires.main at c.past.ensures) (sym c.is_live.ensures ∙ c.if-is_live.false) k) c.find_resumed.ensures.found
 
 pub find_loop_on-returns-then-goes_on-clause-found : goal.find_loop_on-returns-then-goes_on-clause-found
 find_loop_on-returns-then-goes_on-clause-found t c = λ a.

@@ -1,15 +1,15 @@
 use Rattle.std.proofs.Common.{sym}
 use Rattle.est_kernel.specs.Pauses.{pauses_of}
 use Rattle.est_rounds.specs.Views.{env_of}
-use Rattle.est_micro.proofs.PassedNodes.{seq_over_passed}
+use Rattle.est_micro.proofs.PassedNodes.{seq_on_later}
 use Rattle.est_micro.proofs.PassingOn.{ends_second}
 use Rattle.est_micro.proofs.find_resume.+sweep_to_end.Goals as goal
 
 pub sweep_second-returns-clause-passes : goal.sweep_second-returns-clause-passes
 sweep_second-returns-clause-passes t c = λ a b.
-    seq_over_passed (pauses_of c.args.pauses.now) a c.args.p.now b c.args.q.now c.args.at.now.cell c.args.at.now.traps
-    c.args.run (env_of c.args.env.now) _ _ _ _ c.requires.over (rw c.requires.main at c.past.ensures)
-    (rw c.requires.main at c.visit.ensures.passes) c.sweep_to_end.ensures.passes
+    seq_on_later (pauses_of c.args.pauses.now) a c.args.p.now b c.args.q.now c.args.at.now.cell c.args.at.now.traps
+    c.args.run (env_of c.args.env.now) _ _ _ c.requires.over (rw c.requires.main at c.past.ensures)
+    c.sweep_to_end.ensures.passes
 
 pub sweep_second-returns-clause-ends : goal.sweep_second-returns-clause-ends
 sweep_second-returns-clause-ends t c = λ a b.
