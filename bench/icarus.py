@@ -26,29 +26,11 @@ import worklist
 
 LARGEST = "deep60x12"
 CHECKED = 200  # instants whose sums are compared
-BENCH = """\
-module bench;
-  reg clock = 0;
-  reg [63:0] offered = 0, sum = 0;
-  wire [63:0] emitted;
-  integer at, count;
-  machine one(clock, offered, emitted);
-  initial begin
+DUMP = """\
     if ($test$plusargs("changes")) begin
       $dumpfile("FOLDER/changes.vcd");
       $dumpvars(0, one);
     end
-    if (!$value$plusargs("instants=%d", count)) count = 1;
-    for (at = 0; at < count; at = at + 1) begin
-OFFERS
-      #1 sum = sum * 31 + emitted;
-      clock = 1;
-      #1 clock = 0;
-    end
-    $display("%h", sum);
-    $finish;
-  end
-endmodule
 """
 
 
@@ -64,11 +46,12 @@ def simulated(name, folder):
     """The words that simulate a program, and how many gates there are."""
     inputs, outputs, statement, masks = {**worklist.programs(), **worklist.further()}[name][1:]
     (folder / f"{name}.strl").write_text(worklist.module_of(inputs, outputs, statement), encoding="utf-8")
-    machine = verilog.verilog(folder / f"{name}.strl").split("module bench;")[0]
-    bench = BENCH.replace("OFFERS", offers(masks)).replace("FOLDER", str(folder))
-    (folder / f"{name}.v").write_text(machine + bench, encoding="utf-8")
+    text = verilog.verilog(folder / f"{name}.strl", offers=offers(masks))
+    begin = "  initial begin\n"
+    bench = text.replace(begin, begin + DUMP.replace("FOLDER", str(folder)))
+    (folder / f"{name}.v").write_text(bench, encoding="utf-8")
     subprocess.run(["iverilog", "-g2005", "-o", folder / f"{name}.vvp", folder / f"{name}.v"], check=True)
-    return (lambda count: ["vvp", "-n", folder / f"{name}.vvp", f"+instants={count}"]), machine.count("assign n")
+    return (lambda count: ["vvp", "-n", folder / f"{name}.vvp", f"+instants={count}"]), text.count("assign n")
 
 
 def changes(icarus, folder):

@@ -37,10 +37,7 @@ module bench;
   initial begin
     if (!$value$plusargs("instants=%d", count)) count = 1;
     for (at = 0; at < count; at = at + 1) begin
-      dice = dice ^ (dice << 13);
-      dice = dice ^ (dice >> 7);
-      dice = dice ^ (dice << 17);
-      offered = dice % 4 != 0 ? (64'd1 << ((dice >> 8) % 64)) & 64'dINPUTS : 64'd0;
+OFFERS
       #1 sum = sum * 31 + emitted;
       clock = 1;
       #1 clock = 0;
@@ -50,6 +47,11 @@ module bench;
   end
 endmodule
 """
+DICE = """\
+      dice = dice ^ (dice << 13);
+      dice = dice ^ (dice >> 7);
+      dice = dice ^ (dice << 17);
+      offered = dice % 4 != 0 ? (64'd1 << ((dice >> 8) % 64)) & 64'dINPUTS : 64'd0;"""
 
 
 def literal(one):
@@ -98,8 +100,8 @@ def pauses_after(nets):
     return wires, after
 
 
-def verilog(path, main=None):
-    """The text of a module, and of what drives it."""
+def verilog(path, main=None, offers=None):
+    """The text of a module, and of what drives it: by `offers`, what is offered in an instant, or else by dice."""
     subject = read_subject([str(path)], main)
     module = subject.module
     places = {signal: place for place, (signal, _) in enumerate(module.signals)}
@@ -114,7 +116,8 @@ def verilog(path, main=None):
         outputs="\n".join(f"  assign emitted[{place}] = {outputs.get(place, literal(False))};" for place in range(64)),
         next="\n".join(f"    {line}" for line in after),
     )
-    return text + BENCH.replace("INPUTS", str(sum(1 << places[name] for name in module.inputs())))
+    dice = DICE.replace("INPUTS", str(sum(1 << places[name] for name in module.inputs())))
+    return text + BENCH.replace("OFFERS", offers or dice)
 
 
 if __name__ == "__main__":
