@@ -15,7 +15,7 @@ help:
 	@echo 'make try       run the opening script on the program as it stands, built WITHOUT proof: about a minute'
 	@echo 'make run       prove what is needed, a line for each crate, and run the opening script on the proved program'
 	@echo 'make test      the gate: documents, how code is written, the client, the server, the gateway, hostile use, refused memory, examples, what must not compile, and then all proofs,'
-	@echo '               wrong bodies, tests and stored runs, and the examples for C over what was proved; the last line is "N passed, M failed"'
+	@echo '               wrong bodies, tests and stored runs, and over what was proved the examples for C and random kernels; the last line is "N passed, M failed"'
 	@echo 'make check CRATE=NAME  after a change of one crate: its proof and its wrong bodies, and the proofs and tests of all above it;'
 	@echo '               says first how long that takes'
 	@echo 'make build     as make run, without the script'
@@ -139,6 +139,10 @@ bench: build library
 	@python3 scripts/run.py benches < crates/benches/stdin > /dev/null
 	python3 bench/instants.py $(BENCHES)
 	python3 bench/engines.py $(BENCHES) 500000
+	python3 bench/tables.py $(BENCHES) 100000
+	python3 bench/tables.py port 20000
+	python3 bench/port.py --looks
+	python3 bench/orders.py
 	python3 bench/worklist.py $(BENCHES)
 	python3 bench/worklist.py --plain $(BENCHES) 5
 	python3 bench/icarus.py $(BENCHES)

@@ -6,7 +6,8 @@ usage: orders.py [RELAYS] [RINGS] [SEED]
 A relay is a `||` of parts, each of which makes a signal present where the one before it is; a ring is the arbiter of bench/worklist.py.
 Made from SEED on (0 if it is left out) are RELAYS random orders of relays of 8 to 63 signals (300), of which a third begin without a signal
 and a third go on from a pause in each part, and RINGS of rings of 4 to 32 cells (100). Each runs for a few instants on the port and on
-`bench/worklist.c`. Both have to decide as many cells and to give one sum of outputs; else the script ends with 1.
+`bench/worklist.c`, and on a port that goes by sweeps alone, without the order of sides and without passes. All have to decide as many cells and
+to give one sum of outputs; else the script ends with 1, as where an instant looks at more than three statements a cell.
 
 Then it prints the instructions an instant of relays of 16, 32 and 63 signals and of rings of 8, 16 and 32 cells, by callgrind: in order, and
 the mean of a few random orders, and how many times as many these are. Some of the relays never begin.
@@ -59,32 +60,47 @@ def none(parts):
     """The order of the text."""
 
 
-def fault_of(made, folder, built):
-    """What differs between the port and the worklist, if anything."""
-    program, given = worklist.Program("order", folder, made), port.case("order", folder, made)
-    words = ([built, given, str(INSTANTS)], [folder / "worklist", program.net, str(INSTANTS)])
-    lines = [subprocess.run(each, capture_output=True, text=True, check=False).stdout for each in words]
-    return None if lines[0] and lines[0] == lines[1] else lines
+class Programs:
+    """The port, one that counts, one without guesses, and the worklist."""
+
+    def __init__(self, folder):
+        self.folder = folder
+        subprocess.run(["cc", "-O2", "-o", folder / "worklist", pathlib.Path(__file__).parent / "worklist.c"], check=True)
+        self.port = port.built(folder)
+        self.counting = port.built(folder / "counting", looks=True)
+        self.sweeping = port.built(folder / "sweeping", guesses=False)
+
+    def fault_of(self, made):
+        """What differs, if anything."""
+        program, given = worklist.Program("order", self.folder, made), port.case("order", self.folder, made)
+        words = [[each, given, str(INSTANTS)] for each in (self.port, self.sweeping)] + [[self.folder / "worklist", program.net, str(INSTANTS)]]
+        lines = [subprocess.run(each, capture_output=True, text=True, check=False).stdout for each in words]
+        looks = max(port.looked(self.counting, given, INSTANTS))
+        self.most = max(self.most, looks)
+        return None if lines[0] and len(set(lines)) == 1 and looks <= port.MOST_LOOKS else (*lines, looks)
+
+    most = 0
 
 
-def compare(count, make, first_seed, folder, built):
+def compare(count, make, first_seed, programs):
     """Runs random orders, and ends where one differs."""
     for seed in range(first_seed, first_seed + count):
         generator = random.Random(seed)
-        if fault := fault_of(make(generator, seed), folder, built):
+        if fault := programs.fault_of(make(generator, seed)):
             sys.exit(f"orders.py: seed {seed}: {fault}")
 
 
-def spent(made, folder, built):
-    given = port.case("order", folder, made)
+def spent(made, programs, built):
+    given = port.case("order", programs.folder, made)
     return port.counted(lambda count: [built, given, str(count)])[0]
 
 
-def print_row(name, make, folder, built):
-    """Prints the instructions in order and at random."""
-    ordered = spent(make(none), folder, built)
-    mixed = statistics.mean(spent(make(random.Random(seed).shuffle), folder, built) for seed in range(COUNTED))
-    print(f"{name}: {ordered:,.0f} in order, {mixed:,.0f} at random, {mixed / ordered:.2f} times", flush=True)
+def print_row(name, make, programs):
+    """Prints the instructions in order and at random, and those by sweeps alone at random."""
+    orders = [make(random.Random(seed).shuffle) for seed in range(COUNTED)]
+    ordered = spent(make(none), programs, programs.port)
+    mixed, sweeping = (statistics.mean(spent(made, programs, built) for made in orders) for built in (programs.port, programs.sweeping))
+    print(f"{name}: {ordered:,.0f} in order, {mixed:,.0f} at random, {mixed / ordered:.2f} times; {sweeping:,.0f} by sweeps alone", flush=True)
 
 
 def main(words):
@@ -93,20 +109,18 @@ def main(words):
     relays, rings, seed = (int(word) for word in (*words, *("300", "100", "0")[len(words):]))
     sys.setrecursionlimit(20000)
     with tempfile.TemporaryDirectory() as made:
-        folder = pathlib.Path(made)
-        subprocess.run(["cc", "-O2", "-o", folder / "worklist", pathlib.Path(__file__).parent / "worklist.c"], check=True)
-        built = port.built(folder)
-        compare(relays, lambda r, n: relay(r.randrange(8, 64), KINDS[n % 3], r.shuffle), seed, folder, built)
-        compare(rings, lambda r, n: ring(r.randrange(4, 33), r.shuffle), seed, folder, built)
-        print(f"{relays} orders of relays and {rings} of rings: no difference", flush=True)
+        programs = Programs(pathlib.Path(made))
+        compare(relays, lambda r, n: relay(r.randrange(8, 64), KINDS[n % 3], r.shuffle), seed, programs)
+        compare(rings, lambda r, n: ring(r.randrange(4, 33), r.shuffle), seed, programs)
+        print(f"{relays} orders of relays and {rings} of rings: no difference; at most {programs.most:.2f} statements looked at over cells", flush=True)
         for count in (16, 32, 63):
-            print_row(f"relay of {count}", lambda shuffle, count=count: relay(count, "sure", shuffle), folder, built)
+            print_row(f"relay of {count}", lambda shuffle, count=count: relay(count, "sure", shuffle), programs)
         for count in (16, 32, 63):
-            print_row(f"relay of {count} that never begins", lambda shuffle, count=count: relay(count, "asked", shuffle, [0]), folder, built)
+            print_row(f"relay of {count} that never begins", lambda shuffle, count=count: relay(count, "asked", shuffle, [0]), programs)
         for count in (32, 63):
-            print_row(f"relay of {count} from pauses", lambda shuffle, count=count: relay(count, "paused", shuffle), folder, built)
+            print_row(f"relay of {count} from pauses", lambda shuffle, count=count: relay(count, "paused", shuffle), programs)
         for count in (8, 16, 32):
-            print_row(f"ring of {count}", lambda shuffle, count=count: ring(count, shuffle), folder, built)
+            print_row(f"ring of {count}", lambda shuffle, count=count: ring(count, shuffle), programs)
 
 
 if __name__ == "__main__":

@@ -4,6 +4,7 @@
 usage: port.py [NAME ..]
        port.py --exponents [FAMILY ..]
        port.py --plain [NAME ..]
+       port.py --looks [NAME ..]
 
 The files of `est_micro` and what it calls are nearly Rust. This script takes out of them what Rust doesn't know (clauses, ghost lines and a
 few attributes), and builds them by `rustc -O` with bench/port.rs, which holds what else is needed. The programs are those of
@@ -13,6 +14,8 @@ program: its cells, the instructions a cell of both, and their ratio. The counts
 --exponents prints the exponents of its families, as bench/worklist.py does, by the port.
 --plain runs each program on a port of the plain engine in place of the worklist, and counts by the instant. The sums of outputs have to be one.
 Both are then built as the kit builds them: with no check of an index, no `noalias`, and for x86-64-v2.
+--looks counts at how many statements an instant looks, each as often as it is looked at or passed on the way to another, over its cells: the
+most of all instants, and the mean. More than 3 ends it with 1. Cells that are read or filled as a range are not counted.
 """
 import os
 import pathlib
@@ -36,6 +39,8 @@ CRATES = {
 }
 BY_HAND = {"est_kernel": ("interface", "kernel", "state")}  # modules of bench/port.rs
 INSTANTS = 20
+LOOKED = 40  # instants whose looks are counted
+MOST_LOOKS = 3  # over the cells of an instant
 LARGEST = "deep60x12"
 LONG = {"chain240": 480}  # instants, where a round takes many
 NOT_PLAIN = ("local20",)  # 2^20 times each statement
@@ -67,10 +72,10 @@ def ported(crate, module):
         text = re.sub(r"\nimpl (?:Test|Statement) \{.*?\n\}\n", "\n", text, flags=re.S)
     if crate == "est_net":  # memory is never refused here
         text = re.sub(r"alloc: Global,\s+", "", text)
-        for ours, theirs in (("(alloc, ", "("), ("(alloc)", "()"), ("AllocError", "()")):
+        for ours, theirs in (("(alloc, ", "("), ("(alloc)", "()"), ("AllocError", "()"), ("vec![in alloc; ", "vec![")):
             text = text.replace(ours, theirs)
         text = re.sub(r"(\.(?:push|resize)\(.*\))\?;", r"\1;", text)
-        text = re.sub(r"=> (cells\.resize\(.*\)),", r"=> Ok(\1),", text)
+        text = re.sub(r"=> (vec!\[.*\]),", r"=> Ok(\1),", text)
     if module == "micro":
         text = text[:text.index("impl Engine for")].replace("use est_rounds::engine::Engine;\n", "")
     text = text.replace("use crate::", f"use crate::{crate}::")
@@ -88,11 +93,28 @@ def unchecked(text):
     return text
 
 
-def built(folder, as_kit=False):
-    """The port, built; `as_kit`: as the kit builds it."""
+def counting(module, text):
+    """A module of the engine that counts at which statements it looks. An order is made once, at the load."""
+    return text if module == "side_order" else re.sub(r"(match|\) =) s \{", r"\1 crate::looks::look(s) {", text)
+
+
+def unguessing(text):
+    """A module of the engine without the order of sides, and without passes by the signals that were just decided."""
+    return text.replace("self.make_order(kernel);", "").replace("newly_decided(env_before, env)", "0")
+
+
+def built(folder, as_kit=False, looks=False, guesses=True):
+    """The port, built in this folder. `as_kit`: as the kit builds it; `looks`: it counts at which statements it looks; without `guesses` it
+    goes by sweeps alone.
+    """
+    folder.mkdir(exist_ok=True)
     parts = [(HERE / "port.rs").read_text(encoding="utf-8")]
     for crate, modules in CRATES.items():
         texts = {module: ported(crate, module) for module in modules}
+        if crate == "est_micro" and looks:
+            texts = {module: counting(module, text) for module, text in texts.items()}
+        if crate == "est_micro" and not guesses:
+            texts = {module: unguessing(text) for module, text in texts.items()}
         inside = [f"pub mod {module} {{\n{unchecked(text) if as_kit else text}}}" for module, text in texts.items()]
         inside += [f"pub use crate::by_hand::{module};" for module in BY_HAND.get(crate, ())]
         parts.append(f"pub mod {crate} {{\n" + "\n".join(inside) + "\n}")
@@ -137,6 +159,25 @@ def exponents(names):
         worklist.print_exponents(names, spent_by)
 
 
+def looked(program, given, instants):
+    """At how many statements each instant of a run looks, over its cells, by a port that counts."""
+    ran = subprocess.run([program, given, str(instants)], capture_output=True, text=True, check=True)
+    return [int(looks) / int(cells) for cells, looks in map(str.split, ran.stderr.splitlines())]
+
+
+def print_looks(names):
+    """Prints at how many statements an instant of each program looks. Answers a status."""
+    most = 0
+    with tempfile.TemporaryDirectory() as made:
+        folder = pathlib.Path(made)
+        port = built(folder, looks=True)
+        for name in names or worklist.programs():
+            found = looked(port, case(name, folder), LOOKED)
+            most = max(most, *found)
+            print(f"{name}: at most {max(found):.2f} statements looked at over cells, {statistics.mean(found):.2f} in the mean", flush=True)
+    return int(most > MOST_LOOKS)
+
+
 def beside_plain(names):
     """Prints the instructions an instant of the microstep engine and of the plain one, both by the port."""
     ratios = []
@@ -160,6 +201,8 @@ def main(names):
     sys.setrecursionlimit(20000)
     if names[:1] == ["--plain"]:
         return beside_plain(names[1:])
+    if names[:1] == ["--looks"]:
+        return print_looks(names[1:])
     if names[:1] == ["--exponents"]:
         return exponents(names[1:])
     ratios = []
@@ -180,4 +223,4 @@ def main(names):
 
 
 if __name__ == "__main__":
-    main(sys.argv[1:])
+    sys.exit(main(sys.argv[1:]))

@@ -1,6 +1,27 @@
 // What bench/port.py puts before the files of the microstep engine: a reader of its cases, and the types that are made elsewhere.
 #![allow(dead_code, unused_imports)]
 
+/// How many statements the engine has looked at, where bench/port.py makes it count.
+mod looks {
+    use std::sync::atomic::{AtomicUsize, Ordering::Relaxed};
+
+    static LOOKS: AtomicUsize = AtomicUsize::new(0);
+
+    /// The statement that is looked at.
+    pub fn look<T>(statement: &T) -> &T {
+        LOOKS.fetch_add(1, Relaxed);
+        statement
+    }
+
+    /// Prints how many cells there are, and at how many statements was looked since it was last asked.
+    pub fn print(cells: usize) {
+        let looks = LOOKS.swap(0, Relaxed);
+        if looks > 0 {
+            eprintln!("{cells} {looks}");
+        }
+    }
+}
+
 mod by_hand {
     pub mod interface {
         pub struct Interface {
@@ -195,6 +216,7 @@ fn run(case: &mut Case, instants: usize) {
         let Ok(outcome) = case.engine.run(&case.kernel, &state, &Inputs { signals }) else {
             panic!("instant {n} is stuck");
         };
+        looks::print(case.engine.net().cells());
         sum = sum.wrapping_mul(31).wrapping_add(outcome.outputs);
         state = match outcome.next {
             State::Paused(pauses) => State::Paused(pauses),
@@ -228,6 +250,7 @@ fn print_tables(case: &mut Case) {
     print!("{}", case.engine.net().cells());
     for signals in &case.masks {
         let answer = case.engine.run(&case.kernel, &state, &Inputs { signals: *signals });
+        looks::print(case.engine.net().cells());
         let sign = |cell| match case.engine.net().value(cell) {
             Some(true) => '1',
             Some(false) => '0',

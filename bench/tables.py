@@ -1,17 +1,22 @@
 #!/usr/bin/env python3
 """Whether the microstep engine decides what it should, cell by cell: random kernels, beside the least closed table.
 
-usage: tables.py [KERNELS] [SEED]
+usage: tables.py PROGRAM [KERNELS] [SEED]
+       tables.py port [KERNELS] [SEED]
 
-KERNELS random kernels are made from SEED on (2,000 and 0 if they are left out), each with the inputs of eight instants. They run on the port
-of the engine to Rust (bench/port.py), so that a change is tried before anything is proved. The cells of each and their gates are laid out here, by bench/worklist.py, with a gate more for each test
-of several signals. In each instant they are decided one after another, each as soon as its gate decides it, until no gate decides more:
-that is the least closed table. In the engine's table each cell has to have the same value, and has to be open where it is open here, also
-where there is no reaction. The next instant goes on from the pauses that these cells tell, or from the same state where there is none.
+PROGRAM is the built `crates/benches/out/benches`. In its place `port` takes the port of the engine to Rust (bench/port.py), so that a change
+is tried before anything is proved. KERNELS random kernels are made from SEED on (2,000 and 0 if they are left out), each with the inputs of
+eight instants. The cells of each and their gates are laid out here, by bench/worklist.py, with a gate more for each test of several signals.
+In each instant they are decided one after another, each as soon as its gate decides it, until no gate decides more: that is the least closed
+table. In the engine's table each cell has to have the same value, and has to be open where it is open here, also where there is no reaction.
+The next instant goes on from the pauses that these cells tell, or from the same state where there is none.
 
 The last line says how many kernels, instants and cells were compared, and how many instants and cells were open. It exits with 1 at the first
-difference, which it prints.
+difference, which it prints. With the port it says too at how many statements an instant looked at most, over its cells; and each kernel runs
+once more on a port without the order of sides and without passes, which guess what is best looked at first: no cell may change by that.
 """
+import concurrent.futures
+import os
 import pathlib
 import random
 import subprocess
@@ -275,6 +280,10 @@ class Case:
         """Its module."""
         return module_of(INPUTS, OUTPUTS, written(self.statement))
 
+    def work(self):
+        """The line that the program reads of it."""
+        return f"tables {INSTANTS} {','.join(f'{mask:x}' for mask in self.masks)} {self.text()}\n"
+
     def tables(self, counts):
         """The program's line, worked out here."""
         run = Run(self.statement)
@@ -290,37 +299,72 @@ class Case:
         return " ".join(shown)
 
 
-def compare(program, folder, seeds, counts):
-    """Runs these cases, and answers the first that differs."""
-    cases = [Case(seed) for seed in seeds]
-    given = folder / "cases"
-    given.write_text("".join(case.lines() for case in cases), encoding="utf-8")
-    done = subprocess.run([program, given], capture_output=True, text=True, check=False)
-    found = done.stdout.splitlines()
-    for seed, case, line in zip(seeds, cases, found):
-        wanted = case.tables(counts)
-        if line != wanted:
-            return f"seed {seed}: the tables differ\n{case.text()}\n{line}\n{wanted}"
-    if done.returncode or len(found) != len(cases):
-        return f"seed {seeds[len(found)]}: it ended with {done.returncode}: {done.stderr.strip()}"
-    return None
+class Ported:
+    """The port, with the guesses and without them."""
+
+    def __init__(self, folder):
+        self.folder = folder
+        self.programs = [port.built(folder / name, looks=True, guesses=name == "guessing") for name in ("guessing", "plain")]
+
+    def answers(self, cases):
+        """The lines that both print of these cases, and the most statements an instant of the first looked at, over its cells."""
+        given = self.folder / f"cases{os.getpid()}"
+        given.write_text("".join(case.lines() for case in cases), encoding="utf-8")
+        ran = [subprocess.run([program, given], capture_output=True, text=True, check=False) for program in self.programs]
+        given.unlink()
+        looks = [int(looked) / int(cells) for cells, looked in map(str.split, ran[0].stderr.splitlines())]
+        return [done.stdout.splitlines() for done in ran], max(looks, default=0)
+
+
+class Built:
+    """The program of crates/benches."""
+
+    def __init__(self, program):
+        self.program = program
+
+    def answers(self, cases):
+        given = "".join(case.work() for case in cases)
+        done = subprocess.run([self.program], input=given, capture_output=True, text=True, check=False)
+        return [done.stdout.splitlines()], 0
+
+
+def compare(program, seeds):
+    """Runs these cases. Answers what was counted, and the first case that differs."""
+    cases, counts = [Case(seed) for seed in seeds], {"cells": 0, "open": 0, "stuck": 0}
+    found, counts["looks"] = program.answers(cases)
+    wanted = [case.tables(counts) for case in cases]
+    for lines in found:
+        for seed, case, line, table in zip(seeds, cases, lines, wanted):
+            if line != table:
+                return counts, f"seed {seed}: the tables differ\n{case.text()}\n{line}\n{table}"
+        if len(lines) != len(cases):
+            return counts, f"seed {seeds[len(lines)]}: there is no answer"
+    return counts, None
+
+
+def compare_all(program, seeds):
+    """Compares all cases, on all processors. Answers what was counted. Ends at the first difference."""
+    counts = {"cells": 0, "open": 0, "stuck": 0, "looks": 0}
+    parts = [seeds[start : start + AT_ONCE] for start in range(0, len(seeds), AT_ONCE)]
+    with concurrent.futures.ProcessPoolExecutor() as pool:
+        for part, fault in pool.map(compare, [program] * len(parts), parts):
+            if fault:
+                pool.shutdown(cancel_futures=True)
+                sys.exit(fault)
+            counts = {name: max(counts[name], part[name]) if name == "looks" else counts[name] + part[name] for name in counts}
+    return counts
 
 
 def main(words):
-    if len(words) > 2:
+    if not words or len(words) > 3:
         sys.exit(__doc__.strip())
-    kernels, seed = int((words + ["2000"])[0]), int(words[1] if len(words) > 1 else 0)
-    seeds = range(seed, seed + kernels)
-    counts = {"cells": 0, "open": 0, "stuck": 0}
+    kernels, seed = (int(word) for word in (*words[1:], *("2000", "0")[len(words) - 1 :]))
     with tempfile.TemporaryDirectory() as made:
-        folder = pathlib.Path(made)
-        program = port.built(folder)
-        for start in range(0, kernels, AT_ONCE):
-            fault = compare(program, folder, seeds[start : start + AT_ONCE], counts)
-            if fault:
-                sys.exit(fault)
+        program = Ported(pathlib.Path(made)) if words[0] == "port" else Built(words[0])
+        counts = compare_all(program, range(seed, seed + kernels))
+    looks = f"; at most {counts['looks']:.2f} statements looked at over cells" if counts["looks"] else ""
     print(f"{kernels} kernels, {kernels * INSTANTS} instants, {counts['stuck']} of them with open cells, {counts['cells']} cells, "
-          f"{counts['open']} of them open: no difference")
+          f"{counts['open']} of them open: no difference{looks}")
 
 
 if __name__ == "__main__":

@@ -1,10 +1,11 @@
 #!/usr/bin/env python3
-"""Runs `rt ci`, and then the examples of targets/ over the library for C that it has proved. The last line is that of `rt ci`.
+"""Runs `rt ci`, and then, over what it has proved, the examples of targets/ and random kernels. The last line is that of `rt ci`.
 
 usage: gate.py
 
-Where an example fails, its words are the last, and the status is not 0. Where the library can't be built over what `rt ci` left, this says
-so, and the examples are not run.
+The kernels run on the program of crates/benches: on both engines (bench/engines.py), and on the microstep engine cell by cell
+(bench/tables.py). Where an example or a kernel fails, its words are the last, and the status is not 0. Where `rt ci` left no library to build
+the one for C over, or no such program, this says so, and they are not run.
 """
 import subprocess
 import sys
@@ -12,6 +13,9 @@ import sys
 import library
 import over_gate
 from crates import ROOT
+
+BENCHES = ROOT / "crates" / "benches" / "out" / "benches"
+KERNELS = "20000"
 
 
 def run_gate():
@@ -32,13 +36,22 @@ def run_targets():
     return library.main([]) or subprocess.run([ROOT / "tests" / "targets" / "run"]).returncode
 
 
+def run_kernels():
+    """Runs random kernels on the proved program. Answers a status."""
+    if not BENCHES.exists():
+        print("kernels: not run, as rt ci has left no program here", flush=True)
+        return 0
+    return any(subprocess.run([sys.executable, ROOT / "bench" / script, BENCHES, KERNELS]).returncode for script in ("engines.py", "tables.py"))
+
+
 def main():
     status, last = run_gate()
     if status == 0:
-        status = run_targets()
-        if status:
-            print("targets: failed, and so does the gate")
-            return status
+        for name, run in (("targets", run_targets), ("kernels", run_kernels)):
+            status = int(run())
+            if status:
+                print(f"{name}: failed, and so does the gate")
+                return status
     print(last, end="")
     return status
 

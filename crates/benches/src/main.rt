@@ -5,7 +5,8 @@
 //! - `lex`, `parse`, `load`: a text is cut into its tokens; its tree is read too; its module `M` is
 //!   made a kernel (src/texts.rt);
 //! - `plain`, `micro`: a module runs for that many instants on the plain engine or on the microstep
-//!   engine (src/alone.rt); `pairs`: on both, instant by instant (src/pairs.rt);
+//!   engine (src/alone.rt); `pairs`: on both, instant by instant (src/pairs.rt); `tables`: on the
+//!   microstep engine, with each cell of each instant (src/tables.rt);
 //! - any other word is asked of a policy (src/policies.rt).
 //!
 //! `benches` alone takes each line of its input for a work, its count and its text.
@@ -22,12 +23,14 @@ mod echo;
 mod office;
 mod pairs;
 mod policies;
+mod tables;
 mod texts;
 
 use crate::alone::run_alone;
 use crate::echo::send_back;
 use crate::pairs::run_pair;
 use crate::policies::ask_again;
+use crate::tables::run_tables;
 use crate::texts::read_again;
 use anyhow::{Result, bail};
 use std::alloc::Global;
@@ -47,6 +50,7 @@ fn work(rt: &(impl Alloc<A = Global> + Print), word: &str, count: u64, text: &st
         "lex" | "parse" | "load" => read_again(rt, word, count, text),
         "plain" | "micro" => run_alone(rt, word, count, text),
         "pairs" => run_pair(rt, count, text),
+        "tables" => run_tables(rt, count, text),
         _ => ask_again(rt, word, count),
     }
 }

@@ -1,14 +1,14 @@
 -- A `||` whose sides were swept is closed.
-use Rattle.std.specs.Prelude.{◌≡◌, ◌+◌, ◌&&◌, ◌||◌, ℕ, zero, suc, Bool, true, false, List}
-use Rattle.std.proofs.Common.{refl, ap, sym, ◌∙◌, arith, subst}
-use mathlib.Core.Path.{fun_ext}
+use Rattle.std.specs.Prelude.{◌≡◌, ◌+◌, ℕ, Bool, List}
+use Rattle.std.proofs.Common.{refl, sym, ◌∙◌, arith, subst}
 use Rattle.est_kernel.specs.CodeViews.{codes_of}
-use Rattle.est_kernel.specs.Codes.{Codes, max_codes, some_up_to}
+use Rattle.est_kernel.specs.Codes.{Codes, max_codes}
 use Rattle.est_kernel.specs.declared.statement.Statement.{Statement}
 use Rattle.est_kernel.specs.declared.statement.Statement.TheVariants.{Par'}
 use Rattle.est_meaning.proofs.KnowledgeIsMonotone.{less_same}
 use Rattle.est_meaning.specs.Environments.{Env}
 use Rattle.est_meaning.specs.Knowledge.{IsBelow}
+use Rattle.est_meaning.specs.Signals.{no_signals}
 use Rattle.est_meaning.specs.declared.status.Status.{Status}
 use Rattle.est_cells.specs.Gates.{gates}
 use Rattle.est_cells.specs.Meaning.{begun}
@@ -17,30 +17,13 @@ use Rattle.est_net.specs.Cells.{Learns, cell_at}
 use Rattle.est_net.specs.Layout.{node_in, parts_in, possible_codes, sheet_in, sure_codes}
 use Rattle.est_rounds.specs.declared.acts.MustCan.{MustCan}
 use Rattle.est_micro.specs.Inner.Closing.{Closes}
-use Rattle.est_micro.specs.Inner.Views.{AreTold}
+use Rattle.est_micro.specs.Inner.Views.{AreTold, IsJudged, IsPaired}
 use Rattle.est_micro.specs.declared.cells.CodesRead.{CodesRead}
 use Rattle.est_micro.proofs.BegunNodes.{nothing_changes}
 use Rattle.est_micro.proofs.Frames.{changes_then, node_same, parts_same, possible_same, sure_same}
 use Rattle.est_micro.proofs.Nodes.{NodeTold, node_told}
 use Rattle.est_micro.proofs.Passing.{before_it}
 use Rattle.est_micro.proofs.SweepsAreSound.{sweep_sound}
-
--- the greater codes of all pairs of the same codes
-some_here : (a : Codes) (k : ℕ) → a k ≡ true → some_up_to a k ≡ true
-some_here a zero h = h
-some_here a (suc k) h = ap (λ (b : Bool). some_up_to a k || b) h ∙ or_true (some_up_to a k)
-  where
-    or_true : (b : Bool) → (b || true) ≡ true
-    or_true true = refl
-    or_true false = refl
-
-pub max_itself : (a : Codes) → a ≡ max_codes a a
-unfolding max_codes
-max_itself a = fun_ext (λ k. go k (a k) refl)
-  where
-    go : (k : ℕ) (b : Bool) → a k ≡ b → a k ≡ ((a k && some_up_to a k) || (a k && some_up_to a k))
-    go k true h = rw (h, some_here a k h) refl
-    go k false h = rw h refl
 
 -- what the code cells of a statement say
 pub record CodesAt (c t : ℕ) (cells : List Status) (read : CodesRead) : Type 0 where
@@ -51,6 +34,19 @@ pub record CodesAt (c t : ℕ) (cells : List Status) (read : CodesRead) : Type 0
 pub record Beside (first second : CodesRead) (own : MustCan) : Type 0 where
   pub must : codes_of own.must.codes ≡ max_codes (codes_of first.sure) (codes_of second.sure)
   pub can : codes_of own.can.codes ≡ max_codes (codes_of first.possible) (codes_of second.possible)
+
+both_same : {x y u v : Codes} → x ≡ u → y ≡ v → max_codes x y ≡ max_codes u v
+both_same h w = rw (h, w) refl
+
+-- as of two sides that are judged by their codes alone
+pub beside_of : {first second : CodesRead} {one two own : MustCan}
+    → IsJudged (codes_of first.sure) (codes_of first.possible) no_signals no_signals one
+    → IsJudged (codes_of second.sure) (codes_of second.possible) no_signals no_signals two
+    → IsPaired max_codes one two own → Beside first second own
+beside_of one two pair = record {
+  must = pair.must ∙ both_same one.must two.must;
+  can = pair.can ∙ both_same one.can two.can;
+}
 
 -- the second side is closed
 second_closed : (main : Bool) (a : _) (p : Statement) (b : _) (q : Statement) (c t d : ℕ) (g : Status)
@@ -104,6 +100,3 @@ par_closed main a p b q c t d g old mid m0 new first second own z k one two' lea
           subst (λ (y : Sheet main s). Below main s y (begun main s r e)) (sym (node e).sheet)
           (sweep_sound main s (λ h x. x) r g e e (sheet_in f main s c t) i (less_same e) o1 (λ h j. o1.parts));
     }
-  where
-    both_same : {x y u v : Codes} → x ≡ u → y ≡ v → max_codes x y ≡ max_codes u v
-    both_same h w = rw (h, w) refl

@@ -7,8 +7,8 @@
 
 ghost use Rattle.std.specs.Prelude.{◌≡◌, ◌≤◌, ◌+◌, length};
 ghost use Rattle.est_kernel.specs.CodeViews.{codes_of};
-ghost use Rattle.est_kernel.specs.Codes.{max_codes};
 ghost use Rattle.est_kernel.specs.declared.statement.Statement.TheVariants.{Par'};
+ghost use Rattle.est_meaning.specs.Signals.{no_signals};
 ghost use Rattle.est_cells.specs.Tables.{sheet_size};
 ghost use Rattle.est_net.specs.Cells.{cell_at};
 ghost use Rattle.est_net.specs.Extents.{HasExtents};
@@ -16,51 +16,34 @@ ghost use Rattle.est_net.specs.Kept.{kept};
 ghost use Rattle.est_net.specs.Layout.{possible_codes, sure_codes};
 ghost use Rattle.est_net.specs.Owners.{statements};
 ghost use Rattle.est_micro.specs.Inner.Closing.{Closes};
+ghost use Rattle.est_micro.specs.Inner.Views.{IsJudged};
 
 use crate::cells::{self, CodesRead, StatementPlace};
 use crate::extents::{number_after, past};
 use crate::learning::tell_cell;
+use crate::must_can;
 use crate::sweep_kind::LaterSweep;
-use est_kernel::code_set::CodeSet;
 use est_kernel::statement::Statement;
 use est_meaning::status::Status;
 use est_net::net::Net;
 use est_rounds::acts::{Acts, MustCan};
 use est_rounds::signal_set;
 
-/// The greater codes of all pairs.
+/// What is judged of a statement by its codes alone: no signal is emitted.
 #[inline(always)]
-fn greater_of_pairs(first: CodeSet, second: CodeSet) -> CodeSet
-    ensures { codes_of result ≡ max_codes (codes_of first) (codes_of second) }
-{
-    if first == second {
-        first
-    } else {
-        first.greater_of_pairs(second)
-    }
-}
-
-/// These codes, and no signal.
-fn giving(codes: CodeSet) -> Acts
-    ensures { result.codes ≡ codes }
-{
-    Acts {
-        signals: signal_set::no_signal(),
-        codes,
-    }
-}
-
-/// What is judged of the codes of two sides.
-#[inline(always)]
-fn beside(first: CodesRead, second: CodesRead) -> MustCan
-    ensures sure { codes_of result.must.codes
-        ≡ max_codes (codes_of first.sure) (codes_of second.sure) }
-    ensures possible { codes_of result.can.codes
-        ≡ max_codes (codes_of first.possible) (codes_of second.possible) }
+fn judged_by(codes: CodesRead) -> MustCan
+    ensures { IsJudged (codes_of codes.sure) (codes_of codes.possible) no_signals no_signals
+        result }
 {
     MustCan {
-        must: giving(greater_of_pairs(first.sure, second.sure)),
-        can: giving(greater_of_pairs(first.possible, second.possible)),
+        must: Acts {
+            signals: signal_set::no_signal(),
+            codes: codes.sure,
+        },
+        can: Acts {
+            signals: signal_set::no_signal(),
+            codes: codes.possible,
+        },
     }
 }
 
@@ -97,10 +80,10 @@ fn close_par(
     };
     let next_number = number_after(net, &place, p);
     let next_cell = past(net, &place, p);
-    let second = close(net, top, next_number, next_cell, q, gate);
-    let first = cells::read_codes(net, place.cell + 1, top.traps + 2);
+    let second = judged_by(close(net, top, next_number, next_cell, q, gate));
+    let first = judged_by(cells::read_codes(net, place.cell + 1, top.traps + 2));
     tell_cell::<LaterSweep>(net, cell, gate);
-    let own = beside(first, second);
+    let own = must_can::beside(&first, &second);
     cells::tell::<LaterSweep>(net, cell + 1, top.traps + 2, &own)
 }
 

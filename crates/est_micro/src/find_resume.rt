@@ -26,7 +26,6 @@ ghost use Rattle.est_micro.specs.Inner.Sides.{IsFound, SideFound};
 use crate::cells::StatementPlace;
 use crate::extents::{is_live, number_after, past};
 use crate::find_begin::{Found, find_begun, is_inside};
-use crate::pass_begin::visit;
 use crate::pass_resume::visit_resumed;
 use crate::side_order::SideOrder;
 use est_kernel::pause_set::PauseSet;

@@ -565,7 +565,7 @@ fn begin_each<K: SweepKind>(
 }
 
 /// Whether a statement is a `||`.
-fn has_sides(s: &Statement) -> bool {
+fn is_parallel(s: &Statement) -> bool {
     match s {
         Statement::Par(_, _) => true,
         _ => false,
@@ -601,7 +601,7 @@ fn begin_known<K: SweepKind>(
             cells::nothing(past)
         }
         None => {
-            if has_sides(s) && decided::is_decided(net, at, s) {
+            if is_parallel(s) && decided::is_decided(net, at, s) {
                 return decided::read(net, at, s);
             }
             begin_each::<K>(net, at, s, gate, env)

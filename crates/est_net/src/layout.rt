@@ -1,65 +1,48 @@
-//! The cells of a statement, laid out.
+//! How many cells there are.
 
-ghost use Rattle.std.specs.Prelude.{◌≡◌, ◌<◌, ◌+◌, length, IfOk};
+ghost use Rattle.std.specs.Prelude.{◌≡◌, ◌<◌, ◌+◌, true, IfSome};
 ghost use Rattle.est_cells.specs.Tables.{sheet_size};
 ghost use Rattle.est_kernel.specs.Limits.{trap_depth};
 ghost use Rattle.est_kernel.specs.View.{term_of};
 
 use est_kernel::statement::Statement;
-use est_meaning::status::Status;
-use std::alloc::AllocError;
 
-/// Adds `count` open cells, or memory was refused.
-fn add_open(cells: &mut Vec<Status>, count: usize) -> Result<(), AllocError>
-    ensures { IfOk result (λ _. length cells.new.items ≡ length cells.old.items + count) }
+/// How many cells a statement has inside `traps` traps, unless they are more than can be counted.
+/// `main` says whether it is the incarnation that can go on from its pauses: beside each loop that
+/// has the cells of the loop's restart. It goes as deep as the statement is.
+fn count_in(main: bool, s: &Statement, traps: usize) -> Option<usize>
+    requires { traps + trap_depth (term_of s.now) < 65536 }
+    ensures { IfSome result (λ n. n ≡ sheet_size main s.now traps) }
 {
-    match cells.len().checked_add(count) {
-        Some(past) => cells.resize(past, Status::Unknown),
-        None => Err(AllocError),
+    let own = traps + 3;
+    match s {
+        Statement::Nothing | Statement::Pause(_) | Statement::Emit(_) | Statement::Exit(_) => {
+            Some(own)
+        }
+        Statement::Present(_, p, q) | Statement::Seq(p, q) | Statement::Par(p, q) => {
+            let first = count_in(main, p, traps)?;
+            let second = count_in(main, q, traps)?;
+            own.checked_add(first)?.checked_add(second)
+        }
+        Statement::Suspend(_, p) => own.checked_add(count_in(main, p, traps)?),
+        Statement::Loop(p) => {
+            let body = own.checked_add(count_in(main, p, traps)?)?;
+            if main {
+                body.checked_add(count_in(false, p, traps)?)
+            } else {
+                Some(body)
+            }
+        }
+        Statement::Trap(p) => own.checked_add(count_in(main, p, traps + 1)?),
+        Statement::Local(_, p) => (traps + 4).checked_add(count_in(main, p, traps)?),
     }
 }
 
-/// Adds the cells of a statement inside `traps` traps, open, or memory was refused. `main` says
-/// whether these are the cells of the incarnation that can go on from its pauses: beside each loop
-/// it has the cells of the loop's restart. It goes as deep as the statement is.
-pub fn lay(
-    cells: &mut Vec<Status>,
-    main: bool,
-    s: &Statement,
-    traps: usize,
-) -> Result<(), AllocError>
-    requires { traps + trap_depth (term_of s.now) < 65536 }
-    ensures { IfOk result
-        (λ _. length cells.new.items ≡ length cells.old.items + sheet_size main s.now traps) }
+/// How many cells there are with `outputs` signals and this statement, unless they are more than
+/// can be counted.
+pub fn count_cells(outputs: usize, s: &Statement) -> Option<usize>
+    requires { trap_depth (term_of s.now) < 65536 }
+    ensures { IfSome result (λ n. n ≡ outputs + sheet_size true s.now 0) }
 {
-    match s {
-        Statement::Nothing | Statement::Pause(_) | Statement::Emit(_) | Statement::Exit(_) => {
-            add_open(cells, traps + 3)
-        }
-        Statement::Present(_, p, q) | Statement::Seq(p, q) | Statement::Par(p, q) => {
-            add_open(cells, traps + 3)?;
-            lay(cells, main, p, traps)?;
-            lay(cells, main, q, traps)
-        }
-        Statement::Suspend(_, p) => {
-            add_open(cells, traps + 3)?;
-            lay(cells, main, p, traps)
-        }
-        Statement::Loop(p) => {
-            add_open(cells, traps + 3)?;
-            lay(cells, main, p, traps)?;
-            if main {
-                lay(cells, false, p, traps)?;
-            }
-            Ok(())
-        }
-        Statement::Trap(p) => {
-            add_open(cells, traps + 3)?;
-            lay(cells, main, p, traps + 1)
-        }
-        Statement::Local(_, p) => {
-            add_open(cells, traps + 4)?;
-            lay(cells, main, p, traps)
-        }
-    }
+    outputs.checked_add(count_in(true, s, 0)?)
 }
