@@ -1,5 +1,5 @@
 -- The entries of the parts of a statement are added to the list of extents, and then its own is put at its place.
-use Rattle.std.specs.Prelude.{◌≡◌, ◌<◌, ◌≤◌, ◌+◌, ◌||◌, ℕ, Bool, true, false, List, [], ◌∷◌, ◌++◌, length, set}
+use Rattle.std.specs.Prelude.{◌≡◌, ◌<◌, ◌≤◌, ◌+◌, ◌||◌, ℕ, Bool, List, [], ◌∷◌, ◌++◌, length, set}
 use Rattle.std.specs.Prelude.{IfSome}
 use Rattle.std.proofs.Common.{sym, ap, ◌∙◌, subst, arith}
 use Rattle.std.proofs.lemmas.List.{length-append, length-set, get_or-set_same, get_or-set_other}
@@ -9,7 +9,6 @@ use Rattle.est_kernel.specs.Pauses.{some_from}
 use Rattle.est_kernel.specs.declared.statement.Statement.{Statement}
 use Rattle.est_kernel.specs.declared.statement.Statement.TheVariants.{Nothing, Pause, Emit, Present', Suspend', Seq'}
 use Rattle.est_kernel.specs.declared.statement.Statement.TheVariants.{Loop', Par', Trap', Exit, Local' as Binder'}
-use Rattle.est_cells.specs.Tables.{sheet_size}
 use Rattle.est_meaning.specs.States.{is_live}
 use Rattle.est_net.specs.Extents.{IsExtent, HasAll, PartsHaveExtents, HasExtents, IsRunOf, extent_at}
 use Rattle.est_net.specs.Inner.Extending.{ArePartsAdded, IsExtended}
@@ -188,30 +187,3 @@ par_extent p q t x y z h k j a b = record {
   statements = let e = j.statements in let f = h.statements in let g = k.statements in omega arith;
   pauses = j.pauses (is_live p) (is_live q) h.pauses k.pauses;
 }
-
--- a kernel's statement has no fewer cells where it can go on than in a restart, and no more statements than cells
-pub cells_fit : (s : Statement) (t : ℕ) → sheet_size false s t ≤ sheet_size true s t
-cells_fit Nothing t = omega arith
-cells_fit (Pause i) t = omega arith
-cells_fit (Emit s) t = omega arith
-cells_fit (Exit k) t = omega arith
-cells_fit (Present' x a p b q) t = omega (arith, cells_fit p t, cells_fit q t)
-cells_fit (Suspend' x a p) t = omega (arith, cells_fit p t)
-cells_fit (Seq' a p b q) t = omega (arith, cells_fit p t, cells_fit q t)
-cells_fit (Loop' a p) t = omega (arith, cells_fit p t)
-cells_fit (Par' a p b q) t = omega (arith, cells_fit p t, cells_fit q t)
-cells_fit (Trap' a p) t = omega (arith, cells_fit p (t + 1))
-cells_fit (Binder' s a p) t = omega (arith, cells_fit p t)
-
-pub count_fit : (s : Statement) (t : ℕ) → statements s ≤ sheet_size true s t
-count_fit Nothing t = omega arith
-count_fit (Pause i) t = omega arith
-count_fit (Emit s) t = omega arith
-count_fit (Exit k) t = omega arith
-count_fit (Present' x a p b q) t = omega (arith, count_fit p t, count_fit q t)
-count_fit (Suspend' x a p) t = omega (arith, count_fit p t)
-count_fit (Seq' a p b q) t = omega (arith, count_fit p t, count_fit q t)
-count_fit (Loop' a p) t = omega (arith, count_fit p t)
-count_fit (Par' a p b q) t = omega (arith, count_fit p t, count_fit q t)
-count_fit (Trap' a p) t = omega (arith, count_fit p (t + 1))
-count_fit (Binder' s a p) t = omega (arith, count_fit p t)

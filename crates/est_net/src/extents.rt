@@ -1,10 +1,11 @@
 //! What is known of each statement before any instant.
 
-ghost use Rattle.std.specs.Prelude.{◌≡◌, ◌≤◌, ◌+◌, ◌||◌, ℕ, Bool, true, false, Some, IfOk, IfSome};
+ghost use Rattle.std.specs.Prelude.{◌≡◌, ◌<◌, ◌+◌, ◌||◌, ℕ, Bool, true, false, Some, IfOk, IfSome};
 ghost use Rattle.est_cells.specs.Tables.{sheet_size};
+ghost use Rattle.est_kernel.specs.Limits.{trap_depth};
+ghost use Rattle.est_kernel.specs.View.{term_of};
 ghost use Rattle.est_kernel.specs.declared.statement.Statement.TheVariants.{Present', Seq', Par'};
 ghost use Rattle.est_net.specs.Extents.{HasExtents, IsExtent, IsRunOf};
-ghost use Rattle.est_net.specs.Owners.{statements};
 ghost use Rattle.est_net.specs.Inner.Extending.{ArePartsAdded, IsExtended};
 
 use crate::pause_run::PauseRun;
@@ -107,72 +108,72 @@ fn with_test(rest: Extent, test: &Test) -> Extent
     }
 }
 
-/// What is known of a statement that has these cells of its own and this part.
-fn with_part(own: usize, p: &Extent) -> Extent
-    requires main { own + p.now.main ≤ 18446744073709551615 }
-    requires again { own + p.now.again ≤ 18446744073709551615 }
-    requires statements { 1 + p.now.statements ≤ 18446744073709551615 }
-    ensures main { result.main ≡ own + p.now.main }
-    ensures again { result.again ≡ own + p.now.again }
-    ensures statements { result.statements ≡ 1 + p.now.statements }
-    ensures pauses { result.pauses ≡ p.now.pauses }
+/// The sum of two counts of what is to be kept. Where no `usize` has it, memory is refused.
+fn add(a: usize, b: usize) -> Result<usize, AllocError>
+    ensures { IfOk result (λ sum. sum ≡ a + b) }
 {
-    Extent {
-        main: own + p.main,
-        again: own + p.again,
-        statements: 1 + p.statements,
-        pauses: p.pauses,
-        reads: p.reads,
+    match a.checked_add(b) {
+        Some(sum) => Ok(sum),
+        None => Err(AllocError),
     }
 }
 
-/// What is known of a loop that has these cells of its own and this body.
-fn with_body(own: usize, p: &Extent) -> Extent
-    requires main { own + p.now.main + p.now.again ≤ 18446744073709551615 }
-    requires statements { 1 + p.now.statements ≤ 18446744073709551615 }
-    ensures main { result.main ≡ own + p.now.main + p.now.again }
-    ensures again { result.again ≡ own + p.now.again }
-    ensures statements { result.statements ≡ 1 + p.now.statements }
-    ensures pauses { result.pauses ≡ p.now.pauses }
+/// What is known of a statement that has these cells of its own and this part.
+fn with_part(own: usize, p: &Extent) -> Result<Extent, AllocError>
+    ensures main { IfOk result (λ x. x.main ≡ own + p.now.main) }
+    ensures again { IfOk result (λ x. x.again ≡ own + p.now.again) }
+    ensures statements { IfOk result (λ x. x.statements ≡ 1 + p.now.statements) }
+    ensures pauses { IfOk result (λ x. x.pauses ≡ p.now.pauses) }
 {
-    Extent {
-        main: own + p.main + p.again,
-        again: own + p.again,
-        statements: 1 + p.statements,
+    Ok(Extent {
+        main: add(own, p.main)?,
+        again: add(own, p.again)?,
+        statements: add(1, p.statements)?,
         pauses: p.pauses,
         reads: p.reads,
-    }
+    })
+}
+
+/// What is known of a loop that has these cells of its own and this body.
+fn with_body(own: usize, p: &Extent) -> Result<Extent, AllocError>
+    ensures main { IfOk result (λ x. x.main ≡ own + p.now.main + p.now.again) }
+    ensures again { IfOk result (λ x. x.again ≡ own + p.now.again) }
+    ensures statements { IfOk result (λ x. x.statements ≡ 1 + p.now.statements) }
+    ensures pauses { IfOk result (λ x. x.pauses ≡ p.now.pauses) }
+{
+    let once = with_part(own, p)?;
+    Ok(Extent {
+        main: add(once.main, p.again)?,
+        ..once
+    })
 }
 
 /// What is known of a statement that has these cells of its own and these two parts, and whose own
 /// test, if it has one, reads these signals.
-fn with_parts(own: usize, p: &Extent, q: &Extent, reads: u64) -> Extent
-    requires main { own + p.now.main + q.now.main ≤ 18446744073709551615 }
-    requires again { own + p.now.again + q.now.again ≤ 18446744073709551615 }
-    requires statements { 1 + p.now.statements + q.now.statements ≤ 18446744073709551615 }
-    ensures main { result.main ≡ own + p.now.main + q.now.main }
-    ensures again { result.again ≡ own + p.now.again + q.now.again }
-    ensures statements { result.statements ≡ 1 + p.now.statements + q.now.statements }
-    ensures pauses { (f g : (ℕ → Bool) → Bool) → IfSome p.now.pauses (IsRunOf f)
+fn with_parts(own: usize, p: &Extent, q: &Extent, reads: u64) -> Result<Extent, AllocError>
+    ensures main { IfOk result (λ x. x.main ≡ own + p.now.main + q.now.main) }
+    ensures again { IfOk result (λ x. x.again ≡ own + p.now.again + q.now.again) }
+    ensures statements { IfOk result
+        (λ x. x.statements ≡ 1 + p.now.statements + q.now.statements) }
+    ensures pauses { IfOk result (λ x. (f g : (ℕ → Bool) → Bool) → IfSome p.now.pauses (IsRunOf f)
         → IfSome q.now.pauses (IsRunOf g)
-        → IfSome result.pauses (IsRunOf (λ set. f set || g set)) }
+        → IfSome x.pauses (IsRunOf (λ set. f set || g set))) }
 {
-    Extent {
-        main: own + p.main + q.main,
-        again: own + p.again + q.again,
-        statements: 1 + p.statements + q.statements,
+    let first = with_part(own, p)?;
+    Ok(Extent {
+        main: add(first.main, q.main)?,
+        again: add(first.again, q.again)?,
+        statements: add(first.statements, q.statements)?,
         pauses: joined(p.pauses, q.pauses),
         reads: mask::union(reads, mask::union(p.reads, q.reads)),
-    }
+    })
 }
 
 /// Adds the entries of the parts of a statement, or memory was refused. Answers what is known of
 /// the statement.
 #[cycle(add_extents)]
 fn add_parts(extents: &mut Vec<Extent>, s: &Statement, traps: usize) -> Result<Extent, AllocError>
-    requires main { sheet_size true s.now traps ≤ 18446744073709551615 }
-    requires again { sheet_size false s.now traps ≤ 18446744073709551615 }
-    requires statements { statements s.now ≤ 18446744073709551615 }
+    requires { traps + trap_depth (term_of s.now) < 65536 }
     ensures { IfOk result (ArePartsAdded s.now traps extents.old.items extents.new.items) }
 {
     match s {
@@ -185,19 +186,19 @@ fn add_parts(extents: &mut Vec<Extent>, s: &Statement, traps: usize) -> Result<E
         Statement::Par(p, q) => add_extents_of_two(extents, p, q, traps, 0),
         Statement::Suspend(test, p) => {
             let body = add_extents(extents, p, traps)?;
-            Ok(with_test(with_part(traps + 3, &body), test))
+            Ok(with_test(with_part(traps + 3, &body)?, test))
         }
         Statement::Loop(p) => {
             let body = add_extents(extents, p, traps)?;
-            Ok(with_body(traps + 3, &body))
+            with_body(traps + 3, &body)
         }
         Statement::Trap(p) => {
             let body = add_extents(extents, p, traps + 1)?;
-            Ok(with_part(traps + 3, &body))
+            with_part(traps + 3, &body)
         }
         Statement::Local(_, p) => {
             let body = add_extents(extents, p, traps)?;
-            Ok(with_part(traps + 4, &body))
+            with_part(traps + 4, &body)
         }
     }
 }
@@ -212,11 +213,8 @@ fn add_extents_of_two(
     traps: usize,
     reads: u64,
 ) -> Result<Extent, AllocError>
-    requires main { traps + 3 + sheet_size true p.now traps + sheet_size true q.now traps
-        ≤ 18446744073709551615 }
-    requires again { traps + 3 + sheet_size false p.now traps + sheet_size false q.now traps
-        ≤ 18446744073709551615 }
-    requires statements { 1 + statements p.now + statements q.now ≤ 18446744073709551615 }
+    requires first { traps + trap_depth (term_of p.now) < 65536 }
+    requires second { traps + trap_depth (term_of q.now) < 65536 }
     ensures present { IfOk result (λ x. (t a b : _)
         → ArePartsAdded (Present' t a p.now b q.now) traps extents.old.items extents.new.items x) }
     ensures seq { IfOk result (λ x. (a b : _)
@@ -226,16 +224,15 @@ fn add_extents_of_two(
 {
     let first = add_extents(extents, p, traps)?;
     let second = add_extents(extents, q, traps)?;
-    Ok(with_parts(traps + 3, &first, &second, reads))
+    let both = with_parts(traps + 3, &first, &second, reads)?;
+    Ok(both)
 }
 
 /// Adds the entries of a statement and of its parts, or memory was refused. Answers its own.
 /// Recursion is as deep as the statement is.
 #[cycle(add_extents)]
 fn add_extents(extents: &mut Vec<Extent>, s: &Statement, traps: usize) -> Result<Extent, AllocError>
-    requires main { sheet_size true s.now traps ≤ 18446744073709551615 }
-    requires again { sheet_size false s.now traps ≤ 18446744073709551615 }
-    requires statements { statements s.now ≤ 18446744073709551615 }
+    requires { traps + trap_depth (term_of s.now) < 65536 }
     ensures { IfOk result (IsExtended s.now traps extents.old.items extents.new.items) }
 {
     let number = extents.len();
@@ -246,9 +243,8 @@ fn add_extents(extents: &mut Vec<Extent>, s: &Statement, traps: usize) -> Result
 }
 
 /// What is known of a statement and of its parts, in the order of the text, or memory was refused.
-#[tactic(auto, using(crate::proofs::Extending::cells_fit, crate::proofs::Extending::count_fit))]
 pub fn extents_of(alloc: Global, s: &Statement) -> Result<Vec<Extent>, AllocError>
-    requires { sheet_size true s.now 0 ≤ 18446744073709551615 }
+    requires { trap_depth (term_of s.now) < 65536 }
     ensures { IfOk result (λ xs. HasExtents xs.items 0 0 s.now) }
 {
     let mut extents = Vec::new(alloc);

@@ -10,7 +10,6 @@ mod cell_set;
 pub mod emissions;
 pub mod extents;
 pub mod laws;
-mod layout;
 pub mod net;
 pub mod owners;
 pub mod pause_run;

@@ -6,11 +6,9 @@ ghost use Rattle.std.specs.Prelude.{slice_get};
 ghost use Rattle.std.specs.List.{list_any};
 ghost use Rattle.est_kernel.specs.Bits.{bits};
 ghost use Rattle.est_kernel.specs.Interfaces.{emittable};
-ghost use Rattle.est_kernel.specs.Limits.{trap_depth};
-ghost use Rattle.est_kernel.specs.View.{term_of};
 ghost use Rattle.est_meaning.specs.Rounds.{how_many};
 ghost use Rattle.est_meaning.specs.declared.status.Status.TheVariants.{Unknown};
-ghost use Rattle.est_cells.specs.Tables.{is_possible, is_sure, sheet_size};
+ghost use Rattle.est_cells.specs.Tables.{is_possible, is_sure};
 ghost use Rattle.est_net.specs.CellSets.{AreTrueCells, AreTrueCells-prop, IsFirstIn, NoneIn};
 ghost use Rattle.est_net.specs.Cells.{AllDecided, AllOpen, AreFalse, NoneTrue, cell_at, decided};
 ghost use Rattle.est_net.specs.Cells.{is_known, known_as, true_at, value_of};
@@ -22,13 +20,11 @@ ghost use Rattle.est_net.specs.Reach.{IsReachOf};
 use crate::cell_set::CellSet;
 use crate::emissions::{Emission, Emitted, emissions_of, without_emitted};
 use crate::extents::{Extent, extents_of};
-use crate::layout::count_cells;
 use crate::reach::Reach;
 use crate::table;
 use est_kernel::interface::Interface;
 use est_kernel::kernel::Kernel;
 use est_kernel::mask;
-use est_kernel::statement::Statement;
 use est_meaning::status::Status;
 use std::alloc::{AllocError, Global};
 
@@ -74,13 +70,11 @@ fn rank(signals: u64, places: usize) -> usize
     count
 }
 
-/// The open cells of as many signals and of a statement, or memory was refused.
-fn open_cells(alloc: Global, outputs: usize, s: &Statement) -> Result<Vec<Status>, AllocError>
-    requires { trap_depth (term_of s.now) < 65536 }
-    ensures { IfOk result (λ cells. cells.items
-        ≡ replicate (outputs + sheet_size true s.now 0) Unknown) }
+/// The open cells of as many signals and of a kernel's statement, or memory was refused.
+fn open_cells(alloc: Global, outputs: usize, root: &Extent) -> Result<Vec<Status>, AllocError>
+    ensures { IfOk result (λ cells. cells.items ≡ replicate (outputs + root.now.main) Unknown) }
 {
-    match count_cells(outputs, s) {
+    match outputs.checked_add(root.main) {
         Some(count) => vec![in alloc; Status::Unknown; count],
         None => Err(AllocError),
     }
@@ -103,9 +97,9 @@ impl Net {
     {
         let signals = kernel.interface().emittable();
         let outputs = rank(signals, kernel.interface().len());
-        let cells = open_cells(alloc, outputs, kernel.root())?;
-        let reach = Reach::of(alloc, kernel.root())?;
         let extents = extents_of(alloc, kernel.root())?;
+        let cells = open_cells(alloc, outputs, &extents[0])?;
+        let reach = Reach::of(alloc, kernel.root())?;
         let emissions = emissions_of(alloc, kernel.root(), outputs)?;
         Ok(Net {
             true_cells: CellSet::with_room(alloc, cells.len())?,

@@ -1,5 +1,4 @@
-use Rattle.std.proofs.Common.{◌≡◌, refl, ap, List, length, ℕ, subst, arith, rules, slice_set}
-use Rattle.est_kernel.specs.declared.statement.Statement.TheFolds.{the_lemmas}
+use Rattle.std.proofs.Common.{◌≡◌, refl, ap, List, length, ℕ, subst, arith, slice_set}
 use Rattle.est_kernel.specs.declared.statement.Statement.TheVariants.{Present', Seq', Par'}
 use Rattle.est_net.specs.Inner.Extending.{ArePartsAdded}
 use Rattle.est_net.specs.declared.extents.Extent.{Extent}
@@ -16,56 +15,50 @@ add_extents-returns t c =
     (let number : c.len-number.result ≡ length c.args.extents.now.items
     = omega (arith, c.len-number.ensures, c.args.extents.now.ok.0) in number))
 
-pub add_extents_of_two-add_extents-requires-2 : goal.add_extents_of_two-add_extents-requires-2
-add_extents_of_two-add_extents-requires-2 t c = (
-  search (rules, the_lemmas),
-  (omega (arith, c.requires.main), (omega (arith, c.requires.again), omega (arith, c.requires.statements))),
-)
-
 pub add_extents_of_two-returns-clause-present : goal.add_extents_of_two-returns-clause-present
 add_extents_of_two-returns-clause-present t c = λ x a b.
     two_added (Present' x a c.args.p.now b c.args.q.now) c.args.p.now c.args.q.now c.args.traps
     c.args.extents.now.items c.add_extents.new.extents.items
-    c.add_extents-2.new.extents.items c.in_ok-first.first c.in_ok-second.second c.with_parts.result refl
+    c.add_extents-2.new.extents.items c.in_ok-first.first c.in_ok-second.second c.in_ok-both.both refl
     (λ n f g. (f, g))
     c.in_ok-first.ensures c.in_ok-second.ensures
-    (present_extent c.args.p.now c.args.q.now c.args.traps c.in_ok-first.first c.in_ok-second.second c.with_parts.result
+    (present_extent c.args.p.now c.args.q.now c.args.traps c.in_ok-first.first c.in_ok-second.second c.in_ok-both.both
     c.in_ok-first.ensures.own c.in_ok-second.ensures.own
     (record {
-      main = c.with_parts.ensures.main;
-      again = c.with_parts.ensures.again;
-      statements = c.with_parts.ensures.statements;
-      pauses = c.with_parts.ensures.pauses;
+      main = c.in_ok-both.ensures.main;
+      again = c.in_ok-both.ensures.again;
+      statements = c.in_ok-both.ensures.statements;
+      pauses = c.in_ok-both.ensures.pauses;
     }) x a b)
 
 pub add_extents_of_two-returns-clause-seq : goal.add_extents_of_two-returns-clause-seq
 add_extents_of_two-returns-clause-seq t c = λ a b.
     two_added (Seq' a c.args.p.now b c.args.q.now) c.args.p.now c.args.q.now c.args.traps c.args.extents.now.items
     c.add_extents.new.extents.items
-    c.add_extents-2.new.extents.items c.in_ok-first.first c.in_ok-second.second c.with_parts.result refl
+    c.add_extents-2.new.extents.items c.in_ok-first.first c.in_ok-second.second c.in_ok-both.both refl
     (λ n f g. (f, g))
     c.in_ok-first.ensures c.in_ok-second.ensures
-    (seq_extent c.args.p.now c.args.q.now c.args.traps c.in_ok-first.first c.in_ok-second.second c.with_parts.result
+    (seq_extent c.args.p.now c.args.q.now c.args.traps c.in_ok-first.first c.in_ok-second.second c.in_ok-both.both
     c.in_ok-first.ensures.own c.in_ok-second.ensures.own
     (record {
-      main = c.with_parts.ensures.main;
-      again = c.with_parts.ensures.again;
-      statements = c.with_parts.ensures.statements;
-      pauses = c.with_parts.ensures.pauses;
+      main = c.in_ok-both.ensures.main;
+      again = c.in_ok-both.ensures.again;
+      statements = c.in_ok-both.ensures.statements;
+      pauses = c.in_ok-both.ensures.pauses;
     }) a b)
 
 pub add_extents_of_two-returns-clause-par : goal.add_extents_of_two-returns-clause-par
 add_extents_of_two-returns-clause-par t c = λ a b.
     two_added (Par' a c.args.p.now b c.args.q.now) c.args.p.now c.args.q.now c.args.traps c.args.extents.now.items
     c.add_extents.new.extents.items
-    c.add_extents-2.new.extents.items c.in_ok-first.first c.in_ok-second.second c.with_parts.result refl
+    c.add_extents-2.new.extents.items c.in_ok-first.first c.in_ok-second.second c.in_ok-both.both refl
     (λ n f g. (f, g))
     c.in_ok-first.ensures c.in_ok-second.ensures
-    (par_extent c.args.p.now c.args.q.now c.args.traps c.in_ok-first.first c.in_ok-second.second c.with_parts.result
+    (par_extent c.args.p.now c.args.q.now c.args.traps c.in_ok-first.first c.in_ok-second.second c.in_ok-both.both
     c.in_ok-first.ensures.own c.in_ok-second.ensures.own
     (record {
-      main = c.with_parts.ensures.main;
-      again = c.with_parts.ensures.again;
-      statements = c.with_parts.ensures.statements;
-      pauses = c.with_parts.ensures.pauses;
+      main = c.in_ok-both.ensures.main;
+      again = c.in_ok-both.ensures.again;
+      statements = c.in_ok-both.ensures.statements;
+      pauses = c.in_ok-both.ensures.pauses;
     }) a b)
