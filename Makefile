@@ -145,6 +145,9 @@ bench: build library
 	python3 bench/orders.py
 	python3 bench/worklist.py $(BENCHES)
 	python3 bench/worklist.py --plain $(BENCHES) 5
+	python3 bench/worklist.py --orders $(BENCHES)
+	python3 bench/worklist.py --loads $(BENCHES)
+	python3 bench/worklist.py --exponents $(BENCHES)
 	python3 bench/icarus.py $(BENCHES)
 	python3 bench/texts.py $(BENCHES)
 	python3 bench/loads.py $(BENCHES)

@@ -10,7 +10,9 @@ and a third go on from a pause in each part, and RINGS of rings of 4 to 32 cells
 to give one sum of outputs; else the script ends with 1, as where an instant looks at more than three statements a cell.
 
 Then it prints the instructions an instant of relays of 16, 32 and 63 signals and of rings of 8, 16 and 32 cells, by callgrind: in order, and
-the mean of a few random orders, and how many times as many these are. Some of the relays never begin.
+the mean of a few random orders, and how many times as many these are; and at how many statements an instant looks at most, over its cells.
+Some of the relays never begin. Last come relays for which the engine has no order: under a `present`, under a `signal`, of local signals, and
+a second one after the first. They may look at more statements.
 """
 import pathlib
 import random
@@ -26,6 +28,7 @@ from worklist import PAUSE, emit, loop, names, par, present, tellers
 INSTANTS = 12
 COUNTED = 3  # random orders whose instructions are counted
 KINDS = ("sure", "asked", "paused")
+UNORDERED = ("under a present", "under a signal", "of local signals", "after another one")
 
 
 def relay(count, kind, shuffle, masks=(0, 1)):
@@ -38,6 +41,31 @@ def relay(count, kind, shuffle, masks=(0, 1)):
     shuffle(parts)
     body = par(*parts) if kind == "paused" else loop(par(*parts), PAUSE)
     return ["I"], names("O", count), body, list(masks)
+
+
+def unordered(count, kind, shuffle):
+    """A relay of this many signals for which the engine has no order."""
+    if kind == "of local signals":
+        signals = names("S", count)
+        parts = [emit("S0"), *(present(a, emit(b)) for a, b in zip(signals, [*signals[1:], "O0"]))]
+        shuffle(parts)
+        return [], names("O", 1), loop(told_by(signals, par(*parts)), PAUSE), [0]
+    parts = tellers(count)
+    shuffle(parts)
+    if kind == "after another one":
+        first, second = tellers(count)[: count // 2], [emit(f"O{count // 2}"), *tellers(count)[count // 2 + 1 :]]
+        shuffle(first)
+        shuffle(second)
+        return [], names("O", count), loop(par(*first), PAUSE, par(*second), PAUSE), [0]
+    body = present("I", par(*parts)) if kind == "under a present" else told_by(["S0"], par(*parts))
+    return ["I"], names("O", count), loop(body, PAUSE), [1]
+
+
+def told_by(signals, body):
+    """The body, inside the binders of these local signals."""
+    for signal in reversed(signals):
+        body = ("local", signal, body)
+    return body
 
 
 def ring(count, shuffle):
@@ -69,24 +97,27 @@ class Programs:
         self.port = port.built(folder)
         self.counting = port.built(folder / "counting", looks=True)
         self.sweeping = port.built(folder / "sweeping", guesses=False)
+        self.most = 0
 
-    def fault_of(self, made):
-        """What differs, if anything."""
+    def looks(self, given):
+        """At how many statements an instant of this case looks at most, over its cells."""
+        return max(port.looked(self.counting, given, INSTANTS))
+
+    def fault_of(self, made, is_ordered):
+        """What is wrong, if anything. Where the engine has an order of the sides, it may look at three statements a cell."""
         program, given = worklist.Program("order", self.folder, made), port.case("order", self.folder, made)
         words = [[each, given, str(INSTANTS)] for each in (self.port, self.sweeping)] + [[self.folder / "worklist", program.net, str(INSTANTS)]]
         lines = [subprocess.run(each, capture_output=True, text=True, check=False).stdout for each in words]
-        looks = max(port.looked(self.counting, given, INSTANTS))
+        looks = self.looks(given) if is_ordered else 0
         self.most = max(self.most, looks)
         return None if lines[0] and len(set(lines)) == 1 and looks <= port.MOST_LOOKS else (*lines, looks)
 
-    most = 0
 
-
-def compare(count, make, first_seed, programs):
-    """Runs random orders, and ends where one differs."""
+def compare(count, make, first_seed, programs, is_ordered=True):
+    """Runs random orders, and ends where one is wrong."""
     for seed in range(first_seed, first_seed + count):
         generator = random.Random(seed)
-        if fault := programs.fault_of(make(generator, seed)):
+        if fault := programs.fault_of(make(generator, seed), is_ordered):
             sys.exit(f"orders.py: seed {seed}: {fault}")
 
 
@@ -96,11 +127,13 @@ def spent(made, programs, built):
 
 
 def print_row(name, make, programs):
-    """Prints the instructions in order and at random, and those by sweeps alone at random."""
+    """Prints the instructions in order and at random, those by sweeps alone at random, and the most statements looked at."""
     orders = [make(random.Random(seed).shuffle) for seed in range(COUNTED)]
     ordered = spent(make(none), programs, programs.port)
     mixed, sweeping = (statistics.mean(spent(made, programs, built) for made in orders) for built in (programs.port, programs.sweeping))
-    print(f"{name}: {ordered:,.0f} in order, {mixed:,.0f} at random, {mixed / ordered:.2f} times; {sweeping:,.0f} by sweeps alone", flush=True)
+    looks = max(programs.looks(port.case("order", programs.folder, made)) for made in orders)
+    print(f"{name}: {ordered:,.0f} in order, {mixed:,.0f} at random, {mixed / ordered:.2f} times; {sweeping:,.0f} by sweeps alone; "
+          f"at most {looks:.2f} statements looked at over cells", flush=True)
 
 
 def main(words):
@@ -113,6 +146,7 @@ def main(words):
         compare(relays, lambda r, n: relay(r.randrange(8, 64), KINDS[n % 3], r.shuffle), seed, programs)
         compare(rings, lambda r, n: ring(r.randrange(4, 33), r.shuffle), seed, programs)
         print(f"{relays} orders of relays and {rings} of rings: no difference; at most {programs.most:.2f} statements looked at over cells", flush=True)
+        compare(relays // 5, lambda r, n: unordered(r.randrange(8, 32), UNORDERED[n % 4], r.shuffle), seed, programs, is_ordered=False)
         for count in (16, 32, 63):
             print_row(f"relay of {count}", lambda shuffle, count=count: relay(count, "sure", shuffle), programs)
         for count in (16, 32, 63):
@@ -121,6 +155,9 @@ def main(words):
             print_row(f"relay of {count} from pauses", lambda shuffle, count=count: relay(count, "paused", shuffle), programs)
         for count in (8, 16, 32):
             print_row(f"ring of {count}", lambda shuffle, count=count: ring(count, shuffle), programs)
+        for kind in UNORDERED:
+            for count in (8, 16, 31):
+                print_row(f"relay of {count} {kind}", lambda shuffle, count=count, kind=kind: unordered(count, kind, shuffle), programs)
 
 
 if __name__ == "__main__":

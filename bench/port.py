@@ -15,7 +15,8 @@ program: its cells, the instructions a cell of both, and their ratio. The counts
 --plain runs each program on a port of the plain engine in place of the worklist, and counts by the instant. The sums of outputs have to be one.
 Both are then built as the kit builds them: with no check of an index, no `noalias`, and for x86-64-v2.
 --looks counts at how many statements an instant looks, each as often as it is looked at or passed on the way to another, over its cells: the
-most of all instants, and the mean. More than 3 ends it with 1. Cells that are read or filled as a range are not counted.
+most of all instants, and the mean. More than 3 ends it with 1. What is skipped whole isn't counted, nor are cells that are read or filled as
+a range.
 """
 import os
 import pathlib
@@ -94,7 +95,7 @@ def unchecked(text):
 
 
 def counting(module, text):
-    """A module of the engine that counts at which statements it looks. An order is made once, at the load."""
+    """A module of the engine that counts at which statements it looks. An order is made once, by the first run: that isn't counted."""
     return text if module == "side_order" else re.sub(r"(match|\) =) s \{", r"\1 crate::looks::look(s) {", text)
 
 
@@ -108,7 +109,8 @@ def built(folder, as_kit=False, looks=False, guesses=True):
     goes by sweeps alone.
     """
     folder.mkdir(exist_ok=True)
-    parts = [(HERE / "port.rs").read_text(encoding="utf-8")]
+    by_hand = (HERE / "port.rs").read_text(encoding="utf-8")
+    parts = [by_hand.replace("COUNTS: bool = false", "COUNTS: bool = true") if looks else by_hand]
     for crate, modules in CRATES.items():
         texts = {module: ported(crate, module) for module in modules}
         if crate == "est_micro" and looks:

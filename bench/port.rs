@@ -5,6 +5,7 @@
 mod looks {
     use std::sync::atomic::{AtomicUsize, Ordering::Relaxed};
 
+    const COUNTS: bool = false;
     static LOOKS: AtomicUsize = AtomicUsize::new(0);
 
     /// The statement that is looked at.
@@ -15,9 +16,8 @@ mod looks {
 
     /// Prints how many cells there are, and at how many statements was looked since it was last asked.
     pub fn print(cells: usize) {
-        let looks = LOOKS.swap(0, Relaxed);
-        if looks > 0 {
-            eprintln!("{cells} {looks}");
+        if COUNTS {
+            eprintln!("{cells} {}", LOOKS.swap(0, Relaxed));
         }
     }
 }

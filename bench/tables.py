@@ -12,8 +12,9 @@ table. In the engine's table each cell has to have the same value, and has to be
 The next instant goes on from the pauses that these cells tell, or from the same state where there is none.
 
 The last line says how many kernels, instants and cells were compared, and how many instants and cells were open. It exits with 1 at the first
-difference, which it prints. With the port it says too at how many statements an instant looked at most, over its cells; and each kernel runs
-once more on a port without the order of sides and without passes, which guess what is best looked at first: no cell may change by that.
+difference, which it prints. With the port a second line says at how many statements an instant looked, over its cells: more than 6 is a fault.
+And each kernel runs once more on a port without the order of sides and without passes, which guess what is best looked at first: no cell may
+change by that.
 """
 import concurrent.futures
 import os
@@ -32,6 +33,8 @@ INSTANTS = 8
 MOST_LOCALS = 3
 MOST_TRAPS = 3
 AT_ONCE = 500
+MOST_LOOKS = 6  # over the cells of an instant
+COUNTED = ("cells", "open", "stuck", "most", "looks")
 
 
 # Statements, as bench/worklist.py has them. A test is a name, or a tuple of `not`, `and` or `or` and tests.
@@ -300,20 +303,20 @@ class Case:
 
 
 class Ported:
-    """The port, with the guesses and without them."""
+    """The port, with its guesses and without them."""
 
     def __init__(self, folder):
         self.folder = folder
         self.programs = [port.built(folder / name, looks=True, guesses=name == "guessing") for name in ("guessing", "plain")]
 
     def answers(self, cases):
-        """The lines that both print of these cases, and the most statements an instant of the first looked at, over its cells."""
+        """What becomes of both with these cases, and at how many statements each instant of the first looked, over its cells."""
         given = self.folder / f"cases{os.getpid()}"
         given.write_text("".join(case.lines() for case in cases), encoding="utf-8")
         ran = [subprocess.run([program, given], capture_output=True, text=True, check=False) for program in self.programs]
         given.unlink()
-        looks = [int(looked) / int(cells) for cells, looked in map(str.split, ran[0].stderr.splitlines())]
-        return [done.stdout.splitlines() for done in ran], max(looks, default=0)
+        looks = [int(looked) / int(cells) for cells, looked in map(str.split, ran[0].stderr.splitlines()[: len(cases) * INSTANTS])]
+        return ran, looks
 
 
 class Built:
@@ -325,33 +328,37 @@ class Built:
     def answers(self, cases):
         given = "".join(case.work() for case in cases)
         done = subprocess.run([self.program], input=given, capture_output=True, text=True, check=False)
-        return [done.stdout.splitlines()], 0
+        return [done], []
 
 
 def compare(program, seeds):
     """Runs these cases. Answers what was counted, and the first case that differs."""
-    cases, counts = [Case(seed) for seed in seeds], {"cells": 0, "open": 0, "stuck": 0}
-    found, counts["looks"] = program.answers(cases)
+    cases, counts = [Case(seed) for seed in seeds], dict.fromkeys(COUNTED, 0)
+    ran, looks = program.answers(cases)
     wanted = [case.tables(counts) for case in cases]
-    for lines in found:
+    counts |= {"most": max(looks, default=0), "looks": sum(looks)}
+    for done in ran:
+        lines = done.stdout.splitlines()
         for seed, case, line, table in zip(seeds, cases, lines, wanted):
             if line != table:
                 return counts, f"seed {seed}: the tables differ\n{case.text()}\n{line}\n{table}"
-        if len(lines) != len(cases):
-            return counts, f"seed {seeds[len(lines)]}: there is no answer"
+        if done.returncode or len(lines) != len(cases):
+            return counts, f"seed {seeds[min(len(lines), len(cases) - 1)]}: it ended with {done.returncode}: {done.stderr.strip()}"
+    if counts["most"] > MOST_LOOKS:
+        return counts, f"seeds from {seeds[0]} on: an instant looks at {counts['most']:.2f} statements a cell"
     return counts, None
 
 
 def compare_all(program, seeds):
     """Compares all cases, on all processors. Answers what was counted. Ends at the first difference."""
-    counts = {"cells": 0, "open": 0, "stuck": 0, "looks": 0}
+    counts = dict.fromkeys(COUNTED, 0)
     parts = [seeds[start : start + AT_ONCE] for start in range(0, len(seeds), AT_ONCE)]
     with concurrent.futures.ProcessPoolExecutor() as pool:
         for part, fault in pool.map(compare, [program] * len(parts), parts):
             if fault:
                 pool.shutdown(cancel_futures=True)
                 sys.exit(fault)
-            counts = {name: max(counts[name], part[name]) if name == "looks" else counts[name] + part[name] for name in counts}
+            counts = {name: max(counts[name], part[name]) if name == "most" else counts[name] + part[name] for name in COUNTED}
     return counts
 
 
@@ -362,9 +369,11 @@ def main(words):
     with tempfile.TemporaryDirectory() as made:
         program = Ported(pathlib.Path(made)) if words[0] == "port" else Built(words[0])
         counts = compare_all(program, range(seed, seed + kernels))
-    looks = f"; at most {counts['looks']:.2f} statements looked at over cells" if counts["looks"] else ""
-    print(f"{kernels} kernels, {kernels * INSTANTS} instants, {counts['stuck']} of them with open cells, {counts['cells']} cells, "
-          f"{counts['open']} of them open: no difference{looks}")
+    instants = kernels * INSTANTS
+    print(f"{kernels} kernels, {instants} instants, {counts['stuck']} of them with open cells, {counts['cells']} cells, "
+          f"{counts['open']} of them open: no difference")
+    if counts["most"]:
+        print(f"statements looked at, over the cells of an instant: at most {counts['most']:.2f}, {counts['looks'] / instants:.2f} in the mean")
 
 
 if __name__ == "__main__":

@@ -19,7 +19,7 @@ from engines import ANSWER
 
 LARGE = ("200 loops", "large", "sequence", "relay", "relay backwards")
 COUNTED = re.compile(r"^\s*([\d,]+) \(\s*[\d.]+%\)\s+\S*?:(\S.*?)(?: \[.*)?$")
-MAKING = ("layout::", "Net::build", "open_cells", "with_room", "emissions_of", "add_emission", "extents_of", "add_extents", "Reach::of", "add_pauses", "reach::begun")
+MAKING = ("est_net::extents::", "Net::build", "open_cells", "with_room", "emissions_of", "add_emission", "Reach::of", "add_pauses", "reach::begun")
 BLINKER = "loop emit O; pause; emit P; pause end"
 ABRO = "loop abort [ await A || await B ]; emit O; halt when R end"
 

@@ -5,6 +5,8 @@ usage: worklist.py PROGRAM [PAIRS] [NAME ..]
        worklist.py --check PROGRAM [NAME ..]
        worklist.py --plain PROGRAM [PAIRS] [NAME ..]
        worklist.py --exponents PROGRAM [FAMILY ..]
+       worklist.py --orders PROGRAM [PAIRS]
+       worklist.py --loads PROGRAM [PAIRS] [NAME ..]
 
 PROGRAM is the built `crates/benches/out/benches`. Each program below is written as kernel statements. This script prints it as a
 module, which PROGRAM loads, and lays out its cells and their gates itself, for `bench/worklist.c`, which it builds with the system's `cc -O2`.
@@ -21,6 +23,10 @@ sum.
 
 --exponents counts the engine's instructions an instant in programs of one kind and of growing size, and prints for each such family the
 exponent: the slope of the line that fits the logarithms of instructions over those of cells best. 1 is linear.
+
+--orders times the engine alone: 32 and 64 outputs, each told by another one, in the order of the text and at random, and rings of 8, 16 and 32
+cells. --loads times what a load with one instant takes on the engine, with its table, beside the plain engine, which has none: each less what
+the start of a process takes. Programs that take less than half of that are left out. Both print the medians of PAIRS rounds.
 """
 import math
 import os
@@ -36,6 +42,7 @@ HERE = pathlib.Path(__file__).resolve().parent
 KINDS = "CONSTANT BEGUN COPY BOTH BUT ANY EITHER ENDS AGAIN OUT HELD RUNS MOST INPUT".split()
 SECONDS = 0.25  # how long a timed run takes, about
 MOST_LOCALS = 6  # in one another, for the plain engine
+ORDERS = {"relay-on": (32, 64), "relay-mixed": (32, 64), "ring": (8, 16, 32)}  # families and sizes that are timed by --orders
 CHECKED = 40  # instants of --check
 COUNTED = 20  # instants whose instructions are counted
 TOO_LONG = 60  # seconds
@@ -230,7 +237,7 @@ def families():
         "abro": ((2, 4, 8, 16), lambda n: (names("A", n) + ["R"], names("O", 1), abro(n), [0, 1, 2, (1 << n) - 1, 1 << n])),
         "chain": ((4, 8, 15, 30), eight(chain)),
         "every": ((6, 12, 25, 50), eight(lambda n: par(*(every(emit(f"O{k}"), f"I{k % 8}") for k in range(n))))),
-        "local": ((5, 10, 20, 40), outputs(lambda n: loop(told(names("S", n), "O0"), PAUSE))),
+        "local": ((4, 8, 16, 32), outputs(lambda n: loop(told(names("S", n), "O0"), PAUSE))),
         "ring": ((4, 8, 16, 32), outputs(ring, "PT")),
         "blocks": ((12, 24, 47, 94), eight(lambda n: par(*(block(k) for k in range(n))))),
         "loops": ((2, 4, 8, 16), lambda n: ([], names("O", 49), busy_loops(n), [0])),
@@ -584,6 +591,38 @@ def beside_plain(engine, names_of, pairs):
         print(f"geometric mean of engine over plain engine: {statistics.geometric_mean(ratios):.2f}")
 
 
+def print_orders(engine, pairs):
+    """Prints how long an instant takes of outputs in order and at random, and of rings."""
+    made = {f"{name}-{size}": families()[name][1](size) for name, sizes in ORDERS.items() for size in sizes}
+    taken = {name: [] for name in made}
+    with tempfile.TemporaryDirectory() as folder:
+        programs_of = {name: Program(name, pathlib.Path(folder), parts) for name, parts in made.items()}
+        for _ in range(pairs):
+            for name, program in programs_of.items():
+                taken[name] += timed({"micro": lambda count: [engine, "micro", str(count)]}, program, 1)["micro"]
+    print("| Program | Cells | Microseconds | Nanoseconds a cell |\n|---|---|---|---|")
+    median = {name: statistics.median(seconds) for name, seconds in taken.items()}
+    for name, program in programs_of.items():
+        print(f"| `{name}` | {program.cells:,} | {median[name] * 1e6:.2f} | {median[name] * 1e9 / program.cells:.1f} |")
+    print(f"64 outputs at random over those in order: {median['relay-mixed-64'] / median['relay-on-64']:.2f}; "
+          f"64 over 32 at random: {median['relay-mixed-64'] / median['relay-mixed-32']:.2f}")
+
+
+def print_loads(engine, names_of, pairs):
+    """Prints how long a load and an instant take on both engines."""
+    print("| Program | Cells | Load and instant with a table, microseconds | Without one | Times |\n|---|---|---|---|---|")
+    with tempfile.TemporaryDirectory() as folder:
+        start = statistics.median(run([engine, "plain", "1"], Program("opening", pathlib.Path(folder)).case)[0] for _ in range(pairs))
+        for name in names_of or (*programs(), *further()):
+            program = Program(name, pathlib.Path(folder))
+            if program.locals > MOST_LOCALS:
+                continue
+            rounds = [[run([engine, each, "1"], program.case)[0] - start for each in ("micro", "plain")] for _ in range(pairs)]
+            micro, plain = (statistics.median(each) for each in zip(*rounds))
+            if plain > start / 2:
+                print(f"| `{name}` | {program.cells:,} | {micro * 1e6:,.0f} | {plain * 1e6:,.0f} | {micro / plain:.2f} |", flush=True)
+
+
 def exponent(points):
     """The slope of the line that fits the logarithms of these pairs best."""
     logs = [(math.log(x), math.log(y)) for x, y in points]
@@ -614,19 +653,23 @@ def exponents(engine, names_of):
 def main(words):
     if words[:1] == ["--exponents"] and len(words) > 1:
         return exponents(str(pathlib.Path(words[1]).resolve()), words[2:])
-    check, plain = words[:1] == ["--check"], words[:1] == ["--plain"]
-    words = words[check or plain:]
+    mode = words[0] if words[:1] and words[0] in ("--check", "--plain", "--orders", "--loads") else ""
+    words = words[bool(mode):]
     if not words:
         sys.exit(__doc__.strip())
     engine, others = str(pathlib.Path(words[0]).resolve()), words[1:]
     pairs = int(others.pop(0)) if others and others[0].isdigit() else 10
     sys.setrecursionlimit(20000)
-    if plain:
+    if mode == "--plain":
         return beside_plain(engine, others, pairs)
+    if mode == "--orders":
+        return print_orders(engine, pairs)
+    if mode == "--loads":
+        return print_loads(engine, others, pairs)
     with tempfile.TemporaryDirectory() as made:
         folder = pathlib.Path(made)
         subprocess.run(["cc", "-O2", "-o", folder / "worklist", HERE / "worklist.c"], check=True)
-        if not check:
+        if mode != "--check":
             print("| Program | Cells | Engine, ns a cell | Worklist, ns a cell | Engine over worklist | Engine, instructions a cell "
                   "| Worklist, instructions a cell | Engine over worklist | Engine over plain engine |")
             print("|---|---|---|---|---|---|---|---|---|")
@@ -639,7 +682,7 @@ def main(words):
                 "plain": lambda count: [engine, "plain", str(count)],
             }
             compare(words_of, program)
-            if not check:
+            if mode != "--check":
                 ratios.append(row(words_of, program, pairs))
         if ratios:
             print(f"geometric mean of engine over worklist: {statistics.geometric_mean(ratios):.2f}")

@@ -108,7 +108,8 @@ fn with_test(rest: Extent, test: &Test) -> Extent
     }
 }
 
-/// The sum of two counts of what is to be kept. Where no `usize` has it, memory is refused.
+/// The sum of two counts. Where no `usize` has it, so many cells or statements can't be kept, and
+/// memory is refused.
 fn add(a: usize, b: usize) -> Result<usize, AllocError>
     ensures { IfOk result (λ sum. sum ≡ a + b) }
 {
