@@ -10,19 +10,19 @@
 //! order, or visits the second side of each `||` first (`direction`). Where no cell of a statement
 //! is decided, as in a first sweep, none is looked at before it is told (`sweep_kind`). Where all
 //! cells of a `||`, of one of its sides, or of a statement that goes on are decided, a later sweep
-//! only reads them (`decided`). A statement that takes no part is filled at once (`idle`, `extents`). After each
-//! sweep the run tells the cells of the signals what is emitted (`outputs`). After a sweep that
-//! decided little, passes look again at what reads the signals that were just decided (`passes`, by
-//! `pass_begin` and `pass_resume`).
+//! only reads them (`decided`). A statement that takes no part is filled at once (`idle`,
+//! `extents`). After each sweep the run tells the cells of the signals what is emitted
+//! (`outputs`). After a sweep that decided little, passes look again at what reads the signals
+//! that were just decided (`passes`, by `pass_begin` and `pass_resume`).
 //!
 //! Where the `sides` of a `||` tell each other, the run has an order in which they do
 //! (`side_order`). In it a pass sweeps them one by one (`lead`, which finds the `||` by
 //! `find_begin` and `find_resume`), and knows after each what is emitted surely, and what is
 //! emitted nowhere any more. Then the `||` is told what the codes of its sides say, unless it goes
-//! on from its pauses (`closing`). The first run begins so, and each that
-//! comes after it where the order goes across the text, or the run before found an absent signal
-//! so. Else it does so after a slow sweep, and passes only if that decides nothing. The order is a
-//! guess: a bad one costs time, and changes no answer.
+//! on from its pauses (`closing`). The first run begins so, and each that comes after it where the
+//! order goes across the text, or the run before found an absent signal so. Else it does so after
+//! a slow sweep, and passes only if that decides nothing. The order is a guess: a bad one costs
+//! time, and changes no answer.
 //!
 //! `learning` tells one cell, `cells` those of one statement; `must_can` puts together what is
 //! judged of a statement from what is judged of its parts. `micro` reads the outcome off the cells,
