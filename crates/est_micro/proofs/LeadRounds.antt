@@ -11,6 +11,7 @@ use Rattle.est_kernel.specs.declared.state.State.{State}
 use Rattle.est_meaning.specs.Environments.{Env, verdict}
 use Rattle.est_meaning.specs.Knowledge.{IsBelow, KnowsLess}
 use Rattle.est_meaning.specs.Rounds.{judged_signals}
+use Rattle.est_meaning.specs.Signals.{Signals}
 use Rattle.est_meaning.specs.declared.status.Status.{Status}
 use Rattle.est_meaning.specs.declared.status.Status.TheVariants.{Present, Absent, Unknown}
 use Rattle.est_meaning.proofs.RoundsComeToRest.{judged_within}
@@ -28,13 +29,15 @@ use Rattle.est_rounds.specs.Views.{env_of, set_of}
 use Rattle.est_rounds.specs.declared.signal_set.Env.{Env as Known}
 use Rattle.est_rounds.specs.declared.signal_set.SignalSet.{SignalSet}
 use Rattle.est_micro.specs.Inner.Closing.{IsFoundClosed}
-use Rattle.est_micro.specs.Inner.Leads.{Leads, SheetChanges, last_of}
+use Rattle.est_micro.specs.Inner.Hearing.{Heard}
+use Rattle.est_micro.specs.Inner.Leads.{Leads, LeadsIn, SheetChanges, last_of}
 use Rattle.est_micro.specs.Inner.Sides.{IsFound, IsOneOf, IsSideLed}
 use Rattle.est_micro.specs.Parts.{AreInputsAlone}
 use Rattle.est_micro.specs.Runs.{AreSignalsUpdated, Ready, table_of}
 use Rattle.est_micro.specs.declared.find_begin.Found.{Found}
 use Rattle.est_micro.specs.declared.sides.Side.{Side}
 use Rattle.est_micro.proofs.BegunNodes.{widen}
+use Rattle.est_micro.proofs.FoundSides.{none_too, some_too}
 use Rattle.est_micro.proofs.Frames.{changes_then}
 use Rattle.est_micro.proofs.PassRounds.{exchange_ready, passed_nothing, ready_by, ready_less, same_output}
 use Rattle.est_micro.proofs.Rounds.{may_be}
@@ -46,21 +49,28 @@ leads_begin unasked k x inputs cells e a ready =
     let knows = ready_less unasked k x inputs cells e a ready in
     record { sound = ready.sound; less = knows.0; heard = knows.1 }
 
+-- and something was found
+pub led_begin : (k : Kernel) (x : State) (inputs : ℕ → Bool) (xs : List Extent) (f : Found) (cells : List Status)
+    (l : Env) → IsFound xs true k.root (output_count k.interface) 0 (λ r z. sheet_meaning k.root x z) Present l cells f
+    → Leads k x inputs cells l → LeadsIn k x inputs f cells (env_of f.known)
+led_begin k x inputs xs f cells l found leads =
+    let at = found.part Present (last_of k x inputs) (inr refl) leads.less leads.heard leads.sound.sheet in
+    record { sound = leads.sound; at = at; less = at.less; heard = at.heard }
+
 -- after one was swept
 pub leads_side : (k : Kernel) (x : State) (inputs : ℕ → Bool) (xs : List Extent) (f : Found) (side : Side)
     (e : Env) (old mid new : List Status) (l m : Env)
     → IsFound xs true k.root (output_count k.interface) 0 (λ r z. sheet_meaning k.root x z) Present e old f
     → IsOneOf xs f.place f.statement.now side → IsSideLed f side l m mid new
-    → Leads k x inputs old e → Leads k x inputs mid l → Leads k x inputs new m
-leads_side k x inputs xs f side e old mid new l m found one led start leads =
+    → LeadsIn k x inputs f mid l → LeadsIn k x inputs f new m
+leads_side k x inputs xs f side e old mid new l m found one led leads =
     let c = output_count k.interface in
     let i = k.interface in
     let last = last_of k x inputs in
     let M = sheet_meaning k.root x last in
     let from = found.place.from in
     let inside = one.from in
-    let at = found.part Present last (inr refl) start.less start.sound.sheet in
-    let after = led.stands true k.root c 0 M last at
+    let after = led.stands true k.root c 0 M last leads.at
     (record { below = leads.sound.sheet; less = leads.less; heard = leads.heard }) in
     record {
       sound = record {
@@ -76,6 +86,7 @@ leads_side k x inputs xs f side e old mid new l m found one led start leads =
             (leads.sound.outputs n z);
         sheet = after.below;
       };
+      at = leads.at;
       less = after.less;
       heard = after.heard;
     }
@@ -95,12 +106,11 @@ side_changes k xs Meant f side e old mid new l m found one led =
 pub leads_closed : (k : Kernel) (x : State) (inputs : ℕ → Bool) (xs : List Extent) (f : Found) (e : Env)
     (old mid new : List Status) (l : Env)
     → IsFound xs true k.root (output_count k.interface) 0 (λ r z. sheet_meaning k.root x z) Present e old f
-    → IsFoundClosed f mid new → Leads k x inputs old e → Leads k x inputs mid l → Leads k x inputs new l
-leads_closed k x inputs xs f e old mid new l found closed start leads =
+    → IsFoundClosed f mid new → LeadsIn k x inputs f mid l → LeadsIn k x inputs f new l
+leads_closed k x inputs xs f e old mid new l found closed leads =
     let i = k.interface in
     let last = last_of k x inputs in
     let from = found.place.from in
-    let at = found.part Present last (inr refl) start.less start.sound.sheet in
     record {
       sound = record {
         outputs = λ n z. subst (λ (v : Status). IsBelow v (last (outer n)))
@@ -113,8 +123,10 @@ leads_closed k x inputs xs f e old mid new l found closed start leads =
               quiet = closed.changes.quiet;
             }) (judged_within i inputs n z) (may_be i inputs n z)))
             (leads.sound.outputs n z);
-        sheet = closed.below true k.root (output_count i) 0 (sheet_meaning k.root x last) last at leads.sound.sheet;
+        sheet = closed.below true k.root (output_count i) 0 (sheet_meaning k.root x last) last leads.at
+            leads.sound.sheet;
       };
+      at = leads.at;
       less = leads.less;
       heard = leads.heard;
     }
@@ -138,33 +150,42 @@ both_false false false x y = refl
 both_false true b x y = let z : true ≡ false = x in cc
 both_false false true x y = let z : true ≡ false = y in cc
 
-pub absent_below : (k : Kernel) (x : State) (inputs : ℕ → Bool) (cells : List Status) (l : Env) (n : ℕ)
-    → Leads k x inputs cells l → (emittable k.interface n && not (inputs n)) ≡ true
+pub absent_below : (k : Kernel) (x : State) (inputs : ℕ → Bool) (f : Found) (cells : List Status) (l : Env) (n : ℕ)
+    → LeadsIn k x inputs f cells l → (emittable k.interface n && not (inputs n)) ≡ true
     → emits is_sure true k.root (sheet_in (cell_at cells) true k.root (output_count k.interface) 0) (outer n) ≡ false
     → emits is_possible true k.root (sheet_in (cell_at cells) true k.root (output_count k.interface) 0) (outer n)
     ≡ false
     → IsBelow Absent (last_of k x inputs (outer n))
-absent_below k x inputs cells l n leads has sure possible =
+absent_below k x inputs f cells l n leads has sure possible =
     let i = k.interface in
     let j = judged_signals i inputs in
     let g = table_sound j (judged_within i inputs) inputs k.root x (table_of i k.root cells) leads.sound in
     subst (λ (v : Status). IsBelow v (last_of k x inputs (outer n))) (both_false _ _ sure possible) (g.outputs n has)
 
 -- where l is changed in signals that are absent alone
-pub leads_by : (k : Kernel) (x : State) (inputs : ℕ → Bool) (cells : List Status) (l m : Env)
-    → ((n : Name) → m n ≡ Unknown → l n ≡ Unknown) → KnowsLess m (last_of k x inputs)
-    → Leads k x inputs cells l → Leads k x inputs cells m
-leads_by k x inputs cells l m f less leads = record {
-  sound = leads.sound;
-  less = less;
-  heard = λ n i j. leads.heard n i (f n j);
-}
+heard_by : (e l m : Env) (x : Signals) → ((n : Name) → m n ≡ Unknown → l n ≡ Unknown) → Heard x e l → Heard x e m
+heard_by e l m x f h n i j = h n i (f n j)
+
+pub leads_by : (k : Kernel) (x : State) (inputs : ℕ → Bool) (f : Found) (cells : List Status) (l m : Env)
+    (leads : LeadsIn k x inputs f cells l) → ((n : Name) → m n ≡ Unknown → l n ≡ Unknown) → KnowsLess m leads.at.inside
+    → LeadsIn k x inputs f cells m
+leads_by k x inputs f cells l m leads doubt less =
+    let at = leads.at in
+    record {
+      sound = leads.sound;
+      at = at;
+      less = less;
+      heard = record {
+        begun = none_too f.pauses (heard_by at.inside l m _ doubt) leads.heard.begun;
+        on = some_too f.pauses (λ p. heard_by at.inside l m _ doubt) leads.heard.on;
+      };
+    }
 
 -- and then the run goes on
 pub leads_ready : (unasked : ℕ → Bool) (k : Kernel) (x : State) (inputs : ℕ → Bool) (e : Known) (old new : List Status)
-    (l : Env) → SheetChanges k old new → Leads k x inputs new l → Ready unasked k x inputs old e
+    (f : Found) (l : Env) → SheetChanges k old new → LeadsIn k x inputs f new l → Ready unasked k x inputs old e
     → Ready unasked k x inputs new e
-leads_ready unasked k x inputs e old new l change leads ready =
+leads_ready unasked k x inputs e old new f l change leads ready =
     ready_by unasked k x inputs e old new (record {
       size = change.size;
       sound = leads.sound;
@@ -204,23 +225,23 @@ was_asked true false h = (refl, refl)
 was_asked true true h = let z : false ≡ true = h in cc
 was_asked false e h = let z : false ≡ true = h in cc
 
-pub silent_leads : (k : Kernel) (x : State) (inputs : ℕ → Bool) (cells : List Status) (e m : Known)
+pub silent_leads : (k : Kernel) (x : State) (inputs : ℕ → Bool) (f : Found) (cells : List Status) (e m : Known)
     (silent : ℕ → Bool) → ((n : ℕ) → silent n ≡ true → IsBelow Absent (last_of k x inputs (outer n)))
     → ((n : ℕ) → silent n ≡ true → bits e.present.interface n ≡ false) → m.present ≡ e.present
     → ((n : ℕ) → bits m.possible.interface n ≡ (bits e.possible.interface n && not (silent n)))
-    → m.possible.local ≡ e.possible.local → Leads k x inputs cells (env_of e) → Leads k x inputs cells (env_of m)
+    → m.possible.local ≡ e.possible.local → LeadsIn k x inputs f cells (env_of e)
+    → LeadsIn k x inputs f cells (env_of m)
 unfolding env_of set_of
-silent_leads k x inputs cells e m silent absent free same less local leads =
-    leads_by k x inputs cells (env_of e) (env_of m)
+silent_leads k x inputs f cells e m silent absent free same less local leads =
+    leads_by k x inputs f cells (env_of e) (env_of m) leads
     (elim [
       | outer n ↦ λ z. doubt n (silent n) refl z
       | inner n ↦ λ z. sym (locals n) ∙ z
     ])
     (elim [
       | outer n ↦ below n (silent n) refl
-      | inner n ↦ subst (λ (v : Status). IsBelow v (last_of k x inputs (inner n))) (sym (locals n))
-          (leads.less (inner n))
-    ]) leads
+      | inner n ↦ subst (λ (v : Status). IsBelow v (leads.at.inside (inner n))) (sym (locals n)) (leads.less (inner n))
+    ])
   where
     and_on : (b : Bool) → (b && true) ≡ b
     and_on true = refl
@@ -248,24 +269,26 @@ silent_leads k x inputs cells e m silent absent free same less local leads =
     doubt n true i z = let w : Absent ≡ Unknown = sym (goes n i) ∙ z in cc
     doubt n false i z = sym (stays n i) ∙ z
 
-    below : (n : ℕ) (b : Bool) → silent n ≡ b → IsBelow (env_of m (outer n)) (last_of k x inputs (outer n))
+    below : (n : ℕ) (b : Bool) → silent n ≡ b → IsBelow (env_of m (outer n)) (leads.at.inside (outer n))
     below n true i =
-        subst (λ (v : Status). IsBelow v (last_of k x inputs (outer n))) (sym (goes n i)) (absent n i)
+        subst (λ (v : Status). IsBelow v (leads.at.inside (outer n))) (sym (goes n i))
+        (subst (λ (v : Status). IsBelow Absent v) (sym (leads.at.outer n)) (absent n i))
     below n false i =
-        subst (λ (v : Status). IsBelow v (last_of k x inputs (outer n))) (sym (stays n i)) (leads.less (outer n))
+        subst (λ (v : Status). IsBelow v (leads.at.inside (outer n))) (sym (stays n i)) (leads.less (outer n))
 
 -- that no emission may emit
-pub silent_absent : (k : Kernel) (x : State) (inputs : ℕ → Bool) (cells : List Status) (l : Env) (n : ℕ)
-    (listed : List Emission) → listed ≡ emissions true k.root (output_count k.interface) 0 → Leads k x inputs cells l
+pub silent_absent : (k : Kernel) (x : State) (inputs : ℕ → Bool) (f : Found) (cells : List Status) (l : Env) (n : ℕ)
+    (listed : List Emission) → listed ≡ emissions true k.root (output_count k.interface) 0
+    → LeadsIn k x inputs f cells l
     → emittable k.interface n ≡ true → inputs n ≡ false
     → list_any (is_of is_possible (cell_at cells) n) listed ≡ false
     → IsBelow Absent (last_of k x inputs (outer n))
-silent_absent k x inputs cells l n listed z leads emitted offered silent =
+silent_absent k x inputs f cells l n listed z leads emitted offered silent =
     let T = sheet_in (cell_at cells) true k.root (output_count k.interface) 0 in
     let possible : emits is_possible true k.root T (outer n) ≡ false
     = emitted_listed is_possible n true k.root (output_count k.interface) 0 (cell_at cells)
     ∙ (ap (λ (xs : List Emission). list_any (is_of is_possible (cell_at cells) n) xs) (sym z) ∙ silent) in
-    absent_below k x inputs cells l n leads (rw (emitted, offered) refl)
+    absent_below k x inputs f cells l n leads (rw (emitted, offered) refl)
     (no_more _ _ (emits_whole true k.root T (outer n)) possible) possible
 
 -- and once the cells of the signals were told

@@ -17,7 +17,7 @@ use Rattle.est_net.specs.Layout.{sheet_in}
 use Rattle.est_net.specs.declared.extents.Extent.{Extent}
 use Rattle.est_rounds.specs.Views.{set_of}
 use Rattle.est_micro.specs.Inner.Hearing.{Heard}
-use Rattle.est_micro.specs.Inner.Sides.{IsOneOf, IsPart, IsSideLed, Stands}
+use Rattle.est_micro.specs.Inner.Sides.{IsOneOf, IsSideLed, IsWithin, Stands}
 use Rattle.est_micro.specs.Inner.Views.{Changes, IsSwept}
 use Rattle.est_micro.specs.Sweeps.{live_swept, swept, told}
 use Rattle.est_micro.specs.declared.cells.Swept.{Swept}
@@ -27,56 +27,60 @@ use Rattle.est_micro.specs.declared.sides.Side.{Side}
 use Rattle.est_micro.proofs.Hearing.{heard_in, told_heard, told_less}
 use Rattle.est_micro.proofs.Passing.{passed, sweep_passes}
 use Rattle.est_micro.proofs.PassingOn.{passed_on, sweep_passes_on}
-use Rattle.est_micro.proofs.StatementParts.{part_then}
+use Rattle.est_micro.proofs.StatementParts.{lies_in, within_then}
 
 -- what is known once a part is swept that emits no more than is meant
-told_on : (main own : Bool) (s p : Statement) (T : Sheet own p) (M : Sheet main s) (N : Sheet own p) (e k : Env)
-    (x : Signals) → x ≡ emits is_sure own p T → Below own p T N
-    → IsIn (emits is_sure own p N) (emits is_sure main s M)
-    → KnowsLess k e → Heard (emits is_sure main s M) e k → KnowsLess (told k x) e
-    × Heard (emits is_sure main s M) e (told k x)
-told_on main own s p T M N e k x z b f j u =
+told_on : (own : Bool) (p : Statement) (T N : Sheet own p) (e k : Env) (x y : Signals) → x ≡ emits is_sure own p T
+    → Below own p T N → IsIn (emits is_sure own p N) y → KnowsLess k e → Heard y e k
+    → KnowsLess (told k x) e × Heard y e (told k x)
+told_on own p T N e k x y z b f j u =
     let inside : Heard x e k
-    = subst (λ (y : Signals). Heard y e k) (sym z)
-    (heard_in _ _ e k (λ n i. f n (emits_up own p T N b n i)) u) in
+    = subst (λ (w : Signals). Heard w e k) (sym z) (heard_in _ _ e k (λ n i. f n (emits_up own p T N b n i)) u) in
     (told_less e k x j inside, told_heard e k x _ u)
 
+-- what comes of a part that is swept by what is known, l: then k is known. Around it y is heard
+record IsPartSwept (main : Bool) (s : Statement) (c t : ℕ) (M : Sheet main s) (e k : Env) (y : Signals)
+    (new : List Status) : Type 0 where
+  pub below : Below main s (sheet_in (cell_at new) main s c t) M
+  pub less : KnowsLess k e
+  pub heard : Heard y e k
+
 -- a part that is begun, if at all, as r tells, of which the gate g knows no more
-pub part_swept : (way : Direction) (main : Bool) (s : Statement) (c t : ℕ) (M : Sheet main s) (own : Bool)
-    (p : Statement) (d u : ℕ) (g r : Status) (e l k : Env) (old new : List Status) (w : Swept)
-    → IsPart main s c t M own p d u (begun own p r e) → IsBelow g r
+part_swept : (way : Direction) (main : Bool) (s : Statement) (c t : ℕ) (M : Sheet main s) (own : Bool)
+    (p : Statement) (d u : ℕ) (g r : Status) (e l k : Env) (y : Signals) (old new : List Status) (w : Swept)
+    → IsWithin main s c t M own p d u (begun own p r e) → IsIn (emits is_sure own p (begun own p r e)) y → IsBelow g r
     → IsSwept own p d u (swept way own p l g) old new w → k ≡ told l (set_of w.judged.must.signals)
-    → Stands main s (sheet_in (cell_at old) main s c t) M e l
-    → Stands main s (sheet_in (cell_at new) main s c t) M e k
-part_swept way main s c t M own p d u g r e l k old new w part i sw z at =
+    → Below main s (sheet_in (cell_at old) main s c t) M → KnowsLess l e → Heard y e l
+    → IsPartSwept main s c t M e k y new
+part_swept way main s c t M own p d u g r e l k y old new w lies f i sw z below less heard =
     let N = begun own p r e in
-    let m = passed own p d u g l old new (sweep_passes way own p d u g l old new w sw) r e i at.less
-    (heard_in _ _ e l part.emits at.heard) (part.part (cell_at old) at.below) in
-    let known = told_on main own s p (sheet_in (cell_at new) own p d u) M N e l _ sw.found.emits m part.emits at.less
-    at.heard in
+    let m = passed own p d u g l old new (sweep_passes way own p d u g l old new w sw) r e i less
+    (heard_in _ _ e l f heard) (lies.part (cell_at old) below) in
+    let known = told_on own p (sheet_in (cell_at new) own p d u) N e l _ y sw.found.emits m f less heard in
     record {
-      below = part.whole old new sw.changes at.below m;
-      less = subst (λ (y : Env). KnowsLess y e) (sym z) known.0;
-      heard = subst (λ (y : Env). Heard (emits is_sure main s M) e y) (sym z) known.1;
+      below = lies.whole old new sw.changes below m;
+      less = subst (λ (a : Env). KnowsLess a e) (sym z) known.0;
+      heard = subst (λ (a : Env). Heard y e a) (sym z) known.1;
     }
 
 -- one that goes on, if it is run, as r tells
-pub part_swept_on : (way : Direction) (main : Bool) (s : Statement) (c t : ℕ) (M : Sheet main s)
-    (p : Statement) (bits : ℕ → Bool) (d u : ℕ) (g r : Status) (e l k : Env) (old new : List Status) (w : Swept)
-    → IsPart main s c t M true p d u (resumed p bits r e) → IsBelow g r
+part_swept_on : (way : Direction) (main : Bool) (s : Statement) (c t : ℕ) (M : Sheet main s)
+    (p : Statement) (bits : ℕ → Bool) (d u : ℕ) (g r : Status) (e l k : Env) (y : Signals) (old new : List Status)
+    (w : Swept)
+    → IsWithin main s c t M true p d u (resumed p bits r e) → IsIn (emits is_sure true p (resumed p bits r e)) y
+    → IsBelow g r
     → IsSwept true p d u (live_swept way p bits g l) old new w → k ≡ told l (set_of w.judged.must.signals)
-    → Stands main s (sheet_in (cell_at old) main s c t) M e l
-    → Stands main s (sheet_in (cell_at new) main s c t) M e k
-part_swept_on way main s c t M p bits d u g r e l k old new w part i sw z at =
+    → Below main s (sheet_in (cell_at old) main s c t) M → KnowsLess l e → Heard y e l
+    → IsPartSwept main s c t M e k y new
+part_swept_on way main s c t M p bits d u g r e l k y old new w lies f i sw z below less heard =
     let N = resumed p bits r e in
-    let m = passed_on p bits d u g l old new (sweep_passes_on way p bits d u g l old new w sw) r e i at.less
-    (heard_in _ _ e l part.emits at.heard) (part.part (cell_at old) at.below) in
-    let known = told_on main true s p (sheet_in (cell_at new) true p d u) M N e l _ sw.found.emits m part.emits at.less
-    at.heard in
+    let m = passed_on p bits d u g l old new (sweep_passes_on way p bits d u g l old new w sw) r e i less
+    (heard_in _ _ e l f heard) (lies.part (cell_at old) below) in
+    let known = told_on true p (sheet_in (cell_at new) true p d u) N e l _ y sw.found.emits m f less heard in
     record {
-      below = part.whole old new sw.changes at.below m;
-      less = subst (λ (y : Env). KnowsLess y e) (sym z) known.0;
-      heard = subst (λ (y : Env). Heard (emits is_sure main s M) e y) (sym z) known.1;
+      below = lies.whole old new sw.changes below m;
+      less = subst (λ (a : Env). KnowsLess a e) (sym z) known.0;
+      heard = subst (λ (a : Env). Heard y e a) (sym z) known.1;
     }
 
 -- a side of what was found
@@ -89,14 +93,28 @@ side_led xs f side l k old new w z one sw y = record {
   changes = sw.changes;
   stands = λ main s c t M e at st.
       let p = f.statement.now in
-      let inside = subst (λ (o : Option (Bor PauseSet)). IfNone o (IsPart main s c t M f.place.main p f.place.cell
-      f.place.traps (begun f.place.main p at.reach e))) z at.begun in
-      part_swept f.place.direction main s c t M f.place.main side.statement.now side.cell f.place.traps f.gate at.reach
-      e
-      l k old new w
-      (part_then main s c t M f.place.main p f.place.cell f.place.traps (begun f.place.main p at.reach e) f.place.main
-      side.statement.now side.cell f.place.traps (begun f.place.main side.statement.now at.reach e) inside
-      (one.begun at.reach e)) at.below sw y st;
+      let way = f.place.main in
+      let d = f.place.cell in
+      let u = f.place.traps in
+      let N = begun way p at.reach at.inside in
+      let heard = subst (λ (o : Option (Bor PauseSet)). IfNone o (Heard (emits is_sure way p N) at.inside l)) z
+      st.heard.begun in
+      let lies = subst (λ (o : Option (Bor PauseSet)). IfNone o (IsWithin main s c t M way p d u N)) z at.begun in
+      let part = one.begun at.reach at.inside in
+      let r = part_swept f.place.direction main s c t M way side.statement.now side.cell u f.gate at.reach at.inside
+      l k (emits is_sure way p N) old new w
+      (within_then main s c t M way p d u N way side.statement.now side.cell u _ lies
+      (lies_in way p d u N way side.statement.now side.cell u _ part)) part.emits at.below sw y st.below st.less heard in
+      record {
+        below = r.below;
+        less = r.less;
+        heard = record {
+          begun = subst (λ (o : Option (Bor PauseSet)). IfNone o (Heard (emits is_sure way p N) at.inside k)) (sym z)
+              r.heard;
+          on = subst (λ (o : Option (Bor PauseSet)). IfSome o (λ a. Heard (emits is_sure true p
+              (resumed p (pauses_of a.now) at.reach at.inside)) at.inside k)) (sym z) tt;
+        };
+      };
 }
 
 pub side_led_on : (xs : List Extent) (f : Found) (side : Side) (ps : Bor PauseSet) (l k : Env) (old new : List Status)
@@ -111,11 +129,27 @@ side_led_on xs f side ps l k old new w z main_is live one sw y = record {
   stands = λ main s c t M e at st.
       let p = f.statement.now in
       let bits = pauses_of ps.now in
-      let inside = subst (λ (o : Option (Bor PauseSet)). IfSome o (λ a. IsPart main s c t M true p f.place.cell
-      f.place.traps (resumed p (pauses_of a.now) at.reach e))) z at.on in
-      part_swept_on f.place.direction main s c t M side.statement.now bits side.cell f.place.traps f.gate at.reach e
-      l k old new w
-      (part_then main s c t M true p f.place.cell f.place.traps (resumed p bits at.reach e) true
-      side.statement.now side.cell f.place.traps (resumed side.statement.now bits at.reach e) inside
-      ((one.on bits main_is).part at.reach e live)) at.below sw y st;
+      let d = f.place.cell in
+      let u = f.place.traps in
+      let N = resumed p bits at.reach at.inside in
+      let heard = subst (λ (o : Option (Bor PauseSet)). IfSome o (λ a. Heard (emits is_sure true p
+      (resumed p (pauses_of a.now) at.reach at.inside)) at.inside l)) z st.heard.on in
+      let lies = subst (λ (o : Option (Bor PauseSet)). IfSome o (λ a. IsWithin main s c t M true p d u
+      (resumed p (pauses_of a.now) at.reach at.inside))) z at.on in
+      let part = (one.on bits main_is).part at.reach at.inside live in
+      let r = part_swept_on f.place.direction main s c t M side.statement.now bits side.cell u f.gate at.reach at.inside
+      l k (emits is_sure true p N) old new w
+      (within_then main s c t M true p d u N true side.statement.now side.cell u _ lies
+      (lies_in true p d u N true side.statement.now side.cell u _ part)) part.emits at.below sw y st.below st.less
+      heard in
+      record {
+        below = r.below;
+        less = r.less;
+        heard = record {
+          begun = subst (λ (o : Option (Bor PauseSet)). IfNone o (Heard (emits is_sure f.place.main p
+              (begun f.place.main p at.reach at.inside)) at.inside k)) (sym z) tt;
+          on = subst (λ (o : Option (Bor PauseSet)). IfSome o (λ a. Heard (emits is_sure true p
+              (resumed p (pauses_of a.now) at.reach at.inside)) at.inside k)) (sym z) r.heard;
+        };
+      };
 }

@@ -7,8 +7,8 @@ use Rattle.est_kernel.specs.declared.statement.LocalSignal.{LocalSignal}
 use Rattle.est_kernel.specs.declared.statement.Statement.{Statement}
 use Rattle.est_kernel.specs.declared.statement.Statement.TheVariants.{Present', Suspend', Seq'}
 use Rattle.est_kernel.specs.declared.statement.Statement.TheVariants.{Loop', Par', Trap', Local' as Binder'}
-use Rattle.est_meaning.proofs.KnowledgeIsMonotone.{and_below, opposite_below, query_below}
-use Rattle.est_meaning.specs.Environments.{Env, and_status, opposite, status_of}
+use Rattle.est_meaning.proofs.KnowledgeIsMonotone.{and_below, local_below, opposite_below, query_below}
+use Rattle.est_meaning.specs.Environments.{Env, and_status, opposite, status_of, with_local}
 use Rattle.est_meaning.specs.Knowledge.{IsBelow, KnowsLess}
 use Rattle.est_meaning.specs.declared.status.Status.{Status}
 use Rattle.est_cells.proofs.Order.{ends_below}
@@ -27,7 +27,7 @@ use Rattle.est_micro.specs.declared.direction.Direction.{Direction}
 use Rattle.est_micro.proofs.BegunNodes.{nothing_changes, widen}
 use Rattle.est_micro.proofs.Frames.{changes_then, learn_changes, node_same, sheet_same}
 use Rattle.est_micro.proofs.Frames.{size_least}
-use Rattle.est_micro.proofs.Hearing.{heard_left, heard_right}
+use Rattle.est_micro.proofs.Hearing.{begun_local, heard_left, heard_local, heard_right}
 use Rattle.est_micro.proofs.SweepsAreSound.{swept_sound}
 use Rattle.est_micro.proofs.Told.{learned_below}
 
@@ -99,6 +99,21 @@ by_go g h v z r i j = subst (λ (x : Status). IsBelow x r) (sym z) j
 pub by_gate : (g v : Status) → IsGate g g v
 by_gate g v r i j = i
 
+-- the gates of the branches of a `present`, and of the body of a `suspend`
+pub branch_below : (y : _) (g h r : Status) (l e : Env) → h ≡ and_status g (status_of l (query_of y)) → IsBelow g r
+    → KnowsLess l e → IsBelow h (and_status r (status_of e (query_of y)))
+branch_below y g h r l e z i j =
+    subst (λ (x : Status). IsBelow x (and_status r (status_of e (query_of y)))) (sym z)
+    (and_below g r (status_of l (query_of y)) (status_of e (query_of y)) i (query_below l e (query_of y) j))
+
+pub other_below : (y : _) (g h r : Status) (l e : Env) → h ≡ and_status g (opposite (status_of l (query_of y)))
+    → IsBelow g r → KnowsLess l e → IsBelow h (and_status r (opposite (status_of e (query_of y))))
+other_below y g h r l e z i j =
+    let v = status_of e (query_of y) in
+    let w = status_of l (query_of y) in
+    subst (λ (x : Status). IsBelow x (and_status r (opposite v))) (sym z)
+    (and_below g r (opposite w) (opposite v) i (opposite_below w v (query_below l e (query_of y) j)))
+
 pub par_first : (main : Bool) (a : _) (p : Statement) (b : _) (q : Statement) (c t : ℕ) (g h : Status) (l : Env)
     (old new : List Status) → IsGate g h (cell_at old c) → Passes main p (c + t + 3) t h l old new
     → Passes main (Par' a p b q) c t g l old new
@@ -149,35 +164,28 @@ seq_second main a p b q c t g h l old new z k =
     })
 
 pub present_first : (main : Bool) (y a : _) (p : Statement) (b : _) (q : Statement) (c t : ℕ) (g h : Status) (l : Env)
-    (old new : List Status) → h ≡ and_status (cell_at old c) (status_of l (query_of y))
+    (old new : List Status) → h ≡ and_status g (status_of l (query_of y))
     → Passes main p (c + t + 3) t h l old new → Passes main (Present' y a p b q) c t g l old new
 present_first main y a p b q c t g h l old new z k =
     parts_pass main (Present' y a p b q) c t g l old new (c + t + 3) (c + t + 3 + sheet_size main p t) (omega arith)
     (omega arith) k.changes (λ r e i j u o. record {
       first = passed main p (c + t + 3) t h l old new k (and_status r (status_of e (query_of y))) e
-          (subst (λ (v : Status). IsBelow v (and_status r (status_of e (query_of y)))) (sym z)
-          (and_below (cell_at old c) r (status_of l (query_of y)) (status_of e (query_of y)) o.cells.go
-          (query_below l e (query_of y) j))) j (heard_left _ _ e l u) o.parts.first;
+          (branch_below y g h r l e z i j) j (heard_left _ _ e l u) o.parts.first;
       second = after_it main q (c + t + 3 + sheet_size main p t) t _ _ old new _ k.changes (omega arith)
           o.parts.second;
     })
 
 pub present_second : (main : Bool) (y a : _) (p : Statement) (b : _) (q : Statement) (c t : ℕ) (g h : Status)
-    (l : Env) (old new : List Status) → h ≡ and_status (cell_at old c) (opposite (status_of l (query_of y)))
+    (l : Env) (old new : List Status) → h ≡ and_status g (opposite (status_of l (query_of y)))
     → Passes main q (c + t + 3 + sheet_size main p t) t h l old new
     → Passes main (Present' y a p b q) c t g l old new
 present_second main y a p b q c t g h l old new z k =
     let d = c + t + 3 + sheet_size main p t in
     parts_pass main (Present' y a p b q) c t g l old new d (d + sheet_size main q t) (omega arith)
-    (omega arith) k.changes (λ r e i j u o.
-    let v = status_of e (query_of y) in
-    let w = status_of l (query_of y) in
-    record {
+    (omega arith) k.changes (λ r e i j u o. record {
       first = before_it main p (c + t + 3) t _ _ old new _ k.changes (omega arith) o.parts.first;
-      second = passed main q d t h l old new k (and_status r (opposite v)) e
-          (subst (λ (x : Status). IsBelow x (and_status r (opposite v))) (sym z)
-          (and_below (cell_at old c) r (opposite w) (opposite v) o.cells.go
-          (opposite_below w v (query_below l e (query_of y) j)))) j (heard_right _ _ e l u) o.parts.second;
+      second = passed main q d t h l old new k (and_status r (opposite (status_of e (query_of y)))) e
+          (other_below y g h r l e z i j) j (heard_right _ _ e l u) o.parts.second;
     })
 
 pub suspend_body : (main : Bool) (y a : _) (p : Statement) (c t : ℕ) (g h : Status) (l : Env)
@@ -196,20 +204,18 @@ trap_body main a p c t g h l old new z k =
     (omega arith) k.changes (λ r e i j u o. passed main p (c + t + 3) (t + 1) h l old new k r e
     (z r i o.cells.go) j u o.parts)
 
-pub local_status : (main : Bool) (s : LocalSignal) (a : _) (p : Statement) (c t : ℕ) (g now : Status) (l : Env)
-    (old new : List Status) → now ≡ emitted_status main p s.index (sheet_in (cell_at old) main p (c + t + 4) t)
-    → Learns (c + t + 3) now old new → Passes main (Binder' s a p) c t g l old new
-local_status main s a p c t g now l old new z k =
-    let h = learn_changes (c + t + 3) now old new k in
-    parts_pass main (Binder' s a p) c t g l old new (c + t + 3) (c + t + 3 + 1) (omega arith)
-    (let o = size_least main p t in omega arith) h (λ r e i j u o.
+pub local_body : (main : Bool) (s : LocalSignal) (a : _) (p : Statement) (c t : ℕ) (g w : Status) (l : Env)
+    (old new : List Status) → w ≡ cell_at old (c + t + 3)
+    → Passes main p (c + t + 4) t g (with_local l s.index w) old new → Passes main (Binder' s a p) c t g l old new
+local_body main s a p c t g w l old new z k =
+    parts_pass main (Binder' s a p) c t g l old new (c + t + 4) (c + t + 4 + sheet_size main p t) (omega arith)
+    (omega arith) k.changes (λ r e i j u o.
     let v = status_at r s.index (term_of p) e in
     record {
-      status = subst (λ (x : Status). IsBelow x v) (sym k.here)
-          (learned_below (cell_at old (c + t + 3)) now v o.parts.status
-          (subst (λ (x : Status). IsBelow x v) (sym z)
-          (local_sound main p s.index r e (sheet_in (cell_at old) main p (c + t + 4) t) o.parts.body)));
-      body = after_it main p (c + t + 4) t _ _ old new _ h (omega arith) o.parts.body;
+      status = subst (λ (x : Status). IsBelow x v) (sym (k.changes.before (c + t + 3) (omega arith))) o.parts.status;
+      body = passed main p (c + t + 4) t g (with_local l s.index w) old new k r (with_local e s.index v) i
+          (local_below l e s.index w v j (subst (λ (x : Status). IsBelow x v) (sym z) o.parts.status))
+          (heard_local s.index v w e l _ (begun_local main p s.index r e) u) o.parts.body;
     })
 
 -- a sweep is a pass

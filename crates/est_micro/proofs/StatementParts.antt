@@ -3,21 +3,22 @@ use Rattle.std.specs.Prelude.{◌≡◌, ◌≤◌, ◌+◌, ℕ, Bool, true, fa
 use Rattle.std.proofs.Common.{refl, sym, arith, subst}
 use Rattle.std.proofs.lemmas.Bool.{or_left, or_right}
 use Rattle.est_kernel.specs.View.{query_of, term_of}
+use Rattle.est_kernel.specs.declared.statement.LocalSignal.{LocalSignal}
 use Rattle.est_kernel.specs.declared.statement.Statement.{Statement}
-use Rattle.est_kernel.specs.declared.statement.Statement.TheVariants.{Seq', Suspend'}
-use Rattle.est_kernel.specs.declared.statement.Statement.TheVariants.{Loop', Par', Trap'}
-use Rattle.est_meaning.specs.Environments.{Env, and_status, opposite, status_of}
-use Rattle.est_meaning.specs.Knowledge.{IsIn}
+use Rattle.est_kernel.specs.declared.statement.Statement.TheVariants.{Present', Seq', Suspend'}
+use Rattle.est_kernel.specs.declared.statement.Statement.TheVariants.{Local' as Binder', Loop', Par', Trap'}
+use Rattle.est_meaning.specs.Environments.{Env, and_status, opposite, status_of, with_local}
+use Rattle.est_meaning.specs.Knowledge.{IsBelow, IsIn}
 use Rattle.est_meaning.specs.Signals.{union}
 use Rattle.est_meaning.specs.States.{is_live, term_at}
 use Rattle.est_meaning.specs.declared.status.Status.{Status}
 use Rattle.est_meaning.specs.declared.status.Status.TheVariants.{Absent}
 use Rattle.est_cells.specs.Gates.{ends}
-use Rattle.est_cells.specs.Meaning.{begun, cells_at, resumed}
+use Rattle.est_cells.specs.Meaning.{begun, cells_at, resumed, status_at}
 use Rattle.est_cells.specs.Tables.{Below, PartsBelow, Sheet, emits, is_sure, sheet_size}
 use Rattle.est_net.specs.Cells.{cell_at}
 use Rattle.est_net.specs.Layout.{node_in, parts_in, sheet_in}
-use Rattle.est_micro.specs.Inner.Sides.{IsPart}
+use Rattle.est_micro.specs.Inner.Sides.{IsPart, IsWithin}
 use Rattle.est_micro.specs.Inner.Views.{Changes}
 use Rattle.est_micro.proofs.BegunNodes.{widen}
 use Rattle.est_micro.proofs.Frames.{node_same}
@@ -50,6 +51,31 @@ part_then main s c t M own p d u N low q e v O h k =
           h.whole old new (widen e d _ _ old new (omega arith) (omega arith) g) m
           (k.whole old new g (h.part (cell_at old) m) o);
       emits = λ n m. h.emits n (k.emits n m);
+    }
+
+-- it lies in it
+pub lies_in : (main : Bool) (s : Statement) (c t : ℕ) (M : Sheet main s) (own : Bool) (p : Statement) (d u : ℕ)
+    (N : Sheet own p) → IsPart main s c t M own p d u N → IsWithin main s c t M own p d u N
+lies_in main s c t M own p d u N h = record { from = h.from; within = h.within; part = h.part; whole = h.whole }
+
+pub within_itself : (main : Bool) (s : Statement) (c t : ℕ) (M : Sheet main s) → IsWithin main s c t M main s c t M
+within_itself main s c t M = lies_in main s c t M main s c t M (part_itself main s c t M)
+
+pub within_then : (main : Bool) (s : Statement) (c t : ℕ) (M : Sheet main s) (own : Bool) (p : Statement) (d u : ℕ)
+    (N : Sheet own p) (low : Bool) (q : Statement) (e v : ℕ) (O : Sheet low q) → IsWithin main s c t M own p d u N
+    → IsWithin own p d u N low q e v O → IsWithin main s c t M low q e v O
+within_then main s c t M own p d u N low q e v O h k =
+    let a = h.from in
+    let b = k.from in
+    let i = h.within in
+    let j = k.within in
+    record {
+      from = omega arith;
+      within = omega arith;
+      part = λ f m. k.part f (h.part f m);
+      whole = λ old new g m o.
+          h.whole old new (widen e d _ _ old new (omega arith) (omega arith) g) m
+          (k.whole old new g (h.part (cell_at old) m) o);
     }
 
 -- where only parts change, what is decided of the node stays
@@ -145,6 +171,54 @@ seq_second_part main a p b q c t r e = record {
         second = m;
       });
   emits = λ n i. or_right _ _ i;
+}
+
+pub present_first_part : (main : Bool) (y a : _) (p : Statement) (b : _) (q : Statement) (c t : ℕ) (r : Status) (e : Env)
+    → IsPart main (Present' y a p b q) c t (begun main (Present' y a p b q) r e) main p (c + t + 3) t
+    (begun main p (and_status r (status_of e (query_of y))) e)
+unfolding union
+present_first_part main y a p b q c t r e = record {
+  from = omega arith;
+  within = omega arith;
+  part = λ f k. k.parts.first;
+  whole = λ old new g k m.
+      with_parts main (Present' y a p b q) c t _ _ old new (begun main (Present' y a p b q) r e) (omega arith) g k (record {
+        first = m;
+        second = after_it main q (c + t + 3 + sheet_size main p t) t _ _ old new _ g (omega arith) k.parts.second;
+      });
+  emits = λ n i. or_left _ _ i;
+}
+
+pub present_second_part : (main : Bool) (y a : _) (p : Statement) (b : _) (q : Statement) (c t : ℕ) (r : Status) (e : Env)
+    → IsPart main (Present' y a p b q) c t (begun main (Present' y a p b q) r e) main q (c + t + 3 + sheet_size main p t) t
+    (begun main q (and_status r (opposite (status_of e (query_of y)))) e)
+unfolding union
+present_second_part main y a p b q c t r e = record {
+  from = omega arith;
+  within = omega arith;
+  part = λ f k. k.parts.second;
+  whole = λ old new g k m.
+      with_parts main (Present' y a p b q) c t _ _ old new (begun main (Present' y a p b q) r e) (omega arith) g k (record {
+        first = before_it main p (c + t + 3) t _ _ old new _ g (omega arith) k.parts.first;
+        second = m;
+      });
+  emits = λ n i. or_right _ _ i;
+}
+
+-- the body of a binder: what it emits of its signal, the binder hides
+pub local_within : (main : Bool) (s : LocalSignal) (a : _) (p : Statement) (c t : ℕ) (r : Status) (e : Env)
+    → IsWithin main (Binder' s a p) c t (begun main (Binder' s a p) r e) main p (c + t + 4) t
+    (begun main p r (with_local e s.index (status_at r s.index (term_of p) e)))
+local_within main s a p c t r e = record {
+  from = omega arith;
+  within = omega arith;
+  part = λ f k. k.parts.body;
+  whole = λ old new g k m.
+      with_parts main (Binder' s a p) c t _ _ old new (begun main (Binder' s a p) r e) (omega arith) g k (record {
+        status = subst (λ (x : Status). IsBelow x (status_at r s.index (term_of p) e))
+            (sym (g.before (c + t + 3) (omega arith))) k.parts.status;
+        body = m;
+      });
 }
 
 pub suspend_part : (main : Bool) (y a : _) (p : Statement) (c t : ℕ) (r : Status) (e : Env)
@@ -323,6 +397,61 @@ loop_again_on bits a p c t r e = record {
         second = m;
       });
   emits = λ n i. or_right _ _ i;
+}
+
+pub present_first_on : (bits : ℕ → Bool) (y a : _) (p : Statement) (b : _) (q : Statement) (c t : ℕ) (r : Status) (e : Env)
+    → is_live p bits ≡ true
+    → IsPart true (Present' y a p b q) c t (resumed (Present' y a p b q) bits r e) true p (c + t + 3) t
+    (resumed p bits r e)
+unfolding union
+present_first_on bits y a p b q c t r e z = record {
+  from = omega arith;
+  within = omega arith;
+  part = λ f k. chosen (is_live p bits) p _ (resumed p bits r e) (begun true p Absent e) z
+      k.parts.first;
+  whole = λ old new g k m.
+      with_parts true (Present' y a p b q) c t _ _ old new (resumed (Present' y a p b q) bits r e) (omega arith) g k (record {
+        first = choose (is_live p bits) p _ (resumed p bits r e) (begun true p Absent e) z m;
+        second = after_it true q (c + t + 3 + sheet_size true p t) t _ _ old new _ g (omega arith) k.parts.second;
+      });
+  emits = λ n i. or_left _ _ (chosen_in (is_live p bits) p (resumed p bits r e) (begun true p Absent e) z n i);
+}
+
+pub present_second_on : (bits : ℕ → Bool) (y a : _) (p : Statement) (b : _) (q : Statement) (c t : ℕ) (r : Status) (e : Env)
+    → is_live p bits ≡ false
+    → IsPart true (Present' y a p b q) c t (resumed (Present' y a p b q) bits r e) true q (c + t + 3 + sheet_size true p t) t
+    (resumed q bits r e)
+unfolding union
+present_second_on bits y a p b q c t r e z = record {
+  from = omega arith;
+  within = omega arith;
+  part = λ f k. left_over (is_live p bits) q _ (begun true q Absent e)
+      (resumed q bits r e) z
+      k.parts.second;
+  whole = λ old new g k m.
+      with_parts true (Present' y a p b q) c t _ _ old new (resumed (Present' y a p b q) bits r e) (omega arith) g k (record {
+        first = before_it true p (c + t + 3) t _ _ old new _ g (omega arith) k.parts.first;
+        second = leave (is_live p bits) q _ (begun true q Absent e)
+            (resumed q bits r e) z m;
+      });
+  emits = λ n i. or_right _ _
+      (left_in (is_live p bits) q (begun true q Absent e)
+      (resumed q bits r e) z n i);
+}
+
+pub local_within_on : (bits : ℕ → Bool) (s : LocalSignal) (a : _) (p : Statement) (c t : ℕ) (r : Status) (e : Env)
+    → IsWithin true (Binder' s a p) c t (resumed (Binder' s a p) bits r e) true p (c + t + 4) t
+    (resumed p bits r (with_local e s.index (status_at r s.index (term_at p bits) e)))
+local_within_on bits s a p c t r e = record {
+  from = omega arith;
+  within = omega arith;
+  part = λ f k. k.parts.body;
+  whole = λ old new g k m.
+      with_parts true (Binder' s a p) c t _ _ old new (resumed (Binder' s a p) bits r e) (omega arith) g k (record {
+        status = subst (λ (x : Status). IsBelow x (status_at r s.index (term_at p bits) e))
+            (sym (g.before (c + t + 3) (omega arith))) k.parts.status;
+        body = m;
+      });
 }
 
 pub trap_on : (bits : ℕ → Bool) (a : _) (p : Statement) (c t : ℕ) (r : Status) (e : Env)

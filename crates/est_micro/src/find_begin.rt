@@ -9,9 +9,11 @@
 ghost use Rattle.std.specs.Prelude.{◌≡◌, ◌<◌, ◌≤◌, ◌+◌, true, length, IfSome};
 ghost use Rattle.est_kernel.specs.Limits.{trap_depth};
 ghost use Rattle.est_kernel.specs.Masks.{FitsMasks};
-ghost use Rattle.est_kernel.specs.View.{term_of};
+ghost use Rattle.est_kernel.specs.View.{query_of, term_of};
+ghost use Rattle.est_kernel.specs.declared.statement.Statement.TheVariants.{Local' as Binder'};
 ghost use Rattle.est_kernel.specs.declared.statement.Statement.TheVariants.{Suspend', Trap'};
-ghost use Rattle.est_kernel.specs.declared.statement.Statement.TheVariants.{Seq', Loop', Par'};
+ghost use Rattle.est_kernel.specs.declared.statement.Statement.TheVariants.{Seq', Loop', Par', Present'};
+ghost use Rattle.est_meaning.specs.Environments.{status_of};
 ghost use Rattle.est_cells.specs.Meaning.{begun};
 ghost use Rattle.est_cells.specs.Tables.{sheet_size};
 ghost use Rattle.est_net.specs.Extents.{HasExtents, extent_at};
@@ -26,10 +28,11 @@ use crate::extents::{number_after, past};
 use crate::pass_begin::visit;
 use crate::side_order::SideOrder;
 use est_kernel::pause_set::PauseSet;
-use est_kernel::statement::Statement;
+use est_kernel::statement::{LocalSignal, Statement};
 use est_meaning::status::Status;
 use est_net::net::Net;
-use est_rounds::signal_set::Env;
+use est_rounds::answer::answer_to;
+use est_rounds::signal_set::{self, Env};
 
 /// Whether the `||` of the order is in the statement of this number.
 #[inline(always)]
@@ -48,6 +51,8 @@ pub struct Found<'a> {
     pub place: StatementPlace,
     /// What is known of whether it is begun, or run.
     pub gate: Status,
+    /// What is known of the signals, those of the binders around it too.
+    pub known: Env,
     /// The pauses from which it goes on, if it does.
     pub pauses: Option<&'a PauseSet>,
 }
@@ -202,6 +207,97 @@ fn find_body<'a>(
     find_begun(net, &place, p, gate, env, order)
 }
 
+/// In a branch of a `present` whose test has this status.
+#[cycle(find_begun)]
+fn find_present<'a>(
+    net: &mut Net,
+    at: &StatementPlace,
+    asked: Status,
+    p: &'a Statement,
+    q: &'a Statement,
+    gate: Status,
+    env: &Env,
+    order: &SideOrder,
+) -> Option<Found<'a>>
+    requires fits { FitsMasks p.now × FitsMasks q.now }
+    requires first_extents { HasExtents net.old.extents.items (at.now.number + 1)
+        at.now.traps p.now }
+    requires second_extents { HasExtents net.old.extents.items
+        (at.now.number + 1 + statements p.now) at.now.traps q.now }
+    requires within { at.now.cell + at.now.traps + 3 + sheet_size at.now.main p.now at.now.traps
+        + sheet_size at.now.main q.now at.now.traps
+        ≤ length net.old.cells.items }
+    requires first_traps { at.now.traps + trap_depth (term_of p.now) ≤ 62 }
+    requires second_traps { at.now.traps + trap_depth (term_of q.now) ≤ 62 }
+    ensures passes { (t a b : _) → asked ≡ status_of (env_of env.now) (query_of t)
+        → Passes at.now.main (Present' t a p.now b q.now) at.now.cell at.now.traps gate
+        (env_of env.now) net.old.cells.items net.new.cells.items }
+    ensures found { (t a b : _) → asked ≡ status_of (env_of env.now) (query_of t)
+        → IfSome result (IsFound net.old.extents.items
+        at.now.main (Present' t a p.now b q.now) at.now.cell at.now.traps
+        (begun at.now.main (Present' t a p.now b q.now)) gate
+        (env_of env.now) net.new.cells.items) }
+    ensures kept { kept net.new ≡ kept net.old }
+{
+    let place = StatementPlace {
+        number: at.number + 1,
+        main: at.main,
+        direction: at.direction,
+        cell: at.cell + at.traps + 3,
+        traps: at.traps,
+    };
+    if is_inside(net, place.number, order) {
+        let taken = gate.and(asked);
+        return find_begun(net, &place, p, taken, env, order);
+    }
+    let next = StatementPlace {
+        number: number_after(net, &place, p),
+        main: at.main,
+        direction: at.direction,
+        cell: past(net, &place, p),
+        traps: at.traps,
+    };
+    let other = gate.and(asked.opposite());
+    find_begun(net, &next, q, other, env, order)
+}
+
+/// In the body of a local signal's binder.
+#[cycle(find_begun)]
+fn find_local<'a>(
+    net: &mut Net,
+    at: &StatementPlace,
+    s: LocalSignal,
+    p: &'a Statement,
+    gate: Status,
+    env: &Env,
+    order: &SideOrder,
+) -> Option<Found<'a>>
+    requires fits { (s.index < 64) × FitsMasks p.now }
+    requires extents { HasExtents net.old.extents.items (at.now.number + 1) at.now.traps p.now }
+    requires within { at.now.cell + at.now.traps + 4 + sheet_size at.now.main p.now at.now.traps
+        ≤ length net.old.cells.items }
+    requires traps { at.now.traps + trap_depth (term_of p.now) ≤ 62 }
+    ensures passes { (a : _)
+        → Passes at.now.main (Binder' s a p.now) at.now.cell at.now.traps gate
+        (env_of env.now) net.old.cells.items net.new.cells.items }
+    ensures found { (a : _) → IfSome result (IsFound net.old.extents.items
+        at.now.main (Binder' s a p.now) at.now.cell at.now.traps
+        (begun at.now.main (Binder' s a p.now)) gate
+        (env_of env.now) net.new.cells.items) }
+    ensures kept { kept net.new ≡ kept net.old }
+{
+    let status = net.status(at.cell + at.traps + 3);
+    let inside = signal_set::set_local(env, s, status);
+    let place = StatementPlace {
+        number: at.number + 1,
+        main: at.main,
+        direction: at.direction,
+        cell: at.cell + at.traps + 4,
+        traps: at.traps,
+    };
+    find_begun(net, &place, p, gate, &inside, order)
+}
+
 /// In the parts of a statement.
 #[cycle(find_begun)]
 fn find_parts<'a>(
@@ -235,8 +331,11 @@ fn find_parts<'a>(
         Statement::Pause(_) => None,
         Statement::Emit(_) => None,
         Statement::Exit(_) => None,
-        Statement::Present(_, _, _) => None,
-        Statement::Local(_, _) => None,
+        Statement::Present(t, p, q) => {
+            let asked = answer_to(env, t);
+            find_present(net, at, asked, p, q, gate, env, order)
+        }
+        Statement::Local(s, p) => find_local(net, at, *s, p, gate, env, order),
     }
 }
 
@@ -268,6 +367,7 @@ pub fn find_begun<'a>(
             statement: s,
             place: *at,
             gate,
+            known: *env,
             pauses: None,
         })
     } else {

@@ -10,8 +10,9 @@ ghost use Rattle.est_kernel.specs.Limits.{trap_depth};
 ghost use Rattle.est_kernel.specs.Masks.{FitsMasks};
 ghost use Rattle.est_kernel.specs.Pauses.{pauses_of};
 ghost use Rattle.est_kernel.specs.View.{query_of, term_of};
+ghost use Rattle.est_kernel.specs.declared.statement.Statement.TheVariants.{Local' as Binder'};
 ghost use Rattle.est_kernel.specs.declared.statement.Statement.TheVariants.{Suspend', Seq'};
-ghost use Rattle.est_kernel.specs.declared.statement.Statement.TheVariants.{Loop', Par', Trap'};
+ghost use Rattle.est_kernel.specs.declared.statement.Statement.TheVariants.{Loop', Par', Present', Trap'};
 ghost use Rattle.est_meaning.specs.Environments.{and_status, opposite, status_of};
 ghost use Rattle.est_meaning.specs.States.{is_live};
 ghost use Rattle.est_cells.specs.Meaning.{resumed};
@@ -29,11 +30,11 @@ use crate::find_begin::{Found, find_begun, is_inside};
 use crate::pass_resume::visit_resumed;
 use crate::side_order::SideOrder;
 use est_kernel::pause_set::PauseSet;
-use est_kernel::statement::Statement;
+use est_kernel::statement::{LocalSignal, Statement};
 use est_meaning::status::Status;
 use est_net::net::Net;
 use est_rounds::answer::answer_to;
-use est_rounds::signal_set::Env;
+use est_rounds::signal_set::{self, Env};
 
 /// Whether a pause of the `||` of the order is set, as far as its pauses are a run of numbers.
 fn goes_on(net: &Net, pauses: &PauseSet, order: &SideOrder) -> bool
@@ -520,6 +521,101 @@ fn find_suspend_on<'a>(
     find_resumed(net, &place, p, pauses, inside, env, order)
 }
 
+/// In the branch of a `present` that goes on.
+#[cycle(find_resumed)]
+fn find_present_on<'a>(
+    net: &mut Net,
+    at: &StatementPlace,
+    p: &'a Statement,
+    q: &'a Statement,
+    pauses: &'a PauseSet,
+    run: Status,
+    env: &Env,
+    order: &SideOrder,
+) -> Option<Found<'a>>
+    requires main { at.now.main ≡ true }
+    requires live { (is_live p.now (pauses_of pauses.now)
+        || is_live q.now (pauses_of pauses.now)) ≡ true }
+    requires fits { FitsMasks p.now × FitsMasks q.now }
+    requires first_extents { HasExtents net.old.extents.items (at.now.number + 1)
+        at.now.traps p.now }
+    requires second_extents { HasExtents net.old.extents.items
+        (at.now.number + 1 + statements p.now) at.now.traps q.now }
+    requires within { at.now.cell + at.now.traps + 3 + sheet_size true p.now at.now.traps
+        + sheet_size true q.now at.now.traps
+        ≤ length net.old.cells.items }
+    requires first_traps { at.now.traps + trap_depth (term_of p.now) ≤ 62 }
+    requires second_traps { at.now.traps + trap_depth (term_of q.now) ≤ 62 }
+    ensures passes { (t a b : _) → PassesOn (Present' t a p.now b q.now)
+        (pauses_of pauses.now) at.now.cell at.now.traps run
+        (env_of env.now) net.old.cells.items net.new.cells.items }
+    ensures found { (t a b : _) → IfSome result (IsFound net.old.extents.items
+        true (Present' t a p.now b q.now) at.now.cell at.now.traps
+        (resumed (Present' t a p.now b q.now) (pauses_of pauses.now)) run
+        (env_of env.now) net.new.cells.items) }
+    ensures kept { kept net.new ≡ kept net.old }
+{
+    let place = StatementPlace {
+        number: at.number + 1,
+        main: at.main,
+        direction: at.direction,
+        cell: at.cell + at.traps + 3,
+        traps: at.traps,
+    };
+    if is_live(net, place.number, at.traps, p, pauses) {
+        return find_resumed(net, &place, p, pauses, run, env, order);
+    }
+    let next = StatementPlace {
+        number: number_after(net, &place, p),
+        main: at.main,
+        direction: at.direction,
+        cell: past(net, &place, p),
+        traps: at.traps,
+    };
+    find_resumed(net, &next, q, pauses, run, env, order)
+}
+
+/// In the body of a local signal's binder.
+#[cycle(find_resumed)]
+fn find_local_on<'a>(
+    net: &mut Net,
+    at: &StatementPlace,
+    s: LocalSignal,
+    p: &'a Statement,
+    pauses: &'a PauseSet,
+    run: Status,
+    env: &Env,
+    order: &SideOrder,
+) -> Option<Found<'a>>
+    requires main { at.now.main ≡ true }
+    requires live { is_live p.now (pauses_of pauses.now) ≡ true }
+    requires fits { (s.index < 64) × FitsMasks p.now }
+    requires extents { HasExtents net.old.extents.items (at.now.number + 1)
+        at.now.traps p.now }
+    requires within { at.now.cell + at.now.traps + 4 + sheet_size true p.now at.now.traps
+        ≤ length net.old.cells.items }
+    requires traps { at.now.traps + trap_depth (term_of p.now) ≤ 62 }
+    ensures passes { (a : _) → PassesOn (Binder' s a p.now)
+        (pauses_of pauses.now) at.now.cell at.now.traps run
+        (env_of env.now) net.old.cells.items net.new.cells.items }
+    ensures found { (a : _) → IfSome result (IsFound net.old.extents.items
+        true (Binder' s a p.now) at.now.cell at.now.traps
+        (resumed (Binder' s a p.now) (pauses_of pauses.now)) run
+        (env_of env.now) net.new.cells.items) }
+    ensures kept { kept net.new ≡ kept net.old }
+{
+    let status = net.status(at.cell + at.traps + 3);
+    let inside = signal_set::set_local(env, s, status);
+    let place = StatementPlace {
+        number: at.number + 1,
+        main: at.main,
+        direction: at.direction,
+        cell: at.cell + at.traps + 4,
+        traps: at.traps,
+    };
+    find_resumed(net, &place, p, pauses, run, &inside, order)
+}
+
 /// In the parts of a statement.
 #[cycle(find_resumed)]
 fn find_parts_on<'a>(
@@ -559,8 +655,8 @@ fn find_parts_on<'a>(
         Statement::Pause(_) => None,
         Statement::Emit(_) => None,
         Statement::Exit(_) => None,
-        Statement::Present(_, _, _) => None,
-        Statement::Local(_, _) => None,
+        Statement::Present(_, p, q) => find_present_on(net, at, p, q, pauses, run, env, order),
+        Statement::Local(s, p) => find_local_on(net, at, *s, p, pauses, run, env, order),
     }
 }
 
@@ -595,6 +691,7 @@ pub fn find_resumed<'a>(
             statement: s,
             place: *at,
             gate: run,
+            known: *env,
             pauses: Some(pauses),
         })
     } else {

@@ -18,7 +18,7 @@ ghost use Rattle.est_net.specs.Layout.{output_count};
 ghost use Rattle.est_rounds.specs.Views.{env_of};
 ghost use Rattle.est_micro.specs.Engine.{IsNetOf};
 ghost use Rattle.est_micro.specs.Parts.{AgreeBut, AreInputsAlone};
-ghost use Rattle.est_micro.specs.Inner.Leads.{Leads, SheetChanges};
+ghost use Rattle.est_micro.specs.Inner.Leads.{LeadsIn, SheetChanges};
 ghost use Rattle.est_micro.specs.Inner.Passes.{SheetPasses};
 ghost use Rattle.est_micro.specs.Inner.Closing.{IsFoundClosed};
 ghost use Rattle.est_micro.specs.Inner.Sides.{IsFound, IsOneOf, IsSideLed};
@@ -84,9 +84,9 @@ fn without_silent(net: &Net, question: &Question<'_>, known: &Env, signals: u64)
     requires net { IsNetOf net.now question.now.kernel.now }
     ensures silent { (others : ℕ → Bool)
         → AgreeBut (bits question.now.unasked) (bits question.now.inputs) others
-        → Leads question.now.kernel.now question.now.state.now others net.now.cells.items
-        (env_of known.now)
-        → Leads question.now.kernel.now question.now.state.now others net.now.cells.items
+        → (f : _) → LeadsIn question.now.kernel.now question.now.state.now others f
+        net.now.cells.items (env_of known.now)
+        → LeadsIn question.now.kernel.now question.now.state.now others f net.now.cells.items
         (env_of result) }
 {
     let told = mask::union(
@@ -209,7 +209,7 @@ fn lead_sides(
     ensures kept { kept net.new ≡ kept net.old }
 {
     let sides = Sides::of(net, &found.place, found.statement);
-    let mut known = *env;
+    let mut known = found.known;
     for n in 0..order.count {
         if let Some(side) = sides.get(order.sides[n] as usize) {
             let reads = net.extent(side.number).reads;
@@ -218,7 +218,7 @@ fn lead_sides(
         }
     }
     close_found(net, found);
-    known.possible.interface != env.possible.interface
+    known.possible.interface != found.known.possible.interface
 }
 
 /// A pass over the sides of a `||` in an order, if there is one. Answers whether some signal was

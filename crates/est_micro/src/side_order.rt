@@ -268,17 +268,17 @@ fn order_in(
             }
             order_in_two(net, p, q, number + 1, traps, true, only_mixed)
         }
-        Statement::Seq(p, q) => order_in_two(net, p, q, number + 1, traps, false, only_mixed),
-        Statement::Suspend(_, p) | Statement::Loop(p) => {
+        Statement::Seq(p, q) | Statement::Present(_, p, q) => {
+            order_in_two(net, p, q, number + 1, traps, false, only_mixed)
+        }
+        Statement::Suspend(_, p) | Statement::Loop(p) | Statement::Local(_, p) => {
             order_in(net, p, number + 1, traps, false, only_mixed)
         }
         Statement::Trap(p) => order_in(net, p, number + 1, traps + 1, false, only_mixed),
         Statement::Nothing
         | Statement::Pause(_)
         | Statement::Emit(_)
-        | Statement::Exit(_)
-        | Statement::Present(_, _, _)
-        | Statement::Local(_, _) => None,
+        | Statement::Exit(_) => None,
     }
 }
 

@@ -4,6 +4,7 @@ use Rattle.std.specs.Prelude.{◌≡◌, ◌<◌, ◌≤◌, ◌+◌, ℕ, Bool,
 use Rattle.est_kernel.specs.Limits.{trap_depth}
 use Rattle.est_kernel.specs.Masks.{FitsMasks}
 use Rattle.est_kernel.specs.Pauses.{pauses_of}
+use Rattle.est_kernel.specs.Term.{outer}
 use Rattle.est_kernel.specs.View.{term_of}
 use Rattle.est_kernel.specs.declared.statement.Statement.{Statement}
 use Rattle.est_meaning.specs.Environments.{Env}
@@ -16,15 +17,26 @@ use Rattle.est_net.specs.Cells.{cell_at}
 use Rattle.est_net.specs.Extents.{HasExtents}
 use Rattle.est_net.specs.Layout.{sheet_in}
 use Rattle.est_net.specs.declared.extents.Extent.{Extent}
+use Rattle.est_rounds.specs.Views.{env_of}
 use Rattle.est_micro.specs.Inner.Hearing.{Heard}
 use Rattle.est_micro.specs.Inner.Views.{Changes}
 use Rattle.est_micro.specs.declared.cells.StatementPlace.{StatementPlace}
 use Rattle.est_micro.specs.declared.find_begin.Found.{Found}
 use Rattle.est_micro.specs.declared.sides.Side.{Side}
 
--- The sheet N of p, whose cells begin at d inside u traps, is a part of the sheet M of s, whose cells begin at c inside
--- t traps. Where the cells of s fall short of M, those of p fall short of N; where then cells of p alone change, and
--- fall short of N, those of s still do; and what N surely emits, M does
+-- The sheet N of p, whose cells begin at d inside u traps, lies in the sheet M of s, whose cells begin at c inside t
+-- traps. Where the cells of s fall short of M, those of p fall short of N; and where then cells of p alone change, and
+-- fall short of N, those of s still do
+pub record IsWithin (main : Bool) (s : Statement) (c t : ℕ) (M : Sheet main s) (own : Bool) (p : Statement) (d u : ℕ)
+    (N : Sheet own p) : Type 0 where
+  pub from : c ≤ d
+  pub within : d + sheet_size own p u ≤ c + sheet_size main s t
+  pub part : (f : ℕ → Status) → Below main s (sheet_in f main s c t) M → Below own p (sheet_in f own p d u) N
+  pub whole : (old new : List Status) → Changes d (d + sheet_size own p u) old new
+      → Below main s (sheet_in (cell_at old) main s c t) M → Below own p (sheet_in (cell_at new) own p d u) N
+      → Below main s (sheet_in (cell_at new) main s c t) M
+
+-- it lies in it, and what N surely emits, M does: no binder of a local signal stands between them
 pub record IsPart (main : Bool) (s : Statement) (c t : ℕ) (M : Sheet main s) (own : Bool) (p : Statement) (d u : ℕ)
     (N : Sheet own p) : Type 0 where
   pub from : c ≤ d
@@ -62,15 +74,27 @@ IsOneOf xs at s side = IsSideOf xs at s side.statement.now side.number side.cell
 abbrev pub AreSidesOf : List Extent → StatementPlace → Statement → List Side → ℕ → Type 0
 AreSidesOf xs at s list count = (n : ℕ) → n < count → IfSome (slice_get list n) (IsOneOf xs at s)
 
--- what is found is a part of the sheet M: it is begun, if at all, or goes on from these pauses, if it is run, as a
--- status tells of which no more than the gate is known
+-- what f surely emits, where it is begun, if at all, or run, as r tells, is heard
+pub record FoundHeard (f : Found) (r : Status) (e l : Env) : Type 0 where
+  pub begun : IfNone f.pauses
+      (Heard (emits is_sure f.place.main f.statement.now (begun f.place.main f.statement.now r e)) e l)
+  pub on : IfSome f.pauses
+      (λ p. Heard (emits is_sure true f.statement.now (resumed f.statement.now (pauses_of p.now) r e)) e l)
+
+-- what is found lies in the sheet M: it is begun, if at all, or goes on from these pauses, if it is run, as a status
+-- tells of which no more than the gate is known. Inside the binders around it the same is known of the signals of the
+-- interface as e knows
 pub record IsFoundIn (main : Bool) (s : Statement) (c t : ℕ) (M : Sheet main s) (e : Env) (f : Found) : Type 0 where
   pub reach : Status
   pub below : IsBelow f.gate reach
-  pub begun : IfNone f.pauses (IsPart main s c t M f.place.main f.statement.now f.place.cell f.place.traps
-      (begun f.place.main f.statement.now reach e))
-  pub on : IfSome f.pauses (λ p. IsPart main s c t M true f.statement.now f.place.cell f.place.traps
-      (resumed f.statement.now (pauses_of p.now) reach e))
+  pub inside : Env
+  pub outer : (n : ℕ) → inside (outer n) ≡ e (outer n)
+  pub less : KnowsLess (env_of f.known) inside
+  pub heard : FoundHeard f reach inside (env_of f.known)
+  pub begun : IfNone f.pauses (IsWithin main s c t M f.place.main f.statement.now f.place.cell f.place.traps
+      (begun f.place.main f.statement.now reach inside))
+  pub on : IfSome f.pauses (λ p. IsWithin main s c t M true f.statement.now f.place.cell f.place.traps
+      (resumed f.statement.now (pauses_of p.now) reach inside))
 
 -- what is found lies in the statement s, and has what a sweep asks of a statement
 pub record IsFoundAt (xs : List Extent) (main : Bool) (s : Statement) (c t : ℕ) (f : Found) : Type 0 where
@@ -81,12 +105,12 @@ pub record IsFoundAt (xs : List Extent) (main : Bool) (s : Statement) (c t : ℕ
   pub within : f.place.cell + sheet_size f.place.main f.statement.now f.place.traps ≤ c + sheet_size main s t
   pub on_main : IfSome f.pauses (λ p. f.place.main ≡ true)
 
--- it is a part of what s means, whatever that is, where its cells and the gate g fall short of it, and no more is
--- known than l
+-- it lies in what s means, whatever that is, where its cells and the gate g fall short of it, no more is known than l,
+-- and what s surely emits is heard
 pub record IsFound (xs : List Extent) (main : Bool) (s : Statement) (c t : ℕ) (Meant : Status → Env → Sheet main s)
     (g : Status) (l : Env) (cells : List Status) (f : Found) : Type 0 where
   pub place : IsFoundAt xs main s c t f
-  pub part : (r : Status) (e : Env) → IsBelow g r → KnowsLess l e
+  pub part : (r : Status) (e : Env) → IsBelow g r → KnowsLess l e → Heard (emits is_sure main s (Meant r e)) e l
       → Below main s (sheet_in (cell_at cells) main s c t) (Meant r e) → IsFoundIn main s c t (Meant r e) e f
 
 -- the same in a statement that goes on from its pauses, if it is run
@@ -95,15 +119,16 @@ pub record SideFound (xs : List Extent) (s : Statement) (c t : ℕ) (bits : ℕ 
   pub live : is_live s bits ≡ true
   pub found : IsFound xs true s c t (resumed s bits) g l cells f
 
--- no more is decided of the statement than is meant, and no more is known than e; what it surely emits is heard
-pub record Stands (main : Bool) (s : Statement) (T M : Sheet main s) (e l : Env) : Type 0 where
-  pub below : Below main s T M
-  pub less : KnowsLess l e
-  pub heard : Heard (emits is_sure main s M) e l
+-- no more is decided of the statement than is meant, and no more is known inside the binders than there is; what is
+-- found surely emits is heard
+pub record Stands (main : Bool) (s : Statement) (c t : ℕ) (M : Sheet main s) (e : Env) (f : Found)
+    (at : IsFoundIn main s c t M e f) (cells : List Status) (l : Env) : Type 0 where
+  pub below : Below main s (sheet_in (cell_at cells) main s c t) M
+  pub less : KnowsLess l at.inside
+  pub heard : FoundHeard f at.reach at.inside l
 
 -- a side of what was found is swept by what is known, l, and then k is known
 pub record IsSideLed (f : Found) (side : Side) (l k : Env) (old new : List Status) : Type 0 where
   pub changes : Changes side.cell (side.cell + sheet_size f.place.main side.statement.now f.place.traps) old new
-  pub stands : (main : Bool) (s : Statement) (c t : ℕ) (M : Sheet main s) (e : Env) → IsFoundIn main s c t M e f
-      → Stands main s (sheet_in (cell_at old) main s c t) M e l
-      → Stands main s (sheet_in (cell_at new) main s c t) M e k
+  pub stands : (main : Bool) (s : Statement) (c t : ℕ) (M : Sheet main s) (e : Env)
+      (at : IsFoundIn main s c t M e f) → Stands main s c t M e f at old l → Stands main s c t M e f at new k

@@ -16,3 +16,9 @@ decreases-find_seq l = 3 * max (the_size l.p.now) (the_size l.q.now) + 2
 
 abbrev pub decreases-find_body : goal.decreases-find_body
 decreases-find_body l = 3 * the_size l.p.now + 2
+
+abbrev pub decreases-find_present : goal.decreases-find_present
+decreases-find_present l = 3 * max (the_size l.p.now) (the_size l.q.now) + 2
+
+abbrev pub decreases-find_local : goal.decreases-find_local
+decreases-find_local l = 3 * the_size l.p.now + 2

@@ -1,14 +1,16 @@
-use Rattle.std.proofs.Common.{ap, arith, ◌∙◌, ◌≡◌, ℕ, false, refl, subst, sym, true}
+use Rattle.std.proofs.Common.{◌+◌, ap, arith, ◌∙◌, ◌≡◌, ℕ, false, refl, subst, sym, true}
 use Rattle.est_kernel.specs.Pauses.{pauses_of}
-use Rattle.est_meaning.specs.Environments.{and_status, opposite}
+use Rattle.est_meaning.specs.Environments.{Env, and_status, opposite}
 use Rattle.est_rounds.specs.Views.{env_of}
-use Rattle.est_micro.specs.Inner.Passes.{SidePasses}
-use Rattle.est_cells.specs.Meaning.{begun}
-use Rattle.est_micro.proofs.FoundSides.{found_again_on, found_kept, found_loop_on, found_par_first_on}
+use Rattle.est_micro.specs.Inner.Passes.{PassesOn, SidePasses}
+use Rattle.est_micro.specs.Inner.Sides.{IsFound}
+use Rattle.est_cells.specs.Meaning.{begun, resumed}
+use Rattle.est_micro.proofs.FoundSides.{itself_on, found_again_on, found_kept, found_loop_on, found_par_first_on}
 use Rattle.est_micro.proofs.FoundSides.{found_par_second_on, found_seq_first_on, found_seq_second_on, found_suspend_on}
-use Rattle.est_micro.proofs.FoundSides.{found_trap_on, some_too}
+use Rattle.est_micro.proofs.FoundSides.{found_local_on, found_present_first_on, found_present_second_on, found_trap_on, some_too}
 use Rattle.est_micro.proofs.PassedNodes.{first_side, loop_on_passed, second_side, seq_on_later}
-use Rattle.est_micro.proofs.PassingOn.{loop_on_first, seq_on_first, suspend_on_body, trap_on_body}
+use Rattle.est_micro.proofs.PassingOn.{local_on_body, loop_on_first, present_on_first, present_on_second, seq_on_first}
+use Rattle.est_micro.proofs.PassingOn.{suspend_on_body, trap_on_body}
 use Rattle.est_micro.proofs.find_resume.+find_resumed.Goals as goal
 
 pub find_side_on-returns-then-is_live-clause-passes : goal.find_side_on-returns-then-is_live-clause-passes
@@ -174,3 +176,75 @@ find_parts_on-returns-in-Trap-clause-found t c =
 pub find_parts_on-returns-in-Suspend-clause-found : goal.find_parts_on-returns-in-Suspend-clause-found
 find_parts_on-returns-in-Suspend-clause-found t c =
     rw (c.in-Suspend.is, sym c.deref-in-Suspend.ensures) (c.find_suspend_on.ensures.found _ _ c.answer_to-asked.ensures)
+
+pub find_present_on-returns-then-is_live-clause-passes : goal.find_present_on-returns-then-is_live-clause-passes
+find_present_on-returns-then-is_live-clause-passes t c = λ y a b.
+    present_on_first (pauses_of c.args.pauses.now) y a c.args.p.now b c.args.q.now c.args.at.now.cell
+    c.args.at.now.traps c.args.run (env_of c.args.env.now) _ _ (sym c.is_live.ensures ∙ c.if-is_live.true)
+    c.find_resumed.ensures.passes
+
+pub find_present_on-returns-clause-passes : goal.find_present_on-returns-clause-passes
+find_present_on-returns-clause-passes t c = λ y a b.
+    present_on_second (pauses_of c.args.pauses.now) y a c.args.p.now b c.args.q.now c.args.at.now.cell
+    c.args.at.now.traps c.args.run (env_of c.args.env.now) _ _ (sym c.is_live.ensures ∙ c.if-is_live.false)
+    (subst (λ (d : ℕ). PassesOn c.args.q.now (pauses_of c.args.pauses.now) d c.args.at.now.traps c.args.run
+    (env_of c.args.env.now) c.args.net.now.cells.items c.find_resumed-2.new.net.cells.items)
+    (rw c.requires.main at c.past.ensures) c.find_resumed-2.ensures.passes)
+
+pub find_present_on-returns-then-is_live-clause-found : goal.find_present_on-returns-then-is_live-clause-found
+find_present_on-returns-then-is_live-clause-found t c = λ y a b.
+    some_too c.find_resumed.result
+    (λ f k. found_present_first_on c.args.net.now.extents.items (pauses_of c.args.pauses.now) y a c.args.p.now b
+    c.args.q.now c.args.at.now.cell c.args.at.now.traps c.args.run (env_of c.args.env.now) _ f
+    (sym c.is_live.ensures ∙ c.if-is_live.true) k) c.find_resumed.ensures.found
+
+pub find_present_on-returns-clause-found : goal.find_present_on-returns-clause-found
+find_present_on-returns-clause-found t c = λ y a b.
+    some_too c.find_resumed-2.result
+    (λ f k. found_present_second_on c.args.net.now.extents.items (pauses_of c.args.pauses.now) y a c.args.p.now b
+    c.args.q.now c.args.at.now.cell c.args.at.now.traps c.past.result c.args.run (env_of c.args.env.now) _ f
+    (rw c.requires.main at c.past.ensures) (sym c.is_live.ensures ∙ c.if-is_live.false) k)
+    c.find_resumed-2.ensures.found
+
+pub find_local_on-returns-clause-passes : goal.find_local_on-returns-clause-passes
+find_local_on-returns-clause-passes t c = λ a.
+    local_on_body (pauses_of c.args.pauses.now) c.args.s a c.args.p.now c.args.at.now.cell c.args.at.now.traps
+    c.args.run c.status-status.result (env_of c.args.env.now) _ _ c.status-status.ensures
+    (subst (λ (e : Env). PassesOn c.args.p.now (pauses_of c.args.pauses.now)
+    (c.args.at.now.cell + c.args.at.now.traps + 4) c.args.at.now.traps c.args.run e c.args.net.now.cells.items
+    c.find_resumed.new.net.cells.items) c.set_local-inside.ensures c.find_resumed.ensures.passes)
+
+pub find_local_on-returns-clause-found : goal.find_local_on-returns-clause-found
+find_local_on-returns-clause-found t c = λ a.
+    some_too c.find_resumed.result
+    (λ f k. found_local_on c.args.net.now.extents.items (pauses_of c.args.pauses.now) c.args.s a c.args.p.now
+    c.args.at.now.cell c.args.at.now.traps c.args.run c.status-status.result (env_of c.args.env.now) _ f
+    (c.status-status.ensures ∙ sym (c.find_resumed.ensures.passes.changes.before _ (omega arith)))
+    (subst (λ (e : Env). IsFound c.args.net.now.extents.items true c.args.p.now
+    (c.args.at.now.cell + c.args.at.now.traps + 4) c.args.at.now.traps
+    (resumed c.args.p.now (pauses_of c.args.pauses.now)) c.args.run e c.find_resumed.new.net.cells.items f)
+    c.set_local-inside.ensures k))
+    c.find_resumed.ensures.found
+
+pub find_parts_on-returns-in-Present-clause-passes : goal.find_parts_on-returns-in-Present-clause-passes
+find_parts_on-returns-in-Present-clause-passes t c =
+    rw (c.in-Present.is, sym c.deref-in-Present.ensures, sym c.deref-in-Present-2.ensures)
+    (c.find_present_on.ensures.passes _ _ _)
+
+pub find_parts_on-returns-in-Present-clause-found : goal.find_parts_on-returns-in-Present-clause-found
+find_parts_on-returns-in-Present-clause-found t c =
+    rw (c.in-Present.is, sym c.deref-in-Present.ensures, sym c.deref-in-Present-2.ensures)
+    (c.find_present_on.ensures.found _ _ _)
+
+pub find_parts_on-returns-in-Local-clause-passes : goal.find_parts_on-returns-in-Local-clause-passes
+find_parts_on-returns-in-Local-clause-passes t c =
+    rw (c.in-Local.is, sym c.deref-in-Local.ensures) (c.find_local_on.ensures.passes _)
+
+pub find_parts_on-returns-in-Local-clause-found : goal.find_parts_on-returns-in-Local-clause-found
+find_parts_on-returns-in-Local-clause-found t c =
+    rw (c.in-Local.is, sym c.deref-in-Local.ensures) (c.find_local_on.ensures.found _)
+
+pub find_resumed-returns-then-at-order-clause-found : goal.find_resumed-returns-then-at-order-clause-found
+find_resumed-returns-then-at-order-clause-found t c =
+    itself_on c.args.net.now.extents.items _ c.args.pauses _ c.args.net.now.cells.items refl c.requires.main
+    c.requires.fits c.requires.extents c.requires.traps refl

@@ -28,3 +28,9 @@ decreases-find_trap_on l = 5 * the_size l.p.now + 2
 
 abbrev pub decreases-find_suspend_on : goal.decreases-find_suspend_on
 decreases-find_suspend_on l = 5 * the_size l.p.now + 2
+
+abbrev pub decreases-find_present_on : goal.decreases-find_present_on
+decreases-find_present_on l = 5 * max (the_size l.p.now) (the_size l.q.now) + 3
+
+abbrev pub decreases-find_local_on : goal.decreases-find_local_on
+decreases-find_local_on l = 5 * the_size l.p.now + 2

@@ -5,7 +5,7 @@ use Rattle.est_rounds.specs.Views.{env_of}
 use Rattle.est_micro.specs.Inner.Sides.{IsOneOf}
 use Rattle.est_micro.specs.declared.sides.Side.{Side}
 use Rattle.est_micro.proofs.BegunNodes.{nothing_changes}
-use Rattle.est_micro.proofs.LeadRounds.{found_changes, leads_begin, leads_closed, leads_ready, leads_side, sheet_then}
+use Rattle.est_micro.proofs.LeadRounds.{found_changes, leads_begin, leads_closed, leads_ready, leads_side, led_begin, sheet_then}
 use Rattle.est_micro.proofs.LeadRounds.{side_changes}
 use Rattle.est_micro.proofs.lead.lead_sides.Goals.{in-Some, in_default}
 use Rattle.est_micro.proofs.lead.lead_sides.Goals as goal
@@ -14,8 +14,9 @@ pub loop-n-init : goal.loop-n-init
 loop-n-init c = (
   refl,
   nothing_changes _ _ _,
-  λ others agree ready. leads_begin (bits c.args.question.now.unasked) c.args.question.now.kernel.now
-      c.args.question.now.state.now others _ c.args.env.now c.requires.apart ready,
+  λ others agree ready. led_begin c.args.question.now.kernel.now c.args.question.now.state.now others _ _ _ _
+      c.requires.found (leads_begin (bits c.args.question.now.unasked) c.args.question.now.kernel.now
+      c.args.question.now.state.now others _ c.args.env.now c.requires.apart ready),
 )
 
 pub lead_side-known-requires-clause-side : goal.lead_side-known-requires-clause-side
@@ -48,8 +49,7 @@ loop-n-preserved c =
                 (side_changes kernel xs _ found _ (env_of env) _ _ _ _ _ c.requires.found one led),
             λ others agree ready.
                 leads_side kernel state others xs found _ (env_of env) _ _ _ _ _ c.requires.found one led
-                (leads_begin (bits c.args.question.now.unasked) kernel state others _ env c.requires.apart ready)
-                (w.without_silent-heard.ensures.silent others agree (was.2 others agree ready)),
+                (w.without_silent-heard.ensures.silent others agree found (was.2 others agree ready)),
           )
       | in_default w ↦ rw (w.net-is, w.known-is) was
     ]
@@ -60,12 +60,10 @@ returns-clause-ready c = λ others agree ready.
     let state = c.args.question.now.state.now in
     let was = c.loop-n.invariant in
     let closed = c.close_found.ensures.closed in
-    let start = leads_begin (bits c.args.question.now.unasked) kernel state others _ c.args.env.now c.requires.apart
-    ready in
-    leads_ready (bits c.args.question.now.unasked) kernel state others c.args.env.now _ _ _
+    leads_ready (bits c.args.question.now.unasked) kernel state others c.args.env.now _ _ _ _
     (sheet_then kernel _ _ _ was.1
     (found_changes kernel _ _ c.args.found.now (env_of c.args.env.now) _ _ _ c.requires.found closed))
-    (leads_closed kernel state others _ c.args.found.now (env_of c.args.env.now) _ _ _ _ c.requires.found closed start
+    (leads_closed kernel state others _ c.args.found.now (env_of c.args.env.now) _ _ _ _ c.requires.found closed
     (was.2 others agree ready)) ready
 
 pub returns-clause-changes : goal.returns-clause-changes

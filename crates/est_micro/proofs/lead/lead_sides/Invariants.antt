@@ -2,7 +2,7 @@ use Rattle.std.proofs.Common.{◌≡◌, ℕ, Bool}
 use Rattle.est_kernel.specs.Bits.{bits}
 use Rattle.est_net.specs.Kept.{kept}
 use Rattle.est_rounds.specs.Views.{env_of}
-use Rattle.est_micro.specs.Inner.Leads.{Leads, SheetChanges}
+use Rattle.est_micro.specs.Inner.Leads.{LeadsIn, SheetChanges}
 use Rattle.est_micro.specs.Parts.{AgreeBut}
 use Rattle.est_micro.specs.Runs.{Ready}
 use Rattle.est_micro.proofs.lead.lead_sides.Given as goal
@@ -12,4 +12,4 @@ invariant-loop-n l =
     (kept l.net ≡ kept l.fn.net) × SheetChanges l.question.kernel.now l.fn.net.cells.items l.net.cells.items
     × ((others : ℕ → Bool) → AgreeBut (bits l.question.unasked) (bits l.question.inputs) others
     → Ready (bits l.question.unasked) l.question.kernel.now l.question.state.now others l.fn.net.cells.items l.env
-    → Leads l.question.kernel.now l.question.state.now others l.net.cells.items (env_of l.known))
+    → LeadsIn l.question.kernel.now l.question.state.now others l.found l.net.cells.items (env_of l.known))
