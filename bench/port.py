@@ -33,7 +33,7 @@ CRATES = {
     "est_kernel": ("code_set", "completion", "mask", "pause_set", "statement"),
     "est_meaning": ("status",),
     "est_rounds": ("acts", "answer", "engine", "judged", "resume", "resume_step", "rounds", "signal_set", "start", "step"),
-    "est_net": ("cell_set", "emissions", "extents", "net", "pause_run", "reach", "reading", "table"),
+    "est_net": ("cell_set", "emissions", "extents", "net", "pause_run", "reach", "signal_masks", "table"),
     "est_micro": ("cells", "closing", "decided", "direction", "extents", "find_begin", "find_resume", "idle", "lead", "learning", "micro", "must_can", "next_pauses", "outputs", "pass_begin",
                   "pass_resume", "passes", "question", "settling",
                   "side_order", "sides", "sweep_begin", "sweep_kind", "sweep_resume"),
@@ -58,7 +58,7 @@ def after_braces(text, at):
 
 def without_clauses(text):
     """A file's text without what a proof alone needs."""
-    for line in (r"(?:[ \t]*///[^\n]*\n)?[ \t]*ghost [^\n]*\n(?:[ \t]+[^{}\n]*\},\n)?", r"//![^\n]*\n", r"#\[(?:derive\(Drop\)|cycle\(\w+\))\]\n",
+    for line in (r"(?:[ \t]*///[^\n]*\n)?[ \t]*ghost [^\n]*\n(?:[ \t]+[^{}\n]*\},\n)?", r"//![^\n]*\n", r"[ \t]*#\[(?:derive\(Drop\)|cycle\(\w+\))\]\n",
                  r"[ \t]*#!?\[tactic\([^\n]*\n", r"use std::alloc::[^\n]*\n"):
         text = re.sub(f"^{line}", "", text, flags=re.M)
     while clause := re.search(r"^[ \t]*(?:requires|ensures)\b[^{]*\{", text, flags=re.M):

@@ -17,7 +17,7 @@ use Rattle.est_net.specs.Layout.{sheet_in}
 use Rattle.est_net.specs.declared.extents.Extent.{Extent}
 use Rattle.est_rounds.specs.Views.{set_of}
 use Rattle.est_micro.specs.Inner.Hearing.{Heard}
-use Rattle.est_micro.specs.Inner.Sides.{IsOneOf, IsSideLed, IsWithin, Stands}
+use Rattle.est_micro.specs.Inner.Sides.{IsOneOf, IsSideLed, IsWithin}
 use Rattle.est_micro.specs.Inner.Views.{Changes, IsSwept}
 use Rattle.est_micro.specs.Sweeps.{live_swept, swept, told}
 use Rattle.est_micro.specs.declared.cells.Swept.{Swept}

@@ -12,11 +12,10 @@ use Rattle.est_meaning.specs.Environments.{Env, and_status, opposite, status_of,
 use Rattle.est_meaning.specs.Knowledge.{IsBelow, KnowsLess}
 use Rattle.est_meaning.specs.declared.status.Status.{Status}
 use Rattle.est_cells.proofs.Order.{ends_below}
-use Rattle.est_cells.proofs.Sound.{local_sound}
-use Rattle.est_cells.specs.Gates.{ends, emitted_status}
+use Rattle.est_cells.specs.Gates.{ends}
 use Rattle.est_cells.specs.Meaning.{begun, begun_parts, cells_at, status_at}
 use Rattle.est_cells.specs.Tables.{Below, PartsBelow, Sheet, emits, is_sure, sheet_size}
-use Rattle.est_net.specs.Cells.{Learns, cell_at}
+use Rattle.est_net.specs.Cells.{cell_at}
 use Rattle.est_net.specs.Layout.{node_in, parts_in, sheet_in}
 use Rattle.est_micro.specs.Inner.Hearing.{Heard}
 use Rattle.est_micro.specs.Inner.Passes.{Keeps, Passes}
@@ -25,11 +24,9 @@ use Rattle.est_micro.specs.Inner.Views.{Changes, IsSwept}
 use Rattle.est_micro.specs.declared.cells.Swept.{Swept}
 use Rattle.est_micro.specs.declared.direction.Direction.{Direction}
 use Rattle.est_micro.proofs.BegunNodes.{nothing_changes, widen}
-use Rattle.est_micro.proofs.Frames.{changes_then, learn_changes, node_same, sheet_same}
-use Rattle.est_micro.proofs.Frames.{size_least}
+use Rattle.est_micro.proofs.Frames.{changes_then, node_same, sheet_same}
 use Rattle.est_micro.proofs.Hearing.{begun_local, heard_left, heard_local, heard_right}
 use Rattle.est_micro.proofs.SweepsAreSound.{swept_sound}
-use Rattle.est_micro.proofs.Told.{learned_below}
 
 -- what changes nothing; one after another
 pub keeps_nothing : (main : Bool) (s : Statement) (c t : ℕ) (Meant : Sheet main s → Type 0) (cells : List Status)

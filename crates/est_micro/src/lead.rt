@@ -212,7 +212,7 @@ fn lead_sides(
     let mut known = found.known;
     for n in 0..order.count {
         if let Some(side) = sides.get(order.sides[n] as usize) {
-            let reads = net.extent(side.number).reads;
+            let reads = net.extent(side.number).reads.interface;
             let heard = without_silent(net, question, &known, reads);
             known = lead_side(net, found, &side, &heard);
         }

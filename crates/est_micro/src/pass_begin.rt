@@ -44,7 +44,7 @@ pub fn is_new(go: Status, gate: Status) -> bool {
 pub fn is_reader(net: &Net, number: usize, just_decided: u64) -> bool
     requires { number < length net.now.extents.items }
 {
-    mask::intersection(net.extent(number).reads, just_decided) != 0
+    mask::intersection(net.extent(number).reads.interface, just_decided) != 0
 }
 
 /// Sweeps a statement, as a pass.

@@ -14,8 +14,9 @@ ghost use Rattle.est_net.specs.Extents.{HasExtents};
 ghost use Rattle.est_net.specs.Owners.{statements};
 
 use est_kernel::mask;
-use est_kernel::statement::{Signal, Statement};
+use est_kernel::statement::Statement;
 use est_net::net::Net;
+use est_net::signal_masks::SignalMasks;
 
 /// How often an order has to go against the text, and with it, before each run begins with it.
 /// Where it does so less often, a few sweeps do, if the signals are present.
@@ -37,29 +38,26 @@ pub struct SideOrder {
     ghost few: { count ≤ 64 },
 }
 
-/// What sides read and emit, of the signals of the interface.
+/// What sides read and emit.
 #[derive(Drop)]
 struct Uses {
     count: usize,
-    reads: [u64; 64],
-    emits: [u64; 64],
+    reads: [SignalMasks; 64],
+    emits: [SignalMasks; 64],
     /// Whether there are more sides than these.
     are_more: bool,
     ghost few: { count ≤ 64 },
 }
 
-/// The signals of the interface that a statement emits anywhere.
-fn emitted_in(s: &Statement) -> u64
+/// The signals that a statement emits anywhere.
+fn emitted_in(s: &Statement) -> SignalMasks
     requires { FitsMasks s.now }
 {
     match s {
-        Statement::Nothing | Statement::Pause(_) | Statement::Exit(_) => 0,
-        Statement::Emit(signal) => match signal {
-            Signal::Interface(signal) => mask::single(signal.index),
-            Signal::Local(_) => 0,
-        },
+        Statement::Nothing | Statement::Pause(_) | Statement::Exit(_) => SignalMasks::none(),
+        Statement::Emit(signal) => SignalMasks::of(*signal),
         Statement::Present(_, p, q) | Statement::Seq(p, q) | Statement::Par(p, q) => {
-            mask::union(emitted_in(p), emitted_in(q))
+            emitted_in(p).union(emitted_in(q))
         }
         Statement::Suspend(_, p)
         | Statement::Loop(p)
@@ -73,14 +71,14 @@ impl Uses {
     fn none() -> Uses {
         Uses {
             count: 0,
-            reads: [0; 64],
-            emits: [0; 64],
+            reads: [SignalMasks::none(); 64],
+            emits: [SignalMasks::none(); 64],
             are_more: false,
         }
     }
 
     /// Notes what one more side reads and emits.
-    fn push(&mut self, reads: u64, emits: u64) {
+    fn push(&mut self, reads: SignalMasks, emits: SignalMasks) {
         if self.count < 64 {
             self.reads[self.count] = reads;
             self.emits[self.count] = emits;
@@ -106,13 +104,13 @@ impl Uses {
 
     /// Whether sides read what sides emit.
     fn tell_each_other(&self) -> bool {
-        let mut reads = 0;
-        let mut emits = 0;
+        let mut reads = SignalMasks::none();
+        let mut emits = SignalMasks::none();
         for side in 0..self.count {
-            reads = mask::union(reads, self.reads[side]);
-            emits = mask::union(emits, self.emits[side]);
+            reads = reads.union(self.reads[side]);
+            emits = emits.union(self.emits[side]);
         }
-        mask::intersection(reads, emits) != 0
+        reads.meets(emits)
     }
 
     /// Whether a side reads what another emits.
@@ -120,7 +118,7 @@ impl Uses {
         requires side { side < self.now.count }
         requires other { other < self.now.count }
     {
-        mask::intersection(self.reads[side], self.emits[other]) != 0
+        self.reads[side].meets(self.emits[other])
     }
 }
 

@@ -25,7 +25,13 @@ pub record IsExtent (x : Extent) (s : Statement) (t : ℕ) : Type 0 where
 
 -- the entry at a number; after the last one there is none that says anything
 abbrev pub extent_at : List Extent → ℕ → Extent
-extent_at xs n = get_or xs n (record { main = 0; again = 0; statements = 0; pauses = None; reads = 0 })
+extent_at xs n = get_or xs n (record {
+  main = 0;
+  again = 0;
+  statements = 0;
+  pauses = None;
+  reads = record { interface = 0; local = 0 };
+})
 
 -- the entry at this number is of this statement
 pub record HasExtent (xs : List Extent) (n t : ℕ) (s : Statement) : Type 0 where

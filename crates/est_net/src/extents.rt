@@ -9,8 +9,7 @@ ghost use Rattle.est_net.specs.Extents.{HasExtents, IsExtent, IsRunOf};
 ghost use Rattle.est_net.specs.Inner.Extending.{ArePartsAdded, IsExtended};
 
 use crate::pause_run::PauseRun;
-use crate::reading::read_by;
-use est_kernel::mask;
+use crate::signal_masks::{SignalMasks, read_by};
 use est_kernel::statement::{PauseIndex, Statement, Test};
 use std::alloc::{AllocError, Global};
 
@@ -25,8 +24,8 @@ pub struct Extent {
     pub statements: usize,
     /// Its pauses, where their numbers are a run.
     pub pauses: Option<PauseRun>,
-    /// The signals of the interface that tests in it read, a bit for each.
-    pub reads: u64,
+    /// The signals that tests in it read.
+    pub reads: SignalMasks,
 }
 
 impl Extent {
@@ -91,7 +90,7 @@ fn leaf(cells: usize, pauses: PauseRun) -> Extent
         again: cells,
         statements: 1,
         pauses: Some(pauses),
-        reads: 0,
+        reads: SignalMasks::none(),
     }
 }
 
@@ -103,7 +102,7 @@ fn with_test(rest: Extent, test: &Test) -> Extent
     ensures pauses { result.pauses ≡ rest.pauses }
 {
     Extent {
-        reads: mask::union(rest.reads, read_by(test)),
+        reads: rest.reads.union(read_by(test)),
         ..rest
     }
 }
@@ -151,7 +150,7 @@ fn with_body(own: usize, p: &Extent) -> Result<Extent, AllocError>
 
 /// What is known of a statement that has these cells of its own and these two parts, and whose own
 /// test, if it has one, reads these signals.
-fn with_parts(own: usize, p: &Extent, q: &Extent, reads: u64) -> Result<Extent, AllocError>
+fn with_parts(own: usize, p: &Extent, q: &Extent, reads: SignalMasks) -> Result<Extent, AllocError>
     ensures main { IfOk result (λ x. x.main ≡ own + p.now.main + q.now.main) }
     ensures again { IfOk result (λ x. x.again ≡ own + p.now.again + q.now.again) }
     ensures statements { IfOk result
@@ -166,7 +165,7 @@ fn with_parts(own: usize, p: &Extent, q: &Extent, reads: u64) -> Result<Extent, 
         again: add(first.again, q.again)?,
         statements: add(first.statements, q.statements)?,
         pauses: joined(p.pauses, q.pauses),
-        reads: mask::union(reads, mask::union(p.reads, q.reads)),
+        reads: reads.union(p.reads).union(q.reads),
     })
 }
 
@@ -177,14 +176,15 @@ fn add_parts(extents: &mut Vec<Extent>, s: &Statement, traps: usize) -> Result<E
     requires { traps + trap_depth (term_of s.now) < 65536 }
     ensures { IfOk result (ArePartsAdded s.now traps extents.old.items extents.new.items) }
 {
+    let none = SignalMasks::none();
     match s {
         Statement::Nothing => Ok(leaf(traps + 3, no_pause())),
         Statement::Emit(_) => Ok(leaf(traps + 3, no_pause())),
         Statement::Exit(_) => Ok(leaf(traps + 3, no_pause())),
         Statement::Pause(pause) => Ok(leaf(traps + 3, one_pause(*pause))),
         Statement::Present(test, p, q) => add_extents_of_two(extents, p, q, traps, read_by(test)),
-        Statement::Seq(p, q) => add_extents_of_two(extents, p, q, traps, 0),
-        Statement::Par(p, q) => add_extents_of_two(extents, p, q, traps, 0),
+        Statement::Seq(p, q) => add_extents_of_two(extents, p, q, traps, none),
+        Statement::Par(p, q) => add_extents_of_two(extents, p, q, traps, none),
         Statement::Suspend(test, p) => {
             let body = add_extents(extents, p, traps)?;
             Ok(with_test(with_part(traps + 3, &body)?, test))
@@ -212,7 +212,7 @@ fn add_extents_of_two(
     p: &Statement,
     q: &Statement,
     traps: usize,
-    reads: u64,
+    reads: SignalMasks,
 ) -> Result<Extent, AllocError>
     requires first { traps + trap_depth (term_of p.now) < 65536 }
     requires second { traps + trap_depth (term_of q.now) < 65536 }
