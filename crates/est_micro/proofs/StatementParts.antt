@@ -410,7 +410,8 @@ present_first_on bits y a p b q c t r e z = record {
   part = λ f k. chosen (is_live p bits) p _ (resumed p bits r e) (begun true p Absent e) z
       k.parts.first;
   whole = λ old new g k m.
-      with_parts true (Present' y a p b q) c t _ _ old new (resumed (Present' y a p b q) bits r e) (omega arith) g k (record {
+      with_parts true (Present' y a p b q) c t _ _ old new (resumed (Present' y a p b q) bits r e) (omega arith) g k
+      (record {
         first = choose (is_live p bits) p _ (resumed p bits r e) (begun true p Absent e) z m;
         second = after_it true q (c + t + 3 + sheet_size true p t) t _ _ old new _ g (omega arith) k.parts.second;
       });
@@ -419,8 +420,8 @@ present_first_on bits y a p b q c t r e z = record {
 
 pub present_second_on : (bits : ℕ → Bool) (y a : _) (p : Statement) (b : _) (q : Statement) (c t : ℕ) (r : Status) (e : Env)
     → is_live p bits ≡ false
-    → IsPart true (Present' y a p b q) c t (resumed (Present' y a p b q) bits r e) true q (c + t + 3 + sheet_size true p t) t
-    (resumed q bits r e)
+    → IsPart true (Present' y a p b q) c t (resumed (Present' y a p b q) bits r e) true q
+    (c + t + 3 + sheet_size true p t) t (resumed q bits r e)
 unfolding union
 present_second_on bits y a p b q c t r e z = record {
   from = omega arith;
@@ -429,7 +430,8 @@ present_second_on bits y a p b q c t r e z = record {
       (resumed q bits r e) z
       k.parts.second;
   whole = λ old new g k m.
-      with_parts true (Present' y a p b q) c t _ _ old new (resumed (Present' y a p b q) bits r e) (omega arith) g k (record {
+      with_parts true (Present' y a p b q) c t _ _ old new (resumed (Present' y a p b q) bits r e) (omega arith) g k
+      (record {
         first = before_it true p (c + t + 3) t _ _ old new _ g (omega arith) k.parts.first;
         second = leave (is_live p bits) q _ (begun true q Absent e)
             (resumed q bits r e) z m;

@@ -13,7 +13,8 @@ use Rattle.est_micro.proofs.FoundSides.{found_seq_second, found_suspend, found_t
 use Rattle.est_micro.proofs.Frames.{size_least}
 use Rattle.est_micro.proofs.KeptExtents.{still_at}
 use Rattle.est_micro.proofs.PassedNodes.{loop_passed, seq_passed, suspend_passed, trap_passed}
-use Rattle.est_micro.proofs.Passing.{by_gate, local_body, par_first, par_second, present_first, present_second, seq_first}
+use Rattle.est_micro.proofs.Passing.{by_gate, local_body, par_first, par_second, present_first, present_second}
+use Rattle.est_micro.proofs.Passing.{seq_first}
 use Rattle.est_micro.proofs.find_begin.+find_begun.Goals as goal
 
 pub find_par-returns-then-is_inside-clause-passes : goal.find_par-returns-then-is_inside-clause-passes

@@ -7,7 +7,8 @@ use Rattle.est_micro.specs.Inner.Sides.{IsFound}
 use Rattle.est_cells.specs.Meaning.{begun, resumed}
 use Rattle.est_micro.proofs.FoundSides.{itself_on, found_again_on, found_kept, found_loop_on, found_par_first_on}
 use Rattle.est_micro.proofs.FoundSides.{found_par_second_on, found_seq_first_on, found_seq_second_on, found_suspend_on}
-use Rattle.est_micro.proofs.FoundSides.{found_local_on, found_present_first_on, found_present_second_on, found_trap_on, some_too}
+use Rattle.est_micro.proofs.FoundSides.{found_local_on, found_present_first_on, found_present_second_on, found_trap_on}
+use Rattle.est_micro.proofs.FoundSides.{some_too}
 use Rattle.est_micro.proofs.PassedNodes.{first_side, loop_on_passed, second_side, seq_on_later}
 use Rattle.est_micro.proofs.PassingOn.{local_on_body, loop_on_first, present_on_first, present_on_second, seq_on_first}
 use Rattle.est_micro.proofs.PassingOn.{suspend_on_body, trap_on_body}

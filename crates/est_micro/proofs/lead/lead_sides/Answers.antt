@@ -5,7 +5,8 @@ use Rattle.est_rounds.specs.Views.{env_of}
 use Rattle.est_micro.specs.Inner.Sides.{IsOneOf}
 use Rattle.est_micro.specs.declared.sides.Side.{Side}
 use Rattle.est_micro.proofs.BegunNodes.{nothing_changes}
-use Rattle.est_micro.proofs.LeadRounds.{found_changes, leads_begin, leads_closed, leads_ready, leads_side, led_begin, sheet_then}
+use Rattle.est_micro.proofs.LeadRounds.{found_changes, leads_begin, leads_closed, leads_ready, leads_side, led_begin}
+use Rattle.est_micro.proofs.LeadRounds.{sheet_then}
 use Rattle.est_micro.proofs.LeadRounds.{side_changes}
 use Rattle.est_micro.proofs.lead.lead_sides.Goals.{in-Some, in_default}
 use Rattle.est_micro.proofs.lead.lead_sides.Goals as goal
