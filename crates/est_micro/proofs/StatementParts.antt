@@ -182,7 +182,8 @@ present_first_part main y a p b q c t r e = record {
   within = omega arith;
   part = λ f k. k.parts.first;
   whole = λ old new g k m.
-      with_parts main (Present' y a p b q) c t _ _ old new (begun main (Present' y a p b q) r e) (omega arith) g k (record {
+      with_parts main (Present' y a p b q) c t _ _ old new (begun main (Present' y a p b q) r e) (omega arith) g k
+      (record {
         first = m;
         second = after_it main q (c + t + 3 + sheet_size main p t) t _ _ old new _ g (omega arith) k.parts.second;
       });
@@ -190,15 +191,16 @@ present_first_part main y a p b q c t r e = record {
 }
 
 pub present_second_part : (main : Bool) (y a : _) (p : Statement) (b : _) (q : Statement) (c t : ℕ) (r : Status) (e : Env)
-    → IsPart main (Present' y a p b q) c t (begun main (Present' y a p b q) r e) main q (c + t + 3 + sheet_size main p t) t
-    (begun main q (and_status r (opposite (status_of e (query_of y)))) e)
+    → IsPart main (Present' y a p b q) c t (begun main (Present' y a p b q) r e) main q
+    (c + t + 3 + sheet_size main p t) t (begun main q (and_status r (opposite (status_of e (query_of y)))) e)
 unfolding union
 present_second_part main y a p b q c t r e = record {
   from = omega arith;
   within = omega arith;
   part = λ f k. k.parts.second;
   whole = λ old new g k m.
-      with_parts main (Present' y a p b q) c t _ _ old new (begun main (Present' y a p b q) r e) (omega arith) g k (record {
+      with_parts main (Present' y a p b q) c t _ _ old new (begun main (Present' y a p b q) r e) (omega arith) g k
+      (record {
         first = before_it main p (c + t + 3) t _ _ old new _ g (omega arith) k.parts.first;
         second = m;
       });
@@ -399,7 +401,8 @@ loop_again_on bits a p c t r e = record {
   emits = λ n i. or_right _ _ i;
 }
 
-pub present_first_on : (bits : ℕ → Bool) (y a : _) (p : Statement) (b : _) (q : Statement) (c t : ℕ) (r : Status) (e : Env)
+pub present_first_on : (bits : ℕ → Bool) (y a : _) (p : Statement) (b : _) (q : Statement) (c t : ℕ) (r : Status)
+    (e : Env)
     → is_live p bits ≡ true
     → IsPart true (Present' y a p b q) c t (resumed (Present' y a p b q) bits r e) true p (c + t + 3) t
     (resumed p bits r e)
@@ -418,7 +421,8 @@ present_first_on bits y a p b q c t r e z = record {
   emits = λ n i. or_left _ _ (chosen_in (is_live p bits) p (resumed p bits r e) (begun true p Absent e) z n i);
 }
 
-pub present_second_on : (bits : ℕ → Bool) (y a : _) (p : Statement) (b : _) (q : Statement) (c t : ℕ) (r : Status) (e : Env)
+pub present_second_on : (bits : ℕ → Bool) (y a : _) (p : Statement) (b : _) (q : Statement) (c t : ℕ) (r : Status)
+    (e : Env)
     → is_live p bits ≡ false
     → IsPart true (Present' y a p b q) c t (resumed (Present' y a p b q) bits r e) true q
     (c + t + 3 + sheet_size true p t) t (resumed q bits r e)
