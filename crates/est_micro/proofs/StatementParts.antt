@@ -173,7 +173,8 @@ seq_second_part main a p b q c t r e = record {
   emits = λ n i. or_right _ _ i;
 }
 
-pub present_first_part : (main : Bool) (y a : _) (p : Statement) (b : _) (q : Statement) (c t : ℕ) (r : Status) (e : Env)
+pub present_first_part : (main : Bool) (y a : _) (p : Statement) (b : _) (q : Statement) (c t : ℕ) (r : Status)
+    (e : Env)
     → IsPart main (Present' y a p b q) c t (begun main (Present' y a p b q) r e) main p (c + t + 3) t
     (begun main p (and_status r (status_of e (query_of y))) e)
 unfolding union
@@ -190,7 +191,8 @@ present_first_part main y a p b q c t r e = record {
   emits = λ n i. or_left _ _ i;
 }
 
-pub present_second_part : (main : Bool) (y a : _) (p : Statement) (b : _) (q : Statement) (c t : ℕ) (r : Status) (e : Env)
+pub present_second_part : (main : Bool) (y a : _) (p : Statement) (b : _) (q : Statement) (c t : ℕ) (r : Status)
+    (e : Env)
     → IsPart main (Present' y a p b q) c t (begun main (Present' y a p b q) r e) main q
     (c + t + 3 + sheet_size main p t) t (begun main q (and_status r (opposite (status_of e (query_of y)))) e)
 unfolding union
