@@ -348,8 +348,8 @@ pub found_present_second_on : (xs : List Extent) (bits : ℕ → Bool) (y a : _)
     → is_live p bits ≡ false → IsFound xs true q d t (resumed q bits) g l cells f
     → IsFound xs true (Present' y a p b q) c t (resumed (Present' y a p b q) bits) g l cells f
 found_present_second_on xs bits y a p b q c t d g l cells f w z k =
-    found_in xs true (Present' y a p b q) c t (resumed (Present' y a p b q) bits) g true q (c + t + 3 + sheet_size true p t) t
-    (resumed q bits) g l l cells f (omega arith) (omega arith)
+    found_in xs true (Present' y a p b q) c t (resumed (Present' y a p b q) bits) g true q
+    (c + t + 3 + sheet_size true p t) t (resumed q bits) g l l cells f (omega arith) (omega arith)
     (λ r e i j x o. by_part r i j x (present_second_on bits y a p b q c t r e z))
     (subst (λ (n : ℕ). IsFound xs true q n t (resumed q bits) g l cells f) w k)
 

@@ -104,7 +104,8 @@ side_led xs f side l k old new w z one sw y = record {
       let r = part_swept f.place.direction main s c t M way side.statement.now side.cell u f.gate at.reach at.inside
       l k (emits is_sure way p N) old new w
       (within_then main s c t M way p d u N way side.statement.now side.cell u _ lies
-      (lies_in way p d u N way side.statement.now side.cell u _ part)) part.emits at.below sw y st.below st.less heard in
+      (lies_in way p d u N way side.statement.now side.cell u _ part)) part.emits at.below sw y st.below st.less
+      heard in
       record {
         below = r.below;
         less = r.less;

@@ -6,7 +6,8 @@ use Rattle.est_kernel.specs.View.{query_of, term_of}
 use Rattle.est_kernel.specs.declared.statement.LocalSignal.{LocalSignal}
 use Rattle.est_kernel.specs.declared.statement.Statement.{Statement}
 use Rattle.est_kernel.specs.declared.statement.Statement.TheVariants.{Seq'}
-use Rattle.est_kernel.specs.declared.statement.Statement.TheVariants.{Local' as Binder', Loop', Par', Present', Suspend', Trap'}
+use Rattle.est_kernel.specs.declared.statement.Statement.TheVariants.{Local' as Binder', Loop', Par', Present', Trap'}
+use Rattle.est_kernel.specs.declared.statement.Statement.TheVariants.{Suspend'}
 use Rattle.est_meaning.proofs.KnowledgeIsMonotone.{and_below, local_below, opposite_below, query_below}
 use Rattle.est_meaning.specs.Environments.{Env, and_status, opposite, status_of, with_local}
 use Rattle.est_meaning.specs.Knowledge.{IsBelow, KnowsLess}
@@ -223,7 +224,8 @@ trap_on_body bits a p c t g l old new k =
     (omega arith) k.changes (λ r e i j u o. passed_on p bits d (t + 1) g l old new k r e i j u o.parts)
 
 -- a branch that goes on
-pub present_on_first : (bits : ℕ → Bool) (y a : _) (p : Statement) (b : _) (q : Statement) (c t : ℕ) (g : Status) (l : Env)
+pub present_on_first : (bits : ℕ → Bool) (y a : _) (p : Statement) (b : _) (q : Statement) (c t : ℕ) (g : Status)
+    (l : Env)
     (old new : List Status) → is_live p bits ≡ true → PassesOn p bits (c + t + 3) t g l old new
     → PassesOn (Present' y a p b q) bits c t g l old new
 present_on_first bits y a p b q c t g l old new z k =
