@@ -4,15 +4,16 @@
 usage: orders.py [RELAYS] [RINGS] [SEED]
 
 A relay is a `||` of parts, each of which makes a signal present where the one before it is; a ring is the arbiter of bench/worklist.py.
-Made from SEED on (0 if it is left out) are RELAYS random orders of relays of 8 to 63 signals (300), of which a third begin without a signal
-and a third go on from a pause in each part, and RINGS of rings of 4 to 32 cells (100). Each runs for a few instants on the port and on
+Made from SEED on (0 if it is left out) are RELAYS random orders of relays of 8 to 63 signals (300), and RINGS of rings of 4 to 32 cells (100).
+Some of the relays begin without a signal, some go on from a pause in each part, some stand under a `present` or in a `signal`, and some are of
+local signals. Each runs for a few instants on the port and on
 `bench/worklist.c`, and on a port that goes by sweeps alone, without the order of sides and without passes. All have to decide as many cells and
 to give one sum of outputs; else the script ends with 1, as where an instant looks at more than three statements a cell.
 
 Then it prints the instructions an instant of relays of 16, 32 and 63 signals and of rings of 8, 16 and 32 cells, by callgrind: in order, and
 the mean of a few random orders, and how many times as many these are; and at how many statements an instant looks at most, over its cells.
-Some of the relays never begin. Last come relays for which the engine has no order: under a `present`, under a `signal`, of local signals, and
-a second one after the first. They may look at more statements.
+Some of the relays never begin. Last come relays for which the engine has no order, or none that helps: a second one after the first, and local
+signals of which none is present. They may look at more statements.
 """
 import pathlib
 import random
@@ -28,7 +29,8 @@ from worklist import PAUSE, emit, loop, names, par, present, tellers
 INSTANTS = 12
 COUNTED = 3  # random orders whose instructions are counted
 KINDS = ("sure", "asked", "paused")
-UNORDERED = ("under a present", "under a signal", "of local signals", "after another one")
+INSIDE = ("under a present", "in a signal", "of local signals")
+UNORDERED = ("after another one", "of local signals that never begin")
 
 
 def relay(count, kind, shuffle, masks=(0, 1)):
@@ -43,13 +45,14 @@ def relay(count, kind, shuffle, masks=(0, 1)):
     return ["I"], names("O", count), body, list(masks)
 
 
-def unordered(count, kind, shuffle):
-    """A relay of this many signals for which the engine has no order."""
-    if kind == "of local signals":
+def inside(count, kind, shuffle):
+    """A relay of this many signals that stands inside a statement, after another one, or is of local signals."""
+    if kind.startswith("of local signals"):
         signals = names("S", count)
-        parts = [emit("S0"), *(present(a, emit(b)) for a, b in zip(signals, [*signals[1:], "O0"]))]
+        first = emit("S0") if kind == "of local signals" else present("I", emit("S0"))
+        parts = [first, *(present(a, emit(b)) for a, b in zip(signals, [*signals[1:], "O0"]))]
         shuffle(parts)
-        return [], names("O", 1), loop(told_by(signals, par(*parts)), PAUSE), [0]
+        return ["I"], names("O", 1), loop(told_by(signals, par(*parts)), PAUSE), [0]
     parts = tellers(count)
     shuffle(parts)
     if kind == "after another one":
@@ -59,6 +62,15 @@ def unordered(count, kind, shuffle):
         return [], names("O", count), loop(par(*first), PAUSE, par(*second), PAUSE), [0]
     body = present("I", par(*parts)) if kind == "under a present" else told_by(["S0"], par(*parts))
     return ["I"], names("O", count), loop(body, PAUSE), [1]
+
+
+def random_relay(generator, number):
+    """A relay of the kind that has its turn."""
+    kinds = (*KINDS, *INSIDE)
+    kind = kinds[number % len(kinds)]
+    if kind in KINDS:
+        return relay(generator.randrange(8, 64), kind, generator.shuffle)
+    return inside(generator.randrange(8, 32), kind, generator.shuffle)
 
 
 def told_by(signals, body):
@@ -143,10 +155,10 @@ def main(words):
     sys.setrecursionlimit(20000)
     with tempfile.TemporaryDirectory() as made:
         programs = Programs(pathlib.Path(made))
-        compare(relays, lambda r, n: relay(r.randrange(8, 64), KINDS[n % 3], r.shuffle), seed, programs)
+        compare(relays, random_relay, seed, programs)
         compare(rings, lambda r, n: ring(r.randrange(4, 33), r.shuffle), seed, programs)
         print(f"{relays} orders of relays and {rings} of rings: no difference; at most {programs.most:.2f} statements looked at over cells", flush=True)
-        compare(relays // 5, lambda r, n: unordered(r.randrange(8, 32), UNORDERED[n % 4], r.shuffle), seed, programs, is_ordered=False)
+        compare(relays // 10, lambda r, n: inside(r.randrange(8, 32), UNORDERED[n % 2], r.shuffle), seed, programs, is_ordered=False)
         for count in (16, 32, 63):
             print_row(f"relay of {count}", lambda shuffle, count=count: relay(count, "sure", shuffle), programs)
         for count in (16, 32, 63):
@@ -155,9 +167,9 @@ def main(words):
             print_row(f"relay of {count} from pauses", lambda shuffle, count=count: relay(count, "paused", shuffle), programs)
         for count in (8, 16, 32):
             print_row(f"ring of {count}", lambda shuffle, count=count: ring(count, shuffle), programs)
-        for kind in UNORDERED:
+        for kind in (*INSIDE, *UNORDERED):
             for count in (8, 16, 31):
-                print_row(f"relay of {count} {kind}", lambda shuffle, count=count, kind=kind: unordered(count, kind, shuffle), programs)
+                print_row(f"relay of {count} {kind}", lambda shuffle, count=count, kind=kind: inside(count, kind, shuffle), programs)
 
 
 if __name__ == "__main__":

@@ -273,10 +273,7 @@ fn order_in(
             order_in(net, p, number + 1, traps, false, only_mixed)
         }
         Statement::Trap(p) => order_in(net, p, number + 1, traps + 1, false, only_mixed),
-        Statement::Nothing
-        | Statement::Pause(_)
-        | Statement::Emit(_)
-        | Statement::Exit(_) => None,
+        Statement::Nothing | Statement::Pause(_) | Statement::Emit(_) | Statement::Exit(_) => None,
     }
 }
 
