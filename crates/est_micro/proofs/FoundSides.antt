@@ -42,7 +42,7 @@ use Rattle.est_micro.proofs.Passing.{branch_below, other_below}
 use Rattle.est_micro.proofs.StatementParts.{loop_again_on, loop_first_on, loop_part, par_first_on, par_first_part}
 use Rattle.est_micro.proofs.StatementParts.{par_second_on, par_second_part, seq_first_on, seq_first_part}
 use Rattle.est_micro.proofs.StatementParts.{seq_next_on, seq_second_on, seq_second_part, suspend_on, suspend_part}
-use Rattle.est_micro.proofs.StatementParts.{lies_in, trap_on, trap_part, within_itself}
+use Rattle.est_micro.proofs.StatementParts.{trap_on, trap_part, within_itself}
 use Rattle.est_micro.proofs.StatementParts.{local_within, local_within_on, present_first_on, present_first_part}
 use Rattle.est_micro.proofs.StatementParts.{present_second_on, present_second_part, within_then}
 
@@ -77,7 +77,7 @@ by_part r i j k part = record {
   outside = λ n. refl;
   less = j;
   heard = heard_in _ _ _ _ part.emits k;
-  lies = lies_in _ _ _ _ _ _ _ _ _ _ part;
+  lies = part.lies;
 }
 
 found_then : (main : Bool) (s : Statement) (c t : ℕ) (M : Sheet main s) (own : Bool) (p : Statement) (d u : ℕ)
@@ -309,7 +309,7 @@ found_seq_next_on xs bits a p b q c t d g h l mid new f w z y change k =
     found_in xs true (Seq' a p b q) c t (resumed (Seq' a p b q) bits) g true q (c + t + 3 + sheet_size true p t) t
     (begun true q) h l l new f (omega arith) (omega arith)
     (λ r e i j x o. by_part (ends (cells_at Absent r (term_at p bits) e))
-    (known.says r e ((seq_first_on bits a p b q c t r e z).part (cell_at new) o)) j x
+    (known.says r e ((seq_first_on bits a p b q c t r e z).lies.part (cell_at new) o)) j x
     (seq_next_on bits a p b q c t r e z))
     (subst (λ (n : ℕ). IsFound xs true q n t (begun true q) h l new f) w k)
 

@@ -27,7 +27,7 @@ use Rattle.est_micro.specs.declared.sides.Side.{Side}
 use Rattle.est_micro.proofs.Hearing.{heard_in, told_heard, told_less}
 use Rattle.est_micro.proofs.Passing.{passed, sweep_passes}
 use Rattle.est_micro.proofs.PassingOn.{passed_on, sweep_passes_on}
-use Rattle.est_micro.proofs.StatementParts.{lies_in, within_then}
+use Rattle.est_micro.proofs.StatementParts.{within_then}
 
 -- what is known once a part is swept that emits no more than is meant
 told_on : (own : Bool) (p : Statement) (T N : Sheet own p) (e k : Env) (x y : Signals) → x ≡ emits is_sure own p T
@@ -104,7 +104,7 @@ side_led xs f side l k old new w z one sw y = record {
       let r = part_swept f.place.direction main s c t M way side.statement.now side.cell u f.gate at.reach at.inside
       l k (emits is_sure way p N) old new w
       (within_then main s c t M way p d u N way side.statement.now side.cell u _ lies
-      (lies_in way p d u N way side.statement.now side.cell u _ part)) part.emits at.below sw y st.below st.less
+      part.lies) part.emits at.below sw y st.below st.less
       heard in
       record {
         below = r.below;
@@ -141,7 +141,7 @@ side_led_on xs f side ps l k old new w z main_is live one sw y = record {
       let r = part_swept_on f.place.direction main s c t M side.statement.now bits side.cell u f.gate at.reach at.inside
       l k (emits is_sure true p N) old new w
       (within_then main s c t M true p d u N true side.statement.now side.cell u _ lies
-      (lies_in true p d u N true side.statement.now side.cell u _ part)) part.emits at.below sw y st.below st.less
+      part.lies) part.emits at.below sw y st.below st.less
       heard in
       record {
         below = r.below;

@@ -25,41 +25,14 @@ use Rattle.est_micro.proofs.Frames.{node_same}
 use Rattle.est_micro.proofs.Passing.{after_it, before_it}
 use Rattle.est_micro.proofs.PassingOn.{chosen, left_over}
 
--- it is a part of itself, and a part of a part is one
-pub part_itself : (main : Bool) (s : Statement) (c t : ℕ) (M : Sheet main s) → IsPart main s c t M main s c t M
-part_itself main s c t M = record {
+-- it lies in itself, and what lies in what lies in it does
+pub within_itself : (main : Bool) (s : Statement) (c t : ℕ) (M : Sheet main s) → IsWithin main s c t M main s c t M
+within_itself main s c t M = record {
   from = omega arith;
   within = omega arith;
   part = λ f b. b;
   whole = λ old new h b k. k;
-  emits = λ n i. i;
 }
-
-pub part_then : (main : Bool) (s : Statement) (c t : ℕ) (M : Sheet main s) (own : Bool) (p : Statement) (d u : ℕ)
-    (N : Sheet own p) (low : Bool) (q : Statement) (e v : ℕ) (O : Sheet low q) → IsPart main s c t M own p d u N
-    → IsPart own p d u N low q e v O → IsPart main s c t M low q e v O
-part_then main s c t M own p d u N low q e v O h k =
-    let a = h.from in
-    let b = k.from in
-    let i = h.within in
-    let j = k.within in
-    record {
-      from = omega arith;
-      within = omega arith;
-      part = λ f m. k.part f (h.part f m);
-      whole = λ old new g m o.
-          h.whole old new (widen e d _ _ old new (omega arith) (omega arith) g) m
-          (k.whole old new g (h.part (cell_at old) m) o);
-      emits = λ n m. h.emits n (k.emits n m);
-    }
-
--- it lies in it
-pub lies_in : (main : Bool) (s : Statement) (c t : ℕ) (M : Sheet main s) (own : Bool) (p : Statement) (d u : ℕ)
-    (N : Sheet own p) → IsPart main s c t M own p d u N → IsWithin main s c t M own p d u N
-lies_in main s c t M own p d u N h = record { from = h.from; within = h.within; part = h.part; whole = h.whole }
-
-pub within_itself : (main : Bool) (s : Statement) (c t : ℕ) (M : Sheet main s) → IsWithin main s c t M main s c t M
-within_itself main s c t M = lies_in main s c t M main s c t M (part_itself main s c t M)
 
 pub within_then : (main : Bool) (s : Statement) (c t : ℕ) (M : Sheet main s) (own : Bool) (p : Statement) (d u : ℕ)
     (N : Sheet own p) (low : Bool) (q : Statement) (e v : ℕ) (O : Sheet low q) → IsWithin main s c t M own p d u N
@@ -77,6 +50,18 @@ within_then main s c t M own p d u N low q e v O h k =
           h.whole old new (widen e d _ _ old new (omega arith) (omega arith) g) m
           (k.whole old new g (h.part (cell_at old) m) o);
     }
+
+-- so is a part of itself, and a part of a part
+pub part_itself : (main : Bool) (s : Statement) (c t : ℕ) (M : Sheet main s) → IsPart main s c t M main s c t M
+part_itself main s c t M = record { lies = within_itself main s c t M; emits = λ n i. i }
+
+pub part_then : (main : Bool) (s : Statement) (c t : ℕ) (M : Sheet main s) (own : Bool) (p : Statement) (d u : ℕ)
+    (N : Sheet own p) (low : Bool) (q : Statement) (e v : ℕ) (O : Sheet low q) → IsPart main s c t M own p d u N
+    → IsPart own p d u N low q e v O → IsPart main s c t M low q e v O
+part_then main s c t M own p d u N low q e v O h k = record {
+  lies = within_then main s c t M own p d u N low q e v O h.lies k.lies;
+  emits = λ n m. h.emits n (k.emits n m);
+}
 
 -- where only parts change, what is decided of the node stays
 with_parts : (main : Bool) (s : Statement) (c t lo hi : ℕ) (old new : List Status) (N : Sheet main s)
@@ -114,14 +99,16 @@ pub par_first_part : (main : Bool) (a : _) (p : Statement) (b : _) (q : Statemen
     (begun main p r e)
 unfolding union
 par_first_part main a p b q c t r e = record {
-  from = omega arith;
-  within = omega arith;
-  part = λ f k. k.parts.first;
-  whole = λ old new g k m.
-      with_parts main (Par' a p b q) c t _ _ old new (begun main (Par' a p b q) r e) (omega arith) g k (record {
-        first = m;
-        second = after_it main q (c + t + 3 + sheet_size main p t) t _ _ old new _ g (omega arith) k.parts.second;
-      });
+  lies = record {
+    from = omega arith;
+    within = omega arith;
+    part = λ f k. k.parts.first;
+    whole = λ old new g k m.
+        with_parts main (Par' a p b q) c t _ _ old new (begun main (Par' a p b q) r e) (omega arith) g k (record {
+          first = m;
+          second = after_it main q (c + t + 3 + sheet_size main p t) t _ _ old new _ g (omega arith) k.parts.second;
+        });
+  };
   emits = λ n i. or_left _ _ i;
 }
 
@@ -130,14 +117,16 @@ pub par_second_part : (main : Bool) (a : _) (p : Statement) (b : _) (q : Stateme
     (begun main q r e)
 unfolding union
 par_second_part main a p b q c t r e = record {
-  from = omega arith;
-  within = omega arith;
-  part = λ f k. k.parts.second;
-  whole = λ old new g k m.
-      with_parts main (Par' a p b q) c t _ _ old new (begun main (Par' a p b q) r e) (omega arith) g k (record {
-        first = before_it main p (c + t + 3) t _ _ old new _ g (omega arith) k.parts.first;
-        second = m;
-      });
+  lies = record {
+    from = omega arith;
+    within = omega arith;
+    part = λ f k. k.parts.second;
+    whole = λ old new g k m.
+        with_parts main (Par' a p b q) c t _ _ old new (begun main (Par' a p b q) r e) (omega arith) g k (record {
+          first = before_it main p (c + t + 3) t _ _ old new _ g (omega arith) k.parts.first;
+          second = m;
+        });
+  };
   emits = λ n i. or_right _ _ i;
 }
 
@@ -146,14 +135,16 @@ pub seq_first_part : (main : Bool) (a : _) (p : Statement) (b : _) (q : Statemen
     (begun main p r e)
 unfolding union
 seq_first_part main a p b q c t r e = record {
-  from = omega arith;
-  within = omega arith;
-  part = λ f k. k.parts.first;
-  whole = λ old new g k m.
-      with_parts main (Seq' a p b q) c t _ _ old new (begun main (Seq' a p b q) r e) (omega arith) g k (record {
-        first = m;
-        second = after_it main q (c + t + 3 + sheet_size main p t) t _ _ old new _ g (omega arith) k.parts.second;
-      });
+  lies = record {
+    from = omega arith;
+    within = omega arith;
+    part = λ f k. k.parts.first;
+    whole = λ old new g k m.
+        with_parts main (Seq' a p b q) c t _ _ old new (begun main (Seq' a p b q) r e) (omega arith) g k (record {
+          first = m;
+          second = after_it main q (c + t + 3 + sheet_size main p t) t _ _ old new _ g (omega arith) k.parts.second;
+        });
+  };
   emits = λ n i. or_left _ _ i;
 }
 
@@ -162,14 +153,16 @@ pub seq_second_part : (main : Bool) (a : _) (p : Statement) (b : _) (q : Stateme
     (begun main q (ends (cells_at r r (term_of p) e)) e)
 unfolding union
 seq_second_part main a p b q c t r e = record {
-  from = omega arith;
-  within = omega arith;
-  part = λ f k. k.parts.second;
-  whole = λ old new g k m.
-      with_parts main (Seq' a p b q) c t _ _ old new (begun main (Seq' a p b q) r e) (omega arith) g k (record {
-        first = before_it main p (c + t + 3) t _ _ old new _ g (omega arith) k.parts.first;
-        second = m;
-      });
+  lies = record {
+    from = omega arith;
+    within = omega arith;
+    part = λ f k. k.parts.second;
+    whole = λ old new g k m.
+        with_parts main (Seq' a p b q) c t _ _ old new (begun main (Seq' a p b q) r e) (omega arith) g k (record {
+          first = before_it main p (c + t + 3) t _ _ old new _ g (omega arith) k.parts.first;
+          second = m;
+        });
+  };
   emits = λ n i. or_right _ _ i;
 }
 
@@ -179,15 +172,17 @@ pub present_first_part : (main : Bool) (y a : _) (p : Statement) (b : _) (q : St
     (begun main p (and_status r (status_of e (query_of y))) e)
 unfolding union
 present_first_part main y a p b q c t r e = record {
-  from = omega arith;
-  within = omega arith;
-  part = λ f k. k.parts.first;
-  whole = λ old new g k m.
-      with_parts main (Present' y a p b q) c t _ _ old new (begun main (Present' y a p b q) r e) (omega arith) g k
-      (record {
-        first = m;
-        second = after_it main q (c + t + 3 + sheet_size main p t) t _ _ old new _ g (omega arith) k.parts.second;
-      });
+  lies = record {
+    from = omega arith;
+    within = omega arith;
+    part = λ f k. k.parts.first;
+    whole = λ old new g k m.
+        with_parts main (Present' y a p b q) c t _ _ old new (begun main (Present' y a p b q) r e) (omega arith) g k
+        (record {
+          first = m;
+          second = after_it main q (c + t + 3 + sheet_size main p t) t _ _ old new _ g (omega arith) k.parts.second;
+        });
+  };
   emits = λ n i. or_left _ _ i;
 }
 
@@ -197,15 +192,17 @@ pub present_second_part : (main : Bool) (y a : _) (p : Statement) (b : _) (q : S
     (c + t + 3 + sheet_size main p t) t (begun main q (and_status r (opposite (status_of e (query_of y)))) e)
 unfolding union
 present_second_part main y a p b q c t r e = record {
-  from = omega arith;
-  within = omega arith;
-  part = λ f k. k.parts.second;
-  whole = λ old new g k m.
-      with_parts main (Present' y a p b q) c t _ _ old new (begun main (Present' y a p b q) r e) (omega arith) g k
-      (record {
-        first = before_it main p (c + t + 3) t _ _ old new _ g (omega arith) k.parts.first;
-        second = m;
-      });
+  lies = record {
+    from = omega arith;
+    within = omega arith;
+    part = λ f k. k.parts.second;
+    whole = λ old new g k m.
+        with_parts main (Present' y a p b q) c t _ _ old new (begun main (Present' y a p b q) r e) (omega arith) g k
+        (record {
+          first = before_it main p (c + t + 3) t _ _ old new _ g (omega arith) k.parts.first;
+          second = m;
+        });
+  };
   emits = λ n i. or_right _ _ i;
 }
 
@@ -228,22 +225,26 @@ local_within main s a p c t r e = record {
 pub suspend_part : (main : Bool) (y a : _) (p : Statement) (c t : ℕ) (r : Status) (e : Env)
     → IsPart main (Suspend' y a p) c t (begun main (Suspend' y a p) r e) main p (c + t + 3) t (begun main p r e)
 suspend_part main y a p c t r e = record {
-  from = omega arith;
-  within = omega arith;
-  part = λ f k. k.parts;
-  whole = λ old new g k m.
-      with_parts main (Suspend' y a p) c t _ _ old new (begun main (Suspend' y a p) r e) (omega arith) g k m;
+  lies = record {
+    from = omega arith;
+    within = omega arith;
+    part = λ f k. k.parts;
+    whole = λ old new g k m.
+        with_parts main (Suspend' y a p) c t _ _ old new (begun main (Suspend' y a p) r e) (omega arith) g k m;
+  };
   emits = λ n i. i;
 }
 
 pub trap_part : (main : Bool) (a : _) (p : Statement) (c t : ℕ) (r : Status) (e : Env)
     → IsPart main (Trap' a p) c t (begun main (Trap' a p) r e) main p (c + t + 3) (t + 1) (begun main p r e)
 trap_part main a p c t r e = record {
-  from = omega arith;
-  within = omega arith;
-  part = λ f k. k.parts;
-  whole = λ old new g k m.
-      with_parts main (Trap' a p) c t _ _ old new (begun main (Trap' a p) r e) (omega arith) g k m;
+  lies = record {
+    from = omega arith;
+    within = omega arith;
+    part = λ f k. k.parts;
+    whole = λ old new g k m.
+        with_parts main (Trap' a p) c t _ _ old new (begun main (Trap' a p) r e) (omega arith) g k m;
+  };
   emits = λ n i. i;
 }
 
@@ -251,25 +252,29 @@ pub loop_part : (main : Bool) (a : _) (p : Statement) (c t : ℕ) (r : Status) (
     → IsPart main (Loop' a p) c t (begun main (Loop' a p) r e) main p (c + t + 3) t (begun main p r e)
 unfolding union
 loop_part true a p c t r e = record {
-  from = omega arith;
-  within = omega arith;
-  part = λ f k. k.parts.first;
-  whole = λ old new g k m.
-      with_parts true (Loop' a p) c t _ _ old new (begun true (Loop' a p) r e) (omega arith) g k (record {
-        first = m;
-        second = after_it false p (c + t + 3 + sheet_size true p t) t _ _ old new _ g (omega arith) k.parts.second;
-      });
+  lies = record {
+    from = omega arith;
+    within = omega arith;
+    part = λ f k. k.parts.first;
+    whole = λ old new g k m.
+        with_parts true (Loop' a p) c t _ _ old new (begun true (Loop' a p) r e) (omega arith) g k (record {
+          first = m;
+          second = after_it false p (c + t + 3 + sheet_size true p t) t _ _ old new _ g (omega arith) k.parts.second;
+        });
+  };
   emits = λ n i. or_left _ _ i;
 }
 loop_part false a p c t r e = record {
-  from = omega arith;
-  within = omega arith;
-  part = λ f k. k.parts.first;
-  whole = λ old new g k m.
-      with_parts false (Loop' a p) c t _ _ old new (begun false (Loop' a p) r e) (omega arith) g k (record {
-        first = m;
-        second = tt;
-      });
+  lies = record {
+    from = omega arith;
+    within = omega arith;
+    part = λ f k. k.parts.first;
+    whole = λ old new g k m.
+        with_parts false (Loop' a p) c t _ _ old new (begun false (Loop' a p) r e) (omega arith) g k (record {
+          first = m;
+          second = tt;
+        });
+  };
   emits = λ n i. or_left _ _ i;
 }
 
@@ -280,15 +285,17 @@ pub par_first_on : (bits : ℕ → Bool) (a : _) (p : Statement) (b : _) (q : St
     (resumed p bits r e)
 unfolding union
 par_first_on bits a p b q c t r e z = record {
-  from = omega arith;
-  within = omega arith;
-  part = λ f k. chosen (is_live p bits) p _ (resumed p bits r e) (begun true p Absent e) z
-      k.parts.first;
-  whole = λ old new g k m.
-      with_parts true (Par' a p b q) c t _ _ old new (resumed (Par' a p b q) bits r e) (omega arith) g k (record {
-        first = choose (is_live p bits) p _ (resumed p bits r e) (begun true p Absent e) z m;
-        second = after_it true q (c + t + 3 + sheet_size true p t) t _ _ old new _ g (omega arith) k.parts.second;
-      });
+  lies = record {
+    from = omega arith;
+    within = omega arith;
+    part = λ f k. chosen (is_live p bits) p _ (resumed p bits r e) (begun true p Absent e) z
+        k.parts.first;
+    whole = λ old new g k m.
+        with_parts true (Par' a p b q) c t _ _ old new (resumed (Par' a p b q) bits r e) (omega arith) g k (record {
+          first = choose (is_live p bits) p _ (resumed p bits r e) (begun true p Absent e) z m;
+          second = after_it true q (c + t + 3 + sheet_size true p t) t _ _ old new _ g (omega arith) k.parts.second;
+        });
+  };
   emits = λ n i. or_left _ _ (chosen_in (is_live p bits) p (resumed p bits r e) (begun true p Absent e) z n i);
 }
 
@@ -298,15 +305,17 @@ pub par_second_on : (bits : ℕ → Bool) (a : _) (p : Statement) (b : _) (q : S
     (resumed q bits r e)
 unfolding union
 par_second_on bits a p b q c t r e z = record {
-  from = omega arith;
-  within = omega arith;
-  part = λ f k. chosen (is_live q bits) q _ (resumed q bits r e) (begun true q Absent e) z
-      k.parts.second;
-  whole = λ old new g k m.
-      with_parts true (Par' a p b q) c t _ _ old new (resumed (Par' a p b q) bits r e) (omega arith) g k (record {
-        first = before_it true p (c + t + 3) t _ _ old new _ g (omega arith) k.parts.first;
-        second = choose (is_live q bits) q _ (resumed q bits r e) (begun true q Absent e) z m;
-      });
+  lies = record {
+    from = omega arith;
+    within = omega arith;
+    part = λ f k. chosen (is_live q bits) q _ (resumed q bits r e) (begun true q Absent e) z
+        k.parts.second;
+    whole = λ old new g k m.
+        with_parts true (Par' a p b q) c t _ _ old new (resumed (Par' a p b q) bits r e) (omega arith) g k (record {
+          first = before_it true p (c + t + 3) t _ _ old new _ g (omega arith) k.parts.first;
+          second = choose (is_live q bits) q _ (resumed q bits r e) (begun true q Absent e) z m;
+        });
+  };
   emits = λ n i. or_right _ _ (chosen_in (is_live q bits) q (resumed q bits r e) (begun true q Absent e) z n i);
 }
 
@@ -316,15 +325,17 @@ pub seq_first_on : (bits : ℕ → Bool) (a : _) (p : Statement) (b : _) (q : St
     (resumed p bits r e)
 unfolding union
 seq_first_on bits a p b q c t r e z = record {
-  from = omega arith;
-  within = omega arith;
-  part = λ f k. chosen (is_live p bits) p _ (resumed p bits r e) (begun true p Absent e) z
-      k.parts.first;
-  whole = λ old new g k m.
-      with_parts true (Seq' a p b q) c t _ _ old new (resumed (Seq' a p b q) bits r e) (omega arith) g k (record {
-        first = choose (is_live p bits) p _ (resumed p bits r e) (begun true p Absent e) z m;
-        second = after_it true q (c + t + 3 + sheet_size true p t) t _ _ old new _ g (omega arith) k.parts.second;
-      });
+  lies = record {
+    from = omega arith;
+    within = omega arith;
+    part = λ f k. chosen (is_live p bits) p _ (resumed p bits r e) (begun true p Absent e) z
+        k.parts.first;
+    whole = λ old new g k m.
+        with_parts true (Seq' a p b q) c t _ _ old new (resumed (Seq' a p b q) bits r e) (omega arith) g k (record {
+          first = choose (is_live p bits) p _ (resumed p bits r e) (begun true p Absent e) z m;
+          second = after_it true q (c + t + 3 + sheet_size true p t) t _ _ old new _ g (omega arith) k.parts.second;
+        });
+  };
   emits = λ n i. or_left _ _ (chosen_in (is_live p bits) p (resumed p bits r e) (begun true p Absent e) z n i);
 }
 
@@ -334,17 +345,19 @@ pub seq_next_on : (bits : ℕ → Bool) (a : _) (p : Statement) (b : _) (q : Sta
     (begun true q (ends (cells_at Absent r (term_at p bits) e)) e)
 unfolding union
 seq_next_on bits a p b q c t r e z = record {
-  from = omega arith;
-  within = omega arith;
-  part = λ f k. chosen (is_live p bits) q _ (begun true q (ends (cells_at Absent r (term_at p bits) e)) e)
-      (resumed q bits r e) z
-      k.parts.second;
-  whole = λ old new g k m.
-      with_parts true (Seq' a p b q) c t _ _ old new (resumed (Seq' a p b q) bits r e) (omega arith) g k (record {
-        first = before_it true p (c + t + 3) t _ _ old new _ g (omega arith) k.parts.first;
-        second = choose (is_live p bits) q _ (begun true q (ends (cells_at Absent r (term_at p bits) e)) e)
-            (resumed q bits r e) z m;
-      });
+  lies = record {
+    from = omega arith;
+    within = omega arith;
+    part = λ f k. chosen (is_live p bits) q _ (begun true q (ends (cells_at Absent r (term_at p bits) e)) e)
+        (resumed q bits r e) z
+        k.parts.second;
+    whole = λ old new g k m.
+        with_parts true (Seq' a p b q) c t _ _ old new (resumed (Seq' a p b q) bits r e) (omega arith) g k (record {
+          first = before_it true p (c + t + 3) t _ _ old new _ g (omega arith) k.parts.first;
+          second = choose (is_live p bits) q _ (begun true q (ends (cells_at Absent r (term_at p bits) e)) e)
+              (resumed q bits r e) z m;
+        });
+  };
   emits = λ n i. or_right _ _
       (chosen_in (is_live p bits) q (begun true q (ends (cells_at Absent r (term_at p bits) e)) e)
       (resumed q bits r e) z n i);
@@ -356,17 +369,19 @@ pub seq_second_on : (bits : ℕ → Bool) (a : _) (p : Statement) (b : _) (q : S
     (resumed q bits r e)
 unfolding union
 seq_second_on bits a p b q c t r e z = record {
-  from = omega arith;
-  within = omega arith;
-  part = λ f k. left_over (is_live p bits) q _ (begun true q (ends (cells_at Absent r (term_at p bits) e)) e)
-      (resumed q bits r e) z
-      k.parts.second;
-  whole = λ old new g k m.
-      with_parts true (Seq' a p b q) c t _ _ old new (resumed (Seq' a p b q) bits r e) (omega arith) g k (record {
-        first = before_it true p (c + t + 3) t _ _ old new _ g (omega arith) k.parts.first;
-        second = leave (is_live p bits) q _ (begun true q (ends (cells_at Absent r (term_at p bits) e)) e)
-            (resumed q bits r e) z m;
-      });
+  lies = record {
+    from = omega arith;
+    within = omega arith;
+    part = λ f k. left_over (is_live p bits) q _ (begun true q (ends (cells_at Absent r (term_at p bits) e)) e)
+        (resumed q bits r e) z
+        k.parts.second;
+    whole = λ old new g k m.
+        with_parts true (Seq' a p b q) c t _ _ old new (resumed (Seq' a p b q) bits r e) (omega arith) g k (record {
+          first = before_it true p (c + t + 3) t _ _ old new _ g (omega arith) k.parts.first;
+          second = leave (is_live p bits) q _ (begun true q (ends (cells_at Absent r (term_at p bits) e)) e)
+              (resumed q bits r e) z m;
+        });
+  };
   emits = λ n i. or_right _ _
       (left_in (is_live p bits) q (begun true q (ends (cells_at Absent r (term_at p bits) e)) e)
       (resumed q bits r e) z n i);
@@ -376,14 +391,16 @@ pub loop_first_on : (bits : ℕ → Bool) (a : _) (p : Statement) (c t : ℕ) (r
     → IsPart true (Loop' a p) c t (resumed (Loop' a p) bits r e) true p (c + t + 3) t (resumed p bits r e)
 unfolding union
 loop_first_on bits a p c t r e = record {
-  from = omega arith;
-  within = omega arith;
-  part = λ f k. k.parts.first;
-  whole = λ old new g k m.
-      with_parts true (Loop' a p) c t _ _ old new (resumed (Loop' a p) bits r e) (omega arith) g k (record {
-        first = m;
-        second = after_it false p (c + t + 3 + sheet_size true p t) t _ _ old new _ g (omega arith) k.parts.second;
-      });
+  lies = record {
+    from = omega arith;
+    within = omega arith;
+    part = λ f k. k.parts.first;
+    whole = λ old new g k m.
+        with_parts true (Loop' a p) c t _ _ old new (resumed (Loop' a p) bits r e) (omega arith) g k (record {
+          first = m;
+          second = after_it false p (c + t + 3 + sheet_size true p t) t _ _ old new _ g (omega arith) k.parts.second;
+        });
+  };
   emits = λ n i. or_left _ _ i;
 }
 
@@ -392,14 +409,16 @@ pub loop_again_on : (bits : ℕ → Bool) (a : _) (p : Statement) (c t : ℕ) (r
     (begun false p (ends (cells_at Absent r (term_at p bits) e)) e)
 unfolding union
 loop_again_on bits a p c t r e = record {
-  from = omega arith;
-  within = omega arith;
-  part = λ f k. k.parts.second;
-  whole = λ old new g k m.
-      with_parts true (Loop' a p) c t _ _ old new (resumed (Loop' a p) bits r e) (omega arith) g k (record {
-        first = before_it true p (c + t + 3) t _ _ old new _ g (omega arith) k.parts.first;
-        second = m;
-      });
+  lies = record {
+    from = omega arith;
+    within = omega arith;
+    part = λ f k. k.parts.second;
+    whole = λ old new g k m.
+        with_parts true (Loop' a p) c t _ _ old new (resumed (Loop' a p) bits r e) (omega arith) g k (record {
+          first = before_it true p (c + t + 3) t _ _ old new _ g (omega arith) k.parts.first;
+          second = m;
+        });
+  };
   emits = λ n i. or_right _ _ i;
 }
 
@@ -410,16 +429,18 @@ pub present_first_on : (bits : ℕ → Bool) (y a : _) (p : Statement) (b : _) (
     (resumed p bits r e)
 unfolding union
 present_first_on bits y a p b q c t r e z = record {
-  from = omega arith;
-  within = omega arith;
-  part = λ f k. chosen (is_live p bits) p _ (resumed p bits r e) (begun true p Absent e) z
-      k.parts.first;
-  whole = λ old new g k m.
-      with_parts true (Present' y a p b q) c t _ _ old new (resumed (Present' y a p b q) bits r e) (omega arith) g k
-      (record {
-        first = choose (is_live p bits) p _ (resumed p bits r e) (begun true p Absent e) z m;
-        second = after_it true q (c + t + 3 + sheet_size true p t) t _ _ old new _ g (omega arith) k.parts.second;
-      });
+  lies = record {
+    from = omega arith;
+    within = omega arith;
+    part = λ f k. chosen (is_live p bits) p _ (resumed p bits r e) (begun true p Absent e) z
+        k.parts.first;
+    whole = λ old new g k m.
+        with_parts true (Present' y a p b q) c t _ _ old new (resumed (Present' y a p b q) bits r e) (omega arith) g k
+        (record {
+          first = choose (is_live p bits) p _ (resumed p bits r e) (begun true p Absent e) z m;
+          second = after_it true q (c + t + 3 + sheet_size true p t) t _ _ old new _ g (omega arith) k.parts.second;
+        });
+  };
   emits = λ n i. or_left _ _ (chosen_in (is_live p bits) p (resumed p bits r e) (begun true p Absent e) z n i);
 }
 
@@ -430,18 +451,20 @@ pub present_second_on : (bits : ℕ → Bool) (y a : _) (p : Statement) (b : _) 
     (c + t + 3 + sheet_size true p t) t (resumed q bits r e)
 unfolding union
 present_second_on bits y a p b q c t r e z = record {
-  from = omega arith;
-  within = omega arith;
-  part = λ f k. left_over (is_live p bits) q _ (begun true q Absent e)
-      (resumed q bits r e) z
-      k.parts.second;
-  whole = λ old new g k m.
-      with_parts true (Present' y a p b q) c t _ _ old new (resumed (Present' y a p b q) bits r e) (omega arith) g k
-      (record {
-        first = before_it true p (c + t + 3) t _ _ old new _ g (omega arith) k.parts.first;
-        second = leave (is_live p bits) q _ (begun true q Absent e)
-            (resumed q bits r e) z m;
-      });
+  lies = record {
+    from = omega arith;
+    within = omega arith;
+    part = λ f k. left_over (is_live p bits) q _ (begun true q Absent e)
+        (resumed q bits r e) z
+        k.parts.second;
+    whole = λ old new g k m.
+        with_parts true (Present' y a p b q) c t _ _ old new (resumed (Present' y a p b q) bits r e) (omega arith) g k
+        (record {
+          first = before_it true p (c + t + 3) t _ _ old new _ g (omega arith) k.parts.first;
+          second = leave (is_live p bits) q _ (begun true q Absent e)
+              (resumed q bits r e) z m;
+        });
+  };
   emits = λ n i. or_right _ _
       (left_in (is_live p bits) q (begun true q Absent e)
       (resumed q bits r e) z n i);
@@ -465,11 +488,13 @@ local_within_on bits s a p c t r e = record {
 pub trap_on : (bits : ℕ → Bool) (a : _) (p : Statement) (c t : ℕ) (r : Status) (e : Env)
     → IsPart true (Trap' a p) c t (resumed (Trap' a p) bits r e) true p (c + t + 3) (t + 1) (resumed p bits r e)
 trap_on bits a p c t r e = record {
-  from = omega arith;
-  within = omega arith;
-  part = λ f k. k.parts;
-  whole = λ old new g k m.
-      with_parts true (Trap' a p) c t _ _ old new (resumed (Trap' a p) bits r e) (omega arith) g k m;
+  lies = record {
+    from = omega arith;
+    within = omega arith;
+    part = λ f k. k.parts;
+    whole = λ old new g k m.
+        with_parts true (Trap' a p) c t _ _ old new (resumed (Trap' a p) bits r e) (omega arith) g k m;
+  };
   emits = λ n i. i;
 }
 
@@ -477,10 +502,12 @@ pub suspend_on : (bits : ℕ → Bool) (y a : _) (p : Statement) (c t : ℕ) (r 
     → let inside = and_status r (opposite (status_of e (query_of y))) in
     IsPart true (Suspend' y a p) c t (resumed (Suspend' y a p) bits r e) true p (c + t + 3) t (resumed p bits inside e)
 suspend_on bits y a p c t r e = record {
-  from = omega arith;
-  within = omega arith;
-  part = λ f k. k.parts;
-  whole = λ old new g k m.
-      with_parts true (Suspend' y a p) c t _ _ old new (resumed (Suspend' y a p) bits r e) (omega arith) g k m;
+  lies = record {
+    from = omega arith;
+    within = omega arith;
+    part = λ f k. k.parts;
+    whole = λ old new g k m.
+        with_parts true (Suspend' y a p) c t _ _ old new (resumed (Suspend' y a p) bits r e) (omega arith) g k m;
+  };
   emits = λ n i. i;
 }

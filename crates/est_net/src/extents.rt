@@ -1,6 +1,7 @@
 //! What is known of each statement before any instant.
 
-ghost use Rattle.std.specs.Prelude.{◌≡◌, ◌<◌, ◌+◌, ◌||◌, ℕ, Bool, true, false, Some, IfOk, IfSome};
+ghost use Rattle.std.specs.Prelude.{◌≡◌, ◌<◌, ◌+◌, ◌||◌, ℕ, Bool, true, false, Some, IfErr, IfOk};
+ghost use Rattle.std.specs.Prelude.{IfSome};
 ghost use Rattle.est_cells.specs.Tables.{sheet_size};
 ghost use Rattle.est_kernel.specs.Limits.{trap_depth};
 ghost use Rattle.est_kernel.specs.View.{term_of};
@@ -110,7 +111,8 @@ fn with_test(rest: Extent, test: &Test) -> Extent
 /// The sum of two counts. Where no `usize` has it, so many cells or statements can't be kept, and
 /// memory is refused.
 fn add(a: usize, b: usize) -> Result<usize, AllocError>
-    ensures { IfOk result (λ sum. sum ≡ a + b) }
+    ensures ok { IfOk result (λ sum. sum ≡ a + b) }
+    ensures err { IfErr result (λ _. 18446744073709551615 < a + b) }
 {
     match a.checked_add(b) {
         Some(sum) => Ok(sum),

@@ -39,12 +39,7 @@ pub record IsWithin (main : Bool) (s : Statement) (c t : ℕ) (M : Sheet main s)
 -- it lies in it, and what N surely emits, M does: no binder of a local signal stands between them
 pub record IsPart (main : Bool) (s : Statement) (c t : ℕ) (M : Sheet main s) (own : Bool) (p : Statement) (d u : ℕ)
     (N : Sheet own p) : Type 0 where
-  pub from : c ≤ d
-  pub within : d + sheet_size own p u ≤ c + sheet_size main s t
-  pub part : (f : ℕ → Status) → Below main s (sheet_in f main s c t) M → Below own p (sheet_in f own p d u) N
-  pub whole : (old new : List Status) → Changes d (d + sheet_size own p u) old new
-      → Below main s (sheet_in (cell_at old) main s c t) M → Below own p (sheet_in (cell_at new) own p d u) N
-      → Below main s (sheet_in (cell_at new) main s c t) M
+  pub lies : IsWithin main s c t M own p d u N
   pub emits : IsIn (emits is_sure own p N) (emits is_sure main s M)
 
 -- p, whose cells begin at d, is a side of s, whose cells begin at c, both inside t traps. Where s goes on from its
@@ -82,8 +77,8 @@ pub record FoundHeard (f : Found) (r : Status) (e l : Env) : Type 0 where
       (λ p. Heard (emits is_sure true f.statement.now (resumed f.statement.now (pauses_of p.now) r e)) e l)
 
 -- what is found lies in the sheet M: it is begun, if at all, or goes on from these pauses, if it is run, as a status
--- tells of which no more than the gate is known. Inside the binders around it the same is known of the signals of the
--- interface as e knows
+-- tells of which no more than the gate is known. Inside the binders around it signals are as `inside` says, which is as
+-- e says of those of the interface; the search knows no more than that, and hears what is found surely emit
 pub record IsFoundIn (main : Bool) (s : Statement) (c t : ℕ) (M : Sheet main s) (e : Env) (f : Found) : Type 0 where
   pub reach : Status
   pub below : IsBelow f.gate reach
